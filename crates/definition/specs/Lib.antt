@@ -5,3 +5,6 @@ pub mod Date
 pub mod Number
 pub mod Duration
 pub mod Time
+pub mod Bits
+pub mod Tree
+pub mod Format

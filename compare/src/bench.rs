@@ -1,0 +1,117 @@
+//! A large tree, and how long the Rust takes with it.
+
+use std::time::{Duration, Instant};
+
+use mkperth_mspxml::exposed::Tree;
+
+use crate::read;
+use crate::tree::put_record;
+
+/// Fields of a task in MSPDI's order, with a text of the usual length.
+const FIELDS: [(&str, &str); 60] = [
+    ("Name", "Reinforcement of the slab"),
+    ("Type", "1"),
+    ("IsNull", "0"),
+    ("CreateDate", "2026-01-05T08:00:00"),
+    ("Contact", ""),
+    ("OutlineNumber", "1.2.3"),
+    ("OutlineLevel", "3"),
+    ("Priority", "500"),
+    ("Start", "2026-03-02T08:00:00"),
+    ("Finish", "2026-03-06T17:00:00"),
+    ("Duration", "PT40H0M0S"),
+    ("DurationFormat", "7"),
+    ("Work", "PT40H0M0S"),
+    ("Stop", "NA"),
+    ("Resume", "NA"),
+    ("ResumeValid", "0"),
+    ("EffortDriven", "0"),
+    ("Recurring", "0"),
+    ("OverAllocated", "0"),
+    ("Estimated", "0"),
+    ("Milestone", "0"),
+    ("Summary", "0"),
+    ("Critical", "0"),
+    ("IsSubproject", "0"),
+    ("ExternalTask", "0"),
+    ("EarlyStart", "2026-03-02T08:00:00"),
+    ("EarlyFinish", "2026-03-06T17:00:00"),
+    ("LateStart", "2026-03-09T08:00:00"),
+    ("LateFinish", "2026-03-13T17:00:00"),
+    ("StartVariance", "0"),
+    ("FinishVariance", "0"),
+    ("WorkVariance", "0"),
+    ("FreeSlack", "24000"),
+    ("TotalSlack", "24000"),
+    ("FixedCost", "0"),
+    ("FixedCostAccrual", "3"),
+    ("PercentComplete", "0"),
+    ("PercentWorkComplete", "0"),
+    ("Cost", "1250.50"),
+    ("OvertimeCost", "0"),
+    ("OvertimeWork", "PT0H0M0S"),
+    ("ActualDuration", "PT0H0M0S"),
+    ("ActualCost", "0"),
+    ("ActualWork", "PT0H0M0S"),
+    ("RegularWork", "PT40H0M0S"),
+    ("RemainingDuration", "PT40H0M0S"),
+    ("RemainingCost", "1250.50"),
+    ("RemainingWork", "PT40H0M0S"),
+    ("ACWP", "0"),
+    ("CV", "0"),
+    ("ConstraintType", "4"),
+    ("CalendarUID", "-1"),
+    ("ConstraintDate", "2026-03-02T08:00:00"),
+    ("LevelAssignments", "1"),
+    ("LevelingCanSplit", "1"),
+    ("LevelingDelay", "0"),
+    ("IgnoreResourceCalendar", "0"),
+    ("HideBar", "0"),
+    ("Rollup", "0"),
+    ("EarnedValueMethod", "0"),
+];
+
+/// A packed tree of that many tasks, each with a UID and that many fields in all.
+pub fn big_tree(tasks: usize, fields: usize) -> Vec<u8> {
+    let mut out = Vec::new();
+    put_record(&mut out, 1, "Project", "");
+    put_record(&mut out, 2, "Tasks", "");
+    for uid in 1..=tasks {
+        put_record(&mut out, 3, "Task", "");
+        if fields > 0 {
+            put_record(&mut out, 4, "UID", &uid.to_string());
+        }
+        for (name, text) in FIELDS.iter().cycle().take(fields.saturating_sub(1)) {
+            put_record(&mut out, 4, name, text);
+        }
+    }
+    out
+}
+
+/// The shortest of five runs.
+pub fn best_of_5(mut run: impl FnMut()) -> Duration {
+    let timed = |_| {
+        let start = Instant::now();
+        run();
+        start.elapsed()
+    };
+    (0..5).map(timed).min().unwrap_or_default()
+}
+
+/// The Rust building its elements from the packed bytes (the replay and `tree::parse`). The elements are
+/// dropped outside the time.
+pub fn bench_tree(tree: &[u8]) -> Duration {
+    let mut built = Vec::new();
+    let build = || {
+        built.clear();
+        let start = Instant::now();
+        built.push(quick_xml::with_tree(tree, Tree::build));
+        start.elapsed()
+    };
+    std::iter::repeat_with(build).take(5).min().unwrap_or_default()
+}
+
+/// The Rust's whole `read`, elements included.
+pub fn bench_read(tree: &[u8]) -> Duration {
+    best_of_5(|| drop(read::rust_read(tree)))
+}

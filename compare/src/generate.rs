@@ -1,0 +1,15 @@
+//! Random inputs with a seed: trees of MSPDI's shape with odd values, rules, texts, models, damaged bytes.
+
+mod damage;
+mod limits;
+mod models;
+mod project;
+mod rules;
+mod texts;
+
+pub use damage::damaged;
+pub use limits::{LIMITS, limit_tree};
+pub use models::packed_model;
+pub use project::packed_tree;
+pub use rules::packed_rule;
+pub use texts::{fixed_texts, leaf_text};
