@@ -8,3 +8,16 @@ pub mod Time
 pub mod Bits
 pub mod Tree
 pub mod Format
+pub mod Field
+pub mod Recurrence
+pub mod Model
+pub mod Calendar
+pub mod Task
+pub mod Link
+pub mod Resource
+pub mod Read
+pub mod Pack
+pub mod Check
+pub mod Outline
+pub mod DaySheet
+pub mod Refusal

@@ -1,0 +1,154 @@
+-- Tasks. Document 01: a kept task is one of the first 100,000 `Task` elements in `Tasks`, has a UID other than `0`, and an OutlineLevel (1 where
+-- none is read) of at least 1. Activity row 0 is made from the first of them, and so on. Its id is WBS, else ID, else UID, and gains `*`
+-- until no earlier activity has it. Its parent is the nearest earlier one of a lower level. MSPDI: DurationFormat 4, 6, 8, 10, 12 (and 20)
+-- are elapsed time, where a day has 1440 minutes and not MinutesPerDay; 32 more means estimated. Assumes nothing.
+use Prim.Native.Nat.{ℕ, _+_, _-_, _/_, _%_}
+use mathlib.Core.Bool.{Bool, true, false, _&&_, _||_, not}
+use mathlib.Core.List.{List, [], _∷_, _++_, map}
+use mathlib.Core.Option.{Option, some, none}
+use Prim.Native.String.{String}
+use lib.ListN.{length, take}
+use lib.Dec.{leb, ltb, eqb}
+use lib.IntN.{ℤ, pos, negsuc}
+use lib.Ieee.{Float, le, lt}
+use Rattle.definition.specs.Base.{if_then_else_, _>>=_, _or_, _orElse_, when, given, within, keep, findLast, numbered, some?, same}
+use Rattle.definition.specs.Ascii.{bytes}
+use Rattle.definition.specs.Text.{Text}
+use Rattle.definition.specs.Date.{Date}
+use Rattle.definition.specs.Number.{halfAway, hundredths, between, float, zeroFloat}
+use Rattle.definition.specs.Tree.{Element, child, allIn}
+use Rattle.definition.specs.Field.{textIn, yesIn, intIn, numberIn, dateIn, minutesIn}
+use Rattle.definition.specs.Model.{Calendar, Activity}
+use Rattle.definition.specs.Calendar.{Named, builtCalendars, mainCalendar, nameOf, free, elapsedName}
+
+-- ---- the kept tasks
+
+abbrev pub mostTasks : ℕ
+mostTasks = 100000
+
+abbrev pub natural : ℤ → ℕ
+natural (pos n) = n
+natural (negsuc n) = 0
+
+unfoldable pub levelOf : Element → ℕ
+levelOf t = natural (intIn t "OutlineLevel" or pos 1)
+
+-- a UID other than `0`
+abbrev pub ownUid : Element → Bool
+ownUid e = given (textIn e "UID") && not (same (textIn e "UID" or []) (bytes "0"))
+
+unfoldable pub keptTasks : Element → List Element
+keptTasks root = keep (λ t. ownUid t && leb 1 (levelOf t)) (take mostTasks (allIn (child root (bytes "Tasks")) (bytes "Task")))
+
+-- the row of the last of some elements with a UID
+unfoldable pub rowOf : List Element → Text → Option ℕ
+rowOf es u = findLast (λ (x : ℕ × Element). same (textIn (x .1) "UID" or []) u) (numbered 0 es) >>= λ x. some (x .0)
+
+-- ---- what the whole file says for each task
+
+pub record Context : Type 0 where
+  pub perDay : ℕ
+  pub built : List Named
+  pub main : Calendar
+  pub tasks : List Element
+
+unfoldable pub contextOf : Element → Context
+contextOf root = record {
+  perDay = (numberIn root "MinutesPerDay" >>= λ m. when (between 1 1440 m) (halfAway m)) or 480;
+  built = builtCalendars root;
+  main = mainCalendar root (builtCalendars root);
+  tasks = keptTasks root;
+}
+
+-- a calendar's name, where it is not the main one's
+abbrev pub unlessMain : Context → Text → Option Text
+unlessMain x n = when (not (same n (x .main .name))) n
+
+-- ---- formats of durations and lags
+
+-- without the mark of an estimate
+abbrev pub formatOf : Element → String → ℕ
+formatOf e name =
+    let code = natural (intIn e name or pos 0) in
+    if within 35 52 code then code - 32 else code
+
+abbrev pub percentFormat : ℕ → Bool
+percentFormat f = within 19 20 f
+
+abbrev pub elapsedFormat : ℕ → Bool
+elapsedFormat f = eqb (f % 2) 0 && (within 4 12 f || eqb f 20)
+
+unfoldable pub isElapsed : Element → Bool
+isElapsed t = elapsedFormat (formatOf t "DurationFormat")
+
+-- ---- an activity
+
+abbrev pub wantedId : Element → Text
+wantedId e = (textIn e "WBS" orElse textIn e "ID" orElse textIn e "UID") or []
+
+-- the last earlier row of a lower level
+unfoldable pub parentOf : List ℕ → ℕ → Option ℕ
+parentOf levels l = findLast (λ (x : ℕ × ℕ). ltb (x .1) l) (numbered 0 levels) >>= λ x. some (x .0)
+
+-- 1 is as late as possible and has no date; 2 to 7 need theirs
+abbrev pub constraintFrom : ℕ → Option Date → Option (ℕ × Option Date)
+constraintFrom kind none = when (eqb kind 1) (1, none)
+constraintFrom kind (some d) = if eqb kind 1 then some (1, none) else when (within 2 7 kind) (kind, some d)
+
+abbrev pub constraintOf : Element → Option (ℕ × Option Date)
+constraintOf t = constraintFrom (natural (intIn t "ConstraintType" or pos 0)) (dateIn t "ConstraintDate")
+
+-- MSPDI's task types: 0 fixed units, 1 fixed duration, 2 fixed work
+abbrev pub durationTypeFrom : Option ℤ → ℕ
+durationTypeFrom none = 0
+durationTypeFrom (some (negsuc n)) = 0
+durationTypeFrom (some (pos n)) = if eqb n 0 then 2 else if eqb n 2 then 3 else 0
+
+abbrev pub calendarNameOf : Context → Element → Option Text
+calendarNameOf x t =
+    if isElapsed t then some elapsedName else
+    (textIn t "CalendarUID" >>= λ u. when (not (same u (bytes "-1"))) u >>= nameOf (x .built))
+
+-- the minutes left, of a task that has begun and not ended
+abbrev pub remainingOf : Element → Option ℤ
+remainingOf t =
+    if given (dateIn t "ActualStart") && not (given (dateIn t "ActualFinish")) then
+    (minutesIn t "RemainingDuration" >>= λ m. some (pos m))
+    else none
+
+-- from the ids and levels of the activities before it, and whether a kept link enters it
+unfoldable pub activityOf : Context → List Text → List ℕ → Bool → Element → Activity
+activityOf x ids levels entered t =
+    let minutes = minutesIn t "Duration" or 0 in
+    let day = if isElapsed t then 1440 else x .perDay in
+    let part = not (eqb (minutes % day) 0) in
+    record {
+      id = free ids (wantedId t);
+      name = textIn t "Name" or [];
+      kind = if yesIn t "Milestone" then (if entered then 2 else 1) else 0;
+      duration = pos (minutes / day + (if part then 1 else 0));
+      minutes = when part (pos minutes);
+      parent = parentOf levels (levelOf t);
+      notes = textIn t "Notes" or [];
+      calendar = calendarNameOf x t >>= unlessMain x;
+      constraint = constraintOf t;
+      deadline = dateIn t "Deadline";
+      start = dateIn t "ActualStart";
+      finish = dateIn t "ActualFinish";
+      percent = numberIn t "PhysicalPercentComplete" >>= λ p. when (lt zeroFloat p && le p (float 100)) (hundredths p);
+      durationType = durationTypeFrom (intIn t "Type");
+      remaining = remainingOf t;
+      uid = textIn t "UID" or [];
+    }
+
+-- one after another
+unfoldable pub activitiesAfter : Context → (ℕ → Bool) → List Activity → List ℕ → List Element → List Activity
+activitiesAfter x entered done levels [] = done
+activitiesAfter x entered done levels (t ∷ ts) =
+    activitiesAfter x entered
+    (done ++ (activityOf x (map (λ (a : Activity). a .id) done) levels (entered (length done)) t ∷ []))
+    (levels ++ (levelOf t ∷ []))
+    ts
+
+unfoldable pub activities : Context → (ℕ → Bool) → List Activity
+activities x entered = activitiesAfter x entered [] [] (x .tasks)
