@@ -1,0 +1,5 @@
+pub mod Whole
+pub mod Laws
+pub mod Texts
+pub mod Dates
+pub mod Hand
