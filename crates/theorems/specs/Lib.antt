@@ -3,3 +3,5 @@ pub mod Laws
 pub mod Texts
 pub mod Dates
 pub mod Hand
+pub mod Open
+pub mod Cases
