@@ -9,11 +9,11 @@ use crate::tree::put_record;
 
 /// Fields of a task in MSPDI's order, with a text of the usual length.
 const FIELDS: [(&str, &str); 60] = [
-    ("Name", "Reinforcement of the slab"),
+    ("Name", "Reinforcement of the slab, second floor, axes C to F"),
     ("Type", "1"),
     ("IsNull", "0"),
     ("CreateDate", "2026-01-05T08:00:00"),
-    ("Contact", ""),
+    ("Contact", "site.office@example.org"),
     ("OutlineNumber", "1.2.3"),
     ("OutlineLevel", "3"),
     ("Priority", "500"),
@@ -66,7 +66,10 @@ const FIELDS: [(&str, &str); 60] = [
     ("LevelingCanSplit", "1"),
     ("LevelingDelay", "0"),
     ("IgnoreResourceCalendar", "0"),
-    ("HideBar", "0"),
+    (
+        "Notes",
+        "Bars as drawing 14; the crane is booked for the morning. Check the cover before the inspector comes, and send the photographs to the site office on the same day.",
+    ),
     ("Rollup", "0"),
     ("EarnedValueMethod", "0"),
 ];

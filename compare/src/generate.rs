@@ -9,7 +9,7 @@ mod texts;
 
 pub use damage::damaged;
 pub use limits::{LIMITS, limit_tree};
-pub use models::packed_model;
+pub use models::{made_up, packed_model};
 pub use project::packed_tree;
-pub use rules::packed_rule;
+pub use rules::{packed_rule, rule};
 pub use texts::{fixed_texts, leaf_text};

@@ -13,6 +13,7 @@ pub mod number;
 pub mod outline;
 pub mod read;
 pub mod rng;
+pub mod rule;
 pub mod selftest;
 pub mod sheet;
 pub mod tree;

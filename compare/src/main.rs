@@ -52,7 +52,7 @@ fn run(args: &[&str]) -> io::Result<bool> {
         ["fixed", kind] => say_all(generate::fixed_texts(kind_named(kind)?).iter().map(|t| hex::encode(t)))?,
         ["limit"] => say_all(generate::LIMITS.iter().map(|name| name.to_string()))?,
         ["limit", name] => write_bytes(&generate::limit_tree(name).ok_or_else(|| wrong("no such limit; `oracle limit` lists them"))?)?,
-        ["selftest"] => return Ok(selftest::run(20_000)),
+        ["selftest"] => return Ok(selftest::run(5_000)),
         ["selftest", count] => return Ok(selftest::run(number(count)?)),
         ["bigtree", tasks, fields] => write_bytes(&bench::big_tree(number(tasks)?, number(fields)?))?,
         ["bench-tree", file] => bench_line("the Rust's elements", file, bench::bench_tree)?,

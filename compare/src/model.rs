@@ -190,14 +190,8 @@ fn put_records<T>(w: &mut BitWriter, items: &[T], put: impl Fn(&mut BitWriter, &
 impl Model {
     pub fn encode(&self) -> Vec<u8> {
         let mut w = BitWriter::default();
-        let counts = [
-            self.calendars.len(),
-            self.activities.len(),
-            self.links.len(),
-            self.resources.len(),
-            self.assignments.len(),
-            self.expenses.len(),
-        ];
+        let counts =
+            [self.calendars.len(), self.activities.len(), self.links.len(), self.resources.len(), self.assignments.len(), self.expenses.len()];
         counts.iter().for_each(|n| w.count(*n as u32));
         put_records(&mut w, std::slice::from_ref(&self.project), put_project);
         put_records(&mut w, &self.calendars, put_calendar);

@@ -79,19 +79,14 @@ pub fn refusal(tree: &[u8], roots: &[&str]) -> Result<(), Refusal> {
     Ok(())
 }
 
-const NUMBERS: [&str; 8] =
-    ["MinutesPerDay", "PhysicalPercentComplete", "StandardRate", "MaxUnits", "Units", "Cost", "ActualCost", "RemainingCost"];
+const NUMBERS: [&str; 8] = ["MinutesPerDay", "PhysicalPercentComplete", "StandardRate", "MaxUnits", "Units", "Cost", "ActualCost", "RemainingCost"];
 const DURATIONS: [&str; 5] = ["Duration", "RemainingDuration", "Work", "ActualWork", "RemainingWork"];
 
 /// Whether the element holds a number that is too long (refusal 5).
 fn too_long(record: &Record) -> bool {
     let named = |names: &[&str]| names.iter().any(|n| n.as_bytes() == record.name);
     let text = std::str::from_utf8(record.text).unwrap_or_default();
-    if named(&NUMBERS) {
-        number::is_long(text.trim())
-    } else {
-        named(&DURATIONS) && number::has_long_piece(text)
-    }
+    if named(&NUMBERS) { number::is_long(text.trim()) } else { named(&DURATIONS) && number::has_long_piece(text) }
 }
 
 /// An element with its children, to make packed trees from.

@@ -3,9 +3,8 @@
 use crate::tree::{MAX_ELEMENTS, Node, put_record};
 
 /// The names of the limit trees.
-pub const LIMITS: [&str; 10] = [
-    "elements", "one-element-more", "tasks", "depth-65", "depth-65-text", "depth-66", "depth-127", "long-text", "long-name", "elements-behind-root",
-];
+pub const LIMITS: [&str; 10] =
+    ["elements", "one-element-more", "tasks", "depth-65", "depth-65-text", "depth-66", "depth-127", "long-text", "long-name", "elements-behind-root"];
 
 pub fn limit_tree(name: &str) -> Option<Vec<u8>> {
     Some(match name {

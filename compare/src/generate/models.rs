@@ -2,7 +2,7 @@
 
 use super::{damaged, project};
 use crate::model::{
-    ACCRUALS, ACTIVITY_KINDS, Activity, Assignment, Calendar, Constraint, DAY_END, DURATION_TYPES, Expense, FIRST_DAY, LAST_DAY, LINK_KINDS,
+    self, ACCRUALS, ACTIVITY_KINDS, Activity, Assignment, Calendar, Constraint, DAY_END, DURATION_TYPES, Expense, FIRST_DAY, LAST_DAY, LINK_KINDS,
     LagKind, Link, Model, Period, Project, RESOURCE_KINDS, Resource,
 };
 use crate::read;
@@ -13,9 +13,20 @@ pub fn packed_model(rng: &mut Rng) -> Vec<u8> {
     let bytes = match rng.below(20) {
         0..=5 => read_one(rng),
         19 => (0..rng.below(140)).map(|_| rng.next() as u8 & rng.next() as u8 & rng.next() as u8).collect(),
-        _ => made_up(rng).encode(),
+        6..=9 => made_up(rng).encode(),
+        _ => decoding(rng),
     };
-    if rng.one_in(3) { damaged(rng, &bytes) } else { bytes }
+    if rng.one_in(4) { damaged(rng, &bytes) } else { bytes }
+}
+
+/// A made-up model that decodes.
+fn decoding(rng: &mut Rng) -> Vec<u8> {
+    loop {
+        let bytes = made_up(rng).encode();
+        if model::decode(&bytes).is_ok() {
+            return bytes;
+        }
+    }
 }
 
 fn read_one(rng: &mut Rng) -> Vec<u8> {
@@ -26,7 +37,8 @@ fn read_one(rng: &mut Rng) -> Vec<u8> {
     }
 }
 
-fn made_up(rng: &mut Rng) -> Model {
+/// A model whose parts are mostly in order.
+pub fn made_up(rng: &mut Rng) -> Model {
     let (activities, resources) = (rng.below(9), rng.below(4));
     let mut many = |most: usize| rng.below(most + 1);
     let (calendars, links, assignments, expenses) = (many(2), many(3), many(3), many(3));

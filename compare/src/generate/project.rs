@@ -87,7 +87,7 @@ impl Trees {
             w.children.push(self.working_times());
         }
         if self.rng.one_in(2) {
-            w.children.push(rules::time_period(&mut self.rng));
+            w.children.push(rules::time_period(&mut self.rng, 1));
         }
         self.shuffled(w)
     }
@@ -230,7 +230,9 @@ impl Trees {
             "Duration" | "RemainingDuration" | "Work" | "ActualWork" | "RemainingWork" => texts::duration(rng, long),
             "DayWorking" | "Milestone" | "CrossProject" => rng.pick(&["1", "1", "1", "0", "0", "true", "01", "+1"]).into(),
             "MinutesPerDay" => small_or(rng, long, &["480", "480", "450", "1440", "1440.5", "1", "0.5", "0.99", "60.5", "1440.4"]),
-            "PhysicalPercentComplete" | "StandardRate" | "MaxUnits" | "Units" => small_or(rng, long, &["1", "1.0", "0.5", "100", "50", "0", "33.335"]),
+            "PhysicalPercentComplete" | "StandardRate" | "MaxUnits" | "Units" => {
+                small_or(rng, long, &["1", "1.0", "0.5", "100", "50", "0", "33.335"])
+            }
             "Cost" | "ActualCost" | "RemainingCost" => small_or(rng, long, &["100", "50", "0", "-12.345", "0.005", "1e12", "1e13"]),
             _ => self.code(name),
         }
