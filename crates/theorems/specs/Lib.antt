@@ -1,3 +1,6 @@
+pub mod BitLaws
+pub mod Formats
+pub mod Packing
 pub mod Whole
 pub mod Laws
 pub mod Texts

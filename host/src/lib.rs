@@ -1,0 +1,114 @@
+//! Microsoft Project XML delivery plans, through a library that is proved equal to its definition for every input.
+//!
+//! Every function here is safe for every argument: the library tests what it is given and answers with a result or with a [`Refusal`].
+//! The boundary that is called is `mspdi.h` beside this crate.
+
+use std::fmt;
+
+mod boundary;
+
+/// Why a call gave no result, by the library's numbers.
+#[derive(Debug, Clone, Copy, PartialEq, Eq, Hash)]
+pub enum Refusal {
+    /// 1: the tree breaks the layout.
+    Layout,
+    /// 2: a name or a text is not UTF-8.
+    NotUtf8,
+    /// 3: over 5,000,000 elements.
+    TooManyElements,
+    /// 4: the root is not `Project`, or there is none.
+    NotProject,
+    /// 5: a number is too long.
+    NumberTooLong,
+    /// 6: the model does not decode.
+    NotModel,
+    /// 7: the model breaks the check's list.
+    CheckFailed,
+    /// 8: a value asked for lies outside its range.
+    OutOfRange,
+    /// 9: the result is longer than its buffer.
+    NoRoom,
+    /// A number that no document names.
+    Unknown(u32),
+}
+
+impl Refusal {
+    /// The number of the refusal.
+    pub fn number(self) -> u32 {
+        match self {
+            Refusal::Layout => 1,
+            Refusal::NotUtf8 => 2,
+            Refusal::TooManyElements => 3,
+            Refusal::NotProject => 4,
+            Refusal::NumberTooLong => 5,
+            Refusal::NotModel => 6,
+            Refusal::CheckFailed => 7,
+            Refusal::OutOfRange => 8,
+            Refusal::NoRoom => 9,
+            Refusal::Unknown(n) => n,
+        }
+    }
+
+    fn of(number: u32) -> Refusal {
+        match number {
+            1 => Refusal::Layout,
+            2 => Refusal::NotUtf8,
+            3 => Refusal::TooManyElements,
+            4 => Refusal::NotProject,
+            5 => Refusal::NumberTooLong,
+            6 => Refusal::NotModel,
+            7 => Refusal::CheckFailed,
+            8 => Refusal::OutOfRange,
+            9 => Refusal::NoRoom,
+            n => Refusal::Unknown(n),
+        }
+    }
+}
+
+impl fmt::Display for Refusal {
+    fn fmt(&self, f: &mut fmt::Formatter<'_>) -> fmt::Result {
+        let what = match self {
+            Refusal::Layout => "the tree breaks the layout",
+            Refusal::NotUtf8 => "a name or a text is not UTF-8",
+            Refusal::TooManyElements => "over 5,000,000 elements",
+            Refusal::NotProject => "the root is not `Project`",
+            Refusal::NumberTooLong => "a number is too long",
+            Refusal::NotModel => "the model does not decode",
+            Refusal::CheckFailed => "the model breaks the check's list",
+            Refusal::OutOfRange => "a value asked for lies outside its range",
+            Refusal::NoRoom => "the result is longer than its buffer",
+            Refusal::Unknown(_) => "an unknown refusal",
+        };
+        write!(f, "{what} ({})", self.number())
+    }
+}
+
+impl std::error::Error for Refusal {}
+
+/// The result of a call whose answer is 0 or a refusal's number.
+fn judged<T>(number: u32, value: T) -> Result<T, Refusal> {
+    if number == 0 { Ok(value) } else { Err(Refusal::of(number)) }
+}
+
+/// The longest text of minutes or of a time.
+const LONGEST: usize = 32;
+
+/// Minutes, 0 to 1,000,000,000, as MSPDI writes a duration: `PT8H30M0S`.
+pub fn duration(minutes: i64) -> Result<String, Refusal> {
+    let mut text = [0u8; LONGEST];
+    let (number, written) = boundary::duration(minutes, &mut text);
+    judged(number, ascii(&text, written))
+}
+
+/// Minutes after midnight, 0 to 1440, as MSPDI writes a time: `08:30:00`.
+pub fn time(minutes: u32) -> Result<String, Refusal> {
+    let mut text = [0u8; LONGEST];
+    let (number, written) = boundary::time(minutes, &mut text);
+    judged(number, ascii(&text, written))
+}
+
+/// The text that stands at the front of a buffer.
+fn ascii(text: &[u8], written: u64) -> String {
+    let end = usize::try_from(written).map_or(text.len(), |n| n.min(text.len()));
+    String::from_utf8_lossy(&text[..end]).into_owned()
+}
