@@ -1,0 +1,5 @@
+pub mod Strip
+pub mod Digits
+pub mod Edge
+pub mod Ranges
+pub mod Wellformed

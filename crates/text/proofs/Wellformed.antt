@@ -1,0 +1,142 @@
+-- One character of UTF-8 further on. Assumes nothing.
+use mathlib.Core.Path.{_≡_, refl, sym, ap, _∙_}
+use mathlib.Core.List.{List, [], _∷_}
+use mathlib.Core.Option.{Option, some, none}
+use mathlib.Core.Bool.{Bool, true, false, _&&_, _||_}
+use Prim.Native.Nat.{ℕ, zero, suc, _+_, _≤_, _<_}
+use native.Mathlib.Omega.{arith}
+use lib.Dec.{leb}
+use lib.ListN.{length, drop, getD, length-drop}
+use lib.Seq.{getD-drop, drop-drop}
+use borrow.Author.Tests.{le-leb, lt-leb}
+use Rattle.definition.specs.Base.{if_then_else_, when, within}
+use Rattle.definition.specs.Text.{Text, tailByte, following, utf8After, isUtf8}
+use Rattle.text.specs.Bools.{and-left, and-right, and-true, and-false}
+use Rattle.text.specs.Parts.{at-cons, at-end}
+use Rattle.text.specs.Utf8.{rangesBy, fits, Character}
+
+abbrev Ranges : Type 0
+Ranges = List (ℕ × ℕ)
+
+-- a text begins with bytes in these ranges
+abbrev inRanges : Ranges → Text → Bool
+inRanges [] s = true
+inRanges (r ∷ rs) [] = false
+inRanges (r ∷ rs) (x ∷ s) = within (r .0) (r .1) x && inRanges rs s
+
+abbrev begins : Option Ranges → Text → Bool
+begins none s = false
+begins (some rs) s = inRanges rs s
+
+nothing : (s : Text) → utf8After s none ≡ false
+unfolding utf8After
+nothing [] = refl
+nothing (x ∷ s) = refl
+
+goes-on : (rs : Ranges) (s : Text) → inRanges rs s ≡ true → utf8After s (some rs) ≡ isUtf8 (drop (length rs) s)
+unfolding utf8After isUtf8
+goes-on [] s e = refl
+goes-on (r ∷ rs) [] e = let z : _≡_ {A = ℕ} 0 1 = cc in absurd (omega arith)
+goes-on (r ∷ rs) (x ∷ s) e =
+    ap (λ (b : Bool). utf8After s (when b rs)) (and-left (within (r .0) (r .1) x) (inRanges rs s) e)
+    ∙ goes-on rs s (and-right (within (r .0) (r .1) x) (inRanges rs s) e)
+
+long-enough : (rs : Ranges) (s : Text) → inRanges rs s ≡ true → length rs ≤ length s
+long-enough [] s e = omega arith
+long-enough (r ∷ rs) [] e = let z : _≡_ {A = ℕ} 0 1 = cc in absurd (omega arith)
+long-enough (r ∷ rs) (x ∷ s) e = let h = long-enough rs s (and-right (within (r .0) (r .1) x) (inRanges rs s) e) in omega arith
+
+stops : (rs : Ranges) (s : Text) → inRanges rs s ≡ false → utf8After s (some rs) ≡ false
+unfolding utf8After
+stops [] s e = let z : _≡_ {A = ℕ} 0 1 = cc in absurd (omega arith)
+stops (r ∷ rs) [] e = refl
+stops (r ∷ rs) (x ∷ s) e = go (within (r .0) (r .1) x) (stops rs s) e
+  where
+    go : (b : Bool) → (inRanges rs s ≡ false → utf8After s (some rs) ≡ false) → b && inRanges rs s ≡ false → utf8After s (when b rs) ≡ false
+    go true f h = f h
+    go false f h = nothing s
+
+-- ---- what the code asks of three bytes, 0 past the end, is that
+
+module _ (lo hi : ℕ) (low : 1 ≤ lo) where
+  asked : (more : ℕ) (s : Text) → fits more lo hi (getD s 0 0) (getD s 1 0) (getD s 2 0) ≡ begins (rangesBy more (lo, hi)) s
+  asked zero [] = rw (lt-leb lo 0 low)
+  asked zero (x ∷ s) = refl
+  asked (suc zero) [] = rw (lt-leb lo 0 low)
+  asked (suc zero) (x ∷ []) = refl
+  asked (suc zero) (x ∷ y ∷ s) = refl
+  asked (suc (suc zero)) [] = rw (lt-leb lo 0 low)
+  asked (suc (suc zero)) (x ∷ []) = refl
+  asked (suc (suc zero)) (x ∷ y ∷ []) = refl
+  asked (suc (suc zero)) (x ∷ y ∷ z ∷ s) = rw (and-true (within 0x80 0xBF z))
+  asked (suc (suc (suc n))) s = rw (lt-leb (suc (suc (suc n))) 2 (omega arith))
+
+  yes : (more : ℕ) (s : Text) → begins (rangesBy more (lo, hi)) s ≡ true → (utf8After s (rangesBy more (lo, hi)) ≡ isUtf8 (drop (more + 1) s)) × (more + 1 ≤ length s)
+  yes zero s e = (goes-on ((lo, hi) ∷ []) s e, long-enough ((lo, hi) ∷ []) s e)
+  yes (suc zero) s e = (goes-on ((lo, hi) ∷ tailByte ∷ []) s e, long-enough ((lo, hi) ∷ tailByte ∷ []) s e)
+  yes (suc (suc zero)) s e = (goes-on ((lo, hi) ∷ tailByte ∷ tailByte ∷ []) s e, long-enough ((lo, hi) ∷ tailByte ∷ tailByte ∷ []) s e)
+  yes (suc (suc (suc n))) s e = let z : _≡_ {A = ℕ} 0 1 = cc in absurd (omega arith)
+
+no : (o : Option Ranges) (s : Text) → begins o s ≡ false → utf8After s o ≡ false
+no none s e = nothing s
+no (some rs) s e = stops rs s e
+
+-- ---- the character at i
+
+ascii : (b : ℕ) → b < 128 → following b ≡ some []
+unfolding following
+ascii b h = rw (le-leb 0 b (omega arith), le-leb b 0x7F (omega arith))
+
+pub not-ascii : (b : ℕ) → 128 ≤ b → within 0x00 0x7F b ≡ false
+not-ascii b h = rw (lt-leb b 0x7F h) (and-false (leb 0 b))
+
+after-first : (b : ℕ) (s : Text) → isUtf8 (b ∷ s) ≡ utf8After s (following b)
+unfolding isUtf8 utf8After
+after-first b s = refl
+
+module _ (s : Text) (i : ℕ) (h : i < length s) where
+  begun : isUtf8 (drop i s) ≡ utf8After (drop (i + 1) s) (following (getD s i 0))
+  begun = ap isUtf8 (at-cons s i h) ∙ after-first (getD s i 0) (drop (i + 1) s)
+
+  pub ascii-on : getD s i 0 < 128 → isUtf8 (drop i s) ≡ isUtf8 (drop (i + 1) s)
+  unfolding isUtf8
+  ascii-on l = begun ∙ ap (utf8After (drop (i + 1) s)) (ascii (getD s i 0) l)
+
+  sums : (more : ℕ) → i + 1 + (more + 1) ≡ i + (more + 2)
+  sums more = omega arith
+
+  next : (k m : ℕ) → i + 1 + k ≡ m → getD s m 0 ≡ getD (drop (i + 1) s) k 0
+  next k m e = ap (λ (n : ℕ). getD s n 0) (sym e) ∙ sym (getD-drop (i + 1) s k 0)
+
+  module _ (more lo hi : ℕ) (ranges : rangesBy more (lo, hi) ≡ following (getD s i 0)) (low : 1 ≤ lo) (b c d : ℕ)
+      (eb : b ≡ getD s (i + 1) 0) (ec : c ≡ getD s (i + 2) 0) (ed : d ≡ getD s (i + 3) 0) where
+    answer : fits more lo hi b c d ≡ begins (rangesBy more (lo, hi)) (drop (i + 1) s)
+    answer =
+        let pb = eb ∙ next 0 (i + 1) (omega arith) in
+        let pc = ec ∙ next 1 (i + 2) (omega arith) in
+        let pd = ed ∙ next 2 (i + 3) (omega arith) in
+        rw (pb, pc, pd) (asked lo hi low more (drop (i + 1) s))
+
+    first-read : isUtf8 (drop i s) ≡ utf8After (drop (i + 1) s) (rangesBy more (lo, hi))
+    first-read = begun ∙ ap (utf8After (drop (i + 1) s)) (sym ranges)
+
+    pub well-formed : fits more lo hi b c d ≡ true → Character (drop i s) (more + 2)
+    well-formed e =
+        let y = yes lo hi low more (drop (i + 1) s) (sym answer ∙ e) in
+        record {
+          ill = λ z. absurd (omega arith);
+          well = λ z. first-read ∙ y .0 ∙ ap isUtf8 (drop-drop (more + 1) (i + 1) s ∙ ap (λ (n : ℕ). drop n s) (sums more) ∙ sym (drop-drop (more + 2) i s));
+          inside = simp length-drop (omega (arith, y .1, length-drop (i + 1) s));
+        }
+
+    pub ill-formed : fits more lo hi b c d ≡ false → Character (drop i s) 0
+    ill-formed e =
+        record {
+          ill = λ z. first-read ∙ no (rangesBy more (lo, hi)) (drop (i + 1) s) (sym answer ∙ e);
+          well = λ z. absurd (z refl);
+          inside = omega arith;
+        }
+
+pub utf8-end : (s : Text) (i : ℕ) → length s ≤ i → isUtf8 (drop i s) ≡ true
+unfolding isUtf8 utf8After
+utf8-end s i h = ap isUtf8 (at-end s i h)

@@ -1,0 +1,190 @@
+-- Whole numbers up to a largest one, read digit by digit: what the ranges of the types come to. Assumes nothing.
+use mathlib.Core.Path.{_≡_, refl, sym, ap, subst, _∙_}
+use mathlib.Core.Logic.{_⊎_, inl, inr}
+use mathlib.Core.List.{List, [], _∷_}
+use mathlib.Core.Option.{Option, some, none}
+use mathlib.Core.Bool.{Bool, true, false}
+use Prim.Native.Nat.{ℕ, zero, suc, _+_, _-_, _*_, _/_, _^_, _≤_, _<_}
+use native.Mathlib.Numerals.{add-one}
+use native.Mathlib.Omega.{arith}
+use lib.Dec.{leb, ltb, eqb, leb·suc-suc}
+use lib.IntN.{ℤ, pos, negsuc, negℤ}
+use lib.ListN.{length, drop, getD}
+use borrow.Author.Tests.{leb-true, eqb-true, eq-eqb, ne-eqb}
+use Rattle.definition.specs.Base.{if_then_else_, _>>=_, when, within}
+use Rattle.definition.specs.Text.{Text, Sign, plus, minus, bare, signOf, isDigit, digits, digitsAfter, unsignedBy, signedBy, unsignedOf, signedOf}
+
+-- the number, where it is at most `most`
+abbrev pub upTo : ℕ → Option ℕ → Option ℕ
+upTo most o = o >>= λ n. when (leb n most) n
+
+abbrev pub signed : (ℕ → ℤ) → Option ℕ → Option ℤ
+signed f o = o >>= λ n. some (f n)
+
+abbrev pub minusOf : ℕ → ℤ
+minusOf n = negℤ (pos n)
+
+unfoldable pub numberTo : ℕ → Text → Option ℕ
+numberTo most s = upTo most (digits s)
+
+-- the digits s written after those of v
+unfoldable pub digitsTo : ℕ → ℕ → Text → Option ℕ
+digitsTo most v s = upTo most (digitsAfter v s)
+
+abbrev unsignedUnder : Sign → ℕ → Text → Option ℕ
+unsignedUnder plus most s = numberTo most (drop 1 s)
+unsignedUnder minus most s = none
+unsignedUnder bare most s = numberTo most s
+
+unfoldable pub unsignedTo : ℕ → Text → Option ℕ
+unsignedTo most s = unsignedUnder (signOf s) most s
+
+-- at most `most`, at least -(most + 1)
+abbrev signedUnder : Sign → ℕ → Text → Option ℤ
+signedUnder plus most s = signed pos (numberTo most (drop 1 s))
+signedUnder minus most s = signed minusOf (numberTo (most + 1) (drop 1 s))
+signedUnder bare most s = signed pos (numberTo most s)
+
+unfoldable pub signedTo : ℕ → Text → Option ℤ
+signedTo most s = signedUnder (signOf s) most s
+
+-- ---- the range of a type of w bits
+
+module _ (w most : ℕ) (full : 2 ^ w ≡ suc most) where
+  below : (n : ℕ) → ltb n (2 ^ w) ≡ leb n most
+  below n = ap (leb (suc n)) full ∙ leb·suc-suc n most
+
+  in-range : (o : Option ℕ) → (o >>= λ n. when (ltb n (2 ^ w)) n) ≡ upTo most o
+  in-range none = refl
+  in-range (some n) = ap (λ (b : Bool). when b n) (below n)
+
+  pub unsigned-to : (s : Text) → unsignedOf w s ≡ unsignedTo most s
+  unfolding unsignedOf unsignedTo numberTo
+  unsigned-to s = go (signOf s)
+    where
+      go : (x : Sign) → unsignedBy x w s ≡ unsignedUnder x most s
+      go plus = in-range (digits (drop 1 s))
+      go minus = refl
+      go bare = in-range (digits s)
+
+module _ (w most : ℕ) (half : 2 ^ (w - 1) ≡ suc most) where
+  up-range : (o : Option ℕ) → (o >>= λ n. when (ltb n (2 ^ (w - 1))) (pos n)) ≡ signed pos (upTo most o)
+  up-range none = refl
+  up-range (some n) = ap (λ (b : Bool). when b (pos n)) (below (w - 1) most half n) ∙ go (leb n most)
+    where
+      go : (b : Bool) → when b (pos n) ≡ signed pos (when b n)
+      go true = refl
+      go false = refl
+
+  down-range : (o : Option ℕ) → (o >>= λ n. when (leb n (2 ^ (w - 1))) (negℤ (pos n))) ≡ signed minusOf (upTo (most + 1) o)
+  down-range none = refl
+  down-range (some n) =
+      ap (λ (k : ℕ). when (leb n k) (negℤ (pos n))) (half ∙ sym (add-one most)) ∙ go (leb n (most + 1))
+    where
+      go : (b : Bool) → when b (negℤ (pos n)) ≡ signed minusOf (when b n)
+      go true = refl
+      go false = refl
+
+  pub signed-to : (s : Text) → signedOf w s ≡ signedTo most s
+  unfolding signedOf signedTo numberTo
+  signed-to s = go (signOf s)
+    where
+      go : (x : Sign) → signedBy x w s ≡ signedUnder x most s
+      go plus = up-range (digits (drop 1 s))
+      go minus = down-range (digits (drop 1 s))
+      go bare = up-range (digits s)
+
+-- ---- an answer lies in its range
+
+pub at-most : (most n : ℕ) (o : Option ℕ) → some n ≡ upTo most o → n ≤ most
+at-most most n none e = let z : _≡_ {A = ℕ} 0 1 = cc in absurd (omega arith)
+at-most most n (some m) e = go (leb m most) refl e
+  where
+    go : (b : Bool) → leb m most ≡ b → some n ≡ when b m → n ≤ most
+    go true h k = let q : n ≡ m = cc in let l = leb-true m most h in omega arith
+    go false h k = let z : _≡_ {A = ℕ} 0 1 = cc in absurd (omega arith)
+
+pub unsigned-most : (most n : ℕ) (s : Text) → some n ≡ unsignedTo most s → n ≤ most
+unfolding unsignedTo numberTo
+unsigned-most most n s e = go (signOf s) e
+  where
+    go : (x : Sign) → some n ≡ unsignedUnder x most s → n ≤ most
+    go plus h = at-most most n (digits (drop 1 s)) h
+    go minus h = let z : _≡_ {A = ℕ} 0 1 = cc in absurd (omega arith)
+    go bare h = at-most most n (digits s) h
+
+not-down : (n : ℕ) (o : Option ℕ) → some (negsuc n) ≡ signed pos o → ⊥
+not-down n none e = let z : _≡_ {A = ℕ} 0 1 = cc in omega arith
+not-down n (some m) e = let z : _≡_ {A = ℕ} 0 1 = cc in omega arith
+
+up-of : (n : ℕ) (o : Option ℕ) → some (pos n) ≡ signed pos o → some n ≡ o
+up-of n none e = let z : _≡_ {A = ℕ} 0 1 = cc in absurd (omega arith)
+up-of n (some m) e = let z : n ≡ m = cc in ap some z
+
+down-of : (n : ℕ) (o : Option ℕ) → some (negsuc n) ≡ signed minusOf o → some (suc n) ≡ o
+down-of n none e = let z : _≡_ {A = ℕ} 0 1 = cc in absurd (omega arith)
+down-of n (some zero) e = let z : _≡_ {A = ℕ} 0 1 = cc in absurd (omega arith)
+down-of n (some (suc m)) e = let z : n ≡ m = cc in ap (λ (k : ℕ). some (suc k)) z
+
+zero-of : (n : ℕ) (o : Option ℕ) → some (pos n) ≡ signed minusOf o → n ≡ 0
+zero-of n none e = let z : _≡_ {A = ℕ} 0 1 = cc in absurd (omega arith)
+zero-of n (some zero) e = cc
+zero-of n (some (suc m)) e = let z : _≡_ {A = ℕ} 0 1 = cc in absurd (omega arith)
+
+pub signed-most : (most n : ℕ) (s : Text) → some (pos n) ≡ signedTo most s → n ≤ most
+unfolding signedTo numberTo
+signed-most most n s e = go (signOf s) e
+  where
+    go : (x : Sign) → some (pos n) ≡ signedUnder x most s → n ≤ most
+    go plus h = at-most most n (digits (drop 1 s)) (up-of n (upTo most (digits (drop 1 s))) h)
+    go minus h = let z = zero-of n (upTo (most + 1) (digits (drop 1 s))) h in omega arith
+    go bare h = at-most most n (digits s) (up-of n (upTo most (digits s)) h)
+
+pub signed-least : (most n : ℕ) (s : Text) → some (negsuc n) ≡ signedTo most s → n ≤ most
+unfolding signedTo numberTo
+signed-least most n s e = go (signOf s) e
+  where
+    go : (x : Sign) → some (negsuc n) ≡ signedUnder x most s → n ≤ most
+    go plus h = absurd (not-down n (upTo most (digits (drop 1 s))) h)
+    go minus h = let z = at-most (most + 1) (suc n) (digits (drop 1 s)) (down-of n (upTo (most + 1) (digits (drop 1 s))) h) in omega arith
+    go bare h = absurd (not-down n (upTo most (digits s)) h)
+
+-- ---- by the first byte
+
+module _ (most : ℕ) where
+  pub plus-unsigned : (s : Text) → getD s 0 0 ≡ 43 → unsignedTo most s ≡ numberTo most (drop 1 s)
+  unfolding unsignedTo signOf
+  plus-unsigned [] e = absurd (omega arith)
+  plus-unsigned (b ∷ s) e = rw (eq-eqb b 43 e)
+
+  minus-number : (b : ℕ) (s : Text) → b ≡ 45 → numberTo most (b ∷ s) ≡ none
+  unfolding numberTo digits digitsAfter
+  minus-number b s e = ap (λ (x : ℕ). numberTo most (x ∷ s)) e
+
+  pub bare-unsigned : (s : Text) → (getD s 0 0 ≡ 43 → ⊥) → unsignedTo most s ≡ numberTo most s
+  unfolding unsignedTo signOf
+  bare-unsigned [] n = refl
+  bare-unsigned (b ∷ s) n = rw (ne-eqb b 43 n) (go (eqb b 45) refl)
+    where
+      go : (x : Bool) → eqb b 45 ≡ x → unsignedUnder (if x then minus else bare) most (b ∷ s) ≡ numberTo most (b ∷ s)
+      go true e = sym (minus-number b s (eqb-true b 45 e))
+      go false e = refl
+
+  pub minus-signed : (s : Text) → getD s 0 0 ≡ 45 → signedTo most s ≡ signed minusOf (numberTo (most + 1) (drop 1 s))
+  unfolding signedTo signOf
+  minus-signed [] e = absurd (omega arith)
+  minus-signed (b ∷ s) e = rw (ne-eqb b 43 (λ z. omega arith), eq-eqb b 45 e)
+
+  pub other-signed : (s : Text) → (getD s 0 0 ≡ 45 → ⊥) → signedTo most s ≡ signed pos (unsignedTo most s)
+  unfolding signedTo unsignedTo signOf
+  other-signed [] n = refl
+  other-signed (b ∷ s) n = rw (ne-eqb b 45 n) (go (eqb b 43))
+    where
+      go : (x : Bool) → signedUnder (if x then plus else bare) most (b ∷ s) ≡ signed pos (unsignedUnder (if x then plus else bare) most (b ∷ s))
+      go true = refl
+      go false = refl
+
+-- a byte that is not 0 stands within
+pub first-within : (s : Text) (b : ℕ) → getD s 0 0 ≡ suc b → 0 < length s
+first-within [] b e = absurd (omega arith)
+first-within (x ∷ s) b e = omega arith
