@@ -10,6 +10,10 @@ abbrev pub if_then_else_ : {A : Type 0} → Bool → A → A → A
 if true then a else b = a
 if false then a else b = b
 
+-- lo ≤ n ≤ hi
+abbrev pub within : ℕ → ℕ → ℕ → Bool
+within lo hi n = leb lo n && leb n hi
+
 -- ---- what may be missing
 
 infixl 12 _>>=_
@@ -39,9 +43,6 @@ when true a = some a
 when false a = none
 
 -- ---- lists
-
-abbrev pub within : ℕ → ℕ → ℕ → Bool
-within lo hi n = leb lo n && leb n hi
 
 unfoldable pub keep : {A : Type 0} → (A → Bool) → List A → List A
 keep p [] = []

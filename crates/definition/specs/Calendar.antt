@@ -1,4 +1,4 @@
--- Calendars. MSPDI: WeekDays give days and hours (DayType 1 is Sunday), Exceptions days off or on. Document 01: calendars without a base first,
+-- Calendars. MSPDI: WeekDays give days and hours (DayType 1 is Sunday), Exceptions days off or on. Document 01 and the Rust: calendars without a base first,
 -- then the others, each over a copy of the first earlier one with that UID, else over the default. Equal names gain `*`. Main is the one of
 -- CalendarUID, else the first, else the default. Weekdays apply before exceptions, so an exception asks the final week. A day off on a
 -- working weekday is a holiday; a day worked without hours on another weekday is an extra day; a day worked with hours has those, and the
@@ -135,14 +135,14 @@ byDate x y = ltb (x .0) (y .0)
 unfoldable pub calendarOf : Element → Calendar → Calendar
 calendarOf e base =
     let week = weekBy (weekDays e) (base .week) in
-    let given = exceptionsOf e in
+    let changes = exceptionsOf e in
     record {
       name = textIn e "Name" or bytes "Calendar";
       week = week;
       hours = hoursBy (weekDays e) (base .hours);
-      holidays = insertAll ltb (flatMap (daysOff week) given) (base .holidays);
-      extraDays = insertAll ltb (flatMap (daysOn week) given) (base .extraDays);
-      exceptions = insertAll byDate (flatMap daysWithHours given) (base .exceptions);
+      holidays = insertAll ltb (flatMap (daysOff week) changes) (base .holidays);
+      extraDays = insertAll ltb (flatMap (daysOn week) changes) (base .extraDays);
+      exceptions = insertAll byDate (flatMap daysWithHours changes) (base .exceptions);
     }
 
 -- ---- all calendars, each with its UID

@@ -63,6 +63,7 @@ unfoldable pub monthWithin : ℕ → ℕ → ℕ → ℕ
 monthWithin y zero n = 1
 monthWithin y (suc k) n = if leb (monthsLength y (suc k)) n then suc k else monthWithin y k n
 
+-- counted from the year -10000
 unfoldable pub yearOf : Date → ℕ
 yearOf d = d / cycle * 400 + yearWithin 400 (d % cycle)
 

@@ -39,7 +39,6 @@ f ⊗ g = record {
 unfoldable pub via : {A B : Type 0} → (A → Option B) → (B → A) → Format A → Format B
 via to from f = record { put = λ n b. f .put n (from b); get = λ l. f .get l >>= λ x. to (x .0) >>= λ b. some (b, x .1) }
 
--- a value, and another where a test of the first says so
 abbrev pub putGiven : {B : Type 0} → Format B → ℕ → Option B → Bits
 putGiven g n none = []
 putGiven g n (some b) = g .put n b
@@ -48,6 +47,7 @@ abbrev pub getGiven : {B : Type 0} → Bool → Format B → Bits → Option (Op
 getGiven false g l = some (none, l)
 getGiven true g l = g .get l >>= λ y. some (some (y .0), y .1)
 
+-- a value, and another where a test of the first says so
 unfoldable pub depending : {A B : Type 0} → Format A → (A → Bool) → Format B → Format (A × Option B)
 depending f test g = record {
   put = λ n p. f .put n (p .0) ++ putGiven g (n + length (f .put n (p .0))) (p .1);

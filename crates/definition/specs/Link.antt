@@ -1,5 +1,5 @@
--- Links. MSPDI: a PredecessorLink names its predecessor's UID; LinkLag is in tenths of a minute, of a percent where LagFormat is 19 or 20. Document
--- 01: it is across projects with a yes in CrossProject, else dangling if its PredecessorUID is absent or no kept task's UID, else kept, from
+-- Links. MSPDI: a PredecessorLink names its predecessor's UID; LinkLag is in tenths of a minute, of a percent where LagFormat is 19 or 20. Document 01
+-- and the Rust: it is across projects with a yes in CrossProject, else dangling if its PredecessorUID is absent or no kept task's UID, else kept, from
 -- the row of the last kept task with that UID to the row of the task it stands in. Lags are cut toward zero to whole minutes before they are
 -- tested for whole days: a lag of -15 tenths is -1 minute, so lag 0 and minutes -1. The day is always MinutesPerDay. Assumes nothing.
 use Prim.Native.Nat.{ℕ, suc, _/_, _%_, _*_, min}

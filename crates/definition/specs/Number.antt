@@ -1,4 +1,4 @@
--- Number texts. Rust's grammar of an f64: a sign or none, digits with a dot or none, one digit at least, then nothing or `e`, a sign or
+-- Number texts. Rust's grammar of an f64: a sign or none, digits with a dot or none, one digit at least, then nothing or `e` or `E`, a sign or
 -- none, and digits; (`inf`, `infinity` and `nan` are read too and give none, so they are left out here.) Document 01: a text is short if it
 -- has at most 15 digits after leading zeros are dropped and its power of ten, fraction digits taken off, lies in -22 to 22, or if all
 -- digits are 0. Its value is the f64 nearest to the decimal, ties to even, as IEEE 754 has it. Amounts are rounded to whole numbers, a half

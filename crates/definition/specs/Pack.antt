@@ -177,6 +177,7 @@ modelFrom b =
     let (p, (c, (a, (l, (r, (s, e)))))) = b in
     record { project = p; calendars = c; activities = a; links = l; resources = r; assignments = s; expenses = e }
 
+-- six counts are whole bytes, so the body stands as behind none
 unfoldable pub model : Format Model
 model = record {
   put = λ n m. counts .put n (countsOf m) ++ body (countsOf m) .put n (bodyOf m);

@@ -1,4 +1,4 @@
--- The model of a tree, whose root is a Project. Document 01: the main calendar, then the others whose name is not the main one's, in the
+-- The model of a tree, whose root is a Project. Document 01 and the Rust: the main calendar, then the others whose name is not the main one's, in the
 -- order in which they were built, then the elapsed one where a kept task is elapsed; activities, links, resources, assignments,
 -- expenses; the project's own fields, with the counts of skipped exceptions and of links dangling and across. Assumes nothing.
 use Prim.Native.Nat.{ℕ}

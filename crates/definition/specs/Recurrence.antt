@@ -92,7 +92,7 @@ abbrev pub atPosition : ℤ → List Date → Option Date
 atPosition (negsuc n) l = none
 atPosition (pos n) l = if eqb n 4 then findLast (λ d. true) l else if ltb n 4 then getElem? l n else none
 
--- the item at the position of a month; December 9999 has no position
+-- the item at the position of a month; December 9999, of the year 19999 as counted here, has no position
 unfoldable pub nthInMonth : ℕ → ℕ → ℤ → ℤ → Option Date
 nthInMonth y m item position =
     if eqb y 19999 && eqb m 12 then none else atPosition position (keep (itemFits item) (count (dateAt y m 1) (monthLength y m)))

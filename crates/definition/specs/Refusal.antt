@@ -1,8 +1,9 @@
 -- What each call gives. Document 01: it returns a number alone, or its result; lent outputs are all zeros on a refusal, as is the part behind a
 -- result. The lowest number that applies is given, and only then:
 -- 1 tree breaks the layout; 2 name or text not UTF-8; 3 over 5,000,000 elements; 4 root not `Project`, or none; 5 number too long; 6 model
--- does not decode; 7 the check's list is broken; 8 value asked outside its range; 9 result longer than its buffer. Assumes nothing.
-use Prim.Native.Nat.{ℕ, _+_, _-_, _*_}
+-- does not decode; 7 the check's list is broken; 8 value asked outside its range; 9 result longer than its buffer, or rows or
+-- work slice below what the outline needs. Assumes nothing.
+use Prim.Native.Nat.{ℕ, _-_, _*_, _/_}
 use mathlib.Core.Bool.{Bool, true, false, _&&_, _||_, not}
 use mathlib.Core.List.{List, [], _∷_, _++_, flatMap}
 use mathlib.Core.Option.{Option, some, none}
@@ -115,6 +116,10 @@ outlineBy none rows work = refused 6
 outlineBy (some m) rows work =
     if ltb rows (2 * length (m .activities)) || ltb work (4 * length (m .activities)) then refused 9 else gives (rowWords (outline m))
 
+-- how many rows
+abbrev pub rowCount : Answer → ℕ
+rowCount a = written a / 2
+
 unfoldable pub outlineAnswer : Text → ℕ → ℕ → Answer
 outlineAnswer s rows work = outlineBy (decode s) rows work
 
@@ -131,10 +136,21 @@ sheetBy (some m) row day room = sheetOn (getElem? (m .calendars) row) (fromDays 
 unfoldable pub daySheetAnswer : Text → ℕ → ℤ → ℕ → Answer
 daySheetAnswer s row day room = sheetBy (decode s) row day room
 
--- the text of minutes, and of a time
+-- the text of minutes from 0 to the most that durationOf gives, and of a time up to 1440
 unfoldable pub durationAnswer : ℤ → ℕ → Answer
 durationAnswer (negsuc n) room = refused 8
 durationAnswer (pos n) room = if leb n mostMinutes then inRoom room (durationText n) else refused 8
 
 unfoldable pub timeAnswer : ℕ → ℕ → Answer
 timeAnswer t room = if leb t mostTime then inRoom room (timeText t) else refused 8
+
+-- the reading program, 65,536 bytes at most each way: what it writes
+abbrev pub mostProgramBytes : ℕ
+mostProgramBytes = 65536
+
+abbrev pub output : Answer → List ℕ
+output (refused n) = []
+output (gives l) = l
+
+unfoldable pub programWrites : Text → Text
+programWrites tree = if leb (length tree) mostProgramBytes then output (readAnswer tree mostProgramBytes) else []

@@ -1,4 +1,4 @@
--- Tasks. Document 01: a kept task is one of the first 100,000 `Task` elements in `Tasks`, has a UID other than `0`, and an OutlineLevel (1 where
+-- Tasks. Document 01 and the Rust: a kept task is one of the first 100,000 `Task` elements in `Tasks`, has a UID other than `0`, and an OutlineLevel (1 where
 -- none is read) of at least 1. Activity row 0 is made from the first of them, and so on. Its id is WBS, else ID, else UID, and gains `*`
 -- until no earlier activity has it. Its parent is the nearest earlier one of a lower level. MSPDI: DurationFormat 4, 6, 8, 10, 12 (and 20)
 -- are elapsed time, where a day has 1440 minutes and not MinutesPerDay; 32 more means estimated. Assumes nothing.

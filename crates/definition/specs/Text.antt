@@ -109,7 +109,7 @@ unfoldable pub digits : Text → Option ℕ
 digits [] = none
 digits (b ∷ s) = digitsAfter 0 (b ∷ s)
 
--- a sign in front: `+`, `-` or none, and what follows it
+-- a sign in front: `+`, `-` or none
 pub data Sign : Type 0 where
   plus minus bare : Sign
 

@@ -126,7 +126,7 @@ nonEmpty (b ∷ s) = some (b ∷ s)
 unfoldable pub textOf : Element → Text → Option Text
 textOf e n = child e n >>= λ c. nonEmpty (trim (c .text))
 
--- all elements of a name in the first child of another: `Task` in `Tasks`
+-- all elements of a name in an element; none where that one is missing
 abbrev pub allIn : Option Element → Text → List Element
 allIn none n = []
 allIn (some e) n = all e n
