@@ -1,19 +1,20 @@
 -- One character of UTF-8 further on. Assumes nothing.
-use mathlib.Core.Path.{_≡_, refl, sym, ap, _∙_}
+use mathlib.Core.Path.{_≡_, refl, sym, ap, subst, _∙_}
 use mathlib.Core.List.{List, [], _∷_}
 use mathlib.Core.Option.{Option, some, none}
 use mathlib.Core.Bool.{Bool, true, false, _&&_, _||_}
 use Prim.Native.Nat.{ℕ, zero, suc, _+_, _≤_, _<_}
 use native.Mathlib.Omega.{arith}
-use lib.Dec.{leb}
+use lib.Dec.{leb, ltb}
+use lib.Bits.{bitOr, or-add-and, and-le-l, and-le-r}
 use lib.ListN.{length, drop, getD, length-drop}
 use lib.Seq.{getD-drop, drop-drop}
-use borrow.Author.Tests.{le-leb, lt-leb}
+use borrow.Author.Tests.{ltb-true, le-leb, lt-leb}
 use Rattle.definition.specs.Base.{if_then_else_, when, within}
 use Rattle.definition.specs.Text.{Text, tailByte, following, utf8After, isUtf8}
 use Rattle.text.specs.Bools.{and-left, and-right, and-true, and-false}
 use Rattle.text.specs.Parts.{at-cons, at-end}
-use Rattle.text.specs.Utf8.{rangesBy, fits, Character}
+use Rattle.text.specs.Utf8.{rangesBy, fits, Character, Skips}
 
 abbrev Ranges : Type 0
 Ranges = List (ℕ × ℕ)
@@ -140,3 +141,48 @@ module _ (s : Text) (i : ℕ) (h : i < length s) where
 pub utf8-end : (s : Text) (i : ℕ) → length s ≤ i → isUtf8 (drop i s) ≡ true
 unfolding isUtf8 utf8After
 utf8-end s i h = ap isUtf8 (at-end s i h)
+
+-- ---- runs of ASCII
+
+abbrev joined : ℕ → ℕ → ℕ → ℕ → ℕ → ℕ → ℕ → ℕ → ℕ
+joined a b c d e f g h = bitOr (bitOr (bitOr (bitOr (bitOr (bitOr (bitOr a b) c) d) e) f) g) h
+
+or-left : (a b : ℕ) → bitOr a b < 128 → a < 128
+or-left a b h = let e = or-add-and a b in let l = and-le-r a b in omega arith
+
+or-right : (a b : ℕ) → bitOr a b < 128 → b < 128
+or-right a b h = let e = or-add-and a b in let l = and-le-l a b in omega arith
+
+pub stay : (s : Text) (i : ℕ) → i ≤ length s → Skips s i i
+stay s i h = record { forward = omega arith; inside = h; same = refl }
+
+infixl 5 _⨾_
+pub _⨾_ : {s : Text} {i j k : ℕ} → Skips s i j → Skips s j k → Skips s i k
+a ⨾ b = record { forward = omega arith; inside = b .inside; same = a .same ∙ b .same }
+
+pub skip-char : (s : Text) (i w : ℕ) → i ≤ length s → Character (drop i s) w → (w ≡ 0 → ⊥) → Skips s i (i + w)
+skip-char s i w h c n =
+    let l = length-drop i s in
+    let k = c .inside in
+    record { forward = omega arith; inside = omega arith; same = c .well n ∙ ap isUtf8 (drop-drop w i s) }
+
+pub skip-one : (s : Text) (i j : ℕ) → i + 1 ≡ j → i < length s → getD s i 0 < 128 → Skips s i j
+skip-one s i j e h l =
+    record { forward = omega arith; inside = omega arith; same = ascii-on s i h l ∙ ap (λ (k : ℕ). isUtf8 (drop k s)) e }
+
+module _ (s : Text) (i : ℕ) where
+  run-more : (k : ℕ) {v : ℕ} → i + k < length s → (v < 128 → Skips s i (i + k)) → bitOr v (getD s (i + k) 0) < 128 → Skips s i (i + (k + 1))
+  run-more k {v} h f l =
+      f (or-left v (getD s (i + k) 0) l) ⨾ skip-one s (i + k) (i + (k + 1)) (omega arith) h (or-right v (getD s (i + k) 0) l)
+
+  -- the bytes are joined from the left, as the code joins them
+  pub eight : {v : ℕ} → i + 8 ≤ length s → v ≡ joined (getD s i 0) (getD s (i + 1) 0) (getD s (i + 2) 0) (getD s (i + 3) 0) (getD s (i + 4) 0) (getD s (i + 5) 0) (getD s (i + 6) 0) (getD s (i + 7) 0) → ltb v 128 ≡ true → Skips s i (i + 8)
+  eight {v} h e t =
+      run-more 7 (omega arith)
+      (run-more 6 (omega arith)
+      (run-more 5 (omega arith)
+      (run-more 4 (omega arith)
+      (run-more 3 (omega arith)
+      (run-more 2 (omega arith)
+      (run-more 1 (omega arith) (λ l. skip-one s i (i + 1) refl (omega arith) l)))))))
+      (subst (λ (x : ℕ). x < 128) e (ltb-true v 128 t))

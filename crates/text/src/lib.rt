@@ -1,6 +1,7 @@
 // Texts, as bytes: trimming, parts, whole numbers, UTF-8.
 
 ghost use mathlib.Core.Path.{_≡_};
+ghost use mathlib.Core.Bool.{true};
 ghost use mathlib.Core.List.{reverse};
 ghost use Prim.Native.Nat.{ℕ, _+_, _-_, _^_, _≤_, _<_};
 ghost use lib.ListN.{length, getD, take, drop};
@@ -10,18 +11,21 @@ ghost use Rattle.text.specs.White.{widthBy, frontOf, backOf};
 
 // ---- White_Space at both ends
 
+// U+0009 to U+000D, U+0020
 fn white1(a: u8) -> bool
     ensures { λ r. ⌜ r ≡ isWhite1 a ⌝ }
 {
     ((9 <= a) & (a <= 13)) | (a == 32)
 }
 
+// U+0085, U+00A0
 fn white2(a: u8, b: u8) -> bool
     ensures { λ r. ⌜ r ≡ isWhite2 a b ⌝ }
 {
     (a == 0xC2) & ((b == 0x85) | (b == 0xA0))
 }
 
+// U+1680; U+2000 to U+200A, U+2028, U+2029, U+202F; U+205F; U+3000
 fn white3(a: u8, b: u8, c: u8) -> bool
     ensures { λ r. ⌜ r ≡ isWhite3 a b c ⌝ }
 {
@@ -41,6 +45,7 @@ fn plain(a: u8) -> bool
     (33 <= a) & (a <= 127)
 }
 
+// How many bytes white space takes, by the tests on one, two and three bytes.
 fn width(one: bool, two: bool, three: bool) -> usize
     ensures { λ r. ⌜ r ≡ widthBy one two three ⌝ }
 {
@@ -57,7 +62,7 @@ fn width(one: bool, two: bool, three: bool) -> usize
 }
 
 // The byte at i, 0 past the end.
-fn byte_at(s: &[u8], i: usize) -> u8
+pub fn byte_at(s: &[u8], i: usize) -> u8
     ensures { λ r. ⌜ r ≡ getD (now (s .entry)) i 0 ⌝ }
 {
     if i < s.len() {
@@ -180,6 +185,7 @@ pub fn after(s: &[u8], b: u8) -> &[u8]
     &s[s.len()..]
 }
 
+// Whether there is a byte b.
 pub fn has(s: &[u8], b: u8) -> bool
     ensures { λ r. ⌜ r ≡ given (afterOf (eqb b) (now (s .entry))) ⌝ }
 {
@@ -269,6 +275,7 @@ fn unsigned_to(s: &[u8], most: u64) -> U64Answer
     number_to(s, most)
 }
 
+// n; and -n.
 fn upward(a: U64Answer) -> Signed
     ensures { λ r. ⌜ signedMeans r ≡ signed pos (u64Of a) ⌝ }
 {
@@ -384,89 +391,50 @@ pub fn is_yes(s: &[u8]) -> bool
 // ---- UTF-8
 
 ghost use Rattle.definition.specs.Text.{isUtf8};
-ghost use Rattle.text.specs.Utf8.{Begun, fitsBy, Character};
+ghost use Rattle.text.specs.Utf8.{Begun, fitsBy, Character, Skips};
 
-// What follows a first byte: a byte from `lo` to `hi`, and `more` tail bytes; `more` is 3 where the byte begins nothing.
-struct First {
-    more: usize,
-    lo: u8,
-    hi: u8,
-}
+// What follows a first byte: after a byte in a range so many tail bytes more, 3 where the byte begins nothing; the range's ends.
+struct First(usize, u8, u8);
 
+// Table 3-7 of the Unicode Standard, for the first bytes from 128 on.
 fn first_of(b: u8) -> First
     requires { ⌜ 128 ≤ b ⌝ }
     ensures { λ r. ⌜ Begun r b ⌝ }
 {
     if (0xC2 <= b) & (b <= 0xDF) {
-        return First {
-            more: 0,
-            lo: 0x80,
-            hi: 0xBF,
-        };
+        return First(0, 0x80, 0xBF);
     }
     if b == 0xE0 {
-        return First {
-            more: 1,
-            lo: 0xA0,
-            hi: 0xBF,
-        };
+        return First(1, 0xA0, 0xBF);
     }
     if (0xE1 <= b) & (b <= 0xEC) {
-        return First {
-            more: 1,
-            lo: 0x80,
-            hi: 0xBF,
-        };
+        return First(1, 0x80, 0xBF);
     }
     if b == 0xED {
-        return First {
-            more: 1,
-            lo: 0x80,
-            hi: 0x9F,
-        };
+        return First(1, 0x80, 0x9F);
     }
     if (0xEE <= b) & (b <= 0xEF) {
-        return First {
-            more: 1,
-            lo: 0x80,
-            hi: 0xBF,
-        };
+        return First(1, 0x80, 0xBF);
     }
     if b == 0xF0 {
-        return First {
-            more: 2,
-            lo: 0x90,
-            hi: 0xBF,
-        };
+        return First(2, 0x90, 0xBF);
     }
     if (0xF1 <= b) & (b <= 0xF3) {
-        return First {
-            more: 2,
-            lo: 0x80,
-            hi: 0xBF,
-        };
+        return First(2, 0x80, 0xBF);
     }
     if b == 0xF4 {
-        return First {
-            more: 2,
-            lo: 0x80,
-            hi: 0x8F,
-        };
+        return First(2, 0x80, 0x8F);
     }
-    First {
-        more: 3,
-        lo: 0x80,
-        hi: 0xBF,
-    }
+    First(3, 0x80, 0xBF)
 }
 
 // Whether b, c, d are what follows.
 fn fits(f: First, b: u8, c: u8, d: u8) -> bool
     ensures { λ r. ⌜ r ≡ fitsBy f b c d ⌝ }
 {
-    let more = f.more;
-    let lo = f.lo;
-    let hi = f.hi;
+    let more = f.0;
+    let lo = f.1;
+    let hi = f.2;
     let c_tail = (0x80 <= c) & (c <= 0xBF);
     let d_tail = (0x80 <= d) & (d <= 0xBF);
     (more <= 2) & (((lo <= b) & (b <= hi)) & (((more <= 0) | c_tail) & ((more <= 1) | d_tail)))
@@ -479,18 +447,54 @@ fn char_at(s: &[u8], i: usize) -> usize
 {
     let f = first_of(s[i]);
     if fits(f, byte_at(s, i + 1), byte_at(s, i + 2), byte_at(s, i + 3)) {
-        return f.more + 2;
+        return f.0 + 2;
     }
     0
 }
 
+// Whether the eight bytes from i on are ASCII.
+fn eight_ascii(s: &[u8], i: usize) -> bool
+    requires { ⌜ i + 8 ≤ length (now s) ⌝ }
+    ensures { λ r. ⌜ (r ≡ true → Skips (now (s .entry)) i (i + 8)) ⌝ }
+{
+    (s[i] | s[i + 1] | s[i + 2] | s[i + 3] | s[i + 4] | s[i + 5] | s[i + 6] | s[i + 7]) < 128
+}
+
+// The place behind all that follows of ASCII, eight bytes at a time.
+fn ascii_run(s: &[u8], i: usize) -> usize
+    requires { ⌜ i ≤ length (now s) ⌝ }
+    ensures { λ r. ⌜ Skips (now (s .entry)) i r ⌝ }
+{
+    let mut j = i;
+    while 8 <= s.len() - j {
+        if !eight_ascii(s, j) {
+            return j;
+        }
+        j += 8;
+    }
+    j
+}
+
+// Where to go on after the byte at i: runs are tried at every eighth place.
+fn after_ascii(s: &[u8], i: usize) -> usize
+    requires { ⌜ i < length (now s) ⌝ }
+    ensures { λ r. ⌜ Skips (now (s .entry)) (i + 1) r ⌝ }
+{
+    let j = i + 1;
+    if j % 8 == 0 {
+        return ascii_run(s, j);
+    }
+    j
+}
+
+// Well-formed UTF-8.
 pub fn is_utf8(s: &[u8]) -> bool
     ensures { λ r. ⌜ r ≡ isUtf8 (now (s .entry)) ⌝ }
 {
     let mut i = 0;
     while i < s.len() {
         if s[i] < 128 {
-            i += 1;
+            i = after_ascii(s, i);
             continue;
         }
         let w = char_at(s, i);

@@ -8,50 +8,37 @@ use native.Mathlib.Omega.{arith}
 use borrow.Author.Needs.{needs}
 use Rattle.text.proofs.after.Statement.{statement}
 use Rattle.text.proofs.after.Tie as tie
-use Rattle.text.proofs.after.Reads as reads
-use Rattle.text.proofs.after.Lts as lts
-use Rattle.text.proofs.place.Reads as place-reads
 
--- src/lib.rt:174:9
 place-requires : tie.Need-place-requires
 place-requires c κs = search needs
 
--- src/lib.rt:176:19
 add-result : tie.Need-add-result
 add-result c = search needs
 
--- src/lib.rt:176:16
 sub-result : tie.Need-sub-result
 sub-result c = search needs
 
--- src/lib.rt:176:16
 part-result-start : tie.Need-part-result-start
 part-result-start c = search needs
 
--- src/lib.rt:176:16
 part-result-end : tie.Need-part-result-end
 part-result-end c = search needs
 
--- src/lib.rt:176:9
 returns : tie.Need-returns
 returns c =
     let p = c .before .before in
     let a = p .before .before .args in
     all-of (p .place .result + 1) (a .s .now) ∙ ap (λ (n : ℕ). drop (n + 1) (a .s .now)) (p .place .ensures) ∙ sym (after-drop (eqb (a .b)) (a .s .now))
 
--- src/lib.rt:178:5
 sub-result-2 : tie.Need-sub-result-2
 sub-result-2 c = search needs
 
--- src/lib.rt:178:5
 part-result-start-2 : tie.Need-part-result-start-2
 part-result-start-2 c = search needs
 
--- src/lib.rt:178:5
 part-result-end-2 : tie.Need-part-result-end-2
 part-result-end-2 c = search needs
 
--- src/lib.rt:171:1
 returns-2 : tie.Need-returns-2
 returns-2 c =
     let p = c .before .before in

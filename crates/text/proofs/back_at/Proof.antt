@@ -1,62 +1,41 @@
-use mathlib.Core.Path.{refl, sym, ap, _∙_}
-use mathlib.Core.Bool.{Bool, true}
-use Prim.Native.Nat.{ℕ}
+use mathlib.Core.Path.{sym, ap, _∙_}
 use Rattle.definition.specs.Base.{within}
-use Rattle.definition.specs.Text.{white1, white2, white3, backWidth}
+use Rattle.definition.specs.Text.{white1, white2, white3}
 use Rattle.text.proofs.Strip.{back-plain, back-read}
-use native.Mathlib.Omega.{arith}
 use borrow.Author.Needs.{needs}
 use Rattle.text.proofs.back_at.Statement.{statement}
 use Rattle.text.proofs.back_at.Tie as tie
-use Rattle.text.proofs.back_at.Reads as reads
-use Rattle.text.proofs.back_at.Lts as lts
-use Rattle.text.proofs.byte_before.Reads as byte-before-reads
-use Rattle.text.proofs.plain.Reads as plain-reads
-use Rattle.text.proofs.white1.Reads as white1-reads
-use Rattle.text.proofs.white2.Reads as white2-reads
-use Rattle.text.proofs.white3.Reads as white3-reads
-use Rattle.text.proofs.width.Reads as width-reads
 
--- src/lib.rt:96:9
 byte-before-requires : tie.Need-byte-before-requires
 byte-before-requires c κs = search needs
 
--- src/lib.rt:97:8
 plain-requires : tie.Need-plain-requires
 plain-requires c κs = search needs
 
--- src/lib.rt:98:9
 returns : tie.Need-returns
 returns c =
     let b = c .before .before in
     let a = b .before .before .args in
     back-plain (a .s .now) 0 (a .e) (ap (within 33 127) (sym (b .byte-before .ensures)) ∙ sym (c .before .plain .ensures) ∙ c .if1 .taken)
 
--- src/lib.rt:100:9
 byte-before-requires-2 : tie.Need-byte-before-requires-2
 byte-before-requires-2 c κs = search needs
 
--- src/lib.rt:101:9
 byte-before-requires-3 : tie.Need-byte-before-requires-3
 byte-before-requires-3 c κs = search needs
 
--- src/lib.rt:102:11
 white1-requires : tie.Need-white1-requires
 white1-requires c κs = search needs
 
--- src/lib.rt:102:22
 white2-requires : tie.Need-white2-requires
 white2-requires c κs = search needs
 
--- src/lib.rt:102:36
 white3-requires : tie.Need-white3-requires
 white3-requires c κs = search needs
 
--- src/lib.rt:102:5
 width-requires : tie.Need-width-requires
 width-requires c κs = search needs
 
--- src/lib.rt:92:1
 returns-2 : tie.Need-returns-2
 returns-2 c =
     let w3 = c .before in

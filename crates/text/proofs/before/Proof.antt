@@ -8,15 +8,10 @@ use native.Mathlib.Omega.{arith}
 use borrow.Author.Needs.{needs}
 use Rattle.text.proofs.before.Statement.{statement}
 use Rattle.text.proofs.before.Tie as tie
-use Rattle.text.proofs.before.Reads as reads
-use Rattle.text.proofs.before.Lts as lts
-use Rattle.text.proofs.place.Reads as place-reads
 
--- src/lib.rt:166:9
 place-requires : tie.Need-place-requires
 place-requires c κs = search needs
 
--- src/lib.rt:167:5
 slice-aggregate-result : tie.Need-slice-aggregate-result
 slice-aggregate-result c =
     let a = c .before .before .before .args in
@@ -25,7 +20,6 @@ slice-aggregate-result c =
     let l : k ≤ length (a .s .now) = omega (arith, c .before .place .ensures) in
     sym (length-take-le k (a .s .now) l)
 
--- src/lib.rt:163:1
 returns : tie.Need-returns
 returns c =
     let a = c .before .before .before .args in

@@ -1,31 +1,23 @@
 use Prim.Native.Nat.{_-_}
 use Rattle.text.proofs.Strip.{byte-back, byte-none}
-use native.Mathlib.Omega.{arith}
 use borrow.Author.Needs.{needs}
 use Rattle.text.proofs.byte_before.Statement.{statement}
 use Rattle.text.proofs.byte_before.Tie as tie
-use Rattle.text.proofs.byte_before.Reads as reads
-use Rattle.text.proofs.byte_before.Lts as lts
 
--- src/lib.rt:73:18
 sub-result : tie.Need-sub-result
 sub-result c = search needs
 
--- src/lib.rt:73:18
 sub-result-2 : tie.Need-sub-result-2
 sub-result-2 c = search needs
 
--- src/lib.rt:73:16
 shared-slice-read-result : tie.Need-shared-slice-read-result
 shared-slice-read-result c = search needs
 
--- src/lib.rt:73:9
 returns : tie.Need-returns
 returns c =
     let a = c .before .before .args in
     byte-back (a .s .now) (a .e) (search needs) (a .k) (a .e - a .k - 1) (search needs)
 
--- src/lib.rt:68:1
 returns-2 : tie.Need-returns-2
 returns-2 c =
     let a = c .before .args in

@@ -1,56 +1,39 @@
 use mathlib.Core.Path.{sym, _∙_}
 use Rattle.text.proofs.Wellformed.{well-formed, ill-formed}
-use native.Mathlib.Omega.{arith}
 use borrow.Author.Needs.{needs}
 use Rattle.text.proofs.char_at.Statement.{statement}
 use Rattle.text.proofs.char_at.Tie as tie
-use Rattle.text.proofs.char_at.Reads as reads
-use Rattle.text.proofs.char_at.Lts as lts
-use Rattle.text.proofs.byte_at.Reads as byte-at-reads
-use Rattle.text.proofs.first_of.Reads as first-of-reads
-use Rattle.text.proofs.fits.Reads as fits-reads
 
--- src/lib.rt:444:22
 shared-slice-read-first-of : tie.Need-shared-slice-read-first-of
 shared-slice-read-first-of c = search needs
 
--- src/lib.rt:444:9
 first-of-requires : tie.Need-first-of-requires
 first-of-requires c κs = search needs
 
--- src/lib.rt:445:27
 add-byte-at : tie.Need-add-byte-at
 add-byte-at c = search needs
 
--- src/lib.rt:445:16
 byte-at-requires : tie.Need-byte-at-requires
 byte-at-requires c κs = search needs
 
--- src/lib.rt:445:46
 add-byte-at-2 : tie.Need-add-byte-at-2
 add-byte-at-2 c = search needs
 
--- src/lib.rt:445:35
 byte-at-requires-2 : tie.Need-byte-at-requires-2
 byte-at-requires-2 c κs = search needs
 
--- src/lib.rt:445:65
 add-byte-at-3 : tie.Need-add-byte-at-3
 add-byte-at-3 c = search needs
 
--- src/lib.rt:445:54
 byte-at-requires-3 : tie.Need-byte-at-requires-3
 byte-at-requires-3 c κs = search needs
 
--- src/lib.rt:445:8
 fits-requires : tie.Need-fits-requires
 fits-requires c κs = search needs
 
--- src/lib.rt:446:16
 add-result : tie.Need-add-result
 add-result c = search needs
 
--- src/lib.rt:446:9
 returns : tie.Need-returns
 returns c =
     let k = c .before .before in
@@ -58,10 +41,9 @@ returns c =
     let f = b3 .before .before .before in
     let a = f .before .before .before .args in
     let r = f .first-of .result in
-    well-formed (a .s .now) (a .i) (f .before .before .before .pre .0) (r .more) (r .lo) (r .hi) (f .first-of .ensures .ranges) (f .first-of .ensures .low) _ _ _
+    well-formed (a .s .now) (a .i) (f .before .before .before .pre .0) (r .0) (r .1) (r .2) (f .first-of .ensures .ranges) (f .first-of .ensures .low) _ _ _
     (b3 .before .before .byte-at .ensures) (b3 .before .byte-at2 .ensures) (b3 .byte-at3 .ensures) (sym (k .fits2 .ensures) ∙ c .before .if1 .taken)
 
--- src/lib.rt:440:1
 returns-2 : tie.Need-returns-2
 returns-2 c =
     let k = c .before in
@@ -69,7 +51,7 @@ returns-2 c =
     let f = b3 .before .before .before in
     let a = f .before .before .before .args in
     let r = f .first-of .result in
-    ill-formed (a .s .now) (a .i) (f .before .before .before .pre .0) (r .more) (r .lo) (r .hi) (f .first-of .ensures .ranges) (f .first-of .ensures .low) _ _ _
+    ill-formed (a .s .now) (a .i) (f .before .before .before .pre .0) (r .0) (r .1) (r .2) (f .first-of .ensures .ranges) (f .first-of .ensures .low) _ _ _
     (b3 .before .before .byte-at .ensures) (b3 .before .byte-at2 .ensures) (b3 .byte-at3 .ensures) (sym (k .fits2 .ensures) ∙ c .if1 .left)
 
 pub char-at-spec : {M : Type 1} → statement M

@@ -3,34 +3,25 @@ use Rattle.text.specs.declared.U64Answer.{U64Answer}
 use Rattle.text.specs.Answers.{u64Of}
 use Rattle.text.specs.Whole.{signed, minusOf}
 use Rattle.text.proofs.Edge.{minus-zero, minus-more}
-use native.Mathlib.Omega.{arith}
 use borrow.Author.Needs.{needs}
 use Rattle.text.proofs.downward.Statement.{statement}
 use Rattle.text.proofs.downward.Tie as tie
-use Rattle.text.proofs.downward.Reads as reads
-use Rattle.text.proofs.downward.Lts as lts
 
--- src/lib.rt:283:23
 enum-known-a : tie.Need-enum-known-a
 enum-known-a c = search needs
 
--- src/lib.rt:287:30
 sub-t6 : tie.Need-sub-t6
 sub-t6 c = search needs
 
--- src/lib.rt:290:30
 enum-told : tie.Need-enum-told
 enum-told c = search needs
 
--- src/lib.rt:279:1
 returns : tie.Need-returns
 returns c = minus-zero _ (c .if1 .taken) ∙ sym (ap (λ (a : U64Answer). signed minusOf (u64Of a)) (c .before .before .a .given .1))
 
--- src/lib.rt:279:1
 returns-2 : tie.Need-returns-2
 returns-2 c = minus-more _ (c .if1 .left) ∙ sym (ap (λ (a : U64Answer). signed minusOf (u64Of a)) (c .before .before .a .given .1))
 
--- src/lib.rt:279:1
 returns-3 : tie.Need-returns-3
 returns-3 c = search needs
 

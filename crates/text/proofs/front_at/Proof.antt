@@ -1,65 +1,44 @@
 use mathlib.Core.Path.{refl, sym, _∙_}
 use Rattle.text.proofs.Strip.{front-read, front-plain}
-use native.Mathlib.Omega.{arith}
 use borrow.Author.Needs.{needs}
 use Rattle.text.proofs.front_at.Statement.{statement}
 use Rattle.text.proofs.front_at.Tie as tie
-use Rattle.text.proofs.front_at.Reads as reads
-use Rattle.text.proofs.front_at.Lts as lts
-use Rattle.text.proofs.byte_at.Reads as byte-at-reads
-use Rattle.text.proofs.plain.Reads as plain-reads
-use Rattle.text.proofs.white1.Reads as white1-reads
-use Rattle.text.proofs.white2.Reads as white2-reads
-use Rattle.text.proofs.white3.Reads as white3-reads
-use Rattle.text.proofs.width.Reads as width-reads
 
--- src/lib.rt:83:13
 shared-slice-read-a : tie.Need-shared-slice-read-a
 shared-slice-read-a c = search needs
 
--- src/lib.rt:84:8
 plain-requires : tie.Need-plain-requires
 plain-requires c κs = search needs
 
--- src/lib.rt:85:9
 returns : tie.Need-returns
 returns c =
     let a = c .before .before .before .before .args in
     front-plain (a .s .now) (a .i) (sym (c .before .plain .ensures) ∙ c .if1 .taken)
 
--- src/lib.rt:87:24
 add-byte-at : tie.Need-add-byte-at
 add-byte-at c = search needs
 
--- src/lib.rt:87:9
 byte-at-requires : tie.Need-byte-at-requires
 byte-at-requires c κs = search needs
 
--- src/lib.rt:88:24
 add-byte-at-2 : tie.Need-add-byte-at-2
 add-byte-at-2 c = search needs
 
--- src/lib.rt:88:9
 byte-at-requires-2 : tie.Need-byte-at-requires-2
 byte-at-requires-2 c κs = search needs
 
--- src/lib.rt:89:11
 white1-requires : tie.Need-white1-requires
 white1-requires c κs = search needs
 
--- src/lib.rt:89:22
 white2-requires : tie.Need-white2-requires
 white2-requires c κs = search needs
 
--- src/lib.rt:89:36
 white3-requires : tie.Need-white3-requires
 white3-requires c κs = search needs
 
--- src/lib.rt:89:5
 width-requires : tie.Need-width-requires
 width-requires c κs = search needs
 
--- src/lib.rt:79:1
 returns-2 : tie.Need-returns-2
 returns-2 c =
     let w3 = c .before in

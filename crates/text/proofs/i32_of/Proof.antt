@@ -1,61 +1,47 @@
 use mathlib.Core.Path.{refl}
 use mir.Syntax.{w32}
 use Rattle.text.proofs.Ranges.{up-fits, up, down-fits, down-less, down, no-signed}
-use native.Mathlib.Omega.{arith}
 use borrow.Author.Needs.{needs}
 use Rattle.text.proofs.i32_of.Statement.{statement}
 use Rattle.text.proofs.i32_of.Tie as tie
-use Rattle.text.proofs.i32_of.Reads as reads
-use Rattle.text.proofs.i32_of.Lts as lts
-use Rattle.text.proofs.signed_to.Reads as signed-to-reads
 
--- src/lib.rt:343:11
 signed-to-requires : tie.Need-signed-to-requires
 signed-to-requires c κs = search needs
 
--- src/lib.rt:344:20
 enum-known-n : tie.Need-enum-known-n
 enum-known-n c = search needs
 
--- src/lib.rt:344:40
 cast-t6 : tie.Need-cast-t6
 cast-t6 c =
     let u = c .before .before .before in
     up-fits w32 2147483647 refl (u .before .before .args .s .now) (u .signed-to .result) (u .signed-to .ensures) (c .before .n .given .1)
 
--- src/lib.rt:345:22
 enum-known-n-2 : tie.Need-enum-known-n-2
 enum-known-n-2 c = search needs
 
--- src/lib.rt:345:48
 cast-t7 : tie.Need-cast-t7
 cast-t7 c =
     let u = c .before .before .before in
     down-fits w32 2147483647 refl (u .before .before .args .s .now) (u .signed-to .result) (u .signed-to .ensures) (c .before .n2 .given .1)
 
--- src/lib.rt:345:42
 sub-t8 : tie.Need-sub-t8
 sub-t8 c =
     let u = c .before .before .before in
     down-less w32 2147483647 refl (u .before .before .args .s .now) (u .signed-to .result) (u .signed-to .ensures) (c .before .n2 .given .1)
 
--- src/lib.rt:346:27
 enum-told : tie.Need-enum-told
 enum-told c = search needs
 
--- src/lib.rt:340:1
 returns : tie.Need-returns
 returns c =
     let u = c .before .before .before in
     up w32 2147483647 refl (u .before .before .args .s .now) (u .signed-to .result) (u .signed-to .ensures) (c .before .n .given .1)
 
--- src/lib.rt:340:1
 returns-2 : tie.Need-returns-2
 returns-2 c =
     let u = c .before .before .before in
     down w32 2147483647 refl (u .before .before .args .s .now) (u .signed-to .result) (u .signed-to .ensures) (c .before .n2 .given .1)
 
--- src/lib.rt:340:1
 returns-3 : tie.Need-returns-3
 returns-3 c =
     let u = c .before .before in

@@ -1,61 +1,47 @@
 use mathlib.Core.Path.{refl}
 use mir.Syntax.{w64}
 use Rattle.text.proofs.Ranges.{up-fits, up, down-fits, down-less, down, no-signed}
-use native.Mathlib.Omega.{arith}
 use borrow.Author.Needs.{needs}
 use Rattle.text.proofs.i64_of.Statement.{statement}
 use Rattle.text.proofs.i64_of.Tie as tie
-use Rattle.text.proofs.i64_of.Reads as reads
-use Rattle.text.proofs.i64_of.Lts as lts
-use Rattle.text.proofs.signed_to.Reads as signed-to-reads
 
--- src/lib.rt:333:11
 signed-to-requires : tie.Need-signed-to-requires
 signed-to-requires c κs = search needs
 
--- src/lib.rt:334:20
 enum-known-n : tie.Need-enum-known-n
 enum-known-n c = search needs
 
--- src/lib.rt:334:40
 cast-t6 : tie.Need-cast-t6
 cast-t6 c =
     let u = c .before .before .before in
     up-fits w64 9223372036854775807 refl (u .before .before .args .s .now) (u .signed-to .result) (u .signed-to .ensures) (c .before .n .given .1)
 
--- src/lib.rt:335:22
 enum-known-n-2 : tie.Need-enum-known-n-2
 enum-known-n-2 c = search needs
 
--- src/lib.rt:335:48
 cast-t7 : tie.Need-cast-t7
 cast-t7 c =
     let u = c .before .before .before in
     down-fits w64 9223372036854775807 refl (u .before .before .args .s .now) (u .signed-to .result) (u .signed-to .ensures) (c .before .n2 .given .1)
 
--- src/lib.rt:335:42
 sub-t8 : tie.Need-sub-t8
 sub-t8 c =
     let u = c .before .before .before in
     down-less w64 9223372036854775807 refl (u .before .before .args .s .now) (u .signed-to .result) (u .signed-to .ensures) (c .before .n2 .given .1)
 
--- src/lib.rt:336:27
 enum-told : tie.Need-enum-told
 enum-told c = search needs
 
--- src/lib.rt:330:1
 returns : tie.Need-returns
 returns c =
     let u = c .before .before .before in
     up w64 9223372036854775807 refl (u .before .before .args .s .now) (u .signed-to .result) (u .signed-to .ensures) (c .before .n .given .1)
 
--- src/lib.rt:330:1
 returns-2 : tie.Need-returns-2
 returns-2 c =
     let u = c .before .before .before in
     down w64 9223372036854775807 refl (u .before .before .args .s .now) (u .signed-to .result) (u .signed-to .ensures) (c .before .n2 .given .1)
 
--- src/lib.rt:330:1
 returns-3 : tie.Need-returns-3
 returns-3 c =
     let u = c .before .before in

@@ -1,3 +1,4 @@
+-- `number_to` meets its contract. n, which is at most `most`, with what is left from i on after it, is the number. Assumes nothing.
 use mathlib.Core.Path.{_≡_, sym, ap, _∙_}
 use Prim.Native.Nat.{ℕ, _≤_, _<_, _+_, _-_, _*_}
 use lib.ListN.{length, drop, getD}
@@ -9,9 +10,6 @@ use borrow.Author.Needs.{needs}
 use native.Mathlib.Omega.{arith}
 use Rattle.text.proofs.number_to.Statement.{statement}
 use Rattle.text.proofs.number_to.Tie as tie
-use Rattle.text.proofs.number_to.Reads as reads
-use Rattle.text.proofs.number_to.Lts as lts
-use Rattle.text.proofs.wide.Reads as wide-reads
 
 abbrev Inv-loop : tie.InvT-loop
 Inv-loop s most n₀ i₀ n i = (i ≤ length s) × (n ≤ most) × (numberTo most s ≡ digitsTo most n (drop i s))
@@ -19,23 +17,19 @@ Inv-loop s most n₀ i₀ n i = (i ≤ length s) × (n ≤ most) × (numberTo mo
 abbrev μ-loop : tie.MeasureT-loop
 μ-loop s most n₀ i₀ n i = length s - i
 
--- src/lib.rt:236:9
 returns : tie.Need-returns Inv-loop μ-loop
 returns c =
     let a = c .before .before .args in
     sym (number-nil (a .most) (a .s .now) (c .if1 .taken))
 
--- src/lib.rt:240:5
 loop-holds : tie.Need-loop-holds Inv-loop μ-loop
 loop-holds c =
     let a = c .before .before .args in
     (search needs, search needs, number-some (a .most) (a .s .now) (c .if1 .left))
 
--- src/lib.rt:241:17
 shared-slice-read-b : tie.Need-shared-slice-read-b Inv-loop μ-loop
 shared-slice-read-b c = search needs
 
--- src/lib.rt:244:13
 returns-2 : tie.Need-returns-2 Inv-loop μ-loop
 returns-2 c =
     let at = c .before .before .before in
@@ -43,7 +37,6 @@ returns-2 c =
     let b = getD (a .s .now) (at .loop .i) 0 in
     sym (at .loop .inv .2 ∙ no-digit (a .most) (a .s .now) (at .loop .i) (at .loop .n) (search needs) (not-true (isDigit b) (c .if2 .taken)))
 
--- src/lib.rt:246:22
 sub-wide : tie.Need-sub-wide Inv-loop μ-loop
 sub-wide c =
     let at = c .before .before .before in
@@ -51,11 +44,9 @@ sub-wide c =
     let b = getD (a .s .now) (at .loop .i) 0 in
     digit-low b (not-false (isDigit b) (c .if2 .left))
 
--- src/lib.rt:246:13
 wide-requires : tie.Need-wide-requires Inv-loop μ-loop
 wide-requires c κs = search needs
 
--- src/lib.rt:248:13
 returns-3 : tie.Need-returns-3 Inv-loop μ-loop
 returns-3 c =
     let at = c .before .before .before .before .before in
@@ -66,15 +57,12 @@ returns-3 c =
     let l : a .most < n * 10 + (getD s i 0 - 48) = omega (arith, c .if3 .taken) in
     sym (at .loop .inv .2 ∙ too-large (a .most) s i n (search needs) (not-false (isDigit (getD s i 0)) (c .before .before .if2 .left)) l)
 
--- src/lib.rt:250:23
 mul-if4 : tie.Need-mul-if4 Inv-loop μ-loop
 mul-if4 c = omega (arith, c .if3 .left)
 
--- src/lib.rt:250:16
 sub-if4 : tie.Need-sub-if4 Inv-loop μ-loop
 sub-if4 c = omega (arith, c .if3 .left)
 
--- src/lib.rt:251:13
 returns-4 : tie.Need-returns-4 Inv-loop μ-loop
 returns-4 c =
     let at = c .before .before .before .before .before .before in
@@ -85,23 +73,18 @@ returns-4 c =
     let l : a .most < n * 10 + (getD s i 0 - 48) = omega (arith, c .if4 .taken, c .before .before .wide .ensures) in
     sym (at .loop .inv .2 ∙ too-large (a .most) s i n (search needs) (not-false (isDigit (getD s i 0)) (c .before .before .before .if2 .left)) l)
 
--- src/lib.rt:253:13
 mul-n : tie.Need-mul-n Inv-loop μ-loop
 mul-n c = omega (arith, c .before .if3 .left)
 
--- src/lib.rt:253:13
 add-n : tie.Need-add-n Inv-loop μ-loop
 add-n c = omega (arith, c .before .if3 .left, c .if4 .left)
 
--- src/lib.rt:254:9
 add-i : tie.Need-add-i Inv-loop μ-loop
 add-i c = search needs
 
--- src/lib.rt:240:5
 loop-less : tie.Need-loop-less Inv-loop μ-loop
 loop-less c = search needs
 
--- src/lib.rt:240:5
 loop-again : tie.Need-loop-again Inv-loop μ-loop
 loop-again c =
     let at = c .before .before .before .before .before .before in
@@ -116,7 +99,6 @@ loop-again c =
           ∙ ap (λ (k : ℕ). digitsTo (a .most) (n * 10 + k) (drop (i + 1) s)) (sym (d .ensures)),
     )
 
--- src/lib.rt:232:1
 returns-5 : tie.Need-returns-5 Inv-loop μ-loop
 returns-5 c =
     let at = c .before in

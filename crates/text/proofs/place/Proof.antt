@@ -1,3 +1,4 @@
+-- `place` meets its contract. The first byte's place is i and its place in what is left from i on. Assumes nothing.
 use mathlib.Core.Path.{_≡_}
 use Prim.Native.Nat.{_≤_, _+_, _-_}
 use lib.Dec.{eqb}
@@ -8,8 +9,6 @@ use borrow.Author.Needs.{needs}
 use native.Mathlib.Omega.{arith}
 use Rattle.text.proofs.place.Statement.{statement}
 use Rattle.text.proofs.place.Tie as tie
-use Rattle.text.proofs.place.Reads as reads
-use Rattle.text.proofs.place.Lts as lts
 
 abbrev Inv-loop : tie.InvT-loop
 Inv-loop s b i₀ i = (i ≤ length s) × (placeOf (eqb b) s ≡ i + placeOf (eqb b) (drop i s))
@@ -17,15 +16,12 @@ Inv-loop s b i₀ i = (i ≤ length s) × (placeOf (eqb b) s ≡ i + placeOf (eq
 abbrev μ-loop : tie.MeasureT-loop
 μ-loop s b i₀ i = length s - i
 
--- src/lib.rt:153:5
 loop-holds : tie.Need-loop-holds Inv-loop μ-loop
 loop-holds c = (search needs, omega arith)
 
--- src/lib.rt:154:17
 shared-slice-read-if1 : tie.Need-shared-slice-read-if1 Inv-loop μ-loop
 shared-slice-read-if1 c = search needs
 
--- src/lib.rt:155:13
 returns : tie.Need-returns Inv-loop μ-loop
 returns c =
     let at = c .before .before .before in
@@ -34,15 +30,12 @@ returns c =
     let z = place-here (eqb b) s (at .loop .i) (search needs) (eq-eqb b (getD s (at .loop .i) 0) (c .if1 .taken)) in
     omega arith
 
--- src/lib.rt:157:9
 add-i : tie.Need-add-i Inv-loop μ-loop
 add-i c = search needs
 
--- src/lib.rt:153:5
 loop-less : tie.Need-loop-less Inv-loop μ-loop
 loop-less c = search needs
 
--- src/lib.rt:153:5
 loop-again : tie.Need-loop-again Inv-loop μ-loop
 loop-again c =
     let at = c .before .before .before in
@@ -51,7 +44,6 @@ loop-again c =
     let z = place-on (eqb b) s (at .loop .i) (search needs) (ne-eqb b (getD s (at .loop .i) 0) (c .if1 .left)) in
     (omega arith, omega arith)
 
--- src/lib.rt:149:1
 returns-2 : tie.Need-returns-2 Inv-loop μ-loop
 returns-2 c =
     let at = c .before in

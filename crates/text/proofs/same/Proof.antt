@@ -1,14 +1,12 @@
+-- `same` meets its contract. The texts are the same where what is left of both from i on is. Assumes nothing.
 use mathlib.Core.Path.{_≡_, refl, sym, _∙_}
 use Prim.Native.Nat.{_≤_, _-_}
-use lib.ListN.{length, drop}
 use Rattle.definition.specs.Base.{same as sameBytes}
+use lib.ListN.{length, drop}
 use Rattle.text.specs.Equal.{same-lengths, same-off, same-on, same-end}
 use borrow.Author.Needs.{needs}
-use native.Mathlib.Omega.{arith}
 use Rattle.text.proofs.same.Statement.{statement}
 use Rattle.text.proofs.same.Tie as tie
-use Rattle.text.proofs.same.Reads as reads
-use Rattle.text.proofs.same.Lts as lts
 
 abbrev Inv-loop : tie.InvT-loop
 Inv-loop a b i₀ i = (i ≤ length a) × (sameBytes a b ≡ sameBytes (drop i a) (drop i b))
@@ -16,47 +14,38 @@ Inv-loop a b i₀ i = (i ≤ length a) × (sameBytes a b ≡ sameBytes (drop i a
 abbrev μ-loop : tie.MeasureT-loop
 μ-loop a b i₀ i = length a - i
 
--- src/lib.rt:362:9
 returns : tie.Need-returns Inv-loop μ-loop
 returns c =
     let g = c .before .args in
     sym (same-lengths (g .a .now) (g .b .now) (c .if1 .taken))
 
--- src/lib.rt:365:5
 loop-holds : tie.Need-loop-holds Inv-loop μ-loop
 loop-holds c = (search needs, refl)
 
--- src/lib.rt:366:12
 shared-slice-read-if2 : tie.Need-shared-slice-read-if2 Inv-loop μ-loop
 shared-slice-read-if2 c = search needs
 
--- src/lib.rt:366:20
 shared-slice-read-if2-2 : tie.Need-shared-slice-read-if2-2 Inv-loop μ-loop
 shared-slice-read-if2-2 c = search needs
 
--- src/lib.rt:367:13
 returns-2 : tie.Need-returns-2 Inv-loop μ-loop
 returns-2 c =
     let at = c .before .before .before .before in
     let g = at .before .before .args in
     sym (at .loop .inv .1 ∙ same-off (g .a .now) (g .b .now) (at .loop .i) (search needs) (search needs) (c .if2 .taken))
 
--- src/lib.rt:369:9
 add-i : tie.Need-add-i Inv-loop μ-loop
 add-i c = search needs
 
--- src/lib.rt:365:5
 loop-less : tie.Need-loop-less Inv-loop μ-loop
 loop-less c = search needs
 
--- src/lib.rt:365:5
 loop-again : tie.Need-loop-again Inv-loop μ-loop
 loop-again c =
     let at = c .before .before .before .before in
     let g = at .before .before .args in
     (search needs, at .loop .inv .1 ∙ same-on (g .a .now) (g .b .now) (at .loop .i) (search needs) (search needs) (c .if2 .left))
 
--- src/lib.rt:358:1
 returns-3 : tie.Need-returns-3 Inv-loop μ-loop
 returns-3 c =
     let at = c .before in

@@ -3,20 +3,13 @@ use Rattle.definition.specs.Text.{trim as trimmed, trimBack}
 use borrow.Author.Needs.{needs}
 use Rattle.text.proofs.trim.Statement.{statement}
 use Rattle.text.proofs.trim.Tie as tie
-use Rattle.text.proofs.trim.Reads as reads
-use Rattle.text.proofs.trim.Lts as lts
-use Rattle.text.proofs.trim_back.Reads as trim-back-reads
-use Rattle.text.proofs.trim_front.Reads as trim-front-reads
 
--- src/lib.rt:137:15
 trim-front-requires : tie.Need-trim-front-requires
 trim-front-requires c κs = search needs
 
--- src/lib.rt:137:5
 trim-back-requires : tie.Need-trim-back-requires
 trim-back-requires c κs = search needs
 
--- src/lib.rt:134:1
 returns : tie.Need-returns
 unfolding trimmed
 returns c = c .trim-back .ensures ∙ ap trimBack (c .before .trim-front .ensures)

@@ -1,5 +1,6 @@
-use mathlib.Core.Path.{_≡_, refl, sym, ap, subst, _∙_}
-use Prim.Native.Nat.{_≤_, _-_}
+-- `trim_back` meets its contract. The first e bytes, trimmed, are the text trimmed. Assumes nothing.
+use mathlib.Core.Path.{_≡_, sym, ap, _∙_}
+use Prim.Native.Nat.{_≤_}
 use lib.ListN.{length, take}
 use lib.Seq.{take-length, length-take-le}
 use Rattle.definition.specs.Text.{trimBack}
@@ -8,9 +9,6 @@ use borrow.Author.Needs.{needs}
 use native.Mathlib.Omega.{arith}
 use Rattle.text.proofs.trim_back.Statement.{statement}
 use Rattle.text.proofs.trim_back.Tie as tie
-use Rattle.text.proofs.trim_back.Reads as reads
-use Rattle.text.proofs.trim_back.Lts as lts
-use Rattle.text.proofs.back_at.Reads as back-at-reads
 
 abbrev Inv-loop : tie.InvT-loop
 Inv-loop s e₀ e = (e ≤ length s) × (trimBack s ≡ trimBack (take e s))
@@ -18,55 +16,46 @@ Inv-loop s e₀ e = (e ≤ length s) × (trimBack s ≡ trimBack (take e s))
 abbrev μ-loop : tie.MeasureT-loop
 μ-loop s e₀ e = e
 
--- src/lib.rt:123:5
 loop-holds : tie.Need-loop-holds Inv-loop μ-loop
 loop-holds c = (search needs, ap trimBack (sym (take-length _)))
 
--- src/lib.rt:124:13
 back-at-requires : tie.Need-back-at-requires Inv-loop μ-loop
 back-at-requires c κs = search needs
 
--- src/lib.rt:126:13
 slice-aggregate-result : tie.Need-slice-aggregate-result Inv-loop μ-loop
 slice-aggregate-result c =
     let at = c .before .before .before .before in
     sym (length-take-le (at .loop .e) (at .before .before .args .s .now) (at .loop .inv .0))
 
--- src/lib.rt:126:13
 returns : tie.Need-returns Inv-loop μ-loop
 returns c =
     let at = c .before .before .before .before in
     let s = at .before .before .args .s .now in
     sym (at .loop .inv .1 ∙ back-stop (take (at .loop .e) s) (sym (c .before .before .back-at .ensures) ∙ c .before .if1 .taken))
 
--- src/lib.rt:128:9
 sub-e : tie.Need-sub-e Inv-loop μ-loop
 sub-e c =
     let at = c .before .before .before in
     let h = back-within (at .before .before .args .s .now) (at .loop .e) (at .loop .inv .0) (c .before .back-at .ensures) in
     omega arith
 
--- src/lib.rt:123:5
 loop-less : tie.Need-loop-less Inv-loop μ-loop
 loop-less c =
     let at = c .before .before .before in
     let h = back-within (at .before .before .args .s .now) (at .loop .e) (at .loop .inv .0) (c .before .back-at .ensures) in
     omega arith
 
--- src/lib.rt:123:5
 loop-again : tie.Need-loop-again Inv-loop μ-loop
 loop-again c =
     let at = c .before .before .before in
     let s = at .before .before .args .s .now in
     (search needs, back-turn s (at .loop .e) (at .loop .inv .0) (c .before .back-at .ensures) (at .loop .inv .1))
 
--- src/lib.rt:130:5
 slice-aggregate-result-2 : tie.Need-slice-aggregate-result-2 Inv-loop μ-loop
 slice-aggregate-result-2 c =
     let at = c .before .before in
     sym (length-take-le (at .loop .e) (at .before .before .args .s .now) (at .loop .inv .0))
 
--- src/lib.rt:119:1
 returns-2 : tie.Need-returns-2 Inv-loop μ-loop
 returns-2 c =
     let at = c .before .before in

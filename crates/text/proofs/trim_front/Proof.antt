@@ -1,16 +1,14 @@
-use mathlib.Core.Path.{_≡_, refl, sym, ap, subst, _∙_}
+-- `trim_front` meets its contract. The text from i on, trimmed, is the text trimmed. Assumes nothing.
+use mathlib.Core.Path.{_≡_, refl, sym, _∙_}
 use Prim.Native.Nat.{_≤_, _-_}
 use lib.ListN.{length, drop}
 use Rattle.definition.specs.Text.{trimFront}
-use Rattle.text.specs.Parts.{all-of, at-end}
+use Rattle.text.specs.Parts.{all-of}
 use Rattle.text.proofs.Strip.{front-empty, front-stop, front-within, front-turn}
 use borrow.Author.Needs.{needs}
 use native.Mathlib.Omega.{arith}
 use Rattle.text.proofs.trim_front.Statement.{statement}
 use Rattle.text.proofs.trim_front.Tie as tie
-use Rattle.text.proofs.trim_front.Reads as reads
-use Rattle.text.proofs.trim_front.Lts as lts
-use Rattle.text.proofs.front_at.Reads as front-at-reads
 
 abbrev Inv-loop : tie.InvT-loop
 Inv-loop s i₀ i = (i ≤ length s) × (trimFront s ≡ trimFront (drop i s))
@@ -18,27 +16,21 @@ Inv-loop s i₀ i = (i ≤ length s) × (trimFront s ≡ trimFront (drop i s))
 abbrev μ-loop : tie.MeasureT-loop
 μ-loop s i₀ i = length s - i
 
--- src/lib.rt:109:5
 loop-holds : tie.Need-loop-holds Inv-loop μ-loop
 loop-holds c = (search needs, refl)
 
--- src/lib.rt:110:13
 front-at-requires : tie.Need-front-at-requires Inv-loop μ-loop
 front-at-requires c κs = search needs
 
--- src/lib.rt:112:20
 sub-result : tie.Need-sub-result Inv-loop μ-loop
 sub-result c = search needs
 
--- src/lib.rt:112:20
 part-result-start : tie.Need-part-result-start Inv-loop μ-loop
 part-result-start c = search needs
 
--- src/lib.rt:112:20
 part-result-end : tie.Need-part-result-end Inv-loop μ-loop
 part-result-end c = search needs
 
--- src/lib.rt:112:13
 returns : tie.Need-returns Inv-loop μ-loop
 returns c =
     let at = c .before .before .before .before in
@@ -46,21 +38,18 @@ returns c =
     let i = at .loop .i in
     all-of i s ∙ sym (at .loop .inv .1 ∙ front-stop (drop i s) (sym (c .before .before .front-at .ensures) ∙ c .before .if1 .taken))
 
--- src/lib.rt:114:9
 add-i : tie.Need-add-i Inv-loop μ-loop
 add-i c =
     let at = c .before .before .before in
     let h = front-within (at .before .before .args .s .now) (at .loop .i) (c .before .front-at .ensures) (at .loop .inv .0) in
     omega arith
 
--- src/lib.rt:109:5
 loop-less : tie.Need-loop-less Inv-loop μ-loop
 loop-less c =
     let at = c .before .before .before in
     let h = front-within (at .before .before .args .s .now) (at .loop .i) (c .before .front-at .ensures) (at .loop .inv .0) in
     omega arith
 
--- src/lib.rt:109:5
 loop-again : tie.Need-loop-again Inv-loop μ-loop
 loop-again c =
     let at = c .before .before .before in
@@ -68,19 +57,15 @@ loop-again c =
     let i = at .loop .i in
     (front-within s i (c .before .front-at .ensures) (at .loop .inv .0), front-turn s i (c .before .front-at .ensures) (at .loop .inv .1))
 
--- src/lib.rt:116:5
 sub-result-2 : tie.Need-sub-result-2 Inv-loop μ-loop
 sub-result-2 c = search needs
 
--- src/lib.rt:116:5
 part-result-start-2 : tie.Need-part-result-start-2 Inv-loop μ-loop
 part-result-start-2 c = search needs
 
--- src/lib.rt:116:5
 part-result-end-2 : tie.Need-part-result-end-2 Inv-loop μ-loop
 part-result-end-2 c = search needs
 
--- src/lib.rt:105:1
 returns-2 : tie.Need-returns-2 Inv-loop μ-loop
 returns-2 c =
     let at = c .before .before in

@@ -1,19 +1,13 @@
 use mathlib.Core.Path.{refl}
 use mir.Syntax.{w64}
 use Rattle.text.proofs.Ranges.{whole}
-use native.Mathlib.Omega.{arith}
 use borrow.Author.Needs.{needs}
 use Rattle.text.proofs.u64_of.Statement.{statement}
 use Rattle.text.proofs.u64_of.Tie as tie
-use Rattle.text.proofs.u64_of.Reads as reads
-use Rattle.text.proofs.u64_of.Lts as lts
-use Rattle.text.proofs.unsigned_to.Reads as unsigned-to-reads
 
--- src/lib.rt:309:5
 unsigned-to-requires : tie.Need-unsigned-to-requires
 unsigned-to-requires c κs = search needs
 
--- src/lib.rt:306:1
 returns : tie.Need-returns
 returns c = whole w64 18446744073709551615 refl (c .before .before .args .s .now) (c .unsigned-to .result) (c .unsigned-to .ensures)
 

@@ -1,43 +1,31 @@
 use mathlib.Core.Path.{sym, ap, _∙_}
-use lib.ListN.{length}
 use Rattle.definition.specs.Text.{Text}
 use Rattle.text.specs.Parts.{all-of}
 use Rattle.text.specs.Whole.{numberTo, plus-unsigned, bare-unsigned, first-within}
-use native.Mathlib.Omega.{arith}
 use borrow.Author.Needs.{needs}
 use Rattle.text.proofs.unsigned_to.Statement.{statement}
 use Rattle.text.proofs.unsigned_to.Tie as tie
-use Rattle.text.proofs.unsigned_to.Reads as reads
-use Rattle.text.proofs.unsigned_to.Lts as lts
-use Rattle.text.proofs.byte_at.Reads as byte-at-reads
-use Rattle.text.proofs.number_to.Reads as number-to-reads
 
--- src/lib.rt:264:8
 byte-at-requires : tie.Need-byte-at-requires
 byte-at-requires c κs = search needs
 
--- src/lib.rt:265:26
 sub-number-to : tie.Need-sub-number-to
 sub-number-to c =
     let s = c .before .before .before .args .s .now in
     first-within s 42 (sym (c .before .byte-at .ensures) ∙ c .if1 .taken)
 
--- src/lib.rt:265:26
 part-number-to-start : tie.Need-part-number-to-start
 part-number-to-start c =
     let s = c .before .before .before .args .s .now in
     let h = first-within s 42 (sym (c .before .byte-at .ensures) ∙ c .if1 .taken) in
     search needs
 
--- src/lib.rt:265:26
 part-number-to-end : tie.Need-part-number-to-end
 part-number-to-end c = search needs
 
--- src/lib.rt:265:9
 number-to-requires : tie.Need-number-to-requires
 number-to-requires c κs = search needs
 
--- src/lib.rt:265:9
 returns : tie.Need-returns
 returns c =
     let b = c .before .before .before in
@@ -46,11 +34,9 @@ returns c =
     ∙ ap (λ (t : Text). numberTo (a .most) t) (all-of 1 (a .s .now))
     ∙ sym (plus-unsigned (a .most) (a .s .now) (sym (b .byte-at .ensures) ∙ c .before .before .if1 .taken))
 
--- src/lib.rt:267:5
 number-to-requires-2 : tie.Need-number-to-requires-2
 number-to-requires-2 c κs = search needs
 
--- src/lib.rt:261:1
 returns-2 : tie.Need-returns-2
 returns-2 c =
     let b = c .before .before in

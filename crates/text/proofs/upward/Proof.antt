@@ -3,26 +3,19 @@ use lib.IntN.{pos}
 use Rattle.text.specs.declared.U64Answer.{U64Answer}
 use Rattle.text.specs.Answers.{u64Of}
 use Rattle.text.specs.Whole.{signed}
-use native.Mathlib.Omega.{arith}
 use borrow.Author.Needs.{needs}
 use Rattle.text.proofs.upward.Statement.{statement}
 use Rattle.text.proofs.upward.Tie as tie
-use Rattle.text.proofs.upward.Reads as reads
-use Rattle.text.proofs.upward.Lts as lts
 
--- src/lib.rt:274:23
 enum-known-a : tie.Need-enum-known-a
 enum-known-a c = search needs
 
--- src/lib.rt:275:30
 enum-told : tie.Need-enum-told
 enum-told c = search needs
 
--- src/lib.rt:270:1
 returns : tie.Need-returns
 returns c = sym (ap (λ (a : U64Answer). signed pos (u64Of a)) (c .before .a .given .1))
 
--- src/lib.rt:270:1
 returns-2 : tie.Need-returns-2
 returns-2 c = search needs
 
