@@ -1,0 +1,209 @@
+// The outline of activities whose parents stand in the work slice, four words an activity, in one pass over lists of children that are
+// built there. What the words of a row hold is said in specs/Steps.antt.
+
+ghost use mathlib.Core.Path.{_≡_};
+ghost use mathlib.Core.List.{_++_};
+ghost use Prim.Native.Nat.{_+_, _-_, _*_, _<_, _≤_};
+ghost use lib.ListN.{length, getD, set, take, replicate};
+ghost use Rattle.outline.specs.Words.{Outlined};
+ghost use Rattle.outline.specs.Steps.{Empty, Linked, Stepped, Climbed, Walked, Wrote, pushed, linkOf};
+
+// A word that names no row.
+const NONE: u32 = 0xFFFF_FFFF;
+
+const PARENT: usize = 0;
+
+const CHILD: usize = 1;
+
+const NEXT: usize = 2;
+
+const TOP: usize = 3;
+
+// A row, and how many rows it is below.
+struct Place {
+    row: u32,
+    depth: u32,
+}
+
+fn field(work: &[u32], row: u32, word: usize) -> u32
+    requires { ⌜ word < 4 ⌝ }
+    ensures { λ r. ⌜ r ≡ getD (now (work .entry)) (4 * row + word) 0 ⌝ }
+{
+    let i = 4 * (row as usize) + word;
+    if i < work.len() { work[i] } else { 0 }
+}
+
+fn set_field(work: &mut [u32], row: u32, word: usize, value: u32)
+    requires { ⌜ word < 4 ⌝ }
+    ensures { λ _. ⌜ now (work .exit) ≡ set (now (work .entry)) (4 * row + word) value ⌝ }
+{
+    let i = 4 * (row as usize) + word;
+    if i < work.len() {
+        work[i] = value;
+    }
+}
+
+// Empties the lists of n rows.
+fn empty_lists(n: u32, work: &mut [u32])
+    requires { ⌜ 4 * n ≤ length (now work) ⌝ }
+    ensures { λ _. ⌜ Empty n (now (work .entry)) (now (work .exit)) ⌝ }
+{
+    let mut i: u32 = 0;
+    while i < n {
+        set_field(work, i, CHILD, NONE);
+        set_field(work, i, TOP, NONE);
+        i += 1;
+    }
+}
+
+// Puts row i in front of the list that begins at a word of row p.
+fn push(work: &mut [u32], i: u32, p: u32, word: usize)
+    requires { ⌜ word < 4 ⌝ }
+    ensures { λ _. ⌜ now (work .exit) ≡ pushed (now (work .entry)) i p word ⌝ }
+{
+    set_field(work, i, PARENT, p);
+    let first = field(work, p, word);
+    set_field(work, i, NEXT, first);
+    set_field(work, p, word, i);
+}
+
+// Puts row i into the list of its parent, or of the top.
+fn link(n: u32, i: u32, work: &mut [u32])
+    ensures { λ _. ⌜ now (work .exit) ≡ linkOf n i (now (work .entry)) ⌝ }
+{
+    let p = field(work, i, PARENT);
+    if n <= p {
+        push(work, i, 0, TOP);
+        return;
+    }
+    if p == i {
+        push(work, i, 0, TOP);
+        return;
+    }
+    push(work, i, p, CHILD);
+}
+
+// Links all rows, the last first, so that each list rises.
+fn link_rows(n: u32, work: &mut [u32])
+    requires { ⌜ 4 * n ≤ length (now work) ⌝ }
+    ensures { λ _. ⌜ Linked n (now (work .entry)) (now (work .exit)) ⌝ }
+{
+    let mut i = n;
+    while 0 < i {
+        i -= 1;
+        link(n, i, work);
+    }
+}
+
+// The row that follows a row and all below it.
+fn climb(work: &[u32], row: u32, depth: u32) -> Place
+    ensures { λ r. ⌜ Climbed (now (work .entry)) row depth r ⌝ }
+{
+    let mut r = row;
+    let mut d = depth;
+    while 0 < d {
+        let next = field(work, r, NEXT);
+        if next != NONE {
+            return Place {
+                row: next,
+                depth: d,
+            };
+        }
+        r = field(work, r, PARENT);
+        d -= 1;
+    }
+    Place {
+        row: field(work, r, NEXT),
+        depth: 0,
+    }
+}
+
+// The row that follows a row.
+fn step(n: u32, work: &[u32], row: u32, depth: u32) -> Place
+    requires { ⌜ depth < n ⌝ }
+    ensures { λ r. ⌜ Stepped n (now (work .entry)) row depth r ⌝ }
+{
+    let child = field(work, row, CHILD);
+    if child == NONE {
+        return climb(work, row, depth);
+    }
+    if depth + 1 < n {
+        return Place {
+            row: child,
+            depth: depth + 1,
+        };
+    }
+    climb(work, row, depth)
+}
+
+// Writes row k.
+fn put_row(rows: &mut [u32], k: u32, row: u32, level: u32)
+    requires { ⌜ 2 * k + 1 < length (now rows) ⌝ }
+    ensures { λ _. ⌜ now (rows .exit) ≡ set (set (now (rows .entry)) (2 * k) row) (2 * k + 1) level ⌝ }
+{
+    let i = 2 * (k as usize);
+    rows[i] = row;
+    rows[i + 1] = level;
+}
+
+// Writes the rows that the lists give, and says how many.
+fn walk(n: u32, rows: &mut [u32], work: &[u32]) -> u32
+    requires { ⌜ 2 * n ≤ length (now rows) ⌝ }
+    ensures { λ r. ⌜ Walked n (now (rows .entry)) (now (work .entry)) (now (rows .exit)) r ⌝ }
+{
+    if n == 0 {
+        return 0;
+    }
+    let mut k: u32 = 0;
+    let mut row = field(work, 0, TOP);
+    let mut depth: u32 = 0;
+    while k < n {
+        if row == NONE {
+            return k;
+        }
+        put_row(rows, k, row, depth + 1);
+        k += 1;
+        let at = step(n, work, row, depth);
+        row = at.row;
+        depth = at.depth;
+    }
+    k
+}
+
+fn write_rows(n: u32, rows: &mut [u32], work: &mut [u32]) -> u32
+    ensures { λ r. ⌜ Wrote n (now (rows .entry)) (now (work .entry)) (now (rows .exit)) (now (work .exit)) r ⌝ }
+{
+    if rows.len() < 2 * (n as usize) {
+        return 0;
+    }
+    if work.len() < 4 * (n as usize) {
+        return 0;
+    }
+    empty_lists(n, work);
+    link_rows(n, work);
+    walk(n, rows, work)
+}
+
+// Zeros from a place on.
+fn clear(words: &mut [u32], from: usize)
+    requires { ⌜ from ≤ length (now words) ⌝ }
+    ensures { λ _. ⌜ now (words .exit) ≡ take from (now (words .entry)) ++ replicate (length (now (words .entry)) - from) 0 ⌝ }
+{
+    let mut i = from;
+    while i < words.len() {
+        words[i] = 0;
+        i += 1;
+    }
+}
+
+// The rows of the outline of n activities: row and level of each, with zeros behind, and zeros in work. Word 4 * i of work names the parent
+// of activity i; 0xFFFFFFFF, or any other row out of range, stands for none. Says how many rows there are; 0, and zeros alone, where rows has
+// less than 2 words an activity or work less than 4.
+pub fn outline_rows(n: u32, rows: &mut [u32], work: &mut [u32]) -> u32
+    ensures { λ r. ⌜ Outlined n (now (rows .entry)) (now (work .entry)) (now (rows .exit)) (now (work .exit)) r ⌝ }
+{
+    let count = write_rows(n, rows, work);
+    clear(rows, 2 * (count as usize));
+    clear(work, 0);
+    count
+}
