@@ -10,7 +10,7 @@ use lib.Dec.{leb, eqb}
 use borrow.Author.Tests.{ne-eqb, leb-true}
 use Rattle.definition.specs.Base.{if_then_else_}
 use Rattle.definition.specs.Date.{leap, yearLength, monthLength, monthsLength, newYear, dateAt, yearOf}
-use Rattle.date.specs.Calendar.{one, leapDay, year-length, new-year-next, new-year, months-early, months-late, months-next, IsDay, Falls, falls, MarchDay, in-year}
+use Rattle.theorems.specs.Calendar.{one, leapDay, year-length, new-year-next, new-year, months-early, months-late, months-next, IsDay, Falls, falls, MarchDay, in-year}
 use Rattle.date.specs.Answer.{isDay}
 
 -- ---- 1 January

@@ -1,4 +1,5 @@
 pub mod BitLaws
+pub mod Calendar
 pub mod Cases
 pub mod Dates
 pub mod Formats
@@ -7,5 +8,6 @@ pub mod Laws
 pub mod Open
 pub mod Outlines
 pub mod Packing
+pub mod Rows
 pub mod Texts
 pub mod Whole

@@ -9,7 +9,7 @@ use lib.Dec.{leb, ltb, eqb, eqb→eq}
 use borrow.Author.Tests.{eqb-true, eqb-false, ne-eqb, lt-ltb, le-ltb}
 use Rattle.definition.specs.Base.{if_then_else_}
 use Rattle.definition.specs.Date.{leap, yearLength, monthLength, yearsLength, monthsLength, cycle, newYear, dateAt, yearWithin, monthWithin, yearOf, monthOf, dayOf, epoch, firstDate, lastDate}
-use Rattle.date.specs.Rows.{last, last-within, last-reached, last-passed, rising, last-found, at}
+use Rattle.theorems.specs.Rows.{last, last-within, last-reached, last-passed, rising, last-found, at}
 
 -- ---- years
 
