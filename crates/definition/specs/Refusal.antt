@@ -7,7 +7,6 @@ use Prim.Native.Nat.{ℕ, _-_, _*_, _/_}
 use mathlib.Core.Bool.{Bool, true, false, _&&_, _||_, not}
 use mathlib.Core.List.{List, [], _∷_, _++_, flatMap}
 use mathlib.Core.Option.{Option, some, none}
-use Prim.Native.String.{String}
 use lib.ListN.{length, replicate, getElem?}
 use lib.Dec.{leb, ltb}
 use lib.IntN.{ℤ, pos, negsuc}
@@ -46,49 +45,58 @@ written (refused n) = 0
 written (gives l) = length l
 
 -- a result in so much room
-abbrev pub inRoom : ℕ → List ℕ → Answer
+unfoldable pub inRoom : ℕ → List ℕ → Answer
 inRoom room l = if leb (length l) room then gives l else refused 9
+
+-- the text of a value up to the most, in so much room
+unfoldable pub ranged : ℕ → (ℕ → Text) → ℕ → ℕ → Answer
+ranged most text n room = if leb n most then inRoom room (text n) else refused 8
 
 -- ---- trees
 
 abbrev pub mostElements : ℕ
 mostElements = 5000000
 
-abbrev pub isLong : {A : Type 0} → Reading A → Bool
-isLong absent = false
-isLong long = true
-isLong (value a) = false
+-- 2
+unfoldable pub utf8? : Rec → Bool
+utf8? r = isUtf8 (r .name) && isUtf8 (r .text)
 
-abbrev pub isOne : List String → Text → Bool
-isOne names n = some? (λ s. same n (bytes s)) names
+-- 4
+unfoldable pub project? : List Rec → Bool
+project? [] = false
+project? (root ∷ rs) = same (root .name) (bytes "Project")
 
-abbrev pub numberNames : List String
+-- 5
+unfoldable pub long? : {A : Type 0} → Reading A → Bool
+long? absent = false
+long? long = true
+long? (value x) = false
+
+abbrev pub numberNames : List Text
 numberNames =
-    "MinutesPerDay" ∷ "PhysicalPercentComplete" ∷ "StandardRate" ∷ "MaxUnits" ∷ "Units" ∷ "Cost" ∷ "ActualCost" ∷ "RemainingCost" ∷ []
+    bytes "MinutesPerDay" ∷ bytes "PhysicalPercentComplete" ∷ bytes "StandardRate" ∷ bytes "MaxUnits" ∷ bytes "Units" ∷ bytes "Cost" ∷
+    bytes "ActualCost" ∷ bytes "RemainingCost" ∷ []
 
-abbrev pub durationNames : List String
-durationNames = "Duration" ∷ "RemainingDuration" ∷ "Work" ∷ "ActualWork" ∷ "RemainingWork" ∷ []
+abbrev pub durationNames : List Text
+durationNames = bytes "Duration" ∷ bytes "RemainingDuration" ∷ bytes "Work" ∷ bytes "ActualWork" ∷ bytes "RemainingWork" ∷ []
 
--- a record whose number is too long
+-- an element of a name has a number too long as its text, or as a piece of it
+unfoldable pub longIn : Text → Text → Bool
+longIn name text =
+    if some? (same name) numberNames then long? (numberOf (trim text)) else
+    if some? (same name) durationNames then long? (durationOf text) else false
+
 unfoldable pub tooLong : Rec → Bool
-tooLong r =
-    (isOne numberNames (r .name) && isLong (numberOf (trim (r .text)))) ||
-    (isOne durationNames (r .name) && isLong (durationOf (r .text)))
-
-abbrev pub isRoot : List Rec → Bool
-isRoot [] = false
-isRoot (r ∷ rs) = same (r .name) (bytes "Project")
+tooLong r = longIn (r .name) (r .text)
 
 -- the lowest of 1 to 5 that applies to a tree, 0 where none does
 unfoldable pub treeRefusal : Text → ℕ
 treeRefusal s =
-    let rs = records s in
     if not (layout s) then 1 else
-    if not (every? (λ (r : Rec). isUtf8 (r .name) && isUtf8 (r .text)) rs) then 2 else
-    if ltb mostElements (length rs) then 3 else
-    if not (isRoot rs) then 4 else
-    if some? tooLong (belowRoot rs) then 5 else
-    0
+    if not (every? utf8? (records s)) then 2 else
+    if ltb mostElements (length (records s)) then 3 else
+    if not (project? (records s)) then 4 else
+    if some? tooLong (belowRoot (records s)) then 5 else 0
 
 abbrev pub unless : ℕ → Answer → Answer
 unless n a = if ltb 0 n then refused n else a
@@ -139,10 +147,10 @@ daySheetAnswer s row day room = sheetBy (decode s) row day room
 -- the text of minutes from 0 to the most that durationOf gives, and of a time up to 1440
 unfoldable pub durationAnswer : ℤ → ℕ → Answer
 durationAnswer (negsuc n) room = refused 8
-durationAnswer (pos n) room = if leb n mostMinutes then inRoom room (durationText n) else refused 8
+durationAnswer (pos n) room = ranged mostMinutes durationText n room
 
-unfoldable pub timeAnswer : ℕ → ℕ → Answer
-timeAnswer t room = if leb t mostTime then inRoom room (timeText t) else refused 8
+abbrev pub timeAnswer : ℕ → ℕ → Answer
+timeAnswer = ranged mostTime timeText
 
 -- the reading program, 65,536 bytes at most each way: what it writes
 abbrev pub mostProgramBytes : ℕ

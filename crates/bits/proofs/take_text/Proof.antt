@@ -1,0 +1,35 @@
+use native.Mathlib.Omega.{arith}
+use Rattle.bits.specs.Reads.{read-field, read-whole, skip-pad, pad-whole, found}
+use borrow.Author.Needs.{needs}
+use Rattle.bits.proofs.take_text.Statement.{statement}
+use Rattle.bits.proofs.take_text.Tie as tie
+use Rattle.bits.proofs.take_text.Reads as reads
+use Rattle.bits.proofs.take_text.Lts as lts
+use Rattle.bits.proofs.bytes_at.Reads as bytes-at-reads
+use Rattle.bits.proofs.take.Reads as take-reads
+use Rattle.bits.proofs.take_pad.Reads as take-pad-reads
+
+-- src/lib.rt:247:9
+take-requires : tie.Need-take-requires
+take-requires c κs = search needs
+
+-- src/lib.rt:248:9
+take-pad-requires : tie.Need-take-pad-requires
+take-pad-requires c κs = search needs
+
+-- src/lib.rt:249:5
+bytes-at-requires : tie.Need-bytes-at-requires
+bytes-at-requires c κs = search needs
+
+-- src/lib.rt:244:1
+returns : tie.Need-returns
+returns c =
+    let p = c .before in
+    let t = p .before in
+    let k = t .before in
+    let a = k .before .args in
+    found (λ i. omega (arith, k .shared-slice-known .given i)) (read-whole (read-field (a .s .now) (a .p) 32 (t .take .ensures)) (skip-pad (a .s .now) (t .take .result .next) (p .take-pad .ensures)))
+    (pad-whole (a .s .now) (t .take .result .next) (p .take-pad .ensures)) (c .bytes-at .ensures)
+
+pub take-text-spec : {M : Type 1} → statement M
+take-text-spec = tie.close (tie.spec take-requires take-pad-requires bytes-at-requires returns)

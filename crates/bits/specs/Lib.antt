@@ -1,0 +1,7 @@
+pub mod Bits
+pub mod Over
+pub mod Places
+pub mod Reads
+pub mod Steps
+pub mod Moves
+pub mod Round

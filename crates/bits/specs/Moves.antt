@@ -1,0 +1,356 @@
+-- Moving: a tail of zeros, and runs of bits or bytes that change places. Assumes nothing.
+use mathlib.Core.Path.{_≡_, refl, sym, ap, _∙_}
+use mathlib.Core.Bool.{Bool, true, false, _&&_}
+use mathlib.Core.List.{List, [], _∷_, _++_, append-assoc, append-nil, reverse, reverse-cons, reverse-append, reverse-reverse}
+use Prim.Native.Nat.{ℕ, zero, suc, _+_, _-_, _*_, _≤_, _<_}
+use native.Mathlib.Nat.{sub-zero}
+use native.Mathlib.Omega.{arith}
+use lib.Dec.{leb}
+use borrow.Author.Tests.{le-leb, lt-leb, leb-true}
+use Rattle.definition.specs.Base.{if_then_else_}
+use Rattle.definition.specs.Bits.{Bits, enc, dec, bitsOf}
+use Rattle.bits.specs.Bits.{length-bits, length-part, enc-read}
+use Rattle.bits.specs.Places.{at, past, inside, upTo, room-fits, up-before}
+use Rattle.bits.specs.Steps.{Step, _▷_}
+use Rattle.bits.specs.declared.Place.{Place}
+use Rattle.bits.specs.Over.{over, over-none, over-kept, over-prev, parts, turned-over}
+use lib.ListN.{length, take, drop, getD, set, replicate, length-append, length-reverse, length-drop, length-replicate, take-append-drop, drop-of-length-le, replicate-append-replicate}
+use lib.Seq.{take-add, take-suc, take-length, drop-cons, getD-at, set-at, length-take-le, drop-drop, take-at, drop-at}
+use native.Mathlib.Numerals.{add-one}
+
+-- ---- zeros from a byte on
+
+abbrev pub cleared : ℕ → List ℕ → List ℕ
+cleared n s = take n s ++ replicate (length s - n) 0
+
+-- on the way: up to i
+abbrev pub clearing : ℕ → List ℕ → ℕ → List ℕ
+clearing n s i = take n s ++ (replicate (i - n) 0 ++ drop i s)
+
+pub clear-none : (n : ℕ) (s : List ℕ) → s ≡ clearing n s n
+clear-none n s =
+    let z : n - n ≡ 0 = omega arith in
+    rw z (sym (take-append-drop n s))
+
+pub clear-turn : (n i : ℕ) (s s' : List ℕ) → n ≤ i → i < length s → s' ≡ clearing n s i → set s' i 0 ≡ clearing n s (i + 1)
+clear-turn n i s s' h k e =
+    let p = take n s ++ replicate (i - n) 0 in
+    let l : length p ≡ i = length-append (take n s) (replicate (i - n) 0) ∙ (omega (arith, length-take-le n s (omega arith), length-replicate {A = ℕ} (i - n) 0)) in
+    let d : i + 1 - n ≡ i - n + 1 = omega arith in
+    let o : ℕ = 0 in
+    let one : replicate (i - n) o ++ (o ∷ []) ≡ replicate (i + 1 - n) o = rw d (replicate-append-replicate (i - n) 1 o) in
+    let w : s' ≡ p ++ (getD s i 0 ∷ drop (suc i) s) = e ∙ rw (drop-cons s i 0 k) (sym (append-assoc (take n s) (replicate (i - n) 0) _)) in
+    rw (w, set-at p (getD s i 0) (drop (suc i) s) 0 i l) (append-assoc (take n s) (replicate (i - n) o) (o ∷ drop (suc i) s)
+    ∙ ap (λ (t : List ℕ). take n s ++ t) (sym (append-assoc (replicate (i - n) o) (o ∷ []) (drop (suc i) s)) ∙ rw (one, add-one)))
+
+pub clear-all : (n i : ℕ) (s s' : List ℕ) → n ≤ i → length s ≤ i → i - n ≤ length s - n → s' ≡ clearing n s i → s' ≡ cleared n s
+clear-all n i s s' h k le e =
+    let j : i - n ≡ length s - n = omega arith in
+    e ∙ rw (drop-of-length-le s k, append-nil, j)
+
+-- ---- two neighbours change places
+
+-- what stands from m to e goes before what stands from a to m
+abbrev pub swapped : {A : Type 0} → ℕ → ℕ → ℕ → List A → List A
+swapped a m e l = take a l ++ (take (e - m) (drop m l) ++ (take (m - a) (drop a l) ++ drop e l))
+
+abbrev pub inOrder : ℕ → ℕ → ℕ → ℕ → Bool
+inOrder a m e n = leb a m && (leb m e && leb e n)
+
+-- the bits from m to e before those from a to m, if these places are in order
+abbrev pub ordered : ℕ → Place → Place → Place → Bool
+ordered n a m e = inside n e && (upTo m e && upTo a m)
+
+pub record Turns (a m e : Place) (d d' : List ℕ) : Type 0 where
+  pub same : length d' ≡ length d
+  pub bits : bitsOf d' ≡ if ordered (length d) a m e then swapped (at a) (at m) (at e) (bitsOf d) else bitsOf d
+
+unfoldable pub turned : ℕ → ℕ → ℕ → List ℕ → List ℕ
+turned a m e s = if inOrder a m e (length s) then swapped a m e s else s
+
+-- the bytes from a to e turned round
+abbrev pub Flips : ℕ → ℕ → List ℕ → List ℕ → Type 0
+Flips a e s s' = (p x z : List ℕ) → s ≡ p ++ (x ++ z) → length p ≡ a → a + length x ≡ e → s' ≡ p ++ (reverse x ++ z)
+
+-- on the way: u and v are in place, m is left
+pub record Flip (p x z s : List ℕ) (i j : ℕ) : Type 0 where
+  pub u : List ℕ
+  pub m : List ℕ
+  pub v : List ℕ
+  pub is : s ≡ (p ++ u) ++ (m ++ (v ++ z))
+  pub rev : reverse x ≡ u ++ (reverse m ++ v)
+  pub from : length (p ++ u) ≡ i
+  pub to : i + length m ≡ j
+
+abbrev pub Flipping : ℕ → ℕ → List ℕ → List ℕ → ℕ → ℕ → Type 0
+Flipping a e s s' i j = (p x z : List ℕ) → s ≡ p ++ (x ++ z) → length p ≡ a → a + length x ≡ e → Flip p x z s' i j
+
+pub flip-none : (a e : ℕ) (s : List ℕ) → Flipping a e s s a e
+flip-none a e s p x z es ep ex =
+    record { u = []; m = x; v = []; is = rw append-nil es; rev = sym (append-nil (reverse x)); from = rw append-nil ep; to = ex }
+
+short : (m : List ℕ) → length m ≤ 1 → reverse m ≡ m
+short [] h = refl
+short (c ∷ []) h = refl
+short (c ∷ (d ∷ m)) h = absurd (omega arith)
+
+pub flip-all : (a e : ℕ) (s s' : List ℕ) (i j : ℕ) → j - i ≤ 1 → Flipping a e s s' i j → Flips a e s s'
+flip-all a e s s' i j le h p x z es ep ex =
+    let f = h p x z es ep ex in
+    let sh : reverse (f .m) ≡ f .m = short (f .m) (omega (arith, f .to)) in
+    f .is ∙ rw (f .rev, sh) (simp append-assoc)
+
+-- a list of two or more: its ends
+record Ends (m : List ℕ) : Type 0 where
+  c : ℕ
+  mid : List ℕ
+  d : ℕ
+  are : m ≡ c ∷ (mid ++ (d ∷ []))
+
+ends : (m : List ℕ) → 2 ≤ length m → Ends m
+ends [] h = absurd (omega arith)
+ends (c ∷ m) h =
+    let k = length m - 1 in
+    let e : suc k ≡ length m = omega arith in
+    let w : m ≡ take k m ++ (getD m k 0 ∷ []) = sym (take-length m) ∙ ap (λ (t : ℕ). take t m) (sym e) ∙ take-suc m k 0 (omega arith) in
+    record { c = c; mid = take k m; d = getD m k 0; are = ap (λ (t : List ℕ). c ∷ t) w }
+
+flip-step : (p x z s u v mid : List ℕ) (c0 d0 i j' : ℕ) {b c : ℕ} → s ≡ (p ++ u) ++ ((c0 ∷ (mid ++ (d0 ∷ []))) ++ (v ++ z)) → reverse x ≡ u ++ (reverse (c0 ∷ (mid ++ (d0 ∷ []))) ++ v)
+    → length (p ++ u) ≡ i → j' ≡ i + 1 + length mid → b ≡ getD s i 0 → c ≡ getD s j' 0 → Flip p x z (set (set s i c) j' b) (i + 1) j'
+flip-step p x z s u v mid c0 d0 i j' {b} {c} is rev from to eb ec =
+    let q = p ++ u in
+    let r = v ++ z in
+    let s0 : s ≡ q ++ (c0 ∷ (mid ++ (d0 ∷ r))) = is ∙ simp append-assoc in
+    let l1 : length (q ++ (c0 ∷ mid)) ≡ j' = length-append q (c0 ∷ mid) ∙ omega arith in
+    let l2 : length (q ++ (d0 ∷ mid)) ≡ j' = length-append q (d0 ∷ mid) ∙ omega arith in
+    let s1 : s ≡ (q ++ (c0 ∷ mid)) ++ (d0 ∷ r) = s0 ∙ simp append-assoc in
+    let b0 : b ≡ c0 = eb ∙ ap (λ (t : List ℕ). getD t i 0) s0 ∙ getD-at q c0 _ 0 i from in
+    let c1 : c ≡ d0 = ec ∙ ap (λ (t : List ℕ). getD t j' 0) s1 ∙ getD-at (q ++ (c0 ∷ mid)) d0 r 0 j' l1 in
+    let t0 : set s i c ≡ q ++ (d0 ∷ (mid ++ (d0 ∷ r))) = rw (s0, c1) (set-at q c0 _ d0 i from) in
+    let t1 : set s i c ≡ (q ++ (d0 ∷ mid)) ++ (d0 ∷ r) = t0 ∙ simp append-assoc in
+    let t2 : set (set s i c) j' b ≡ (q ++ (d0 ∷ mid)) ++ (c0 ∷ r) = rw (t1, b0) (set-at (q ++ (d0 ∷ mid)) d0 r c0 j' l2) in
+    let rm : reverse (c0 ∷ (mid ++ (d0 ∷ []))) ≡ d0 ∷ (reverse mid ++ (c0 ∷ [])) = reverse-cons c0 (mid ++ (d0 ∷ [])) ∙ rw (reverse-append mid (d0 ∷ [])) in
+    record {
+      u = u ++ (d0 ∷ []);
+      m = mid;
+      v = c0 ∷ v;
+      is = t2 ∙ simp append-assoc;
+      rev = rev ∙ ap (λ (t : List ℕ). u ++ (t ++ v)) rm ∙ simp append-assoc;
+      from = length-append p (u ++ (d0 ∷ [])) ∙ omega (arith, length-append u (d0 ∷ []), length-append p u);
+      to = omega arith;
+    }
+
+pub flip-turn : (a e : ℕ) (s s' : List ℕ) (i j : ℕ) {j' b c : ℕ} → 1 < j - i → j' ≡ j - 1 → b ≡ getD s' i 0 → c ≡ getD s' j' 0
+    → Flipping a e s s' i j → Flipping a e s (set (set s' i c) j' b) (i + 1) j'
+flip-turn a e s s' i j {j'} lt ej eb ec h p x z es ep ex =
+    let f = h p x z es ep ex in
+    let n = ends (f .m) (omega (arith, f .to)) in
+    let lm : length (f .m) ≡ suc (length (n .mid) + 1) = ap length (n .are) ∙ ap suc (length-append (n .mid) (n .d ∷ [])) in
+    flip-step p x z s' (f .u) (f .v) (n .mid) (n .c) (n .d) i j' (f .is ∙ ap (λ (t : List ℕ). (p ++ f .u) ++ (t ++ (f .v ++ z))) (n .are))
+    (f .rev ∙ ap (λ (t : List ℕ). f .u ++ (reverse t ++ f .v)) (n .are)) (f .from) (omega (arith, f .to)) eb ec
+
+fronted : (r a b : ℕ) (s s1 s2 s3 : List ℕ) → r ≤ a → a ≤ b → b ≤ length s → Flips r a s s1 → Flips a b s1 s2 → Flips r b s2 s3
+    → s3 ≡ swapped r a b s
+fronted r a b s s1 s2 s3 h1 h2 h3 f g k =
+    let p = take r s in
+    let x = take (a - r) (drop r s) in
+    let y = take (b - a) (drop a s) in
+    let z = drop b s in
+    let lp : length p ≡ r = length-take-le r s (omega arith) in
+    let lx : length x ≡ a - r = length-take-le (a - r) (drop r s) (omega (arith, length-drop r s)) in
+    let ly : length y ≡ b - a = length-take-le (b - a) (drop a s) (omega (arith, length-drop a s)) in
+    let ra : r + (a - r) ≡ a = omega arith in
+    let ab : a + (b - a) ≡ b = omega arith in
+    let d1 : drop a s ≡ y ++ z = sym (take-append-drop (b - a) (drop a s)) ∙ rw (drop-drop (b - a) a s, ab) in
+    let d2 : drop r s ≡ x ++ drop a s = sym (take-append-drop (a - r) (drop r s)) ∙ rw (drop-drop (a - r) r s, ra) in
+    let w0 : s ≡ p ++ (x ++ (y ++ z)) = sym (take-append-drop r s) ∙ ap (λ (t : List ℕ). p ++ t) (d2 ∙ ap (λ (t : List ℕ). x ++ t) d1) in
+    let w1 : s1 ≡ (p ++ reverse x) ++ (y ++ z) = f p x (y ++ z) w0 lp (omega arith) ∙ sym (append-assoc p (reverse x) (y ++ z)) in
+    let lr = length-reverse x in
+    let w2 : s2 ≡ (p ++ reverse x) ++ (reverse y ++ z) = g (p ++ reverse x) y z w1 (length-append p (reverse x) ∙ omega arith) (omega arith) in
+    let w2' : s2 ≡ p ++ ((reverse x ++ reverse y) ++ z) = w2 ∙ simp append-assoc in
+    let w3 = k p (reverse x ++ reverse y) z w2' lp (omega (arith, length-append (reverse x) (reverse y), length-reverse y)) in
+    let rr : reverse (reverse x ++ reverse y) ≡ y ++ x = reverse-append (reverse x) (reverse y) ∙ rw (reverse-reverse y, reverse-reverse x) in
+    w3 ∙ ap (λ (t : List ℕ). p ++ (t ++ z)) rr ∙ ap (λ (t : List ℕ). p ++ t) (append-assoc y x z)
+
+pub turned-all : (a m e : ℕ) (s s1 s2 s3 : List ℕ) → a ≤ m → m ≤ e → e ≤ length s → Flips a m s s1 → Flips m e s1 s2 → Flips a e s2 s3 → s3 ≡ turned a m e s
+unfolding turned
+turned-all a m e s s1 s2 s3 h1 h2 h3 f g k = fronted a m e s s1 s2 s3 h1 h2 h3 f g k ∙ rw (le-leb a m h1, le-leb m e h2, le-leb e (length s) h3)
+
+-- where they are not in order, nothing changes
+pub turned-not : (a m e : ℕ) (s : List ℕ) → (a ≤ m → m ≤ e → length s < e) → turned a m e s ≡ s
+unfolding turned
+turned-not a m e s h = not-if (leb a m) (leb m e) refl refl
+  where
+    not-if : (t o : Bool) → leb a m ≡ t → leb m e ≡ o → (if t && (o && leb e (length s)) then swapped a m e s else s) ≡ s
+    not-if false o et eo = refl
+    not-if true false et eo = refl
+    not-if true true et eo = rw (lt-leb e (length s) (h (leb-true a m et) (leb-true m e eo)))
+
+-- the parts by name
+pub swap-parts : {A : Type 0} (a m e : ℕ) (p x y z : List A) → length p ≡ a → a + length x ≡ m → m + length y ≡ e → swapped a m e (p ++ (x ++ (y ++ z))) ≡ p ++ (y ++ (x ++ z))
+swap-parts a m e p x y z ep ex ey =
+    let l = p ++ (x ++ (y ++ z)) in
+    let d1 : drop a l ≡ x ++ (y ++ z) = drop-at p (x ++ (y ++ z)) a ep in
+    let ma : m ≡ a + length x = sym ex in
+    let em : e ≡ m + length y = sym ey in
+    let d2 : drop m l ≡ y ++ z = rw (ma, ← drop-drop (length x) a l, d1) (drop-at x (y ++ z) (length x) refl) in
+    let d3 : drop e l ≡ z = rw (em, ← drop-drop (length y) m l, d2) (drop-at y z (length y) refl) in
+    let ly : e - m ≡ length y = omega arith in
+    let lx : m - a ≡ length x = omega arith in
+    rw (take-at p (x ++ (y ++ z)) a ep, d1, d2, d3, ly, lx, take-at y z (length y) refl, take-at x (y ++ z) (length x) refl)
+
+-- ---- a run of bits moves up
+
+-- so many bits from one place laid over those at another
+abbrev pub moved : ℕ → ℕ → ℕ → Bits → Bits
+moved from to n l = over to (take n (drop from l)) l
+
+-- n bits more, from the end
+pub move-more : (d0 d : List ℕ) (e k p n q : ℕ) {v : ℕ} {b : Bits} → length d ≡ length d0 → bitsOf d ≡ moved p (p + k) (e - p) (bitsOf d0) → e + k ≤ 8 * length d0 → p ≤ e → q + n ≡ p
+    → v ≡ dec (take n (drop q (bitsOf d))) → b ≡ over (q + k) (enc n v) (bitsOf d) → b ≡ moved q (q + k) (e - q) (bitsOf d0)
+move-more d0 d e k p n q {v} {b} ln g cap le qn ev eb =
+    let l = bitsOf d0 in
+    let nb = length-bits d0 in
+    let m = e - p in
+    let x = take m (drop p l) in
+    let nx : length x ≡ m = length-part p m l (omega arith) in
+    let y = take n (drop q l) in
+    let ny : length y ≡ n = length-part q n l (omega arith) in
+    let rd : enc n v ≡ take n (drop q (bitsOf d)) = rw ev (enc-read d q n (omega arith)) in
+    let sm : take n (drop q (bitsOf d)) ≡ y = rw g (over-kept q n (p + k) x l (omega arith) (omega arith)) in
+    let mm : e - q ≡ n + m = omega arith in
+    let xy : y ++ x ≡ take (e - q) (drop q l) = rw (mm, take-add n m (drop q l), drop-drop n q l, qn) in
+    eb ∙ rw (rd, sm, g) (over-prev (q + k) (p + k) x y l (omega arith) (omega arith)) ∙ ap (λ (t : Bits). over (q + k) t l) xy
+
+-- the last k bits before e are read, the others move up, and the k bits are laid in front
+pub turn-front : (d : List ℕ) (a e k : ℕ) {v : ℕ} {b1 b2 : Bits} → a + k ≤ e → e ≤ 8 * length d → v ≡ dec (take k (drop (e - k) (bitsOf d)))
+    → b1 ≡ moved a (a + k) (e - k - a) (bitsOf d) → b2 ≡ over a (enc k v) b1 → b2 ≡ swapped a (e - k) e (bitsOf d)
+turn-front d a e k {v} {b1} {b2} h le ev e1 e2 =
+    let l = bitsOf d in
+    let nb = length-bits d in
+    let p = take a l in
+    let x = take (e - k - a) (drop a l) in
+    let y = take k (drop (e - k) l) in
+    let z = drop e l in
+    let lp : length p ≡ a = length-take-le a l (omega arith) in
+    let lx : length x ≡ e - k - a = length-part a (e - k - a) l (omega arith) in
+    let ly : length y ≡ k = length-part (e - k) k l (omega arith) in
+    let e3 : a + (e - k - a) ≡ e - k = omega arith in
+    let e4 : e - k + k ≡ e = omega arith in
+    let tl : drop (e - k) l ≡ y ++ z = sym (take-append-drop k (drop (e - k) l)) ∙ ap (λ (t : Bits). y ++ t) (drop-drop k (e - k) l ∙ ap (λ (n : ℕ). drop n l) e4) in
+    let all : l ≡ p ++ (x ++ (y ++ z)) = parts a (e - k - a) l ∙ ap (λ (t : Bits). p ++ (x ++ t)) (ap (λ (n : ℕ). drop n l) e3 ∙ tl) in
+    let rd : enc k v ≡ y = rw ev (enc-read d (e - k) k (omega arith)) in
+    let sp : swapped a (e - k) e l ≡ p ++ (y ++ (x ++ z)) = ap (swapped a (e - k) e) all ∙ swap-parts a (e - k) e p x y z lp (omega arith) (omega arith) in
+    e2 ∙ rw (rd, e1) (ap (λ (t : Bits). over a y (over (a + k) x t)) all ∙ turned-over a (a + k) p x y z lp (omega arith)) ∙ sym sp
+
+pub move-none : (p q : ℕ) (l : Bits) → l ≡ moved p q (p - p) l
+move-none p q l =
+    let z : p - p ≡ 0 = omega arith in
+    rw z (sym (over-none q l))
+
+-- ---- a turn in parts
+
+-- a list in four parts
+record Parts (a t q e : ℕ) (l : Bits) : Type 0 where
+  p : Bits
+  x : Bits
+  u : Bits
+  v : Bits
+  z : Bits
+  are : l ≡ p ++ (x ++ (u ++ (v ++ z)))
+  lp : length p ≡ a
+  lx : a + length x ≡ t
+  lu : t + length u ≡ q
+  lv : q + length v ≡ e
+
+split : (a t q e : ℕ) (l : Bits) → a ≤ t → t ≤ q → q ≤ e → e ≤ length l → Parts a t q e l
+split a t q e l h1 h2 h3 h4 =
+    let cut : (i j : ℕ) → i ≤ j → drop i l ≡ take (j - i) (drop i l) ++ drop j l =
+    λ i j h. let s : i + (j - i) ≡ j = omega arith in sym (take-append-drop (j - i) (drop i l)) ∙ ap (λ (w : Bits). take (j - i) (drop i l) ++ w) (drop-drop (j - i) i l ∙ ap (λ (n : ℕ). drop n l) s) in
+    record {
+      p = take a l;
+      x = take (t - a) (drop a l);
+      u = take (q - t) (drop t l);
+      v = take (e - q) (drop q l);
+      z = drop e l;
+      are = sym (take-append-drop a l) ∙ ap (λ (w : Bits). take a l ++ w) (cut a t h1 ∙ ap (λ (w : Bits). take (t - a) (drop a l) ++ w) (cut t q h2 ∙ ap (λ (w : Bits). take (q - t) (drop t l) ++ w) (cut q e h3)));
+      lp = length-take-le a l (omega arith);
+      lx = omega (arith, length-part a (t - a) l (omega arith));
+      lu = omega (arith, length-part t (q - t) l (omega arith));
+      lv = omega (arith, length-part q (e - q) l (omega arith));
+    }
+
+-- nothing has come to the front yet
+pub swap-none : (a e : ℕ) (l : Bits) → a ≤ e → l ≡ swapped a e e l
+swap-none a e l h =
+    let z : e - e ≡ 0 = omega arith in
+    let s : a + (e - a) ≡ e = omega arith in
+    rw z (sym (take-append-drop a l) ∙ ap (λ (w : Bits). take a l ++ w) (sym (take-append-drop (e - a) (drop a l)) ∙ ap (λ (w : Bits). take (e - a) (drop a l) ++ w) (drop-drop (e - a) a l ∙ ap (λ (n : ℕ). drop n l) s)))
+
+-- n bits more come to the front
+pub swap-more : (a t e n : ℕ) {q : ℕ} (l : Bits) → a ≤ t → t + n ≡ q → q ≤ e → e ≤ length l → swapped a (e - n) e (swapped a q e l) ≡ swapped a t e l
+swap-more a t e n {q} l h1 h2 h3 h4 =
+    let c = split a t q e l h1 (omega arith) h3 h4 in
+    let lxu = length-append (c .x) (c .u) in
+    let luv = length-append (c .u) (c .v) in
+    let lvx = length-append (c .v) (c .x) in
+    let one : swapped a q e l ≡ c .p ++ (c .v ++ ((c .x ++ c .u) ++ c .z)) =
+    ap (swapped a q e) (c .are ∙ ap (λ (w : Bits). c .p ++ w) (sym (append-assoc (c .x) (c .u) (c .v ++ c .z)))) ∙ swap-parts a q e (c .p) (c .x ++ c .u) (c .v) (c .z) (c .lp) (omega (arith, c .lx, c .lu)) (c .lv) in
+    let two : c .p ++ (c .v ++ ((c .x ++ c .u) ++ c .z)) ≡ c .p ++ ((c .v ++ c .x) ++ (c .u ++ c .z)) = simp append-assoc in
+    let three : swapped a (e - n) e (swapped a q e l) ≡ c .p ++ (c .u ++ ((c .v ++ c .x) ++ c .z)) =
+    ap (swapped a (e - n) e) (one ∙ two) ∙ swap-parts a (e - n) e (c .p) (c .v ++ c .x) (c .u) (c .z) (c .lp) (omega (arith, c .lx, c .lu, c .lv)) (omega (arith, c .lx, c .lu, c .lv)) in
+    let four : swapped a t e l ≡ c .p ++ ((c .u ++ c .v) ++ (c .x ++ c .z)) =
+    ap (swapped a t e) (c .are ∙ ap (λ (w : Bits). c .p ++ (c .x ++ w)) (sym (append-assoc (c .u) (c .v) (c .z)))) ∙ swap-parts a t e (c .p) (c .x) (c .u ++ c .v) (c .z) (c .lp) (c .lx) (omega (arith, c .lu, c .lv)) in
+    let five : c .p ++ (c .u ++ ((c .v ++ c .x) ++ c .z)) ≡ c .p ++ ((c .u ++ c .v) ++ (c .x ++ c .z)) = simp append-assoc in
+    three ∙ five ∙ sym four
+
+differ : {A : Type 0} (t : Bool) → t ≡ true → t ≡ false → A
+differ t h k =
+    let e : true ≡ false = sym h ∙ k in
+    let z : _≡_ {A = ℕ} 0 1 = cc in
+    absurd (omega arith)
+
+-- places in order
+pub record Order (n : ℕ) (a m e : Place) : Type 0 where
+  pub first : a .bit < 8
+  pub middle : m .bit < 8
+  pub last : e .bit < 8
+  pub from : at a ≤ at m
+  pub to : at m ≤ at e
+  pub ends : at e ≤ 8 * n
+
+pub order : (n : ℕ) (a m e : Place) → ordered n a m e ≡ true → Order n a m e
+order n a m e h = order-if (inside n e) (upTo m e) refl refl h
+  where
+    order-if : (t o : Bool) → inside n e ≡ t → upTo m e ≡ o → (t && (o && upTo a m)) ≡ true → Order n a m e
+    order-if false o et eo k = differ false k refl
+    order-if true false et eo k = differ false k refl
+    order-if true true et eo k =
+        let x = room-fits n e 0 et in
+        let y = up-before m e eo in
+        let z = up-before a m k in
+        record { first = z .bit; middle = y .bit; last = x .bit; from = z .upto; to = y .upto; ends = omega (arith, x .ends) }
+
+-- where the places are in order, and where they are not
+pub turns : {a m e : Place} {d d' : List ℕ} → ordered (length d) a m e ≡ true → length d' ≡ length d → bitsOf d' ≡ swapped (at a) (at m) (at e) (bitsOf d) → Turns a m e d d'
+turns h l e = record { same = l; bits = rw h e }
+
+pub turns-not : {a m e : Place} {d : List ℕ} → ordered (length d) a m e ≡ false → Turns a m e d d
+turns-not h = record { same = refl; bits = rw h }
+
+-- ---- a run of bits written again
+
+-- the bits from one place to another
+abbrev pub bitsFrom : ℕ → ℕ → List ℕ → Bits
+bitsFrom a e d = take (e - a) (drop a (bitsOf d))
+
+pub record Copies (from to : Place) (d : List ℕ) (p : Place) (d' : List ℕ) (q : Place) : Type 0 where
+  pub copied : ordered (length d) from to p ≡ true → Step d p (λ b. b ▷ bitsFrom (at from) (at to) d) d' q
+  pub refused : ordered (length d) from to p ≡ false → (d' ≡ d) × (q ≡ past)
+
+pub copies : {from to : Place} {d : List ℕ} {p : Place} {d' : List ℕ} {q : Place} → ordered (length d) from to p ≡ true
+    → Step d p (λ b. b ▷ bitsFrom (at from) (at to) d) d' q → Copies from to d p d' q
+copies {from} {to} {d} {p} e s = record { copied = λ k. s; refused = λ k. differ (ordered (length d) from to p) e k }
+
+pub copies-not : {from to : Place} {d : List ℕ} {p : Place} → ordered (length d) from to p ≡ false → Copies from to d p d past
+copies-not {from} {to} {d} {p} e = record { copied = λ k. differ (ordered (length d) from to p) k e; refused = λ k. (refl, refl) }

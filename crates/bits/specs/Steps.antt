@@ -1,0 +1,293 @@
+-- Writing: a step goes from a buffer and a place to a buffer and a later place; steps compose, and what does not fit stays past the end.
+-- Steps speak of the bits before the place. Assumes nothing.
+use mathlib.Core.Path.{_≡_, refl, sym, ap, subst, _∙_}
+use mathlib.Core.Bool.{Bool, true, false}
+use mathlib.Core.List.{List, [], _∷_, _++_, append-assoc, append-nil}
+use mathlib.Core.Option.{Option, some, none}
+use Prim.Native.Nat.{ℕ, zero, suc, _+_, _-_, _*_, _/_, _%_, _^_, _≤_, _<_}
+use native.Mathlib.Nat.{add-assoc, add-zero}
+use native.Mathlib.Omega.{arith}
+use lib.ListN.{length, take, drop, length-append}
+use lib.Seq.{length-take-le}
+use lib.Dec.{leb}
+use borrow.Author.Tests.{le-leb, lt-leb, leb-true, leb-false}
+use Rattle.definition.specs.Base.{if_then_else_}
+use lib.IntN.{ℤ}
+use Rattle.definition.specs.Bits.{Bits, enc, bitsOf, pad, gap, twos}
+use Rattle.definition.specs.Date.{Date, dayNumber}
+use Rattle.definition.specs.Format.{Format, field, via, whole, _⊗_, depending, optional, times, putAll, listOf, bit, count, flag, code, time, Period, period, number, date, text}
+use Rattle.bits.specs.Bits.{length-bits, length-enc}
+use Rattle.bits.specs.Over.{over, over-upto}
+use Rattle.bits.specs.Places.{at, place, past, room, inside, Fits, room-fits, fits-room, room-short, room-none, room-less, at-place, next-fits}
+use Rattle.bits.specs.declared.Place.{Place}
+
+-- ---- bits laid over those at a place, and nothing else changed
+
+pub record Laid (d : List ℕ) (p : Place) (f : Bits) (d' : List ℕ) (q : Place) : Type 0 where
+  pub same : length d' ≡ length d
+  pub bits : bitsOf d' ≡ if room (length d) p (length f) then over (at p) f (bitsOf d) else bitsOf d
+  pub next : q ≡ if room (length d) p (length f) then place (at p + length f) else past
+
+-- where there is room
+pub laid-in : {d : List ℕ} {p : Place} {f : Bits} {d' : List ℕ} {q : Place} → Laid d p f d' q → Fits (length d) p (length f) → bitsOf d' ≡ over (at p) f (bitsOf d)
+laid-in h f = rw (fits-room f) at (h .bits)
+
+-- ---- steps
+
+-- the bits written so far, where so many fit; or too many
+pub data Buf : Type 0 where
+  holds : ℕ → Bits → Buf
+  full : ℕ → Buf
+
+-- what a buffer and a place in it stand for: the bits before the place
+unfoldable pub view : List ℕ → Place → Buf
+view d p = if inside (length d) p then holds (8 * length d) (take (at p) (bitsOf d)) else full (8 * length d)
+
+infixl 20 _▷_
+-- more bits, if they fit
+unfoldable pub _▷_ : Buf → Bits → Buf
+holds n b ▷ f = if leb (length b + length f) n then holds n (b ++ f) else full n
+full n ▷ f = full n
+
+abbrev pub sizeOf : Buf → ℕ
+sizeOf (holds n b) = length b
+sizeOf (full n) = 0
+
+-- a value in its format
+abbrev pub puts : {A : Type 0} → Format A → A → Buf → Buf
+puts f a b = b ▷ f .put (sizeOf b) a
+
+-- from the buffer d and the place p to d' and q, where what stands before the place goes by F
+pub record Step (d : List ℕ) (p : Place) (F : Buf → Buf) (d' : List ℕ) (q : Place) : Type 0 where
+  pub same : length d' ≡ length d
+  pub bits : view d' q ≡ F (view d p)
+
+infixl 15 _⨾_
+-- one step and then another
+pub _⨾_ : {d : List ℕ} {p : Place} {F : Buf → Buf} {d' : List ℕ} {q : Place} {G : Buf → Buf} {d'' : List ℕ} {r : Place}
+    → Step d p F d' q → Step d' q G d'' r → Step d p (λ b. G (F b)) d'' r
+_⨾_ {G = G} x y = record { same = y .same ∙ x .same; bits = y .bits ∙ ap G (x .bits) }
+
+-- the same step, said otherwise
+pub said : {d : List ℕ} {p : Place} {F : Buf → Buf} {d' : List ℕ} {q : Place} → Step d p F d' q → (G : Buf → Buf) → F (view d p) ≡ G (view d p) → Step d p G d' q
+said x G e = record { same = x .same; bits = x .bits ∙ e }
+
+-- ---- laws of the bits written
+
+pub view-in : (d : List ℕ) (p : Place) {w : ℕ} → Fits (length d) p w → view d p ≡ holds (8 * length d) (take (at p) (bitsOf d))
+unfolding view
+view-in d p {w} f =
+    let g : Fits (length d) p 0 = record { bit = f .bit; ends = omega (arith, f .ends) } in
+    rw (fits-room g)
+
+pub view-out : (d : List ℕ) (p : Place) → inside (length d) p ≡ false → view d p ≡ full (8 * length d)
+unfolding view
+view-out d p h = rw h
+
+pub length-before : (d : List ℕ) (n : ℕ) → n ≤ 8 * length d → length (take n (bitsOf d)) ≡ n
+length-before d n h = length-take-le n (bitsOf d) (omega (arith, length-bits d))
+
+▷-case : (n : ℕ) (p f g : Bits) (t : Bool) → leb (length p + length f) n ≡ t → (if t then holds n (p ++ f) else full n) ▷ g ≡ holds n p ▷ (f ++ g)
+unfolding _▷_
+▷-case n p f g true e = rw (length-append p f, length-append f g, append-assoc, add-assoc)
+▷-case n p f g false e =
+    let h : n < length p + length (f ++ g) = omega (arith, leb-false (length p + length f) n e, length-append f g) in
+    rw (lt-leb _ _ h)
+
+-- one after another is both at once
+pub ▷-▷ : (b : Buf) (f g : Bits) → b ▷ f ▷ g ≡ b ▷ (f ++ g)
+unfolding _▷_
+▷-▷ (full n) f g = refl
+▷-▷ (holds n p) f g = ▷-case n p f g (leb (length p + length f) n) refl
+
+pub ▷-full : (n : ℕ) (f : Bits) → full n ▷ f ≡ full n
+unfolding _▷_
+▷-full n f = refl
+
+module _ (d : List ℕ) (p : Place) where
+  -- what fits is held
+  pub ▷-fits : (f : Bits) → Fits (length d) p (length f) → view d p ▷ f ≡ holds (8 * length d) (take (at p) (bitsOf d) ++ f)
+  unfolding _▷_
+  ▷-fits f h =
+      let n = length-before d (at p) (omega (arith, h .ends)) in
+      let k : length (take (at p) (bitsOf d)) + length f ≤ 8 * length d = omega (arith, h .ends) in
+      rw (view-in d p h, le-leb _ _ k)
+
+  pub ▷-short : (f : Bits) → room (length d) p (length f) ≡ false → view d p ▷ f ≡ full (8 * length d)
+  unfolding _▷_
+  ▷-short f h = short (inside (length d) p) refl
+    where
+      short : (t : Bool) → inside (length d) p ≡ t → view d p ▷ f ≡ full (8 * length d)
+      short false e = rw (view-out d p e)
+      short true e =
+          let i = room-fits (length d) p 0 e in
+          let n = length-before d (at p) (omega (arith, i .ends)) in
+          let k : 8 * length d < length (take (at p) (bitsOf d)) + length f = omega (arith, room-none (length d) p (length f) h (i .bit)) in
+          rw (view-in d p i, lt-leb _ _ k)
+
+  -- no bits are no step
+  pub view-none : view d p ▷ [] ≡ view d p
+  view-none = none-if (inside (length d) p) refl
+    where
+      none-if : (t : Bool) → inside (length d) p ≡ t → view d p ▷ [] ≡ view d p
+      none-if true e = let i = room-fits (length d) p 0 e in ▷-fits [] i ∙ rw (append-nil, view-in d p i)
+      none-if false e = ▷-short [] e ∙ sym (view-out d p e)
+
+-- bits that were laid are a step
+pub laid-step : {d : List ℕ} {p : Place} {f : Bits} {d' : List ℕ} {q : Place} → Laid d p f d' q → Step d p (λ b. b ▷ f) d' q
+laid-step {d} {p} {f} {d'} {q} h = step-if (room (length d) p (length f)) refl
+  where
+    past-out : inside (length d') past ≡ false
+    past-out = room-short (length d') past 0 (λ k. absurd (omega arith))
+
+    step-if : (t : Bool) → room (length d) p (length f) ≡ t → Step d p (λ b. b ▷ f) d' q
+    step-if true e =
+        let i = room-fits (length d) p (length f) e in
+        let nx : q ≡ place (at p + length f) = rw e at (h .next) in
+        let bs : bitsOf d' ≡ over (at p) f (bitsOf d) = rw e at (h .bits) in
+        let k : Fits (length d') (place (at p + length f)) 0 = rw (h .same) (next-fits i) in
+        let up : take (at p + length f) (bitsOf d') ≡ take (at p) (bitsOf d) ++ f = rw bs (over-upto (at p) f (bitsOf d) (omega (arith, i .ends, length-bits d))) in
+        record { same = h .same; bits = rw (nx, view-in d' _ k, at-place, up, h .same) (sym (▷-fits d p f i)) }
+    step-if false e =
+        let nx : q ≡ past = rw e at (h .next) in
+        record { same = h .same; bits = rw (nx, view-out d' past past-out, h .same) (sym (▷-short d p f e)) }
+
+-- ---- formats
+
+-- bits that go by how many stand before them
+pub ▷-size : (b : Buf) (f : Bits) (h : ℕ → Bits) → b ▷ f ▷ h (sizeOf (b ▷ f)) ≡ b ▷ (f ++ h (sizeOf b + length f))
+unfolding _▷_
+▷-size (full n) f h = refl
+▷-size (holds n p) f h = size-if (leb (length p + length f) n) refl
+  where
+    size-if : (t : Bool) → leb (length p + length f) n ≡ t
+        → (if t then holds n (p ++ f) else full n) ▷ h (sizeOf (if t then holds n (p ++ f) else full n)) ≡ holds n p ▷ (f ++ h (length p + length f))
+    size-if true e = rw (length-append p f, length-append f, append-assoc, add-assoc)
+    size-if false e =
+        let k : n < length p + length (f ++ h (length p + length f)) = omega (arith, leb-false (length p + length f) n e, length-append f (h (length p + length f))) in
+        rw (lt-leb _ _ k)
+
+-- zero bits up to a whole byte
+abbrev pub padded : Buf → Buf
+padded b = b ▷ pad (sizeOf b)
+
+-- a value was put in its format
+pub record Puts {A : Type 0} (f : Format A) (a : A) (d : List ℕ) (p : Place) (d' : List ℕ) (q : Place) : Type 0 where
+  pub step : Step d p (puts f a) d' q
+
+-- zero bits were put up to a whole byte
+pub record Pads (d : List ℕ) (p : Place) (d' : List ℕ) (q : Place) : Type 0 where
+  pub step : Step d p padded d' q
+  pub bit : q .bit % 8 ≡ 0
+
+module _ {d : List ℕ} {p : Place} {d' : List ℕ} {q : Place} where
+  -- a field is its bits
+  pub put-field : (w v : ℕ) → Step d p (λ b. b ▷ enc w v) d' q → Puts (field w) v d p d' q
+  unfolding field
+  put-field w v x = record { step = x }
+
+  pub field-step : (w : ℕ) {v : ℕ} → Puts (field w) v d p d' q → Step d p (λ b. b ▷ enc w v) d' q
+  unfolding field
+  field-step w x = x .step
+
+  -- the same value, said otherwise
+  pub put-same : {A : Type 0} {f : Format A} {a b : A} → a ≡ b → Puts f a d p d' q → Puts f b d p d' q
+  put-same {f = f} e x = subst (λ y. Puts f y d p d' q) e x
+
+  -- a value that stands for another
+  pub put-via : {A B : Type 0} (to : A → Option B) (from : B → A) {f : Format A} {b : B} → Puts f (from b) d p d' q → Puts (via to from f) b d p d' q
+  unfolding via
+  put-via to from x = record { step = x .step }
+
+module _ {d : List ℕ} {p : Place} {d' : List ℕ} {q : Place} {d'' : List ℕ} {r : Place} where
+  pub put-then : {A : Type 0} (f : Format A) (a : A) (h : ℕ → Bits) → Step d p (puts f a) d' q → Step d' q (λ b. b ▷ h (sizeOf b)) d'' r
+      → Step d p (λ b. b ▷ (f .put (sizeOf b) a ++ h (sizeOf b + length (f .put (sizeOf b) a)))) d'' r
+  put-then f a h x y = said (x ⨾ y) _ (▷-size (view d p) (f .put (sizeOf (view d p)) a) h)
+
+  -- a value and zero bits up to a whole byte
+  pub put-whole : {A : Type 0} {f : Format A} {a : A} → Puts f a d p d' q → Pads d' q d'' r → Puts (whole f) a d p d'' r
+  unfolding whole
+  put-whole {f = f} {a = a} x y = record { step = put-then f a pad (x .step) (y .step) }
+
+  -- one and then another
+  pub put-⊗ : {A B : Type 0} {f : Format A} {g : Format B} {a : A} {b : B} → Puts f a d p d' q → Puts g b d' q d'' r → Puts (f ⊗ g) (a, b) d p d'' r
+  unfolding _⊗_
+  put-⊗ {f = f} {g = g} {a = a} {b = b} x y = record { step = put-then f a (λ n. g .put n b) (x .step) (y .step) }
+
+  -- a value and another
+  pub put-both : {A B : Type 0} {f : Format A} (test : A → Bool) {g : Format B} {a : A} {b : B}
+      → Puts f a d p d' q → Puts g b d' q d'' r → Puts (depending f test g) (a, some b) d p d'' r
+  unfolding depending
+  put-both {f = f} test {g = g} {a = a} {b = b} x y = record { step = put-then f a (λ n. g .put n b) (x .step) (y .step) }
+
+module _ {d : List ℕ} {p : Place} {d' : List ℕ} {q : Place} where
+  -- a value alone
+  pub put-alone : {A B : Type 0} {f : Format A} (test : A → Bool) (g : Format B) {a : A} → Puts f a d p d' q → Puts (depending f test g) (a, none) d p d' q
+  unfolding depending
+  put-alone {f = f} test g {a = a} x = record { step = said (x .step) _ (sym (ap (λ (l : Bits). view d p ▷ l) (append-nil (f .put (sizeOf (view d p)) a)))) }
+
+  -- a value that may be missing
+  pub put-none : {A : Type 0} (f : Format A) → Puts (field 1) 0 d p d' q → Puts (optional f) none d p d' q
+  unfolding optional flag
+  put-none f x = put-via _ _ (put-alone _ f (put-via _ _ x))
+
+  pub put-some : {A : Type 0} {f : Format A} {a : A} {d'' : List ℕ} {r : Place} → Puts (field 1) 1 d p d' q → Puts f a d' q d'' r → Puts (optional f) (some a) d p d'' r
+  unfolding optional flag
+  put-some x y = put-via _ _ (put-both _ (put-via _ _ x) y)
+
+-- ---- lists and texts
+
+all-more : {A : Type 0} (f : Format A) (n : ℕ) (xs : List A) (x : A) → putAll f n (xs ++ (x ∷ [])) ≡ putAll f n xs ++ f .put (n + length (putAll f n xs)) x
+unfolding putAll
+all-more f n [] x = rw (add-zero, append-nil)
+all-more f n (y ∷ xs) x = rw (all-more f (n + length (f .put n y)) xs x, append-assoc, length-append, add-assoc)
+
+-- no items yet, one more, all of them behind their count
+pub put-no : {A : Type 0} (k : ℕ) (f : Format A) (d : List ℕ) (p : Place) → Puts (times k f) [] d p d p
+unfolding times putAll
+put-no k f d p = record { step = record { same = refl; bits = sym (view-none d p) } }
+
+module _ {d : List ℕ} {p : Place} {d' : List ℕ} {q : Place} {d'' : List ℕ} {r : Place} where
+  pub put-more : {A : Type 0} (k : ℕ) {f : Format A} {xs : List A} {x : A} → Puts (times k f) xs d p d' q → Puts f x d' q d'' r → Puts (times k f) (xs ++ (x ∷ [])) d p d'' r
+  unfolding times
+  put-more k {f = f} {xs = xs} {x = x} h i = record {
+    step = said (put-then (times k f) xs (λ n. f .put n x) (h .step) (i .step)) _ (ap (λ (l : Bits). view d p ▷ l) (sym (all-more f (sizeOf (view d p)) xs x)));
+  }
+
+  pub put-list : {A : Type 0} (k : ℕ) (lt : A → A → Bool) (f : Format A) {xs : List A} → Puts count (length xs) d p d' q → Puts (times k f) xs d' q d'' r → Puts (listOf lt f) xs d p d'' r
+  unfolding times listOf field
+  put-list k lt f {xs = xs} h i = record {
+    step = said (put-then count (length xs) (λ n. putAll f n xs) (h .step) (i .step)) _ (ap (λ (n : ℕ). view d p ▷ (enc 32 (length xs) ++ putAll f (sizeOf (view d p) + n) xs)) (length-enc 32 (length xs)));
+  }
+
+  pub put-text : {s : List ℕ} {d1 : List ℕ} {p1 : Place} → Puts count (length s) d p d1 p1 → Pads d1 p1 d' q → Step d' q (λ b. b ▷ bitsOf s) d'' r → Puts text s d p d'' r
+  unfolding text
+  put-text {s = s} h i j = record { step = put-then (whole count) (length s) (λ n. bitsOf s) (put-whole h i .step) j }
+
+-- ---- the fields of document 01
+
+module _ {d : List ℕ} {p : Place} {d' : List ℕ} {q : Place} where
+  pub put-flag : {b : Bool} → Puts (field 1) (bit b) d p d' q → Puts flag b d p d' q
+  unfolding flag
+  put-flag x = put-via _ _ x
+
+  pub put-code : (lo hi : ℕ) {v : ℕ} → Puts (field 4) v d p d' q → Puts (code lo hi) v d p d' q
+  unfolding code
+  put-code lo hi x = put-via _ _ x
+
+  pub put-time : {v : ℕ} → Puts (field 11) v d p d' q → Puts time v d p d' q
+  unfolding time
+  put-time x = put-via _ _ x
+
+  pub put-number : {z : ℤ} → Puts (field 64) (twos 64 z) d p d' q → Puts number z d p d' q
+  unfolding number
+  put-number x = put-via _ _ x
+
+  pub put-date : {t : Date} → Puts (field 32) (twos 32 (dayNumber t)) d p d' q → Puts date t d p d' q
+  unfolding date
+  put-date x = put-via _ _ x
+
+pub put-period : {t : Period} {d : List ℕ} {p : Place} {d' : List ℕ} {q : Place} {d'' : List ℕ} {r : Place}
+    → Puts (field 11) (t .0) d p d' q → Puts (field 11) (t .1) d' q d'' r → Puts period t d p d'' r
+unfolding period
+put-period x y = put-via _ _ (put-⊗ (put-time x) (put-time y))

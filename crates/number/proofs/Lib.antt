@@ -1,0 +1,13 @@
+pub mod Table
+pub mod Values
+pub mod Parts
+pub mod Held
+pub mod Limits
+pub mod Signs
+pub mod Decimals
+pub mod Doubled
+pub mod Rounded
+pub mod Figures
+pub mod Totals
+pub mod Writing
+pub mod Times

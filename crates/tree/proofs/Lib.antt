@@ -1,0 +1,5 @@
+pub mod Bits
+pub mod Heads
+pub mod Walk
+pub mod Rows
+pub mod Passes
