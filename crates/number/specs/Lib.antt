@@ -6,3 +6,4 @@ pub mod Floats
 pub mod Duration
 pub mod Written
 pub mod Time
+pub mod Order
