@@ -1,16 +1,16 @@
 -- Laws that the proofs share: shifts and masks, room, a turn of a loop that reads, one of a loop that writes. Assumes nothing.
 use mathlib.Core.Path.{_≡_, refl, sym, ap, _∙_}
-use mathlib.Core.List.{List, [], _∷_, _++_, append-assoc, append-nil}
+use mathlib.Core.List.{List, [], _++_, append-assoc}
 use mathlib.Core.Bool.{Bool, true, false}
-use Prim.Native.Nat.{ℕ, zero, suc, _+_, _-_, _*_, _/_, _%_, _^_, _≤_, _<_, min}
+use Prim.Native.Nat.{ℕ, _+_, _-_, _*_, _/_, _%_, _^_, _≤_, _<_, min}
 use native.Mathlib.Nat.{one-mul, mod-eq-of-lt, mod-lt}
 use native.Mathlib.Omega.{arith}
 use lib.ListN.{length, take, drop, getD, set}
 use native.Mathlib.Numerals.{add-one}
 use lib.Seq.{paste-suc, take-add, drop-drop, take-length, paste, length-paste}
-use lib.Pow.{pow-lt, pow-pos, pow-add, pow-mono, high, shl-lt, shl-shr, shr-shr, shr-lt}
+use lib.Pow.{pow-lt, pow-pos, pow-add, pow-mono, high, shr-shr, shr-lt}
 use lib.Arith.{digits-lt}
-use lib.Bits.{bitAnd, bitOr, and-mask, or-shifted}
+use lib.Bits.{bitAnd, and-mask}
 use lib.Dec.{leb}
 use borrow.Author.Tests.{leb-true, leb-false, eq-eqb, ne-eqb}
 use Rattle.bits.specs.declared.Place.{Place}

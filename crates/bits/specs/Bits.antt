@@ -6,9 +6,9 @@ use Prim.Native.Nat.{ℕ, zero, suc, _+_, _-_, _*_, _/_, _%_, _^_, _≤_, _<_}
 use native.Mathlib.Nat.{zero-add, suc-add, add-comm, mod-lt, mod-eq-of-lt, mod-one, mul-add-mod-self-right, zero-div}
 use native.Mathlib.Numerals.{add-one, one-add}
 use native.Mathlib.Omega.{arith}
-use lib.ListN.{length, take, drop, getD, replicate, length-append, length-take, length-drop, take-append-drop}
+use lib.ListN.{length, take, drop, getD, replicate, length-append, length-drop, take-append-drop}
 use lib.Seq.{split-at, take-at, drop-at, take-append-add, take-append-le, drop-append-add, drop-append-le, length-take-le}
-use lib.Pow.{pow-pos, pow-add, pow-mono, shr-shr, mod-pow-add, field, high, mod-mod-pow}
+use lib.Pow.{pow-add, shr-shr, mod-pow-add, field, high, mod-mod-pow}
 use lib.Arith.{digits-lt}
 use Rattle.definition.specs.Bits.{enc, dec, bitsOf}
 

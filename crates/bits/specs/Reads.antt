@@ -6,7 +6,7 @@ use mathlib.Core.List.{List, [], _∷_, _++_}
 use mathlib.Core.Option.{Option, some, none}
 use Prim.Native.Nat.{ℕ, zero, suc, _+_, _-_, _*_, _/_, _%_, _^_, _≤_, _<_}
 use native.Mathlib.Omega.{arith}
-use native.Mathlib.Nat.{add-zero, zero-add, suc-add, zero-mul}
+use native.Mathlib.Nat.{zero-add, suc-add, zero-mul}
 use lib.ListN.{length, take, drop, getD, replicate, length-drop}
 use lib.Seq.{drop-drop, getD-drop, take-at, drop-at, length-take-le}
 use lib.Pow.{pow-pos}
@@ -20,10 +20,11 @@ use Rattle.definition.specs.Text.{Text, isUtf8}
 use Rattle.definition.specs.Format.{Format, field, via, _⊗_, depending, getGiven, optional, whole, getPad, times, getAll, rises, listOf, count, flag, code, time, Period, period, number, date, text}
 use Rattle.bits.specs.Bits.{length-bits, length-enc, dec-enc-lt, dec-part, bits-drop}
 use Rattle.bits.specs.Over.{part-before}
-use Rattle.bits.specs.Places.{at, place, past, room, inside, Fits, room-fits, fits-room, room-none, room-less, room-more, at-place, place-at, next-fits}
+use Rattle.bits.specs.Places.{at, place, past, room, inside, Fits, room-fits, fits-room, room-none, room-more, at-place, place-at, next-fits}
 use Rattle.bits.specs.declared.Place.{Place}
 use Rattle.bits.specs.declared.Field.{Field}
 use Rattle.bits.specs.declared.Span.{Span}
+use Rattle.bits.specs.declared.Flag.{Flag}
 use Rattle.bits.specs.declared.Int64.{Int64}
 use Rattle.bits.specs.declared.Int32.{Int32}
 
@@ -43,6 +44,10 @@ fieldOf s (some x) = record { value = x .0; next = spot s (x .1) }
 -- the field of w bits at a place
 unfoldable pub takeAt : List ℕ → Place → ℕ → Field
 takeAt s p w = fieldOf s (rest s p >>= field w .get)
+
+-- the flag at a place
+unfoldable pub flagAt : List ℕ → Place → Flag
+flagAt s p = record { value = eqb (takeAt s p 1 .value) 1; next = takeAt s p 1 .next }
 
 -- the signed fields of 64 and of 32 bits
 unfoldable pub int64At : List ℕ → Place → Int64
@@ -294,6 +299,27 @@ read-none f h = read-via _ _ (read-alone _ f h refl) refl
 pub read-some : {s : List ℕ} {p q r : Place} {A : Type 0} {f : Format A} {a : A} → Reads flag s p true q → Reads f s q a r → Reads (optional f) s p (some a) r
 unfolding optional
 read-some h i = read-via _ _ (read-both _ h refl i) refl
+
+-- one answer: what two readers of a format give at a place is the same
+pub one-answer : {A : Type 0} {f : Format A} {s : List ℕ} {p q r : Place} {a b : A} → Reads f s p a q → Reads f s p b r → inside (length s) q ≡ true → (a ≡ b) × (q ≡ r)
+one-answer {A} {f} {s} {p} {q} {r} {a} {b} h i k = one-if (inside (length s) r) refl
+  where
+    fq : Fits (length s) q 0
+    fq = room-fits (length s) q 0 k
+
+    both : _≡_ {A = Option (A × Bits)} (some (a, drop (at q) (bitsOf s))) (rest s r >>= λ l. some (b, l))
+    both = rw (rest-in s q fq) at (sym (h .reads) ∙ i .reads)
+
+    one-if : (t : Bool) → inside (length s) r ≡ t → (a ≡ b) × (q ≡ r)
+    one-if false e =
+        let x : _≡_ {A = Option (A × Bits)} (some (a, drop (at q) (bitsOf s))) none = both ∙ rw (rest-out s r e) in
+        let z : _≡_ {A = ℕ} 0 1 = cc in
+        absurd (omega arith)
+    one-if true e =
+        let fr = room-fits (length s) r 0 e in
+        let x : _≡_ {A = Option (A × Bits)} (some (a, drop (at q) (bitsOf s))) (some (b, drop (at r) (bitsOf s))) = both ∙ rw (rest-in s r fr) in
+        let w : _≡_ {A = A × Bits} (a, drop (at q) (bitsOf s)) (b, drop (at r) (bitsOf s)) = cc in
+        (ap (λ (t : A × Bits). t .0) w, sym (spot-at s q fq) ∙ ap (λ (t : A × Bits). spot s (t .1)) w ∙ spot-at s r fr)
 
 -- ---- what refuses a part refuses the whole
 
@@ -626,7 +652,11 @@ found {s} {p} {b} {n} {x} bs h w ex = found-if (leb (b .byte + n) (length s)) (e
           refuses = rw e (λ u. record { gives = text-some h z k bs ∙ rw u });
         }
 
--- ---- signed fields
+-- ---- flags and signed fields
+
+pub read-bit : (s : List ℕ) (p : Place) {x : Flag} → x ≡ flagAt s p → Reads flag s p (x .value) (x .next)
+unfolding flagAt
+read-bit s p e = rw e (read-flag (read-field s p 1 refl))
 
 pub read-int64 : (s : List ℕ) (p : Place) {x : Int64} → x ≡ int64At s p → Reads number s p (x .value) (x .next)
 unfolding int64At

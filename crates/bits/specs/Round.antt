@@ -2,19 +2,18 @@
 use mathlib.Core.Path.{_≡_, refl, sym, ap, _∙_}
 use mathlib.Core.Bool.{Bool, true, false}
 use mathlib.Core.List.{List, [], _∷_, _++_, append-assoc}
-use mathlib.Core.Option.{Option, some, none}
-use Prim.Native.Nat.{ℕ, _+_, _-_, _*_, _≤_, _<_}
+use mathlib.Core.Option.{some}
+use Prim.Native.Nat.{ℕ, _+_, _*_}
 use native.Mathlib.Omega.{arith}
 use lib.ListN.{length, take, drop, length-append, length-drop, take-append-drop}
-use lib.Seq.{take-at, drop-at, take-append-le, take-length, length-take-le}
-use Rattle.definition.specs.Base.{_>>=_}
-use Rattle.definition.specs.Bits.{Bits, enc, bitsOf}
+use lib.Seq.{take-at, drop-at}
+use Rattle.definition.specs.Bits.{Bits, enc, dec, bitsOf}
 use Rattle.definition.specs.Format.{Format, field, times, putAll, listOf, count}
 use Rattle.bits.specs.Bits.{length-bits, length-enc}
 use Rattle.bits.specs.Over.{over, over-mid}
-use Rattle.bits.specs.Places.{at, place, past, room, inside, Fits, room-fits, fits-room, place-at, at-place, next-fits}
-use Rattle.bits.specs.Steps.{Buf, holds, full, view, _▷_, sizeOf, puts, Step, said, Puts, Laid, laid-in, view-in, view-out, ▷-fits, ▷-short, length-before, put-then}
-use Rattle.bits.specs.Reads.{rest, rest-in, Reads}
+use Rattle.bits.specs.Places.{at, place, past, room, inside, Fits, room-fits, place-at, at-place, next-fits}
+use Rattle.bits.specs.Steps.{holds, full, view, _▷_, sizeOf, Step, said, Puts, Laid, laid-in, view-in, view-out, ▷-fits, ▷-short, length-before, put-then}
+use Rattle.bits.specs.Reads.{rest, rest-in, Reads, takeAt}
 use Rattle.bits.specs.declared.Place.{Place}
 
 -- bits were put and fitted: there was room, the place is behind them, and they stand there
@@ -135,3 +134,12 @@ put-recount k c lt f {xs = xs} {d = d} {p = p} x y h =
     let s = said (put-then count c (λ m. putAll f m xs) (x .step) (y .step)) (λ b. b ▷ (enc 32 c ++ g)) (ap (λ (m : ℕ). view d p ▷ (enc 32 c ++ putAll f (n + m) xs)) (length-enc 32 c)) in
     let z = rewrote (enc 32 c) g s h (length-enc 32 (length xs) ∙ sym (length-enc 32 c)) in
     record { step = record { same = z .same; bits = z .bits } }
+
+-- 1010 0101 1100 0011: 11 bits from the fourth on, and what is left
+example-take : takeAt (165 ∷ 195 ∷ []) record { byte = 0; bit = 3 } 11 ≡ record { value = 368; next = record { byte = 1; bit = 6 } }
+unfolding takeAt rest room field bitsOf enc dec
+example-take = refl
+
+example-cut : takeAt (165 ∷ 195 ∷ []) record { byte = 1; bit = 6 } 4 ≡ record { value = 0; next = past }
+unfolding takeAt rest room field bitsOf enc dec
+example-cut = refl

@@ -4,21 +4,21 @@ use mathlib.Core.Path.{_≡_, refl, sym, ap, subst, _∙_}
 use mathlib.Core.Bool.{Bool, true, false}
 use mathlib.Core.List.{List, [], _∷_, _++_, append-assoc, append-nil}
 use mathlib.Core.Option.{Option, some, none}
-use Prim.Native.Nat.{ℕ, zero, suc, _+_, _-_, _*_, _/_, _%_, _^_, _≤_, _<_}
+use Prim.Native.Nat.{ℕ, _+_, _*_, _%_, _≤_, _<_}
 use native.Mathlib.Nat.{add-assoc, add-zero}
 use native.Mathlib.Omega.{arith}
-use lib.ListN.{length, take, drop, length-append}
+use lib.ListN.{length, take, length-append}
 use lib.Seq.{length-take-le}
 use lib.Dec.{leb}
-use borrow.Author.Tests.{le-leb, lt-leb, leb-true, leb-false}
+use borrow.Author.Tests.{le-leb, lt-leb, leb-false}
 use Rattle.definition.specs.Base.{if_then_else_}
 use lib.IntN.{ℤ}
-use Rattle.definition.specs.Bits.{Bits, enc, bitsOf, pad, gap, twos}
+use Rattle.definition.specs.Bits.{Bits, enc, bitsOf, pad, twos}
 use Rattle.definition.specs.Date.{Date, dayNumber}
 use Rattle.definition.specs.Format.{Format, field, via, whole, _⊗_, depending, optional, times, putAll, listOf, bit, count, flag, code, time, Period, period, number, date, text}
 use Rattle.bits.specs.Bits.{length-bits, length-enc}
 use Rattle.bits.specs.Over.{over, over-upto}
-use Rattle.bits.specs.Places.{at, place, past, room, inside, Fits, room-fits, fits-room, room-short, room-none, room-less, at-place, next-fits}
+use Rattle.bits.specs.Places.{at, place, past, room, inside, Fits, room-fits, fits-room, room-short, room-none, at-place, next-fits}
 use Rattle.bits.specs.declared.Place.{Place}
 
 -- ---- bits laid over those at a place, and nothing else changed

@@ -2,9 +2,9 @@ ghost use mathlib.Core.Path.{_≡_};
 ghost use Prim.Native.Nat.{_+_, _-_, _*_, _/_, _%_, _^_, _<_, _≤_, min};
 ghost use lib.ListN.{length, replicate};
 ghost use Rattle.definition.specs.Bits.{enc, bitsOf, twos, signed};
-ghost use Rattle.definition.specs.Format.{field, text};
+ghost use Rattle.definition.specs.Format.{field, bit, flag, text};
 ghost use Rattle.bits.specs.Places.{at, room, inside, upTo};
-ghost use Rattle.bits.specs.Reads.{takeAt, padAt, spanIn, Spans, int64At, int32At};
+ghost use Rattle.bits.specs.Reads.{takeAt, flagAt, padAt, spanIn, Spans, int64At, int32At};
 ghost use Rattle.bits.specs.Steps.{Laid, Step, _▷_, Puts, Pads};
 ghost use Rattle.bits.specs.Moves.{cleared, bitsFrom, Flips, turned, moved, swapped, ordered, Turns, Copies};
 
@@ -45,6 +45,12 @@ pub struct Int64 {
 
 pub struct Int32 {
     pub value: i32,
+    pub next: Place,
+}
+
+// A flag that was read, and where the next field stands.
+pub struct Flag {
+    pub value: bool,
     pub next: Place,
 }
 
@@ -170,6 +176,30 @@ pub fn put(out: &mut [u8], p: Place, width: usize, v: u64) -> Place
     ensures { λ r. ⌜ Puts (field width) v (now (out .entry)) p (now (out .exit)) r ⌝ }
 {
     poke(out, p, width, v)
+}
+
+fn bit(b: bool) -> u64
+    ensures { λ r. ⌜ r ≡ bit b ⌝ }
+{
+    if b { 1 } else { 0 }
+}
+
+// A flag of 1 bit.
+pub fn put_flag(out: &mut [u8], p: Place, b: bool) -> Place
+    ensures { λ r. ⌜ Puts flag b (now (out .entry)) p (now (out .exit)) r ⌝ }
+{
+    put(out, p, 1, bit(b))
+}
+
+pub fn take_flag(s: &[u8], p: Place) -> Flag
+    ensures { λ r. ⌜ r ≡ flagAt (now (s .entry)) p ⌝ }
+{
+    let f = take(s, p, 1);
+    let next = f.next;
+    Flag {
+        value: f.value == 1,
+        next,
+    }
 }
 
 // How many bits there are from a bit of a byte to the next byte.

@@ -4,32 +4,25 @@ use native.Mathlib.Omega.{arith}
 use borrow.Author.Needs.{needs}
 use Rattle.bits.proofs.bytes_at.Statement.{statement}
 use Rattle.bits.proofs.bytes_at.Tie as tie
-use Rattle.bits.proofs.bytes_at.Reads as reads
-use Rattle.bits.proofs.bytes_at.Lts as lts
 
--- src/lib.rt:225:9
 returns : tie.Need-returns
 returns c =
     let a = c .before .before .args in
     sym (span-short (a .n) (a .p) (a .len) (λ z. absurd (omega arith)))
 
--- src/lib.rt:228:9
 returns-2 : tie.Need-returns-2
 returns-2 c =
     let a = c .before .before .before .before .args in
     sym (span-short (a .n) (a .p) (a .len) (λ z. omega arith))
 
--- src/lib.rt:231:9
 returns-3 : tie.Need-returns-3
 returns-3 c =
     let a = c .before .before .before .before .before .before .args in
     sym (span-short (a .n) (a .p) (a .len) (λ z. omega arith))
 
--- src/lib.rt:237:19
 add-t7 : tie.Need-add-t7
 add-t7 c = search needs
 
--- src/lib.rt:221:1
 returns-4 : tie.Need-returns-4
 returns-4 c =
     let a = c .before .before .before .before .before .before .before .args in

@@ -6,8 +6,6 @@ use borrow.Author.Needs.{needs}
 use native.Mathlib.Omega.{arith}
 use Rattle.bits.proofs.clear_from.Statement.{statement}
 use Rattle.bits.proofs.clear_from.Tie as tie
-use Rattle.bits.proofs.clear_from.Reads as reads
-use Rattle.bits.proofs.clear_from.Lts as lts
 
 abbrev Inv-loop : tie.InvT-loop
 Inv-loop out₀ from i₀ out i = (from ≤ i) × (i - from ≤ length out₀ - from) × (length out ≡ length out₀) × (out ≡ clearing from out₀ i)
@@ -15,36 +13,29 @@ Inv-loop out₀ from i₀ out i = (from ≤ i) × (i - from ≤ length out₀ - 
 abbrev μ-loop : tie.MeasureT-loop
 μ-loop out₀ from i₀ out i = length out₀ - i
 
--- src/lib.rt:338:5
 loop-holds : tie.Need-loop-holds Inv-loop μ-loop
 loop-holds c =
     let a = c .args in
     (omega arith, omega arith, refl, clear-none (a .from) (a .out .now))
 
--- src/lib.rt:339:9
 slice-write-out : tie.Need-slice-write-out Inv-loop μ-loop
 slice-write-out c = search needs
 
--- src/lib.rt:340:9
 add-i : tie.Need-add-i Inv-loop μ-loop
 add-i c = search needs
 
--- src/lib.rt:338:5
 loop-less : tie.Need-loop-less Inv-loop μ-loop
 loop-less c = search needs
 
--- src/lib.rt:338:5
 loop-again : tie.Need-loop-again Inv-loop μ-loop
 loop-again c =
     let l = c .before .loop in
     let a = c .before .before .args in
     (omega arith, omega arith, simp length-set (l .inv .2), clear-turn (a .from) (l .i) (a .out .now) (l .out) (omega arith) (omega arith) (l .inv .3))
 
--- src/lib.rt:334:1
 same-length : tie.Need-same-length Inv-loop μ-loop
 same-length c = search needs
 
--- src/lib.rt:334:1
 returns : tie.Need-returns Inv-loop μ-loop
 returns c =
     let l = c .before .loop in

@@ -8,12 +8,6 @@ use borrow.Author.Needs.{needs}
 use native.Mathlib.Omega.{arith}
 use Rattle.bits.proofs.copy_all.Statement.{statement}
 use Rattle.bits.proofs.copy_all.Tie as tie
-use Rattle.bits.proofs.copy_all.Reads as reads
-use Rattle.bits.proofs.copy_all.Lts as lts
-use Rattle.bits.proofs.forth.Reads as forth-reads
-use Rattle.bits.proofs.poke.Reads as poke-reads
-use Rattle.bits.proofs.run.Reads as run-reads
-use Rattle.bits.proofs.take.Reads as take-reads
 
 abbrev Inv-loop : tie.InvT-loop
 Inv-loop out₀ to q₀ r₀ n₀ out q r n = (q .bit < 8) × (at q₀ ≤ at q) × (at q + n ≤ at to) × (n ≤ 64) × (n ≡ 0 → at to ≡ at q) × (to .bit < 8) × (at to ≤ at r₀) × (at r₀ ≤ 8 * length out₀) × (length out ≡ length out₀) × Copying out₀ (at q₀) r₀ out q r
@@ -21,37 +15,29 @@ Inv-loop out₀ to q₀ r₀ n₀ out q r n = (q .bit < 8) × (at q₀ ≤ at q)
 abbrev μ-loop : tie.MeasureT-loop
 μ-loop out₀ to q₀ r₀ n₀ out q r n = at to - at q
 
--- src/lib.rt:505:9
 run-requires : tie.Need-run-requires Inv-loop μ-loop
 run-requires c κs = search needs
 
--- src/lib.rt:506:5
 loop-holds : tie.Need-loop-holds Inv-loop μ-loop
 loop-holds c =
     let a = c .before .before .args in
     (omega arith, omega arith, omega arith, omega arith, c .run .ensures .2, omega arith, omega arith, omega arith, refl, copy-none (a .out .now) (a .p) (a .from))
 
--- src/lib.rt:507:13
 take-requires : tie.Need-take-requires Inv-loop μ-loop
 take-requires c κs = search needs
 
--- src/lib.rt:508:9
 poke-requires : tie.Need-poke-requires Inv-loop μ-loop
 poke-requires c κs = search needs
 
--- src/lib.rt:509:9
 forth-requires : tie.Need-forth-requires Inv-loop μ-loop
 forth-requires c κs = search needs
 
--- src/lib.rt:510:9
 run-requires-2 : tie.Need-run-requires-2 Inv-loop μ-loop
 run-requires-2 c κs = search needs
 
--- src/lib.rt:506:5
 loop-less : tie.Need-loop-less Inv-loop μ-loop
 loop-less c = search needs
 
--- src/lib.rt:506:5
 loop-again : tie.Need-loop-again Inv-loop μ-loop
 loop-again c =
     let w = c .before in
@@ -71,11 +57,9 @@ loop-again c =
       copy-more (a .out .now) (l .out) (at (a .from)) (a .p) (l .q) (l .n) (w .forth .result) (l .inv .9) (omega arith) (omega arith) (omega arith) (l .inv .0) (t .take .ensures) (k .poke .ensures) (w .forth .ensures .1),
     )
 
--- src/lib.rt:499:1
 same-length : tie.Need-same-length Inv-loop μ-loop
 same-length c = search needs
 
--- src/lib.rt:499:1
 returns : tie.Need-returns Inv-loop μ-loop
 returns c =
     let l = c .before .loop in

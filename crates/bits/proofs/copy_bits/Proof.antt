@@ -2,24 +2,16 @@ use mathlib.Core.Path.{sym, _∙_}
 use lib.ListN.{length}
 use borrow.Author.Tests.{not-true, not-false}
 use Rattle.bits.specs.Moves.{order, copies, copies-not}
-use native.Mathlib.Omega.{arith}
 use borrow.Author.Needs.{needs}
 use Rattle.bits.proofs.copy_bits.Statement.{statement}
 use Rattle.bits.proofs.copy_bits.Tie as tie
-use Rattle.bits.proofs.copy_bits.Reads as reads
-use Rattle.bits.proofs.copy_bits.Lts as lts
-use Rattle.bits.proofs.copy_all.Reads as copy-all-reads
-use Rattle.bits.proofs.in_order.Reads as in-order-reads
 
--- src/lib.rt:526:9
 in-order-requires : tie.Need-in-order-requires
 in-order-requires c κs = search needs
 
--- src/lib.rt:527:9
 returns : tie.Need-returns
 returns c = copies-not (sym (c .before .in-order .ensures) ∙ not-true _ (c .if1 .taken))
 
--- src/lib.rt:529:5
 copy-all-requires : tie.Need-copy-all-requires
 copy-all-requires c κs =
     let i = c .before .before in
@@ -27,11 +19,9 @@ copy-all-requires c κs =
     let o = order (length (a .out .now)) (a .from) (a .to) (a .p) (sym (i .in-order .ensures) ∙ not-false _ (c .before .if1 .left)) in
     (o .first, o .middle, o .from, o .to, o .ends)
 
--- src/lib.rt:523:1
 same-length : tie.Need-same-length
 same-length c = search needs
 
--- src/lib.rt:523:1
 returns-2 : tie.Need-returns-2
 returns-2 c =
     let t = c .before .before in

@@ -1,17 +1,14 @@
 use mathlib.Core.Path.{refl}
 use lib.ListN.{length-set}
-use mathlib.Core.Path.{_≡_, sym, ap, _∙_}
+use mathlib.Core.Path.{_≡_}
 use Prim.Native.Nat.{_+_, _-_, _≤_}
-use lib.ListN.{length, set}
-use lib.Seq.{paste, paste-zero, paste-suc, length-paste}
-use native.Mathlib.Numerals.{add-one}
+use lib.ListN.{length}
+use lib.Seq.{paste, paste-zero}
 use Rattle.bits.proofs.Laws.{copy-short, copy-turn, copy-done}
 use borrow.Author.Needs.{needs}
 use native.Mathlib.Omega.{arith}
 use Rattle.bits.proofs.copy_bytes.Statement.{statement}
 use Rattle.bits.proofs.copy_bytes.Tie as tie
-use Rattle.bits.proofs.copy_bytes.Reads as reads
-use Rattle.bits.proofs.copy_bytes.Lts as lts
 
 abbrev Inv-loop : tie.InvT-loop
 Inv-loop out₀ s at i₀ out i = (i ≤ length s) × (at + length s ≤ length out₀) × (length out ≡ length out₀) × (out ≡ paste out₀ at s i)
@@ -19,70 +16,56 @@ Inv-loop out₀ s at i₀ out i = (i ≤ length s) × (at + length s ≤ length 
 abbrev μ-loop : tie.MeasureT-loop
 μ-loop out₀ s at i₀ out i = length s - i
 
--- src/lib.rt:170:9
 returns : tie.Need-returns Inv-loop μ-loop
 returns c =
     let a = c .before .before .args in
     copy-short (a .out .now) (a .s .now) (a .p) (λ k. absurd (omega (arith, c .before .before .pre)))
 
--- src/lib.rt:173:9
 returns-2 : tie.Need-returns-2 Inv-loop μ-loop
 returns-2 c =
     let a = c .before .before .before .args in
     copy-short (a .out .now) (a .s .now) (a .p) (λ k. omega arith)
 
--- src/lib.rt:175:8
 sub-if3 : tie.Need-sub-if3 Inv-loop μ-loop
 sub-if3 c = search needs
 
--- src/lib.rt:176:9
 returns-3 : tie.Need-returns-3 Inv-loop μ-loop
 returns-3 c =
     let a = c .before .before .before .before .args in
     copy-short (a .out .now) (a .s .now) (a .p) (λ k. omega arith)
 
--- src/lib.rt:179:5
 loop-holds : tie.Need-loop-holds Inv-loop μ-loop
 loop-holds c =
     let a = c .before .before .before .before .args in
     (omega arith, omega arith, refl, paste-zero (a .out .now) (a .p .byte) (a .s .now))
 
--- src/lib.rt:180:23
 shared-slice-read-out : tie.Need-shared-slice-read-out Inv-loop μ-loop
 shared-slice-read-out c = search needs
 
--- src/lib.rt:180:13
 add-out : tie.Need-add-out Inv-loop μ-loop
 add-out c = search needs
 
--- src/lib.rt:180:9
 slice-write-out : tie.Need-slice-write-out Inv-loop μ-loop
 slice-write-out c = search needs
 
--- src/lib.rt:181:9
 add-i : tie.Need-add-i Inv-loop μ-loop
 add-i c = search needs
 
--- src/lib.rt:179:5
 loop-less : tie.Need-loop-less Inv-loop μ-loop
 loop-less c = search needs
 
--- src/lib.rt:179:5
 loop-again : tie.Need-loop-again Inv-loop μ-loop
 loop-again c =
     let l = c .before .before .loop in
     let a = c .before .before .before .before .before .before .before .args in
     (omega arith, omega arith, simp length-set (l .inv .2), copy-turn (a .out .now) (l .out) (a .s .now) (a .p .byte) (l .i) (omega arith) (omega arith) (l .inv .3))
 
--- src/lib.rt:184:15
 add-t8 : tie.Need-add-t8 Inv-loop μ-loop
 add-t8 c = search needs
 
--- src/lib.rt:164:1
 same-length : tie.Need-same-length Inv-loop μ-loop
 same-length c = search needs
 
--- src/lib.rt:164:1
 returns-4 : tie.Need-returns-4 Inv-loop μ-loop
 returns-4 c =
     let l = c .before .loop in

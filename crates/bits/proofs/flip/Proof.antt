@@ -1,13 +1,11 @@
-use mathlib.Core.Path.{_≡_, refl, sym, ap, _∙_}
-use Prim.Native.Nat.{_+_, _-_, _*_, _<_, _≤_}
+use mathlib.Core.Path.{_≡_, refl}
+use Prim.Native.Nat.{_-_, _≤_}
 use lib.ListN.{length, length-set}
 use Rattle.bits.specs.Moves.{Flipping, flip-none, flip-turn, flip-all}
 use borrow.Author.Needs.{needs}
 use native.Mathlib.Omega.{arith}
 use Rattle.bits.proofs.flip.Statement.{statement}
 use Rattle.bits.proofs.flip.Tie as tie
-use Rattle.bits.proofs.flip.Reads as reads
-use Rattle.bits.proofs.flip.Lts as lts
 
 abbrev Inv-loop : tie.InvT-loop
 Inv-loop out₀ a e i₀ j₀ out i j = (a ≤ i) × (i ≤ j) × (j ≤ e) × (e ≤ length out₀) × (length out ≡ length out₀) × Flipping a e out₀ out i j
@@ -15,53 +13,41 @@ Inv-loop out₀ a e i₀ j₀ out i j = (a ≤ i) × (i ≤ j) × (j ≤ e) × (
 abbrev μ-loop : tie.MeasureT-loop
 μ-loop out₀ a e i₀ j₀ out i j = j - i
 
--- src/lib.rt:252:5
 loop-holds : tie.Need-loop-holds Inv-loop μ-loop
 loop-holds c = (search needs, search needs, search needs, search needs, refl, flip-none _ _ _)
 
--- src/lib.rt:252:15
 sub-loop : tie.Need-sub-loop Inv-loop μ-loop
 sub-loop c = search needs
 
--- src/lib.rt:253:9
 sub-j : tie.Need-sub-j Inv-loop μ-loop
 sub-j c = search needs
 
--- src/lib.rt:254:17
 slice-read-x : tie.Need-slice-read-x Inv-loop μ-loop
 slice-read-x c = search needs
 
--- src/lib.rt:255:17
 slice-read-y : tie.Need-slice-read-y Inv-loop μ-loop
 slice-read-y c = search needs
 
--- src/lib.rt:256:9
 slice-write-out : tie.Need-slice-write-out Inv-loop μ-loop
 slice-write-out c = search needs
 
--- src/lib.rt:257:9
 slice-write-out-2 : tie.Need-slice-write-out-2 Inv-loop μ-loop
 slice-write-out-2 c = simp length-set (omega arith)
 
--- src/lib.rt:258:9
 add-i : tie.Need-add-i Inv-loop μ-loop
 add-i c = search needs
 
--- src/lib.rt:252:5
 loop-less : tie.Need-loop-less Inv-loop μ-loop
 loop-less c = search needs
 
--- src/lib.rt:252:5
 loop-again : tie.Need-loop-again Inv-loop μ-loop
 loop-again c =
     let l = c .before .before .before .loop in
     (omega arith, omega arith, omega arith, omega arith, simp length-set (l .inv .4), flip-turn _ _ _ _ (l .i) (l .j) (omega arith) refl refl refl (l .inv .5))
 
--- src/lib.rt:246:1
 same-length : tie.Need-same-length Inv-loop μ-loop
 same-length c = search needs
 
--- src/lib.rt:246:1
 returns : tie.Need-returns Inv-loop μ-loop
 returns c =
     let l = c .before .loop in

@@ -1,43 +1,32 @@
 use mathlib.Core.Path.{sym, _∙_}
 use borrow.Author.Tests.{not-true, not-false}
 use Rattle.bits.specs.Places.{room-fits, up-before}
-use native.Mathlib.Omega.{arith}
 use borrow.Author.Needs.{needs}
 use Rattle.bits.proofs.in_order.Statement.{statement}
 use Rattle.bits.proofs.in_order.Tie as tie
-use Rattle.bits.proofs.in_order.Reads as reads
-use Rattle.bits.proofs.in_order.Lts as lts
-use Rattle.bits.proofs.inside.Reads as inside-reads
-use Rattle.bits.proofs.up_to.Reads as up-to-reads
 
--- src/lib.rt:486:9
 inside-requires : tie.Need-inside-requires
 inside-requires c κs = search needs
 
--- src/lib.rt:487:9
 returns : tie.Need-returns
 returns c = rw (sym (c .before .inside .ensures) ∙ not-true _ (c .if1 .taken))
 
--- src/lib.rt:489:9
 up-to-requires : tie.Need-up-to-requires
 up-to-requires c κs =
     let a = c .before .before .args in
     room-fits (a .n) (a .e) 0 (sym (c .before .inside .ensures) ∙ not-false _ (c .if1 .left)) .bit
 
--- src/lib.rt:490:9
 returns-2 : tie.Need-returns-2
 returns-2 c =
     let u = c .before in
     rw (sym (u .before .before .inside .ensures) ∙ not-false _ (u .before .if1 .left), sym (u .up-to .ensures) ∙ not-true _ (c .if2 .taken))
 
--- src/lib.rt:492:5
 up-to-requires-2 : tie.Need-up-to-requires-2
 up-to-requires-2 c κs =
     let u = c .before in
     let a = u .before .before .before .args in
     up-before (a .m) (a .e) (sym (u .up-to .ensures) ∙ not-false _ (c .if2 .left)) .bit
 
--- src/lib.rt:483:1
 returns-3 : tie.Need-returns-3
 returns-3 c =
     let u = c .before .before in

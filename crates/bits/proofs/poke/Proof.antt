@@ -11,14 +11,6 @@ use borrow.Author.Needs.{needs}
 use native.Mathlib.Omega.{arith}
 use Rattle.bits.proofs.poke.Statement.{statement}
 use Rattle.bits.proofs.poke.Tie as tie
-use Rattle.bits.proofs.poke.Reads as reads
-use Rattle.bits.proofs.poke.Lts as lts
-use Rattle.bits.proofs.mix.Reads as mix-reads
-use Rattle.bits.proofs.offset.Reads as offset-reads
-use Rattle.bits.proofs.part.Reads as part-reads
-use Rattle.bits.proofs.room.Reads as room-reads
-use Rattle.bits.proofs.smaller.Reads as smaller-reads
-use Rattle.bits.proofs.wide.Reads as wide-reads
 
 abbrev Inv-loop : tie.InvT-loop
 Inv-loop out₀ width v q₀ r₀ left₀ out q r left = (8 * q + r + left ≡ 8 * q₀ + r₀ + width) × (r < 8) × (left ≤ width) × (8 * q₀ + r₀ + width ≤ 8 * length out₀) × (width ≤ 64) × (length out ≡ length out₀) × (bitsOf out ≡ over (8 * q₀ + r₀) (enc (width - left) (v / 2 ^ left)) (bitsOf out₀))
@@ -26,17 +18,14 @@ Inv-loop out₀ width v q₀ r₀ left₀ out q r left = (8 * q + r + left ≡ 8
 abbrev μ-loop : tie.MeasureT-loop
 μ-loop out₀ width v q₀ r₀ left₀ out q r left = left
 
--- src/lib.rt:123:9
 room-requires : tie.Need-room-requires Inv-loop μ-loop
 room-requires c κs = search needs
 
--- src/lib.rt:124:9
 returns : tie.Need-returns Inv-loop μ-loop
 returns c =
     let a = c .before .before .before .args in
     poke-short (a .out .now) (a .p) (a .width) (a .v) (sym (c .before .room .ensures) ∙ not-true _ (c .if1 .taken))
 
--- src/lib.rt:129:5
 loop-holds : tie.Need-loop-holds Inv-loop μ-loop
 loop-holds c =
     let a = c .before .before .before .args in
@@ -44,63 +33,48 @@ loop-holds c =
     let z : a .width - a .width ≡ 0 = omega arith in
     (omega (arith, f .ends), omega (arith, f .bit), omega arith, omega (arith, f .ends), omega arith, refl, rw (z, enc-zero) (sym (over-none _ _)))
 
--- src/lib.rt:130:31
 sub-smaller : tie.Need-sub-smaller Inv-loop μ-loop
 sub-smaller c = search needs
 
--- src/lib.rt:130:13
 smaller-requires : tie.Need-smaller-requires Inv-loop μ-loop
 smaller-requires c κs = search needs
 
--- src/lib.rt:131:26
 slice-read-wide : tie.Need-slice-read-wide Inv-loop μ-loop
 slice-read-wide c = search needs
 
--- src/lib.rt:131:21
 wide-requires : tie.Need-wide-requires Inv-loop μ-loop
 wide-requires c κs = search needs
 
--- src/lib.rt:131:49
 sub-part : tie.Need-sub-part Inv-loop μ-loop
 sub-part c = search needs
 
--- src/lib.rt:131:41
 part-requires : tie.Need-part-requires Inv-loop μ-loop
 part-requires c κs = search needs
 
--- src/lib.rt:131:13
 mix-requires : tie.Need-mix-requires Inv-loop μ-loop
 mix-requires c κs = (omega arith, omega (arith, c .before .before .slice-known2 .given (c .before .before .before .before .before .loop .q)), part-lt _ _ (c .part .ensures))
 
--- src/lib.rt:132:9
 slice-write-out : tie.Need-slice-write-out Inv-loop μ-loop
 slice-write-out c = search needs
 
--- src/lib.rt:133:15
 add-q : tie.Need-add-q Inv-loop μ-loop
 add-q c = search needs
 
--- src/lib.rt:133:9
 add-q-2 : tie.Need-add-q-2 Inv-loop μ-loop
 add-q-2 c = search needs
 
--- src/lib.rt:134:20
 add-offset : tie.Need-add-offset Inv-loop μ-loop
 add-offset c = search needs
 
--- src/lib.rt:134:9
 offset-requires : tie.Need-offset-requires Inv-loop μ-loop
 offset-requires c κs = search needs
 
--- src/lib.rt:135:9
 sub-left : tie.Need-sub-left Inv-loop μ-loop
 sub-left c = search needs
 
--- src/lib.rt:129:5
 loop-less : tie.Need-loop-less Inv-loop μ-loop
 loop-less c = search needs
 
--- src/lib.rt:129:5
 loop-again : tie.Need-loop-again Inv-loop μ-loop
 loop-again c =
     let k = c .before .before .before .before .before in
@@ -116,11 +90,9 @@ loop-again c =
           (k .smaller .ensures) (c .before .before .part .ensures) (c .before .before .before .wide .ensures) (c .before .mix .ensures),
     )
 
--- src/lib.rt:119:1
 same-length : tie.Need-same-length Inv-loop μ-loop
 same-length c = search needs
 
--- src/lib.rt:119:1
 returns-2 : tie.Need-returns-2 Inv-loop μ-loop
 returns-2 c =
     let l = c .before .loop in

@@ -2,28 +2,19 @@ use mathlib.Core.Path.{ap, _∙_}
 use mir.Facts.{toZ-ofZ}
 use Rattle.definition.specs.Bits.{twos}
 use Rattle.bits.specs.Steps.{put-same}
-use native.Mathlib.Omega.{arith}
 use borrow.Author.Needs.{needs}
 use Rattle.bits.proofs.put_i64.Statement.{statement}
 use Rattle.bits.proofs.put_i64.Tie as tie
-use Rattle.bits.proofs.put_i64.Reads as reads
-use Rattle.bits.proofs.put_i64.Lts as lts
-use Rattle.bits.proofs.put.Reads as put-reads
-use Rattle.bits.proofs.twos64.Reads as twos64-reads
 
--- src/lib.rt:300:21
 twos64-requires : tie.Need-twos64-requires
 twos64-requires c κs = search needs
 
--- src/lib.rt:300:5
 put-requires : tie.Need-put-requires
 put-requires c κs = search needs
 
--- src/lib.rt:297:1
 same-length : tie.Need-same-length
 same-length c = search needs
 
--- src/lib.rt:297:1
 returns : tie.Need-returns
 returns c =
     let k = c .before .before in

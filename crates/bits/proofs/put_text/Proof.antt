@@ -1,31 +1,20 @@
 use Rattle.bits.specs.Steps.{laid-step, put-text}
-use native.Mathlib.Omega.{arith}
 use borrow.Author.Needs.{needs}
 use Rattle.bits.proofs.put_text.Statement.{statement}
 use Rattle.bits.proofs.put_text.Tie as tie
-use Rattle.bits.proofs.put_text.Reads as reads
-use Rattle.bits.proofs.put_text.Lts as lts
-use Rattle.bits.proofs.copy_bytes.Reads as copy-bytes-reads
-use Rattle.bits.proofs.pad.Reads as pad-reads
-use Rattle.bits.proofs.put.Reads as put-reads
 
--- src/lib.rt:193:9
 put-requires : tie.Need-put-requires
 put-requires c κs = search needs
 
--- src/lib.rt:194:9
 pad-requires : tie.Need-pad-requires
 pad-requires c κs = search needs
 
--- src/lib.rt:195:5
 copy-bytes-requires : tie.Need-copy-bytes-requires
 copy-bytes-requires c κs = search needs
 
--- src/lib.rt:190:1
 same-length : tie.Need-same-length
 same-length c = search needs
 
--- src/lib.rt:190:1
 returns : tie.Need-returns
 returns c =
     let k = c .before .before in

@@ -1,4 +1,4 @@
-use mathlib.Core.Path.{_≡_, refl, sym, ap, _∙_}
+use mathlib.Core.Path.{_≡_, refl, _∙_}
 use Prim.Native.Nat.{_+_, _-_, _*_, _<_, _≤_}
 use lib.ListN.{length}
 use Rattle.definition.specs.Bits.{bitsOf}
@@ -9,13 +9,6 @@ use borrow.Author.Needs.{needs}
 use native.Mathlib.Omega.{arith}
 use Rattle.bits.proofs.shift_up.Statement.{statement}
 use Rattle.bits.proofs.shift_up.Tie as tie
-use Rattle.bits.proofs.shift_up.Reads as reads
-use Rattle.bits.proofs.shift_up.Lts as lts
-use Rattle.bits.proofs.back.Reads as back-reads
-use Rattle.bits.proofs.forth.Reads as forth-reads
-use Rattle.bits.proofs.poke.Reads as poke-reads
-use Rattle.bits.proofs.run.Reads as run-reads
-use Rattle.bits.proofs.take.Reads as take-reads
 
 abbrev Inv-loop : tie.InvT-loop
 Inv-loop out₀ a k p₀ n₀ out p n = (p .bit < 8) × (at a + n ≤ at p) × (at p ≤ at p₀) × (n ≤ 64) × (n ≡ 0 → at p ≡ at a) × (a .bit < 8) × (k ≤ 64) × (at p₀ + k ≤ 8 * length out₀) × (length out ≡ length out₀) × (bitsOf out ≡ moved (at p) (at p + k) (at p₀ - at p) (bitsOf out₀))
@@ -23,41 +16,32 @@ Inv-loop out₀ a k p₀ n₀ out p n = (p .bit < 8) × (at a + n ≤ at p) × (
 abbrev μ-loop : tie.MeasureT-loop
 μ-loop out₀ a k p₀ n₀ out p n = at p - at a
 
--- src/lib.rt:431:9
 run-requires : tie.Need-run-requires Inv-loop μ-loop
 run-requires c κs = search needs
 
--- src/lib.rt:432:5
 loop-holds : tie.Need-loop-holds Inv-loop μ-loop
 loop-holds c =
     let b = c .before .before in
     (omega arith, omega arith, omega arith, omega arith, c .run .ensures .2, omega arith, omega arith, omega arith, refl, move-none (at (b .args .e)) _ _)
 
--- src/lib.rt:433:9
 back-requires : tie.Need-back-requires Inv-loop μ-loop
 back-requires c κs = search needs
 
--- src/lib.rt:434:13
 take-requires : tie.Need-take-requires Inv-loop μ-loop
 take-requires c κs = search needs
 
--- src/lib.rt:435:19
 forth-requires : tie.Need-forth-requires Inv-loop μ-loop
 forth-requires c κs = search needs
 
--- src/lib.rt:435:9
 poke-requires : tie.Need-poke-requires Inv-loop μ-loop
 poke-requires c κs = search needs
 
--- src/lib.rt:436:9
 run-requires-2 : tie.Need-run-requires-2 Inv-loop μ-loop
 run-requires-2 c κs = search needs
 
--- src/lib.rt:432:5
 loop-less : tie.Need-loop-less Inv-loop μ-loop
 loop-less c = search needs
 
--- src/lib.rt:432:5
 loop-again : tie.Need-loop-again Inv-loop μ-loop
 loop-again c =
     let k = c .before .before .before in
@@ -78,11 +62,9 @@ loop-again c =
           (k .before .forth .ensures .0) (k .before .forth .ensures .1) (k .poke .ensures),
     )
 
--- src/lib.rt:426:1
 same-length : tie.Need-same-length Inv-loop μ-loop
 same-length c = search needs
 
--- src/lib.rt:426:1
 returns : tie.Need-returns Inv-loop μ-loop
 returns c =
     let l = c .before .loop in

@@ -1,25 +1,18 @@
 use mir.Syntax.{w32}
 use Rattle.bits.proofs.Twos.{read-signed, read-turned}
-use native.Mathlib.Omega.{arith}
 use borrow.Author.Needs.{needs}
 use Rattle.bits.proofs.signed32.Statement.{statement}
 use Rattle.bits.proofs.signed32.Tie as tie
-use Rattle.bits.proofs.signed32.Reads as reads
-use Rattle.bits.proofs.signed32.Lts as lts
 
--- src/lib.rt:290:9
 cast-result : tie.Need-cast-result
 cast-result c = search needs
 
--- src/lib.rt:292:11
 cast-result-2 : tie.Need-cast-result-2
 cast-result-2 c = search needs
 
--- src/lib.rt:286:1
 returns : tie.Need-returns
 returns c = read-signed w32 (c .before .args .v)
 
--- src/lib.rt:286:1
 returns-2 : tie.Need-returns-2
 returns-2 c = read-turned w32 (c .before .args .v) (search needs)
 

@@ -3,25 +3,16 @@ use Rattle.bits.specs.Reads.{read-field, read-whole, skip-pad, pad-whole
 use borrow.Author.Needs.{needs}
 use Rattle.bits.proofs.take_text.Statement.{statement}
 use Rattle.bits.proofs.take_text.Tie as tie
-use Rattle.bits.proofs.take_text.Reads as reads
-use Rattle.bits.proofs.take_text.Lts as lts
-use Rattle.bits.proofs.bytes_at.Reads as bytes-at-reads
-use Rattle.bits.proofs.take.Reads as take-reads
-use Rattle.bits.proofs.take_pad.Reads as take-pad-reads
 
--- src/lib.rt:247:9
 take-requires : tie.Need-take-requires
 take-requires c κs = search needs
 
--- src/lib.rt:248:9
 take-pad-requires : tie.Need-take-pad-requires
 take-pad-requires c κs = search needs
 
--- src/lib.rt:249:5
 bytes-at-requires : tie.Need-bytes-at-requires
 bytes-at-requires c κs = search needs
 
--- src/lib.rt:244:1
 returns : tie.Need-returns
 returns c =
     let p = c .before in

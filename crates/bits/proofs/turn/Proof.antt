@@ -4,34 +4,22 @@ use native.Mathlib.Omega.{arith}
 use borrow.Author.Needs.{needs}
 use Rattle.bits.proofs.turn.Statement.{statement}
 use Rattle.bits.proofs.turn.Tie as tie
-use Rattle.bits.proofs.turn.Reads as reads
-use Rattle.bits.proofs.turn.Lts as lts
-use Rattle.bits.proofs.back.Reads as back-reads
-use Rattle.bits.proofs.poke.Reads as poke-reads
-use Rattle.bits.proofs.shift_up.Reads as shift-up-reads
-use Rattle.bits.proofs.take.Reads as take-reads
 
--- src/lib.rt:445:9
 back-requires : tie.Need-back-requires
 back-requires c κs = search needs
 
--- src/lib.rt:446:9
 take-requires : tie.Need-take-requires
 take-requires c κs = search needs
 
--- src/lib.rt:447:5
 shift-up-requires : tie.Need-shift-up-requires
 shift-up-requires c κs = search needs
 
--- src/lib.rt:448:5
 poke-requires : tie.Need-poke-requires
 poke-requires c κs = search needs
 
--- src/lib.rt:441:1
 same-length : tie.Need-same-length
 same-length c = search needs
 
--- src/lib.rt:441:1
 returns : tie.Need-returns
 returns c =
     let k = c .before .before in

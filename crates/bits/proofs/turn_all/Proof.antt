@@ -1,4 +1,4 @@
-use mathlib.Core.Path.{_≡_, refl, sym, ap, _∙_}
+use mathlib.Core.Path.{_≡_, refl, ap, _∙_}
 use Prim.Native.Nat.{_+_, _-_, _*_, _<_, _≤_}
 use lib.ListN.{length}
 use Rattle.definition.specs.Bits.{bitsOf}
@@ -9,11 +9,6 @@ use borrow.Author.Needs.{needs}
 use native.Mathlib.Omega.{arith}
 use Rattle.bits.proofs.turn_all.Statement.{statement}
 use Rattle.bits.proofs.turn_all.Tie as tie
-use Rattle.bits.proofs.turn_all.Reads as reads
-use Rattle.bits.proofs.turn_all.Lts as lts
-use Rattle.bits.proofs.back.Reads as back-reads
-use Rattle.bits.proofs.run.Reads as run-reads
-use Rattle.bits.proofs.turn.Reads as turn-reads
 
 abbrev Inv-loop : tie.InvT-loop
 Inv-loop out₀ a m e t₀ n₀ out t n = (t .bit < 8) × (at m + n ≤ at t) × (at t ≤ at e) × (n ≤ 64) × (n ≡ 0 → at t ≡ at m) × (a .bit < 8) × (m .bit < 8) × (e .bit < 8) × (at a ≤ at m) × (at e ≤ 8 * length out₀) × (length out ≡ length out₀) × (bitsOf out ≡ swapped (at a) (at t) (at e) (bitsOf out₀))
@@ -21,33 +16,26 @@ Inv-loop out₀ a m e t₀ n₀ out t n = (t .bit < 8) × (at m + n ≤ at t) ×
 abbrev μ-loop : tie.MeasureT-loop
 μ-loop out₀ a m e t₀ n₀ out t n = at t - at m
 
--- src/lib.rt:457:9
 run-requires : tie.Need-run-requires Inv-loop μ-loop
 run-requires c κs = search needs
 
--- src/lib.rt:458:5
 loop-holds : tie.Need-loop-holds Inv-loop μ-loop
 loop-holds c =
     let b = c .before .before .args in
     (omega arith, omega arith, omega arith, omega arith, c .run .ensures .2, omega arith, omega arith, omega arith, omega arith, omega arith, refl, swap-none (at (b .a)) (at (b .e)) (bitsOf (b .out .now)) (omega arith))
 
--- src/lib.rt:459:9
 turn-requires : tie.Need-turn-requires Inv-loop μ-loop
 turn-requires c κs = search needs
 
--- src/lib.rt:460:9
 back-requires : tie.Need-back-requires Inv-loop μ-loop
 back-requires c κs = search needs
 
--- src/lib.rt:461:9
 run-requires-2 : tie.Need-run-requires-2 Inv-loop μ-loop
 run-requires-2 c κs = search needs
 
--- src/lib.rt:458:5
 loop-less : tie.Need-loop-less Inv-loop μ-loop
 loop-less c = search needs
 
--- src/lib.rt:458:5
 loop-again : tie.Need-loop-again Inv-loop μ-loop
 loop-again c =
     let b = c .before in
@@ -69,11 +57,9 @@ loop-again c =
           ∙ swap-more (at (a .a)) (at (b .back .result)) (at (a .e)) (l .n) (bitsOf (a .out .now)) (omega arith) (b .back .ensures .1) (omega arith) (omega (arith, length-bits (a .out .now))),
     )
 
--- src/lib.rt:452:1
 same-length : tie.Need-same-length Inv-loop μ-loop
 same-length c = search needs
 
--- src/lib.rt:452:1
 returns : tie.Need-returns Inv-loop μ-loop
 returns c =
     let l = c .before .loop in

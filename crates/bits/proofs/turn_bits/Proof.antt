@@ -2,24 +2,16 @@ use mathlib.Core.Path.{sym, _∙_}
 use lib.ListN.{length}
 use borrow.Author.Tests.{not-true, not-false}
 use Rattle.bits.specs.Moves.{order, turns, turns-not}
-use native.Mathlib.Omega.{arith}
 use borrow.Author.Needs.{needs}
 use Rattle.bits.proofs.turn_bits.Statement.{statement}
 use Rattle.bits.proofs.turn_bits.Tie as tie
-use Rattle.bits.proofs.turn_bits.Reads as reads
-use Rattle.bits.proofs.turn_bits.Lts as lts
-use Rattle.bits.proofs.in_order.Reads as in-order-reads
-use Rattle.bits.proofs.turn_all.Reads as turn-all-reads
 
--- src/lib.rt:499:9
 in-order-requires : tie.Need-in-order-requires
 in-order-requires c κs = search needs
 
--- src/lib.rt:500:9
 returns : tie.Need-returns
 returns c = turns-not (sym (c .before .in-order .ensures) ∙ not-true _ (c .if1 .taken))
 
--- src/lib.rt:502:5
 turn-all-requires : tie.Need-turn-all-requires
 turn-all-requires c κs =
     let i = c .before .before in
@@ -27,11 +19,9 @@ turn-all-requires c κs =
     let o = order (length (a .out .now)) (a .a) (a .m) (a .e) (sym (i .in-order .ensures) ∙ not-false _ (c .before .if1 .left)) in
     (o .first, o .middle, o .last, o .from, o .to, o .ends)
 
--- src/lib.rt:496:1
 same-length : tie.Need-same-length
 same-length c = search needs
 
--- src/lib.rt:496:1
 returns-2 : tie.Need-returns-2
 returns-2 c =
     let t = c .before .before in

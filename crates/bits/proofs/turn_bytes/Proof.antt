@@ -4,45 +4,34 @@ use native.Mathlib.Omega.{arith}
 use borrow.Author.Needs.{needs}
 use Rattle.bits.proofs.turn_bytes.Statement.{statement}
 use Rattle.bits.proofs.turn_bytes.Tie as tie
-use Rattle.bits.proofs.turn_bytes.Reads as reads
-use Rattle.bits.proofs.turn_bytes.Lts as lts
-use Rattle.bits.proofs.flip.Reads as flip-reads
 
--- src/lib.rt:372:9
 returns : tie.Need-returns
 returns c =
     let a = c .before .before .args in
     sym (turned-not (a .a) (a .m) (a .e) (a .out .now) (λ h k. omega arith))
 
--- src/lib.rt:375:9
 returns-2 : tie.Need-returns-2
 returns-2 c =
     let a = c .before .before .before .args in
     sym (turned-not (a .a) (a .m) (a .e) (a .out .now) (λ h k. omega arith))
 
--- src/lib.rt:378:9
 returns-3 : tie.Need-returns-3
 returns-3 c =
     let a = c .before .before .before .before .args in
     sym (turned-not (a .a) (a .m) (a .e) (a .out .now) (λ h k. omega arith))
 
--- src/lib.rt:380:5
 flip-requires : tie.Need-flip-requires
 flip-requires c κs = search needs
 
--- src/lib.rt:381:5
 flip-requires-2 : tie.Need-flip-requires-2
 flip-requires-2 c κs = search needs
 
--- src/lib.rt:382:5
 flip-requires-3 : tie.Need-flip-requires-3
 flip-requires-3 c κs = search needs
 
--- src/lib.rt:368:1
 same-length : tie.Need-same-length
 same-length c = search needs
 
--- src/lib.rt:368:1
 returns-4 : tie.Need-returns-4
 returns-4 c =
     let h = c .before .before in

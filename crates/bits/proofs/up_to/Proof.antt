@@ -1,31 +1,24 @@
 use mathlib.Core.Path.{sym}
 use Rattle.bits.specs.Places.{up-not, before-up, up-bit}
-use borrow.Author.Needs.{needs}
 use native.Mathlib.Omega.{arith}
 use Rattle.bits.proofs.up_to.Statement.{statement}
 use Rattle.bits.proofs.up_to.Tie as tie
-use Rattle.bits.proofs.up_to.Reads as reads
-use Rattle.bits.proofs.up_to.Lts as lts
 
--- src/lib.rt:471:9
 returns : tie.Need-returns
 returns c =
     let a = c .before .before .args in
     sym (up-not (a .p) (a .q) (λ b. omega arith))
 
--- src/lib.rt:474:9
 returns-2 : tie.Need-returns-2
 returns-2 c =
     let a = c .before .before .before .before .before .args in
     sym (before-up (record { bit = omega arith; upto = omega arith }))
 
--- src/lib.rt:477:9
 returns-3 : tie.Need-returns-3
 returns-3 c =
     let k = c .before .before .before .before .before .before .before .before in
     sym (up-not (k .args .p) (k .args .q) (λ b. omega (arith, k .pre)))
 
--- src/lib.rt:466:1
 returns-4 : tie.Need-returns-4
 returns-4 c =
     let a = c .before .before .before .before .before .before .before .before .before .before .args in
