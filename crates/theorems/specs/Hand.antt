@@ -38,7 +38,7 @@ withLag tenths =
     element-at 5 "PredecessorUID" "1" ∷ element-at 5 "LinkLag" tenths ∷ element-at 5 "LagFormat" "7" ∷ []
 
 -- an Exception from a day to a day, with two fields more and a Type
-abbrev exceptionOn : String → String → String → List Rec → List Rec
+abbrev pub exceptionOn : String → String → String → List Rec → List Rec
 exceptionOn type from to fields =
     element-at 1 "Exception" "" ∷ element-at 2 "Type" type ∷ element-at 2 "TimePeriod" "" ∷ element-at 3 "FromDate" from ∷
     element-at 3 "ToDate" to ∷ fields

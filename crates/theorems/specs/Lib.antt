@@ -9,5 +9,6 @@ pub mod Open
 pub mod Outlines
 pub mod Packing
 pub mod Rows
+pub mod Rules
 pub mod Texts
 pub mod Whole
