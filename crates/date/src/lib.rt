@@ -183,7 +183,7 @@ fn year_at(year: i32) -> u32
     place(year, 10000, 1, 19999)
 }
 
-fn date_of_number(n: i32) -> u32
+pub fn date_of_number(n: i32) -> u32
     ensures { λ r. ⌜ r ≡ fromDays n or 0 ⌝ }
 {
     place(n, 4371953, 366, 7304849)

@@ -225,7 +225,7 @@ pub enum I32Answer {
 }
 
 // A number with a sign: n, or -(n + 1).
-enum Signed {
+pub enum Signed {
     Up(u64),
     Down(u64),
     Absent,
@@ -334,6 +334,12 @@ pub fn u16_of(s: &[u8]) -> U16Answer
         U64Answer::Is(n) => U16Answer::Is(n as u16),
         U64Answer::Absent => U16Answer::Absent,
     }
+}
+
+pub fn whole_of(s: &[u8]) -> Signed
+    ensures { λ r. ⌜ signedMeans r ≡ signedOf 64 (now (s .entry)) ⌝ }
+{
+    signed_to(s, 9223372036854775807)
 }
 
 pub fn i64_of(s: &[u8]) -> I64Answer
