@@ -1,4 +1,10 @@
-//! The extern "C" entries, each behind a safe function on slices.
+//! The extern "C" entries of `mspdi.h`, each behind a safe function on slices.
+
+/// What a call answers: 0 or a refusal's number, and how many bytes of the buffer it wrote.
+pub struct Outcome {
+    pub number: u32,
+    pub written: u64,
+}
 
 mod entries {
     unsafe extern "C" {
@@ -7,16 +13,17 @@ mod entries {
     }
 }
 
-pub fn duration(minutes: i64, text: &mut [u8]) -> (u32, u64) {
+pub fn duration(minutes: i64, text: &mut [u8]) -> Outcome {
     let mut written = 0;
-    // SAFETY: the pointer and the length are those of a slice that is lent for the call, and `written` is a local.
+    // SAFETY: the pointer and the length are those of a slice that is lent for the call, and `written` is a local. The entry is proved to
+    // touch nothing else and to return, for every argument.
     let number = unsafe { entries::mspdi_duration(minutes, text.as_mut_ptr(), text.len(), &mut written) };
-    (number, written)
+    Outcome { number, written }
 }
 
-pub fn time(minutes: u32, text: &mut [u8]) -> (u32, u64) {
+pub fn time(minutes: u32, text: &mut [u8]) -> Outcome {
     let mut written = 0;
     // SAFETY: as above.
     let number = unsafe { entries::mspdi_time(minutes, text.as_mut_ptr(), text.len(), &mut written) };
-    (number, written)
+    Outcome { number, written }
 }

@@ -3,12 +3,15 @@
 //! Every function here is safe for every argument: the library tests what it is given and answers with a result or with a [`Refusal`].
 //! The boundary that is called is `mspdi.h` beside this crate.
 
+mod boundary;
+
 use std::fmt;
 
-mod boundary;
+use boundary::Outcome;
 
 /// Why a call gave no result, by the library's numbers.
 #[derive(Debug, Clone, Copy, PartialEq, Eq, Hash)]
+#[non_exhaustive]
 pub enum Refusal {
     /// 1: the tree breaks the layout.
     Layout,
@@ -28,7 +31,7 @@ pub enum Refusal {
     OutOfRange,
     /// 9: the result is longer than its buffer.
     NoRoom,
-    /// A number that no document names.
+    /// A number that the library's document does not name.
     Unknown(u32),
 }
 
@@ -85,30 +88,44 @@ impl fmt::Display for Refusal {
 
 impl std::error::Error for Refusal {}
 
-/// The result of a call whose answer is 0 or a refusal's number.
-fn judged<T>(number: u32, value: T) -> Result<T, Refusal> {
-    if number == 0 { Ok(value) } else { Err(Refusal::of(number)) }
-}
-
 /// The longest text of minutes or of a time.
-const LONGEST: usize = 32;
+const LONGEST: usize = 16;
 
-/// Minutes, 0 to 1,000,000,000, as MSPDI writes a duration: `PT8H30M0S`.
+/// Minutes, 0 to 1,000,000,000, as MSPDI writes a duration.
+///
+/// # Errors
+///
+/// [`Refusal::OutOfRange`] for any other number.
+///
+/// ```
+/// assert_eq!(mspdi::duration(510).as_deref(), Ok("PT8H30M0S"));
+/// assert_eq!(mspdi::duration(-1), Err(mspdi::Refusal::OutOfRange));
+/// ```
 pub fn duration(minutes: i64) -> Result<String, Refusal> {
-    let mut text = [0u8; LONGEST];
-    let (number, written) = boundary::duration(minutes, &mut text);
-    judged(number, ascii(&text, written))
+    text(|buffer| boundary::duration(minutes, buffer))
 }
 
-/// Minutes after midnight, 0 to 1440, as MSPDI writes a time: `08:30:00`.
+/// Minutes after midnight, 0 to 1440, as MSPDI writes a time.
+///
+/// # Errors
+///
+/// [`Refusal::OutOfRange`] for any other number.
+///
+/// ```
+/// assert_eq!(mspdi::time(510).as_deref(), Ok("08:30:00"));
+/// assert_eq!(mspdi::time(1441), Err(mspdi::Refusal::OutOfRange));
+/// ```
 pub fn time(minutes: u32) -> Result<String, Refusal> {
-    let mut text = [0u8; LONGEST];
-    let (number, written) = boundary::time(minutes, &mut text);
-    judged(number, ascii(&text, written))
+    text(|buffer| boundary::time(minutes, buffer))
 }
 
-/// The text that stands at the front of a buffer.
-fn ascii(text: &[u8], written: u64) -> String {
-    let end = usize::try_from(written).map_or(text.len(), |n| n.min(text.len()));
-    String::from_utf8_lossy(&text[..end]).into_owned()
+/// The text that a call writes into a buffer that is long enough for every text.
+fn text(call: impl FnOnce(&mut [u8]) -> Outcome) -> Result<String, Refusal> {
+    let mut buffer = [0u8; LONGEST];
+    let outcome = call(&mut buffer);
+    if outcome.number != 0 {
+        return Err(Refusal::of(outcome.number));
+    }
+    let end = usize::try_from(outcome.written).map_or(LONGEST, |n| n.min(LONGEST));
+    Ok(buffer[..end].iter().map(|b| char::from(*b)).collect())
 }
