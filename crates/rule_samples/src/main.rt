@@ -59,7 +59,12 @@ fn next_sum(r: Rule, t: Sum) -> Sum {
             days: t.days % 65536 + 1,
             check: with_day(t.check, d),
         },
-        Step::Done => t,
+        Step::Done => Sum {
+            at: t.at,
+            left: 0,
+            days: t.days,
+            check: t.check,
+        },
         Step::Skipped => Sum {
             at: 0,
             left: 0,
