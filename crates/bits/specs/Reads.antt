@@ -416,7 +416,7 @@ module _ {A : Type 0} (f : Format A) where
 
   module _ {s : List ℕ} {p q : Place} {xs : List A} where
     -- as many as were read, and so many more from the place behind
-    read-on : (k m : ℕ) → Reads (times k f) s p xs q → (rest s p >>= times (k + m) f .get) ≡ (rest s q >>= λ l. getAll f m l >>= onto xs)
+    pub read-on : (k m : ℕ) → Reads (times k f) s p xs q → (rest s p >>= times (k + m) f .get) ≡ (rest s q >>= λ l. getAll f m l >>= onto xs)
     unfolding times
     read-on k m h =
         let go : List A × Bits → Option (List A × Bits) = λ z. getAll f m (z .1) >>= onto (z .0) in

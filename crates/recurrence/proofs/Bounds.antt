@@ -3,14 +3,13 @@ use Prim.Native.Nat.{ℕ, _+_, _≤_, _<_}
 use native.Mathlib.Omega.{arith}
 use mathlib.Core.Path.{_≡_, sym, _∙_}
 use mathlib.Core.Bool.{true, false, _&&_}
-use lib.Dec.{leb}
-use borrow.Author.Tests.{le-leb, leb-true}
+use borrow.Author.Tests.{le-leb}
 use Rattle.definition.specs.Base.{_or_, within}
 use Rattle.definition.specs.Date.{yearOf, monthOf, dayOf, dateAt, monthLength, lastDate}
 use Rattle.date.specs.Answer.{dateWithin, isDay}
 use Rattle.theorems.specs.Calendar.{new-year-next, year-length, year-found, last-new-year, IsDay, is-day}
 use Rattle.recurrence.specs.Months.{monthAt, year-rises, IsMonth, dayIn, month-length}
-use Rattle.recurrence.specs.Sequence.{both}
+use Rattle.recurrence.specs.Tests.{both, within-is}
 
 end-year : yearOf (lastDate + 1) ≡ 20000
 end-year = year-found (lastDate + 1) 20000 (record { from = omega (arith, last-new-year); to = omega (arith, last-new-year, year-length 20000) })
@@ -43,9 +42,8 @@ module _ (y m d : ℕ) (i : IsMonth m) where
   unfolding dayIn
   day-yes h e =
       let w : within 1 (monthLength y m) d ≡ true = sym day-is ∙ e in
-      let b = both (leb 1 d) (leb d (monthLength y m)) w in
-      let k = leb-true d (monthLength y m) (b .1) in
-      rw w (date-within y m d h i (leb-true 1 d (b .0)) (omega (arith, month-length y m)))
+      let b = within-is 1 (monthLength y m) d w in
+      rw w (date-within y m d h i (b .0) (omega (arith, month-length y m)))
 
   pub day-no : isDay y m d ≡ false → 0 ≡ (dayIn y m d or 0)
   unfolding dayIn
@@ -54,6 +52,4 @@ module _ (y m d : ℕ) (i : IsMonth m) where
 pub years-within : (y m : ℕ) → (within 1 19999 y && within 1 12 m) ≡ true → (y ≤ 19999) × IsMonth m
 years-within y m e =
     let w = both (within 1 19999 y) (within 1 12 m) e in
-    let a = both (leb 1 y) (leb y 19999) (w .0) in
-    let b = both (leb 1 m) (leb m 12) (w .1) in
-    (leb-true y 19999 (a .1), (leb-true 1 m (b .0), leb-true m 12 (b .1)))
+    (within-is 1 19999 y (w .0) .1, within-is 1 12 m (w .1))

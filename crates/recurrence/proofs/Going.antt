@@ -13,7 +13,7 @@ use borrow.Author.Tests.{ne-eqb, leb-true}
 use Rattle.definition.specs.Base.{if_then_else_, _>>=_, when, within}
 use Rattle.definition.specs.Date.{Date, firstDate, lastDate}
 use Rattle.definition.specs.Recurrence.{isRule, fits, daysOfRule}
-use Rattle.recurrence.specs.Sequence.{FirstFit, fromOn, from-past, first-fit, no-fit, and-false, both}
+use Rattle.recurrence.specs.Sequence.{FirstFit, fromOn, from-past, first-fit, no-fit}
 use Rattle.recurrence.specs.Meaning.{asRule, sound, meaning, daysBy, toCome, said}
 use Rattle.recurrence.specs.Fits.{Ready, placeOf, Finds}
 use Rattle.recurrence.specs.declared.Rule.{Rule}
@@ -21,6 +21,7 @@ use Rattle.recurrence.specs.declared.Cursor.{Cursor}
 use Rattle.recurrence.specs.declared.Fit.{Fit}
 use Rattle.recurrence.specs.declared.Fit.the-variants.{At, Unread}
 use Rattle.recurrence.specs.declared.Step.the-variants.{Day, Done, Skipped}
+use Rattle.recurrence.specs.Tests.{and-false, both, within-is}
 
 pub starts : (r : Rule) → toCome r (record { at = r .from; left = r .most }) ≡ daysBy r
 unfolding toCome daysBy daysOfRule meaning
@@ -32,16 +33,13 @@ starts r = by (sound r && isRule (asRule r))
 
 -- ---- what a test says
 
-within-true : (lo hi n : ℕ) → within lo hi n ≡ true → (lo ≤ n) × (n ≤ hi)
-within-true lo hi n e = let b = both (leb lo n) (leb n hi) e in (leb-true lo n (b .0), leb-true n hi (b .1))
-
 pub ready : (r : Rule) (c : Cursor) → sound r ≡ true → Ready r (placeOf (r .from) c)
 ready r c e =
     let a = both (within firstDate lastDate (r .from)) (leb (r .last) lastDate && within 1 1000 (r .period)) e in
     let b = both (leb (r .last) lastDate) (within 1 1000 (r .period)) (a .1) in
-    let f = within-true firstDate lastDate (r .from) (a .0) in
+    let f = within-is firstDate lastDate (r .from) (a .0) in
     let l = leb-true (r .last) lastDate (b .0) in
-    let p = within-true 1 1000 (r .period) (b .1) in
+    let p = within-is 1 1000 (r .period) (b .1) in
     record { first = f .0; from = low (f .1) (eqb (c .left) 0); until = high (f .1) (eqb (c .left) 0); last = l; step = p .0; most = p .1 }
   where
     low : r .from ≤ lastDate → (t : Bool) → r .from ≤ (if t then lastDate + 1 else max (r .from) (min (c .at) (lastDate + 1)))

@@ -22,10 +22,6 @@ pub weekday-less : (d : ℕ) → weekday d < 7
 unfolding weekday
 weekday-less d = omega arith
 
-pub sunday-less : (d : ℕ) → sundayFirst d < 7
-unfolding sundayFirst
-sunday-less d = omega arith
-
 module _ (item d : ℕ) where
   pub item-0 : item ≡ 0 → itemFits (pos item) d ≡ true
   unfolding itemFits

@@ -3,23 +3,20 @@ use Prim.Native.Nat.{ℕ, zero, suc, _<_}
 use native.Mathlib.Omega.{arith}
 use native.Mathlib.Decide.{decLt}
 use mathlib.Core.Path.{_≡_, refl}
-use mathlib.Core.Bool.{Bool, true, false, _&&_, _||_}
+use mathlib.Core.Bool.{Bool, true, false, _&&_}
 use mathlib.Core.Option.{none}
 use lib.Dec.{leb}
 use borrow.Author.Tests.{leb-true, lt-leb}
 use Rattle.definition.specs.Base.{when, given, within}
 use Rattle.definition.specs.Recurrence.{isRule, fits}
-use Rattle.recurrence.specs.Sequence.{FirstFit, fit-by, and-false}
+use Rattle.recurrence.specs.Sequence.{FirstFit, fit-by}
 use Rattle.recurrence.specs.Months.{IsMonth}
 use Rattle.recurrence.specs.Meaning.{asRule}
 use Rattle.recurrence.specs.Fits.{month-is, Finds, FindsYearly, yearlyFits}
 use Rattle.recurrence.specs.declared.Rule.{Rule}
 use Rattle.recurrence.specs.declared.Fit.{Fit}
 use Rattle.recurrence.specs.declared.Fit.the-variants.{At, Unread}
-
-or-true : (a : Bool) → (a || true) ≡ true
-or-true true = refl
-or-true false = refl
+use Rattle.recurrence.specs.Tests.{and-false, or-true}
 
 month-none : (m : ℕ) → (IsMonth m → ⊥) → when (within 1 12 m) m ≡ none
 month-none m n = by (leb 1 m) refl (leb m 12) refl

@@ -3,7 +3,7 @@ use Prim.Native.Nat.{ℕ, suc, _+_, _-_, _≤_, _<_}
 use native.Mathlib.Omega.{arith}
 use native.Mathlib.Decide.{decLt}
 use mathlib.Core.Path.{_≡_, refl}
-use mathlib.Core.Bool.{Bool, true, false, _&&_}
+use mathlib.Core.Bool.{_&&_}
 use mathlib.Core.List.{[]}
 use mathlib.Core.Option.{Option, some, none}
 use lib.Dec.{leb, ltb}
@@ -15,8 +15,8 @@ use Rattle.definition.specs.Date.{Date, dateAt, newYear, monthLength, epoch, fi
 use Rattle.date.specs.Answer.{numberOf}
 use Rattle.theorems.specs.Rows.{rising}
 use Rattle.theorems.specs.Calendar.{first-new-year}
-use Rattle.recurrence.specs.Sequence.{both}
 use Rattle.recurrence.specs.Months.{IsMonth, new-year-rises, month-end}
+use Rattle.recurrence.specs.Tests.{both, within-is, when-is, some-is}
 
 pub record InRange (d : Date) : Type 0 where
   pub low : firstDate ≤ d
@@ -33,14 +33,6 @@ days-back d h = by (decLt d epoch)
     by (no g) =
         let q : d - 4371953 + epoch ≡ d = omega arith in
         rw (le-ltb d epoch (omega arith), q, le-leb firstDate d (h .low), le-leb d lastDate (h .high))
-
-some-is : {A B : Type 0} (o : Option A) (f : A → Option B) (b : B) → (o >>= f) ≡ some b → (a : A) × (o ≡ some a) × (f a ≡ some b)
-some-is none f b e = let z : _≡_ {A = ℕ} 0 1 = cc in absurd (omega arith)
-some-is (some a) f b e = (a, refl, e)
-
-when-is : {A : Type 0} (t : Bool) (a b : A) → when t a ≡ some b → (t ≡ true) × (a ≡ b)
-when-is true a b e = (refl, cc)
-when-is false a b e = let z : _≡_ {A = ℕ} 0 1 = cc in absurd (omega arith)
 
 year-in : (z : ℤ) (y : ℕ) → yearAt z ≡ some y → (1 ≤ y) × (y ≤ 19999)
 unfolding yearAt
@@ -60,9 +52,8 @@ ymd-in z m k d e =
     let r = year-in z y (a .1) in
     let w = when-is (within 1 12 m && within 1 (monthLength y m) k) (dateAt y m k) d (a .2) in
     let b = both (within 1 12 m) (within 1 (monthLength y m) k) (w .0) in
-    let i = both (leb 1 m) (leb m 12) (b .0) in
-    let j = both (leb 1 k) (leb k (monthLength y m)) (b .1) in
-    at-in y m k d r (leb-true 1 m (i .0), leb-true m 12 (i .1)) (leb-true 1 k (j .0)) (leb-true k (monthLength y m) (j .1)) (w .1)
+    let j = within-is 1 (monthLength y m) k (b .1) in
+    at-in y m k d r (within-is 1 12 m (b .0)) (j .0) (j .1) (w .1)
 
 pub date-in : (s : Text) (d : Date) → dateOf s ≡ some d → InRange d
 unfolding dateOf dateParts

@@ -7,7 +7,7 @@ use mathlib.Core.Bool.{true, false}
 use lib.Dec.{eqb}
 use borrow.Author.Tests.{ne-eqb, lt-ltb, le-ltb}
 use Rattle.definition.specs.Recurrence.{everyNth}
-use Rattle.recurrence.specs.Sequence.{and-false}
+use Rattle.recurrence.specs.Tests.{and-false}
 
 -- q steps are the fewest that reach n
 pub record UpTo (n step q : ℕ) : Type 0 where

@@ -13,7 +13,7 @@ use Rattle.definition.specs.Bits.{twos}
 use Rattle.definition.specs.Date.{Date, yearOf, monthOf, dayOf, sundayFirst, firstDate, lastDate}
 use Rattle.definition.specs.Recurrence.{mostDays, century, everyNth, isDate, onWeekday, inNthWeek, monthCount, fits, isRule}
 use Rattle.theorems.specs.Calendar.{IsDay, is-day}
-use Rattle.recurrence.specs.Sequence.{FirstFit, and-false}
+use Rattle.recurrence.specs.Sequence.{FirstFit}
 use Rattle.recurrence.specs.Every.{UpTo, on-step, off-step, past-steps, one-up}
 use Rattle.recurrence.specs.Units.{Units, Passed, pass-none, pass-over, pass-unit, fit-unit, no-unit}
 use Rattle.recurrence.specs.Months.{monthAt, year-rises, month-rises, candidate, Lies, IsMonth, candidate-lies, on, candidate-is}
@@ -22,6 +22,7 @@ use Rattle.recurrence.specs.declared.Rule.{Rule}
 use Rattle.recurrence.specs.declared.Cursor.{Cursor}
 use Rattle.recurrence.specs.declared.Fit.{Fit}
 use Rattle.recurrence.specs.declared.Fit.the-variants.{At, Unread}
+use Rattle.recurrence.specs.Tests.{and-false}
 
 -- what the searches may take for granted
 pub record Ready (r : Rule) (at : ℕ) : Type 0 where

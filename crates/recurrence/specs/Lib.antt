@@ -1,3 +1,4 @@
+pub mod Tests
 pub mod Sequence
 pub mod Every
 pub mod Units
@@ -6,3 +7,4 @@ pub mod Meaning
 pub mod Fits
 pub mod Dates
 pub mod Reading
+pub mod Steps

@@ -8,18 +8,23 @@ use mathlib.Core.Bool.{Bool, true, false, _&&_, _||_}
 use mathlib.Core.List.{List, [], _∷_}
 use mathlib.Core.Option.{Option, some, none}
 use lib.ListN.{getElem?}
-use lib.Dec.{leb, ltb, eqb}
+use lib.Dec.{ltb, eqb}
 use lib.IntN.{ℤ, pos, negsuc}
-use borrow.Author.Tests.{eqb-true, eqb-false, eq-eqb, ne-eqb, leb-true, le-leb}
+use borrow.Author.Tests.{eqb-true, eqb-false, eq-eqb, ne-eqb, le-leb}
 use Rattle.definition.specs.Base.{if_then_else_, _orElse_, when, within, keep, count, findLast}
-use Rattle.definition.specs.Date.{Date, leap, yearOf, monthOf, dayOf, dateAt, monthLength, monthsLength, newYear, yearLength, lastDate}
+use Rattle.definition.specs.Date.{Date, sundayFirst, leap, yearOf, monthOf, dayOf, dateAt, monthLength, monthsLength, newYear, yearLength, lastDate}
 use Rattle.definition.specs.Recurrence.{itemFits, atPosition, nthInMonth, isDate}
 use Rattle.theorems.specs.Rows.{lower, rising}
 use Rattle.theorems.specs.Calendar.{new-year-next, months-full, last-new-year, InYear, in-year, months-next, InMonth, in-month, IsDay, is-day, date-back, Falls, falls}
 use Rattle.recurrence.specs.Sequence.{keep-yes, keep-no, keep-none}
+use Rattle.recurrence.specs.Tests.{within-is, when-is}
 
 abbrev pub IsMonth : ℕ → Type 0
 IsMonth m = (1 ≤ m) × (m ≤ 12)
+
+pub sunday-less : (d : Date) → sundayFirst d < 7
+unfolding sundayFirst
+sunday-less d = omega arith
 
 -- ---- later dates lie in later years and months
 
@@ -152,12 +157,10 @@ in-run-lies x y m h r =
 
 day-lies : (x y m k : ℕ) → IsMonth m → dayIn y m k ≡ some x → Falls x y m k
 unfolding dayIn
-day-lies x y m k h e = by (leb 1 k) refl (leb k (monthLength y m)) refl e
-  where
-    by : (s : Bool) → leb 1 k ≡ s → (t : Bool) → leb k (monthLength y m) ≡ t → when (s && t) (dateAt y m k) ≡ some x → Falls x y m k
-    by true s true t e = falls x y m k (record { low = h .0; high = h .1; first = leb-true 1 k s; last = leb-true k (monthLength y m) t }) (cc)
-    by true s false t e = let z : _≡_ {A = ℕ} 0 1 = cc in absurd (omega arith)
-    by false s u t e = let z : _≡_ {A = ℕ} 0 1 = cc in absurd (omega arith)
+day-lies x y m k h e =
+    let w = when-is (within 1 (monthLength y m) k) (dateAt y m k) x e in
+    let i = within-is 1 (monthLength y m) k (w .0) in
+    falls x y m k (record { low = h .0; high = h .1; first = i .0; last = i .1 }) (sym (w .1))
 
 position-lies : (x y m item : ℕ) (position : ℤ) → IsMonth m → atPosition position (keep (itemFits (pos item)) (count (dateAt y m 1) (monthLength y m))) ≡ some x → Lies x y m
 position-lies x y m item (negsuc n) h e = let z : _≡_ {A = ℕ} 0 1 = cc in absurd (omega arith)

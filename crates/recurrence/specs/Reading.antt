@@ -11,7 +11,7 @@ use mathlib.Core.Logic.{_⊎_, inl, inr}
 use Prim.Native.String.{String}
 use lib.Dec.{leb, ltb, eqb}
 use lib.IntN.{ℤ, pos, negsuc}
-use borrow.Author.Tests.{lt-ltb, le-ltb, le-leb, lt-leb, leb-true, ne-eqb}
+use borrow.Author.Tests.{lt-ltb, le-ltb, le-leb, lt-leb, ne-eqb}
 use Rattle.definition.specs.Base.{if_then_else_, _>>=_, _or_, when, within, keep, count}
 use Rattle.definition.specs.Ascii.{bytes}
 use Rattle.definition.specs.Bits.{twos}
@@ -23,14 +23,14 @@ use Rattle.text.specs.Whole.{signed-to, signed-least}
 use Rattle.theorems.specs.Calendar.{is-day}
 use Rattle.date.specs.Answer.{dateMeaning}
 use Rattle.date.specs.declared.DateAnswer.{DateAnswer}
-use Rattle.recurrence.specs.Months.{month-length}
+use Rattle.recurrence.specs.Months.{month-length, sunday-less}
 use Rattle.recurrence.specs.Dates.{InRange, date-in}
-use Rattle.recurrence.specs.Sequence.{both}
 use Rattle.definition.specs.Recurrence as D
 use Rattle.definition.specs.Recurrence.{mostDays, century, monthFrom, typeFrom, ruleFrom, isRule, isNumber, itemFits, atPosition, nthInMonth, onWeekday, fits, daysOfRule, ruleOf, recurrenceDays, daysOf, mostExceptionDays}
 use Rattle.recurrence.specs.Meaning.{asRule, sound, meaning, daysBy}
 use Rattle.recurrence.specs.declared.Rule.{Rule}
 use Rattle.recurrence.specs.declared.Range.{Range}
+use Rattle.recurrence.specs.Tests.{within-is}
 
 -- what an element says in a child: a whole number, a date
 abbrev pub wholeOf : Element → Text → Option ℤ
@@ -254,10 +254,6 @@ period-held none = omega arith
 period-held (some (pos n)) = omega arith
 period-held (some (negsuc n)) = omega arith
 
-sunday-less : (d : Date) → sundayFirst d < 7
-unfolding sundayFirst
-sunday-less d = omega arith
-
 int-bound : (x : Element) (name : String) (n : ℕ) → intIn x name ≡ some (negsuc n) → n < 2 ^ 63
 unfolding intIn
 int-bound x name n e = by (textIn x name) e
@@ -293,7 +289,7 @@ module _ (x : Element) (from to : Date) where
     last-most true = by (within firstDate lastDate (from + century)) refl
       where
         by : (s : Bool) → within firstDate lastDate (from + century) ≡ s → (when s (from + century) or to) ≤ lastDate
-        by true e = leb-true (from + century) lastDate (both (leb firstDate (from + century)) (leb (from + century) lastDate) e .1)
+        by true e = within-is firstDate lastDate (from + century) e .1
         by false e = t
     last-most false = t
 

@@ -8,7 +8,8 @@ use mathlib.Core.Option.{Option, some, none}
 use borrow.Author.Tests.{eq-eqb, ne-eqb}
 use Rattle.definition.specs.Base.{_or_}
 use Rattle.definition.specs.Recurrence.{isDate}
-use Rattle.recurrence.specs.Sequence.{FirstFit, and-false}
+use Rattle.recurrence.specs.Sequence.{FirstFit}
+use Rattle.recurrence.specs.Tests.{and-false}
 
 -- each date lies in a unit, later ones in later units; a date fits where its unit counts and it is the unit's candidate
 pub record Units (p : ℕ → Bool) (unit : ℕ → ℕ) (counts : ℕ → Bool) (candidate : ℕ → Option ℕ) : Type 0 where

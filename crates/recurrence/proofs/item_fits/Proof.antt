@@ -1,4 +1,5 @@
-use Rattle.recurrence.proofs.Items.{sunday-less, item-0, item-1, item-2, item-day}
+use Rattle.recurrence.proofs.Items.{item-0, item-1, item-2, item-day}
+use Rattle.recurrence.specs.Months.{sunday-less}
 use Prim.Native.Nat.{ℕ, _+_}
 use lib.Dec.{eqb}
 use Rattle.definition.specs.Base.{within}

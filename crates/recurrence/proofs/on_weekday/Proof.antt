@@ -1,4 +1,4 @@
-use Rattle.recurrence.proofs.Items.{sunday-less}
+use Rattle.recurrence.specs.Months.{sunday-less}
 use mathlib.Core.Path.{ap}
 use Prim.Native.Nat.{ℕ, _/_, _%_, _^_}
 use lib.Dec.{eqb}

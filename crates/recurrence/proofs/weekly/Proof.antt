@@ -1,5 +1,5 @@
 use Rattle.recurrence.specs.Fits.{PassedDays, WeekDay, past-day, weekly-fit, weekly-none, sundayOf}
-use Rattle.recurrence.proofs.Items.{sunday-less}
+use Rattle.recurrence.specs.Months.{sunday-less}
 use Prim.Native.Nat.{ℕ, _+_, _-_, _≤_}
 use native.Mathlib.Numerals.{add-one}
 use mathlib.Core.Path.{sym, subst, _∙_}

@@ -1,0 +1,114 @@
+-- What the decoding pass answers: whether the bytes are a model, and where its sections stand. Assumes nothing.
+use mathlib.Core.Path.{_≡_, refl, sym, _∙_}
+use mathlib.Core.Bool.{Bool, true, false}
+use mathlib.Core.List.{List}
+use mathlib.Core.Option.{some, none}
+use Prim.Native.Nat.{ℕ, _+_, _-_, _*_, _%_, _≤_, _<_}
+use native.Mathlib.Nat.{sub-zero}
+use native.Mathlib.Omega.{arith}
+use lib.ListN.{length, drop}
+use Rattle.definition.specs.Base.{given}
+use Rattle.definition.specs.Bits.{Bits, bitsOf}
+use Rattle.definition.specs.Format.{Format, whole, times}
+use Rattle.definition.specs.Model.{Model}
+use Rattle.definition.specs.Pack.{Counts as CountsOf, project, calendar, activity, link, resource, assignment, expense, decode}
+use Rattle.bits.specs.Places.{inside, Fits, room-fits}
+use Rattle.bits.specs.Reads.{rest, Reads, rest-in, rest-out}
+use Rattle.bits.specs.declared.Place.{Place}
+use Rattle.model.specs.Passes.{Passes}
+use Rattle.model.specs.Lax.{Lax}
+use Rattle.model.specs.Splits.{Step, step, later}
+use Rattle.model.specs.declared.Section.{Section}
+use Rattle.model.specs.declared.Sections.{Sections}
+use Rattle.model.specs.declared.Counts.{Counts}
+use Rattle.model.specs.declared.Places.{Places}
+
+-- the place of a whole byte
+abbrev pub byteAt : ℕ → Place
+byteAt n = record { byte = n; bit = 0 }
+
+abbrev pub start : Place
+start = byteAt 0
+
+abbrev pub countsIn : Counts → CountsOf
+countsIn n = (n .calendars, (n .activities, (n .links, (n .resources, (n .assignments, n .expenses)))))
+
+-- the places between the sections, each at a whole byte or past every end
+pub record Walks (s : List ℕ) (n : Counts) (w : Places) : Type 0 where
+  pub project : Passes (whole project) s (n .next) (w .calendars)
+  pub calendars : Passes (times (n .calendars) (whole calendar)) s (w .calendars) (w .activities)
+  pub activities : Passes (times (n .activities) (whole activity)) s (w .activities) (w .links)
+  pub links : Passes (times (n .links) (whole link)) s (w .links) (w .resources)
+  pub resources : Passes (times (n .resources) (whole resource)) s (w .resources) (w .assignments)
+  pub assignments : Passes (times (n .assignments) (whole assignment)) s (w .assignments) (w .expenses)
+  pub expenses : Passes (times (n .expenses) (whole expense)) s (w .expenses) (w .end)
+  pub even : (w .calendars .bit % 8 ≡ 0) × (w .activities .bit % 8 ≡ 0) × (w .links .bit % 8 ≡ 0) × (w .resources .bit % 8 ≡ 0) × (w .assignments .bit % 8 ≡ 0) × (w .expenses .bit % 8 ≡ 0)
+
+-- a section holds these records, and the next one begins at a byte
+pub record Holds {A : Type 0} (f : Format A) (s : List ℕ) (x : Section) (xs : List A) (next : ℕ) : Type 0 where
+  pub count : length xs ≡ x .count
+  pub reads : Reads (times (x .count) (whole f)) s (byteAt (x .at)) xs (byteAt next)
+  pub ends : next ≤ length s
+
+-- the sections of a model that was decoded, the last one up to the end
+pub record Decoded (s : List ℕ) (m : Model) (r : Sections) : Type 0 where
+  pub calendars : Holds calendar s (r .calendars) (m .calendars) (r .activities .at)
+  pub activities : Holds activity s (r .activities) (m .activities) (r .links .at)
+  pub links : Holds link s (r .links) (m .links) (r .resources .at)
+  pub resources : Holds resource s (r .resources) (m .resources) (r .assignments .at)
+  pub assignments : Holds assignment s (r .assignments) (m .assignments) (r .expenses .at)
+  pub expenses : Holds expense s (r .expenses) (m .expenses) (length s)
+
+abbrev pub empty : Section
+empty = record { count = 0; at = 0 }
+
+abbrev pub noSections : Sections
+noSections = record { ok = false; calendars = empty; activities = empty; links = empty; resources = empty; assignments = empty; expenses = empty }
+
+-- the answer: whether the bytes decode; the sections if they do; and zeros if not
+pub record Opened (s : List ℕ) (r : Sections) : Type 0 where
+  pub ok : r .ok ≡ given (decode s)
+  pub decoded : (m : Model) → decode s ≡ some m → Decoded s m r
+  pub refused : decode s ≡ none → r ≡ noSections
+
+-- ---- laws for who walks a section
+
+never : {A : Type 0} {a : A} → none ≡ some a → ⊥
+never e = let z : _≡_ {A = ℕ} 0 1 = cc in omega arith
+
+-- a place from which bits are left is inside
+pub rest-fits : (s : List ℕ) (q : Place) {l : Bits} → rest s q ≡ some l → Fits (length s) q 0
+rest-fits s q {l} e = by-room (inside (length s) q) refl
+  where
+    by-room : (t : Bool) → inside (length s) q ≡ t → Fits (length s) q 0
+    by-room false h = absurd (never (sym (rest-out s q h) ∙ e))
+    by-room true h = room-fits (length s) q 0 h
+
+-- a place of a record that is there is a whole byte
+pub byte-place : (s : List ℕ) (q : Place) {l : Bits} → rest s q ≡ some l → q .bit % 8 ≡ 0 → q ≡ byteAt (q .byte)
+byte-place s q e h =
+    let f = rest-fits s q e in
+    let z : q .bit ≡ 0 = omega (arith, f .bit) in
+    rw z
+
+-- a byte up to the end is a place
+pub byte-rest : (s : List ℕ) (n : ℕ) → n ≤ length s → rest s (byteAt n) ≡ some (drop (8 * n) (bitsOf s))
+byte-rest s n h =
+    let f : Fits (length s) (byteAt n) 0 = record { bit = omega arith; ends = omega arith } in
+    let e : 8 * n + 0 ≡ 8 * n = omega arith in
+    rest-in s (byteAt n) f ∙ rw e
+
+module _ {A : Type 0} {f : Format A} {s : List ℕ} {x : Section} {xs : List A} {next : ℕ} (h : Holds f s x xs next) where
+  -- where a walk begins: none passed yet
+  pub none-passed : Reads (times (x .count - 0) (whole f)) s (byteAt (x .at)) (drop 0 xs) (byteAt next)
+  none-passed = rw sub-zero (h .reads)
+
+  -- one record more: the place that a skipper answered, at i of the section
+  pub one-passed : {B : Type 0} {g : Format B} {q r : Place} (i : ℕ) → Lax g (whole f) → Reads (times (x .count - i) (whole f)) s q (drop i xs) (byteAt next) → i < x .count → Passes g s q r
+      → Step (whole f) s q r (byteAt next) (x .count) i xs
+  one-passed i a k l p = step a (byte-rest s next (h .ends)) k l p
+
+  -- the place behind the first i
+  pub some-passed : {B : Type 0} {g : Format B} {q : Place} (i : ℕ) → Lax g (whole f) → i ≤ x .count → Passes (times i g) s (byteAt (x .at)) q
+      → Reads (times (x .count - i) (whole f)) s q (drop i xs) (byteAt next)
+  some-passed i a l p = later i a (byte-rest s next (h .ends)) (h .reads) l p
