@@ -28,11 +28,21 @@ fn made(seed: u64, k: u64, count: u64) -> Vec<u8> {
     if k < count / 2 { tree } else { damaged(&mut rng, &tree) }
 }
 
+/// The packed trees that compare/samples made, if it was run.
+fn samples() -> Vec<Vec<u8>> {
+    let folder = std::env::current_exe().ok().and_then(|exe| Some(exe.parent()?.join("samples")));
+    let files = folder.and_then(|folder| std::fs::read_dir(folder).ok()).into_iter().flatten().flatten().map(|entry| entry.path());
+    files.filter(|path| path.extension().is_some_and(|end| end == "tree")).filter_map(|path| std::fs::read(path).ok()).collect()
+}
+
 /// How many differ; each is printed with its smallest input.
 pub fn compare(seed: u64, count: u64) -> u64 {
     let mut differ = 0;
     let mut refused = 0;
-    for bytes in LIMITS.iter().filter_map(|name| limit_tree(name)).chain((0..count).map(|k| made(seed, k, count))) {
+    let samples = samples();
+    let judged = count + (LIMITS.len() + samples.len()) as u64;
+    let limits = LIMITS.iter().filter_map(|name| limit_tree(name));
+    for bytes in samples.into_iter().chain(limits).chain((0..count).map(|k| made(seed, k, count))) {
         refused += u64::from(expected(&bytes) != 0);
         if differs(&bytes) {
             differ += 1;
@@ -42,7 +52,7 @@ pub fn compare(seed: u64, count: u64) -> u64 {
             }
         }
     }
-    println!("trees: {} judged, {refused} of them refused, {differ} differ", count + LIMITS.len() as u64);
+    println!("trees: {judged} judged, {refused} of them refused, {differ} differ");
     differ
 }
 
