@@ -1,6 +1,6 @@
 // Judges a list of trees, and says for how many the refusal is the Rust's, and document 01's. The list is standard input, made by
 // compare/make-samples. A record is the tree's length (four bytes), the tree, the refusal or 0 (one byte), the length of the model that the
-// Rust reads from it (four bytes), and the model, which is not looked at yet.
+// Rust reads from it (four bytes), and the model, which must decode.
 ghost use mathlib.Core.Path.{_≡_};
 ghost use Prim.Native.Nat.{_+_, _*_, _<_, _≤_};
 ghost use lib.ListN.{length};
@@ -38,11 +38,28 @@ fn wide(b: u8) -> u32 {
     b as u32
 }
 
-// Whether the tree of the record is refused as it says.
+// Whether a model decodes; of a tree that is refused there is none. Its length and its bytes begin here.
+fn model_agrees(s: &[u8], refused: bool) -> bool {
+    if s.len() < 4 {
+        return false;
+    }
+    let to = 4 + number(s);
+    if s.len() < to {
+        return false;
+    }
+    let m = model::open(&s[4..to]);
+    m.ok != refused
+}
+
+// Whether the tree of the record is refused as it says, and its model decodes.
 fn record_agrees(s: &[u8]) -> bool {
     let to = 4 + number(s);
     if to < s.len() {
-        return tree::judge(&s[4..to]) == wide(s[to]);
+        let refusal = s[to];
+        if tree::judge(&s[4..to]) != wide(refusal) {
+            return false;
+        }
+        return model_agrees(&s[to + 1..], refusal != 0);
     }
     false
 }
