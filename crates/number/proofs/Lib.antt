@@ -3,7 +3,6 @@ pub mod Values
 pub mod Parts
 pub mod Held
 pub mod Limits
-pub mod Signs
 pub mod Decimals
 pub mod Doubled
 pub mod Rounded

@@ -3,16 +3,18 @@ use mathlib.Core.Path.{_≡_, refl, sym, ap, _∙_}
 use mathlib.Core.Logic.{_⊎_, inl, inr}
 use mathlib.Core.Bool.{Bool, true, false, _&&_}
 use mathlib.Core.Option.{some}
-use Prim.Native.Nat.{ℕ, zero, suc, _+_, _-_, _*_, _^_, _≤_, _<_, min}
+use Prim.Native.Nat.{ℕ, zero, suc, _+_, _*_, _^_, _≤_, _<_, min}
 use native.Mathlib.Omega.{arith}
 use borrow.Author.Tests.{eq-eqb, ne-eqb, lt-ltb, ltb-true, le-leb, leb-true}
 use lib.Dec.{ltb, leb}
 use lib.Ieee.{round, binary64}
 use Rattle.definition.specs.Base.{if_then_else_}
-use Rattle.definition.specs.Number.{long, value, short?, nearest, zeroFloat, magnitude}
+use Rattle.definition.specs.Number.{absent, long, value, short?, nearest, zeroFloat, magnitude}
 use Rattle.text.specs.Bools.{and-left, and-right}
 use Rattle.text.specs.Parts.{le-or-lt}
-use Rattle.number.specs.Number.{limit, decimal}
+use Rattle.number.specs.Number.{limit, decimal, upBy, downBy, isWrong, scaledBy}
+use Rattle.number.specs.declared.decimal.Power.{Power}
+use Rattle.number.specs.declared.decimal.Power.the-variants as power
 
 pub record Short (v u d : ℕ) : Type 0 where
   pub few : v < 10 ^ 15
@@ -76,9 +78,25 @@ down-cap v p n = go (le-or-lt limit n)
     go (inr h) = ap (λ (k : ℕ). magnitude (some (decimal v 0 (p + k)))) (omega arith)
 
 -- as many as matter of the powers below the dot
-pub few-same : (v p n : ℕ) → magnitude (some (decimal v 0 (min p 23 + min n 23))) ≡ magnitude (some (decimal v 0 (p + n)))
-few-same v p n = go (le-or-lt (p + n) 22)
+few-same : (v p n : ℕ) → magnitude (some (decimal v 0 (p + min n 23))) ≡ magnitude (some (decimal v 0 (p + n)))
+few-same v p n = go (le-or-lt n 23)
   where
-    go : (p + n ≤ 22) ⊎ (22 < p + n) → magnitude (some (decimal v 0 (min p 23 + min n 23))) ≡ magnitude (some (decimal v 0 (p + n)))
-    go (inl h) = ap (λ (k : ℕ). magnitude (some (decimal v 0 k))) (omega arith)
-    go (inr h) = both-long v v 0 0 (min p 23 + min n 23) (p + n) (λ z. z) (λ z. z) (λ s. omega (arith, s .not-low)) (λ s. omega (arith, s .not-low))
+    go : (n ≤ 23) ⊎ (23 < n) → magnitude (some (decimal v 0 (p + min n 23))) ≡ magnitude (some (decimal v 0 (p + n)))
+    go (inl h) = ap (λ (k : ℕ). magnitude (some (decimal v 0 (p + k)))) (omega arith)
+    go (inr h) = both-long v v 0 0 (p + min n 23) (p + n) (λ z. z) (λ z. z) (λ s. omega (arith, s .not-low)) (λ s. omega (arith, s .not-low))
+
+-- ---- the power p
+pub wrong-is : (v places : ℕ) (p : Power) → isWrong p ≡ true → absent ≡ scaledBy v places p
+wrong-is v places (power.Up n) e = let z : _≡_ {A = ℕ} 0 1 = cc in absurd (omega arith)
+wrong-is v places (power.Down n) e = let z : _≡_ {A = ℕ} 0 1 = cc in absurd (omega arith)
+wrong-is v places power.Wrong e = refl
+
+pub power-is : (v places : ℕ) (p : Power) → isWrong p ≡ false → magnitude (some (decimal v (upBy p) (places + downBy p))) ≡ scaledBy v places p
+power-is v places (power.Up n) e = ap (λ (d : ℕ). magnitude (some (decimal v n d))) (omega arith)
+power-is v places (power.Down n) e = few-same v places n
+power-is v places power.Wrong e = let z : _≡_ {A = ℕ} 0 1 = cc in absurd (omega arith)
+
+pub down-few : (p : Power) → downBy p ≤ 23
+down-few (power.Up n) = omega arith
+down-few (power.Down n) = omega arith
+down-few power.Wrong = omega arith

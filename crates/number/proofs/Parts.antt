@@ -1,15 +1,14 @@
--- The first byte of a text that is one of three: one turn of the loop that looks for it, and tests that agree. Assumes nothing.
-use mathlib.Core.Path.{_≡_, refl, sym, ap, _∙_}
+-- The first byte of a text that is one of three: one turn of the loop that looks for it. Assumes nothing.
+use mathlib.Core.Path.{_≡_, sym}
 use mathlib.Core.Bool.{Bool, true, false}
 use mathlib.Core.List.{[], _∷_}
-use Prim.Native.Nat.{ℕ, _+_, _≤_, _<_}
+use Prim.Native.Nat.{ℕ, zero, suc, _+_, _≤_, _<_}
 use native.Mathlib.Omega.{arith}
 use borrow.Author.Tests.{eq-eqb, ne-eqb}
 use lib.Dec.{eqb}
 use lib.ListN.{length, take, drop, getD}
 use lib.Seq.{length-take-le}
-use Rattle.definition.specs.Base.{if_then_else_}
-use Rattle.definition.specs.Text.{Text, before}
+use Rattle.definition.specs.Text.{Text}
 use Rattle.text.specs.Bools.{or-true}
 use Rattle.text.specs.Cut.{placeOf, place-within, place-here, place-on, place-end}
 use Rattle.number.specs.Scan.{oneOf}
@@ -18,12 +17,11 @@ use Rattle.number.specs.Scan.{oneOf}
 pub up-to : (p : ℕ → Bool) (s : Text) (k : ℕ) → k ≡ placeOf p s → k ≡ length (take k s)
 up-to p s k e = sym (length-take-le k s (omega (arith, place-within p s)))
 
--- two tests that agree
-pub before-same : (p q : ℕ → Bool) → ((x : ℕ) → p x ≡ q x) → (s : Text) → before p s ≡ before q s
-unfolding before
-before-same p q same [] = refl
-before-same p q same (b ∷ s) =
-    ap (λ (t : Bool). if t then [] else b ∷ before p s) (same b) ∙ ap (λ (l : Text). if q b then [] else b ∷ l) (before-same p q same s)
+-- a byte that is not 0 stands within
+pub byte-within : (s : Text) (k b : ℕ) → getD s k 0 ≡ suc b → k < length s
+byte-within [] k b e = absurd (omega arith)
+byte-within (x ∷ s) zero b e = omega arith
+byte-within (x ∷ s) (suc k) b e = let h = byte-within s k b e in omega arith
 
 -- ---- one of three bytes
 pub is-a : (a b c x : ℕ) → x ≡ a → oneOf a b c x ≡ true

@@ -1,16 +1,17 @@
 -- What the answer of a number text means, and what the code holds of its parts. Assumes nothing.
-use Prim.Native.Nat.{ℕ, _+_, _^_, min}
-use mathlib.Core.List.{[], _++_}
+use mathlib.Core.Path.{_≡_}
+use mathlib.Core.Bool.{Bool, true, false}
+use mathlib.Core.List.{[], _∷_}
 use mathlib.Core.Option.{Option, some, none}
-use lib.ListN.{length}
+use Prim.Native.Nat.{ℕ, zero, suc, _+_, _-_, _*_, _^_, _≤_, _<_, min}
 use lib.Ieee.{Float}
-use Rattle.definition.specs.Base.{_or_}
-use Rattle.definition.specs.Text.{Text, Sign, plus, minus, bare, signOf, before, after, digits, digitsAfter}
-use Rattle.definition.specs.Number.{Reading, absent, long, value, Decimal, isDot, unsigned, magnitude}
+use lib.ListN.{length, drop, getD}
+use Rattle.definition.specs.Base.{if_then_else_}
+use Rattle.definition.specs.Text.{Text, Sign, plus, minus, bare, signOf, isDigit, digits}
+use Rattle.definition.specs.Number.{Reading, absent, long, value, Decimal, isE, unsigned, decimalOf, magnitude}
 use Rattle.number.specs.declared.decimal.NumberAnswer.{NumberAnswer}
 use Rattle.number.specs.declared.decimal.NumberAnswer.the-variants as answer
-use Rattle.number.specs.declared.decimal.Digits.{Digits}
-use Rattle.number.specs.declared.decimal.Digits.the-variants as held
+use Rattle.number.specs.declared.decimal.Mantissa.{Mantissa}
 use Rattle.number.specs.declared.decimal.Power.{Power}
 use Rattle.number.specs.declared.decimal.Power.the-variants as power
 
@@ -23,50 +24,72 @@ meaning (answer.Value x) = value x
 abbrev pub limit : ℕ
 limit = 10 ^ 19
 
-abbrev pub hold : Option ℕ → Digits
-hold none = held.Not
-hold (some n) = held.Is (min n limit)
+abbrev pub hold : Option ℕ → Option ℕ
+hold none = none
+hold (some n) = some (min n limit)
 
--- the digits of a text after those held
-abbrev pub onward : Digits → Text → Digits
-onward held.Not s = held.Not
-onward (held.Is v) s = hold (digitsAfter v s)
+-- reading so many digits of s, written after those of v, gives w and leaves t
+pub data Reads (v : ℕ) (s : Text) : ℕ → ℕ → Text → Type 0 where
+  start : Reads v s 0 v s
+  digit : {c w b : ℕ} {t : Text} → Reads v s c w (b ∷ t) → isDigit b ≡ true → Reads v s (suc c) (min (w * 10 + (b - 48)) limit) t
+
+-- all digits from a place on, up to e
+pub record Ran (s : Text) (from v w e : ℕ) : Type 0 where
+  pub forward : from ≤ e
+  pub inside : e ≤ length s
+  pub held : w ≤ limit
+  pub reads : Reads v (drop from s) (e - from) w (drop e s)
+  pub stops : e < length s → isDigit (getD s e 0) ≡ false
 
 -- ---- the power of ten
-abbrev pub upward : Digits → Power
-upward held.Not = power.Wrong
-upward (held.Is n) = power.Up n
+abbrev pub powerBy : Sign → Option ℕ → Power
+powerBy g none = power.Wrong
+powerBy plus (some n) = power.Up n
+powerBy minus (some n) = power.Down n
+powerBy bare (some n) = power.Up n
 
-abbrev pub downward : Digits → Power
-downward held.Not = power.Wrong
-downward (held.Is n) = power.Down n
-
-abbrev pub powerBy : Sign → Digits → Power
-powerBy plus d = upward d
-powerBy minus d = downward d
-powerBy bare d = upward d
-
--- what follows an `e`, none where there is no `e`
+-- what follows an `e`
 unfoldable pub powerOf : Text → Power
 powerOf s = powerBy (signOf s) (hold (digits (unsigned (signOf s) s)))
 
-abbrev pub powerAfter : Option Text → Power
-powerAfter none = power.Up 0
-powerAfter (some s) = powerOf s
+-- what follows the digits
+abbrev pub powerAt : Text → Power
+powerAt [] = power.Up 0
+powerAt (b ∷ s) = if isE b then powerOf s else power.Wrong
+
+abbrev pub upBy : Power → ℕ
+upBy (power.Up n) = n
+upBy (power.Down n) = 0
+upBy power.Wrong = 0
+
+-- as much as matters
+abbrev pub downBy : Power → ℕ
+downBy (power.Up n) = 0
+downBy (power.Down n) = min n 23
+downBy power.Wrong = 0
+
+abbrev pub isWrong : Power → Bool
+isWrong (power.Up n) = false
+isWrong (power.Down n) = false
+isWrong power.Wrong = true
 
 -- ---- the number
 abbrev pub decimal : ℕ → ℕ → ℕ → Decimal
 decimal v u d = record { digits = v; up = u; down = d }
 
--- the digits, of which so many stand after the dot, and the power
-abbrev pub scaledBy : Digits → ℕ → Power → Reading Float
-scaledBy held.Not places p = absent
-scaledBy (held.Is v) places power.Wrong = absent
-scaledBy (held.Is v) places (power.Up n) = magnitude (some (decimal v n places))
-scaledBy (held.Is v) places (power.Down n) = magnitude (some (decimal v 0 (places + n)))
+-- digits, of which so many stand after the dot, and the power
+abbrev pub scaledBy : ℕ → ℕ → Power → Reading Float
+scaledBy v places power.Wrong = absent
+scaledBy v places (power.Up n) = magnitude (some (decimal v n places))
+scaledBy v places (power.Down n) = magnitude (some (decimal v 0 (places + n)))
 
--- digits with a dot or none, times the power
-unfoldable pub mantissaBy : Text → Power → Reading Float
-mantissaBy m p =
-    let fraction = after isDot m or [] in
-    scaledBy (hold (digits (before isDot m ++ fraction))) (length fraction) p
+-- so many digits, and what follows them
+abbrev pub ended : ℕ → ℕ → ℕ → Text → Reading Float
+ended zero v places s = absent
+ended (suc c) v places s = scaledBy v places (powerAt s)
+
+-- what a number begins with
+pub record Begins (s : Text) (m : Mantissa) : Type 0 where
+  pub inside : m .end ≤ length s
+  pub few : m .places ≤ length s
+  pub number : magnitude (decimalOf s) ≡ ended (m .count) (m .value) (m .places) (drop (m .end) s)

@@ -1,15 +1,13 @@
-// Number texts, as Rust's `str::parse::<f64>` reads them.
+// Number texts, as Rust's `str::parse::<f64>` reads them, in one pass.
 ghost use mathlib.Core.Path.{_≡_};
-ghost use mathlib.Core.Bool.{Bool, true, false};
-ghost use mathlib.Core.List.{_++_};
-ghost use mathlib.Core.Option.{Option, some};
-ghost use Prim.Native.Nat.{ℕ, _+_, _-_, _*_, _^_, _≤_, _<_, min};
-ghost use lib.Dec.{leb};
+ghost use mathlib.Core.Bool.{false};
+ghost use mathlib.Core.Option.{some};
+ghost use Prim.Native.Nat.{_+_, _-_, _*_, _^_, _≤_, _<_, min};
 ghost use lib.Ieee.{binary64, round};
 ghost use lib.Ieee.Exact.{HasValue};
-ghost use Rattle.definition.specs.Text.{digits, digitsAfter};
+ghost use lib.ListN.{length, drop};
 ghost use Rattle.definition.specs.Number.{decimalOf, magnitude, negated, numberOf};
-ghost use Rattle.number.specs.Number.{meaning, limit, hold, onward, upward, downward, powerOf, decimal, scaledBy, mantissaBy};
+ghost use Rattle.number.specs.Number.{meaning, limit, Ran, upBy, downBy, isWrong, powerOf, powerAt, decimal, scaledBy, Begins};
 
 pub enum NumberAnswer {
     Absent,
@@ -17,29 +15,25 @@ pub enum NumberAnswer {
     Value(f64),
 }
 
-// Digits read, held to a limit; and a power of ten.
-enum Digits {
-    Is(usize),
-    Not,
-}
-
+// A power of ten.
 enum Power {
     Up(usize),
     Down(usize),
     Wrong,
 }
 
-const LIMIT: usize = 10_000_000_000_000_000_000;
+// Digits that were passed over: their number, held to a limit, and the place behind them.
+struct Passed(usize, usize);
 
-// n, or the limit where n is past it.
-fn cap(n: usize) -> usize
-    ensures { λ r. ⌜ r ≡ min n limit ⌝ }
-{
-    if n > LIMIT {
-        return LIMIT;
-    }
-    n
+// What a number begins with: its digits, how many, how many of them after the dot, and the place behind them.
+struct Mantissa {
+    value: usize,
+    count: usize,
+    places: usize,
+    end: usize,
 }
+
+const LIMIT: usize = 10_000_000_000_000_000_000;
 
 fn wide(x: u8) -> usize
     ensures { λ r. ⌜ r ≡ x ⌝ }
@@ -58,121 +52,91 @@ fn with_digit(n: usize, b: u8) -> usize
     n * 10 + wide(b - 48)
 }
 
-// The digits s written after those of v.
-fn more_digits(v: usize, s: &[u8]) -> Digits
-    ensures { λ r. ⌜ r ≡ hold (digitsAfter v (now (s .entry))) ⌝ }
+// The digits from a place on, written after those of v.
+fn run(s: &[u8], from: usize, v: usize) -> Passed
+    requires { ⌜ from ≤ length (now s) ⌝ ∗ ⌜ v ≤ limit ⌝ }
+    ensures { λ r. ⌜ Ran (now (s .entry)) from v (r .0) (r .1) ⌝ }
 {
-    let mut n = cap(v);
-    let mut i = 0;
+    let mut n = v;
+    let mut i = from;
     while i < s.len() {
         let b = s[i];
         if b < 48 {
-            return Digits::Not;
+            return Passed(n, i);
         }
         if b > 57 {
-            return Digits::Not;
+            return Passed(n, i);
         }
         n = with_digit(n, b);
         i += 1;
     }
-    Digits::Is(n)
-}
-
-// Digits, one at least.
-fn some_digits(s: &[u8]) -> Digits
-    ensures { λ r. ⌜ r ≡ hold (digits (now (s .entry))) ⌝ }
-{
-    if s.len() == 0 {
-        return Digits::Not;
-    }
-    more_digits(0, s)
-}
-
-fn onward_digits(d: Digits, s: &[u8]) -> Digits
-    ensures { λ r. ⌜ r ≡ onward d (now (s .entry)) ⌝ }
-{
-    match d {
-        Digits::Is(v) => more_digits(v, s),
-        Digits::Not => Digits::Not,
-    }
-}
-
-// The digits of a and then those of b, one at least.
-fn both_digits(a: &[u8], b: &[u8]) -> Digits
-    ensures { λ r. ⌜ r ≡ hold (digits (now (a .entry) ++ now (b .entry))) ⌝ }
-{
-    if a.len() == 0 {
-        return some_digits(b);
-    }
-    onward_digits(more_digits(0, a), b)
-}
-
-fn raise(d: Digits) -> Power
-    ensures { λ r. ⌜ r ≡ upward d ⌝ }
-{
-    match d {
-        Digits::Is(n) => Power::Up(n),
-        Digits::Not => Power::Wrong,
-    }
-}
-
-fn lower(d: Digits) -> Power
-    ensures { λ r. ⌜ r ≡ downward d ⌝ }
-{
-    match d {
-        Digits::Is(n) => Power::Down(n),
-        Digits::Not => Power::Wrong,
-    }
+    Passed(n, i)
 }
 
 // What follows an `e`.
 fn power_of(s: &[u8]) -> Power
     ensures { λ r. ⌜ r ≡ powerOf (now (s .entry)) ⌝ }
 {
-    if s.len() == 0 {
+    let t = text::without_sign(s);
+    let digits = run(t, 0, 0);
+    let e = digits.1;
+    if e == 0 {
         return Power::Wrong;
     }
-    if s[0] == 43 {
-        return raise(some_digits(&s[1..]));
+    if e < t.len() {
+        return Power::Wrong;
     }
-    if s[0] == 45 {
-        return lower(some_digits(&s[1..]));
+    if text::byte_at(s, 0) == 45 {
+        return Power::Down(digits.0);
     }
-    raise(some_digits(s))
+    Power::Up(digits.0)
 }
 
-const TENS: [f64; 23] = [
-    1e0,
-    1e1,
-    1e2,
-    1e3,
-    1e4,
-    1e5,
-    1e6,
-    1e7,
-    1e8,
-    1e9,
-    1e10,
-    1e11,
-    1e12,
-    1e13,
-    1e14,
-    1e15,
-    1e16,
-    1e17,
-    1e18,
-    1e19,
-    1e20,
-    1e21,
-    1e22,
-];
+// The power of ten, from behind the digits: none where the text ends there.
+fn power_at(s: &[u8], e: usize) -> Power
+    requires { ⌜ e ≤ length (now s) ⌝ }
+    ensures { λ r. ⌜ r ≡ powerAt (drop e (now (s .entry))) ⌝ }
+{
+    if e == s.len() {
+        return Power::Up(0);
+    }
+    let b = s[e];
+    if (b == 101) | (b == 69) {
+        return power_of(&s[e + 1..]);
+    }
+    Power::Wrong
+}
 
-// 10 ^ k, exactly.
+// 10 ^ k, exactly. A const table would be copied at each call.
 fn ten(k: usize) -> f64
     requires { ⌜ k ≤ 22 ⌝ }
     ensures { λ r. ⌜ HasValue r false (10 ^ k) 1 ⌝ }
 {
-    TENS[k]
+    match k {
+        0 => 1e0,
+        1 => 1e1,
+        2 => 1e2,
+        3 => 1e3,
+        4 => 1e4,
+        5 => 1e5,
+        6 => 1e6,
+        7 => 1e7,
+        8 => 1e8,
+        9 => 1e9,
+        10 => 1e10,
+        11 => 1e11,
+        12 => 1e12,
+        13 => 1e13,
+        14 => 1e14,
+        15 => 1e15,
+        16 => 1e16,
+        17 => 1e17,
+        18 => 1e18,
+        19 => 1e19,
+        20 => 1e20,
+        21 => 1e21,
+        _ => 1e22,
+    }
 }
 
 // The float nearest to v * 10 ^ up / 10 ^ down: one exact multiplication or division, rounded once.
@@ -227,38 +191,81 @@ fn few(n: usize) -> usize
     n
 }
 
-// The digits d, of which `places` stand after the dot, times the power p of ten.
-fn scale(d: Digits, places: usize, p: Power) -> NumberAnswer
-    ensures { λ r. ⌜ meaning r ≡ scaledBy d places p ⌝ }
+fn up_by(p: Power) -> usize
+    ensures { λ r. ⌜ r ≡ upBy p ⌝ }
 {
-    match d {
-        Digits::Is(v) => match p {
-            Power::Up(n) => judge(v, n, places),
-            Power::Down(n) => judge(v, 0, few(places) + few(n)),
-            Power::Wrong => NumberAnswer::Absent,
-        },
-        Digits::Not => NumberAnswer::Absent,
+    match p {
+        Power::Up(n) => n,
+        Power::Down(n) => 0,
+        Power::Wrong => 0,
     }
 }
 
-// Digits with a dot or none, one digit at least, times the power p of ten.
-fn mantissa(s: &[u8], p: Power) -> NumberAnswer
-    ensures { λ r. ⌜ meaning r ≡ mantissaBy (now (s .entry)) p ⌝ }
+fn down_by(p: Power) -> usize
+    ensures { λ r. ⌜ r ≡ downBy p ⌝ }
 {
-    let k = text::place(s, 46);
-    let fraction = crate::scan::behind(s, k);
-    scale(both_digits(&s[..k], fraction), fraction.len(), p)
+    match p {
+        Power::Up(n) => 0,
+        Power::Down(n) => few(n),
+        Power::Wrong => 0,
+    }
+}
+
+fn is_wrong(p: Power) -> bool
+    ensures { λ r. ⌜ r ≡ isWrong p ⌝ }
+{
+    match p {
+        Power::Up(n) => false,
+        Power::Down(n) => false,
+        Power::Wrong => true,
+    }
+}
+
+// The digits v, of which `places` stand after the dot, times the power p of ten.
+fn scale(v: usize, places: usize, p: Power) -> NumberAnswer
+    requires { ⌜ places < 2 ^ 63 ⌝ }
+    ensures { λ r. ⌜ meaning r ≡ scaledBy v places p ⌝ }
+{
+    if is_wrong(p) {
+        return NumberAnswer::Absent;
+    }
+    judge(v, up_by(p), places + down_by(p))
+}
+
+// Digits with a dot or none.
+fn mantissa_of(s: &[u8]) -> Mantissa
+    ensures { λ r. ⌜ Begins (now (s .entry)) r ⌝ }
+{
+    let whole = run(s, 0, 0);
+    let v = whole.0;
+    let k = whole.1;
+    if text::byte_at(s, k) == 46 {
+        let all = run(s, k + 1, v);
+        let e = all.1;
+        return Mantissa {
+            value: all.0,
+            count: e - 1,
+            places: e - k - 1,
+            end: e,
+        };
+    }
+    Mantissa {
+        value: v,
+        count: k,
+        places: 0,
+        end: k,
+    }
 }
 
 // A number with no sign.
 fn unsigned(s: &[u8]) -> NumberAnswer
     ensures { λ r. ⌜ meaning r ≡ magnitude (decimalOf (now (s .entry))) ⌝ }
 {
-    let k = crate::scan::first(s, 101, 69, 69);
-    if k < s.len() {
-        return mantissa(&s[..k], power_of(crate::scan::behind(s, k)));
+    let m = mantissa_of(s);
+    if m.count == 0 {
+        return NumberAnswer::Absent;
     }
-    mantissa(s, Power::Up(0))
+    scale(m.value, m.places, power_at(s, m.end))
 }
 
 fn opposite(n: NumberAnswer) -> NumberAnswer
@@ -275,14 +282,9 @@ fn opposite(n: NumberAnswer) -> NumberAnswer
 pub fn number_of(s: &[u8]) -> NumberAnswer
     ensures { λ r. ⌜ meaning r ≡ numberOf (now (s .entry)) ⌝ }
 {
-    if s.len() == 0 {
-        return NumberAnswer::Absent;
+    let n = unsigned(text::without_sign(s));
+    if text::byte_at(s, 0) == 45 {
+        return opposite(n);
     }
-    if s[0] == 43 {
-        return unsigned(&s[1..]);
-    }
-    if s[0] == 45 {
-        return opposite(unsigned(&s[1..]));
-    }
-    unsigned(s)
+    n
 }

@@ -3,6 +3,7 @@ pub mod Parts
 pub mod Bools
 pub mod Cut
 pub mod Answers
+pub mod Signs
 pub mod Whole
 pub mod Equal
 pub mod Utf8

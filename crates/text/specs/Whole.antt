@@ -1,18 +1,18 @@
 -- Whole numbers up to a largest one, read digit by digit: what the ranges of the types come to. Assumes nothing.
-use mathlib.Core.Path.{_≡_, refl, sym, ap, subst, _∙_}
-use mathlib.Core.Logic.{_⊎_, inl, inr}
-use mathlib.Core.List.{List, [], _∷_}
+use mathlib.Core.Path.{_≡_, refl, sym, ap, _∙_}
 use mathlib.Core.Option.{Option, some, none}
 use mathlib.Core.Bool.{Bool, true, false}
-use Prim.Native.Nat.{ℕ, zero, suc, _+_, _-_, _*_, _/_, _^_, _≤_, _<_}
+use Prim.Native.Nat.{ℕ, zero, suc, _+_, _-_, _^_, _≤_}
 use native.Mathlib.Numerals.{add-one}
 use native.Mathlib.Omega.{arith}
-use lib.Dec.{leb, ltb, eqb, leb·suc-suc}
+use lib.Dec.{leb, ltb, leb·suc-suc}
 use lib.IntN.{ℤ, pos, negsuc, negℤ}
-use lib.ListN.{length, drop, getD}
-use borrow.Author.Tests.{leb-true, eqb-true, eq-eqb, ne-eqb}
-use Rattle.definition.specs.Base.{if_then_else_, _>>=_, when, within}
-use Rattle.definition.specs.Text.{Text, Sign, plus, minus, bare, signOf, isDigit, digits, digitsAfter, unsignedBy, signedBy, unsignedOf, signedOf}
+use lib.ListN.{drop}
+use borrow.Author.Tests.{leb-true}
+use Rattle.definition.specs.Base.{_>>=_, when}
+use Rattle.definition.specs.Number.{unsigned, withSign}
+use Rattle.text.specs.Signs.{minus?}
+use Rattle.definition.specs.Text.{Text, Sign, plus, minus, bare, signOf, digits, digitsAfter, unsignedBy, signedBy, unsignedOf, signedOf}
 
 -- the number, where it is at most `most`
 abbrev pub upTo : ℕ → Option ℕ → Option ℕ
@@ -44,6 +44,11 @@ abbrev signedUnder : Sign → ℕ → Text → Option ℤ
 signedUnder plus most s = signed pos (numberTo most (drop 1 s))
 signedUnder minus most s = signed minusOf (numberTo (most + 1) (drop 1 s))
 signedUnder bare most s = signed pos (numberTo most s)
+
+-- the largest magnitude, by whether the sign is `-`
+abbrev pub mostBy : Bool → ℕ → ℕ
+mostBy true most = most + 1
+mostBy false most = most
 
 unfoldable pub signedTo : ℕ → Text → Option ℤ
 signedTo most s = signedUnder (signOf s) most s
@@ -149,42 +154,32 @@ signed-least most n s e = go (signOf s) e
     go minus h = let z = at-most (most + 1) (suc n) (digits (drop 1 s)) (down-of n (upTo (most + 1) (digits (drop 1 s))) h) in omega arith
     go bare h = absurd (not-down n (upTo most (digits s)) h)
 
--- ---- by the first byte
+-- ---- by whether the sign is `-`
 
-module _ (most : ℕ) where
-  pub plus-unsigned : (s : Text) → getD s 0 0 ≡ 43 → unsignedTo most s ≡ numberTo most (drop 1 s)
-  unfolding unsignedTo signOf
-  plus-unsigned [] e = absurd (omega arith)
-  plus-unsigned (b ∷ s) e = rw (eq-eqb b 43 e)
-
-  minus-number : (b : ℕ) (s : Text) → b ≡ 45 → numberTo most (b ∷ s) ≡ none
-  unfolding numberTo digits digitsAfter
-  minus-number b s e = ap (λ (x : ℕ). numberTo most (x ∷ s)) e
-
-  pub bare-unsigned : (s : Text) → (getD s 0 0 ≡ 43 → ⊥) → unsignedTo most s ≡ numberTo most s
-  unfolding unsignedTo signOf
-  bare-unsigned [] n = refl
-  bare-unsigned (b ∷ s) n = rw (ne-eqb b 43 n) (go (eqb b 45) refl)
+module _ (most : ℕ) (s : Text) where
+  pub signed-by : signedTo most s ≡ signed (withSign (minus? (signOf s))) (numberTo (mostBy (minus? (signOf s)) most) (unsigned (signOf s) s))
+  unfolding signedTo
+  signed-by = go (signOf s)
     where
-      go : (x : Bool) → eqb b 45 ≡ x → unsignedUnder (if x then minus else bare) most (b ∷ s) ≡ numberTo most (b ∷ s)
-      go true e = sym (minus-number b s (eqb-true b 45 e))
-      go false e = refl
+      go : (g : Sign) → signedUnder g most s ≡ signed (withSign (minus? g)) (numberTo (mostBy (minus? g) most) (unsigned g s))
+      go plus = refl
+      go minus = refl
+      go bare = refl
 
-  pub minus-signed : (s : Text) → getD s 0 0 ≡ 45 → signedTo most s ≡ signed minusOf (numberTo (most + 1) (drop 1 s))
-  unfolding signedTo signOf
-  minus-signed [] e = absurd (omega arith)
-  minus-signed (b ∷ s) e = rw (ne-eqb b 43 (λ z. omega arith), eq-eqb b 45 e)
-
-  pub other-signed : (s : Text) → (getD s 0 0 ≡ 45 → ⊥) → signedTo most s ≡ signed pos (unsignedTo most s)
-  unfolding signedTo unsignedTo signOf
-  other-signed [] n = refl
-  other-signed (b ∷ s) n = rw (ne-eqb b 45 n) (go (eqb b 43))
+  pub unsigned-minus : minus? (signOf s) ≡ true → none ≡ unsignedTo most s
+  unfolding unsignedTo
+  unsigned-minus e = go (signOf s) e
     where
-      go : (x : Bool) → signedUnder (if x then plus else bare) most (b ∷ s) ≡ signed pos (unsignedUnder (if x then plus else bare) most (b ∷ s))
-      go true = refl
-      go false = refl
+      go : (g : Sign) → minus? g ≡ true → none ≡ unsignedUnder g most s
+      go plus e = let z : _≡_ {A = ℕ} 0 1 = cc in absurd (omega arith)
+      go minus e = refl
+      go bare e = let z : _≡_ {A = ℕ} 0 1 = cc in absurd (omega arith)
 
--- a byte that is not 0 stands within
-pub first-within : (s : Text) (b : ℕ) → getD s 0 0 ≡ suc b → 0 < length s
-first-within [] b e = absurd (omega arith)
-first-within (x ∷ s) b e = omega arith
+  pub unsigned-by : minus? (signOf s) ≡ false → numberTo most (unsigned (signOf s) s) ≡ unsignedTo most s
+  unfolding unsignedTo
+  unsigned-by e = go (signOf s) e
+    where
+      go : (g : Sign) → minus? g ≡ false → numberTo most (unsigned g s) ≡ unsignedUnder g most s
+      go plus e = refl
+      go minus e = let z : _≡_ {A = ℕ} 0 1 = cc in absurd (omega arith)
+      go bare e = refl

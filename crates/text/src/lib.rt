@@ -3,7 +3,7 @@
 ghost use mathlib.Core.Path.{_≡_};
 ghost use mathlib.Core.Bool.{true};
 ghost use mathlib.Core.List.{reverse};
-ghost use Prim.Native.Nat.{ℕ, _+_, _-_, _^_, _≤_, _<_};
+ghost use Prim.Native.Nat.{_+_, _-_, _^_, _≤_, _<_};
 ghost use lib.ListN.{length, getD, take, drop};
 ghost use Rattle.definition.specs.Base.{within};
 ghost use Rattle.definition.specs.Text.{white1 as isWhite1, white2 as isWhite2, white3 as isWhite3, trimFront, trimBack, trim as trimmed};
@@ -194,10 +194,11 @@ pub fn has(s: &[u8], b: u8) -> bool
 
 // ---- whole numbers
 
-ghost use Rattle.definition.specs.Text.{unsignedOf, signedOf};
+ghost use Rattle.definition.specs.Text.{signOf, digitsAfter, unsignedOf, signedOf};
+ghost use Rattle.definition.specs.Number.{unsigned, withSign};
 ghost use Rattle.text.specs.Answers.{u64Of, u32Of, u16Of, i64Of, i32Of, signedMeans};
 ghost use lib.IntN.{pos};
-ghost use Rattle.text.specs.Whole.{numberTo, unsignedTo, signedTo, signed, minusOf};
+ghost use Rattle.text.specs.Whole.{upTo, numberTo, digitsTo, unsignedTo, mostBy, signedTo, signed, minusOf};
 
 pub enum U64Answer {
     Is(u64),
@@ -237,13 +238,40 @@ fn wide(x: u8) -> u64
     x as u64
 }
 
-// Digits, one at least, of a number that is at most `most`.
-fn number_to(s: &[u8], most: u64) -> U64Answer
-    ensures { λ r. ⌜ u64Of r ≡ numberTo most (now (s .entry)) ⌝ }
+// What follows the sign, the whole text where there is none.
+pub fn without_sign(s: &[u8]) -> &[u8]
+    ensures { λ r. ⌜ now r ≡ unsigned (signOf (now (s .entry))) (now (s .entry)) ⌝ }
 {
-    if s.len() == 0 {
-        return U64Answer::Absent;
+    let b = byte_at(s, 0);
+    if (b == 43) | (b == 45) {
+        return &s[1..];
     }
+    s
+}
+
+// The digits s, so few that their number fits.
+fn few_digits(s: &[u8]) -> U64Answer
+    requires { ⌜ length (now s) ≤ 18 ⌝ }
+    ensures { λ r. ⌜ u64Of r ≡ digitsAfter 0 (now (s .entry)) ⌝ }
+{
+    let mut n: u64 = 0;
+    let mut i = 0;
+    while i < s.len() {
+        let b = s[i];
+        let digit = (48 <= b) & (b <= 57);
+        if !digit {
+            return U64Answer::Absent;
+        }
+        n = n * 10 + wide(b - 48);
+        i += 1;
+    }
+    U64Answer::Is(n)
+}
+
+// The digits s of a number that is at most `most`.
+fn many_digits(s: &[u8], most: u64) -> U64Answer
+    ensures { λ r. ⌜ u64Of r ≡ digitsTo most 0 (now (s .entry)) ⌝ }
+{
     let mut n: u64 = 0;
     let mut i = 0;
     while i < s.len() {
@@ -265,14 +293,42 @@ fn number_to(s: &[u8], most: u64) -> U64Answer
     U64Answer::Is(n)
 }
 
+fn at_most(a: U64Answer, most: u64) -> U64Answer
+    ensures { λ r. ⌜ u64Of r ≡ upTo most (u64Of a) ⌝ }
+{
+    match a {
+        U64Answer::Is(n) => {
+            if n <= most {
+                U64Answer::Is(n)
+            } else {
+                U64Answer::Absent
+            }
+        }
+        U64Answer::Absent => U64Answer::Absent,
+    }
+}
+
+// Digits, one at least, of a number that is at most `most`.
+fn number_to(s: &[u8], most: u64) -> U64Answer
+    ensures { λ r. ⌜ u64Of r ≡ numberTo most (now (s .entry)) ⌝ }
+{
+    if s.len() == 0 {
+        return U64Answer::Absent;
+    }
+    if s.len() <= 18 {
+        return at_most(few_digits(s), most);
+    }
+    many_digits(s, most)
+}
+
 // The same with a `+` or none in front.
 fn unsigned_to(s: &[u8], most: u64) -> U64Answer
     ensures { λ r. ⌜ u64Of r ≡ unsignedTo most (now (s .entry)) ⌝ }
 {
-    if byte_at(s, 0) == 43 {
-        return number_to(&s[1..], most);
+    if byte_at(s, 0) == 45 {
+        return U64Answer::Absent;
     }
-    number_to(s, most)
+    number_to(without_sign(s), most)
 }
 
 // n; and -n.
@@ -300,15 +356,33 @@ fn downward(a: U64Answer) -> Signed
     }
 }
 
+fn with_sign(minus: bool, a: U64Answer) -> Signed
+    ensures { λ r. ⌜ signedMeans r ≡ signed (withSign minus) (u64Of a) ⌝ }
+{
+    if minus {
+        return downward(a);
+    }
+    upward(a)
+}
+
+// The largest magnitude, by the sign.
+fn largest(minus: bool, most: u64) -> u64
+    requires { ⌜ most < 2 ^ 63 ⌝ }
+    ensures { λ r. ⌜ r ≡ mostBy minus most ⌝ }
+{
+    if minus {
+        return most + 1;
+    }
+    most
+}
+
 // With `+`, `-` or none in front: at most `most`, at least -(most + 1).
 fn signed_to(s: &[u8], most: u64) -> Signed
     requires { ⌜ most < 2 ^ 63 ⌝ }
     ensures { λ r. ⌜ signedMeans r ≡ signedTo most (now (s .entry)) ⌝ }
 {
-    if byte_at(s, 0) == 45 {
-        return downward(number_to(&s[1..], most + 1));
-    }
-    upward(unsigned_to(s, most))
+    let minus = byte_at(s, 0) == 45;
+    with_sign(minus, number_to(without_sign(s), largest(minus, most)))
 }
 
 // The whole number that a text is, as Rust's `parse` reads it for the type.
@@ -481,16 +555,15 @@ fn ascii_run(s: &[u8], i: usize) -> usize
     j
 }
 
-// Where to go on after the byte at i: runs are tried at every eighth place.
+// Where to go on after the byte at i: runs are tried behind the first byte and every eighth after it.
 fn after_ascii(s: &[u8], i: usize) -> usize
     requires { ⌜ i < length (now s) ⌝ }
     ensures { λ r. ⌜ Skips (now (s .entry)) (i + 1) r ⌝ }
 {
-    let j = i + 1;
-    if j % 8 == 0 {
-        return ascii_run(s, j);
+    if i % 8 == 0 {
+        return ascii_run(s, i + 1);
     }
-    j
+    i + 1
 }
 
 // Well-formed UTF-8.

@@ -1,99 +1,56 @@
-use mathlib.Core.Path.{sym, ap, _∙_}
-use Rattle.definition.specs.Text.{Text, digits, signOf}
-use Rattle.number.specs.Number.{hold, upward, downward, powerOf}
-use Rattle.text.specs.Parts.{all-of}
-use Rattle.number.proofs.Signs.{nothing, sign-plus, sign-minus, sign-bare}
-use Rattle.number.proofs.Decimals.{power-by}
+use mathlib.Core.Path.{sym, _∙_}
+use borrow.Author.Tests.{eq-eqb, ne-eqb}
+use Rattle.text.specs.Signs.{minus-at}
+use Rattle.number.proofs.Decimals.{not-one, not-all, all, power-none, power-down, power-up}
 use borrow.Author.Needs.{needs}
 use Rattle.number.proofs.decimal.power_of.Statement.{statement}
 use Rattle.number.proofs.decimal.power_of.Tie as tie
 
+without-sign-requires : tie.Need-without-sign-requires
+without-sign-requires c κs = search needs
+
+run-requires : tie.Need-run-requires
+run-requires c κs = search needs
+
 returns : tie.Need-returns
-unfolding powerOf signOf digits
-returns c = sym (ap powerOf (nothing (c .before .before .args .s .now) (c .if1 .taken)))
-
-shared-slice-read-if2 : tie.Need-shared-slice-read-if2
-shared-slice-read-if2 c = search needs
-
-sub-some-digits : tie.Need-sub-some-digits
-sub-some-digits c = search needs
-
-part-some-digits-start : tie.Need-part-some-digits-start
-part-some-digits-start c = search needs
-
-part-some-digits-end : tie.Need-part-some-digits-end
-part-some-digits-end c = search needs
-
-some-digits-requires : tie.Need-some-digits-requires
-some-digits-requires c κs = search needs
-
-raise-requires : tie.Need-raise-requires
-raise-requires c κs = search needs
+returns c =
+    let r = c .before in
+    let t = r .before .without-sign in
+    power-none (r .before .before .before .args .s .now) (t .result .now) (t .ensures) (not-one _ _ _ (r .run .ensures) (c .if1 .taken))
 
 returns-2 : tie.Need-returns-2
 returns-2 c =
-    let s = c .before .before .before .before .before .before .before .args .s .now in
-    c .raise .ensures
-    ∙ ap upward (c .before .some-digits .ensures ∙ ap (λ (l : Text). hold (digits l)) (all-of 1 s))
-    ∙ power-by s (sign-plus s (c .before .before .before .before .before .if1 .left) (c .before .before .before .if2 .taken))
+    let r = c .before .before in
+    let t = r .before .without-sign in
+    power-none (r .before .before .before .args .s .now) (t .result .now) (t .ensures) (not-all _ _ _ (r .run .ensures) (c .if2 .taken))
 
-shared-slice-read-if3 : tie.Need-shared-slice-read-if3
-shared-slice-read-if3 c = search needs
-
-sub-some-digits-2 : tie.Need-sub-some-digits-2
-sub-some-digits-2 c = search needs
-
-part-some-digits-start-2 : tie.Need-part-some-digits-start-2
-part-some-digits-start-2 c = search needs
-
-part-some-digits-end-2 : tie.Need-part-some-digits-end-2
-part-some-digits-end-2 c = search needs
-
-some-digits-requires-2 : tie.Need-some-digits-requires-2
-some-digits-requires-2 c κs = search needs
-
-lower-requires : tie.Need-lower-requires
-lower-requires c κs = search needs
+byte-at-requires : tie.Need-byte-at-requires
+byte-at-requires c κs = search needs
 
 returns-3 : tie.Need-returns-3
 returns-3 c =
-    let s = c .before .before .before .before .before .before .before .before .before .args .s .now in
-    c .lower .ensures
-    ∙ ap downward (c .before .some-digits2 .ensures ∙ ap (λ (l : Text). hold (digits l)) (all-of 1 s))
-    ∙ power-by s (sign-minus s (c .before .before .before .before .before .before .before .if1 .left) (c .before .before .before .before .before .if2 .left) (c .before .before .before .if3 .taken))
-
-some-digits-requires-3 : tie.Need-some-digits-requires-3
-some-digits-requires-3 c κs = search needs
-
-raise-requires-2 : tie.Need-raise-requires-2
-raise-requires-2 c κs = search needs
+    let b = c .before in
+    let r = b .before .before .before in
+    let t = r .before .without-sign in
+    let s = r .before .before .before .args .s .now in
+    power-down s (t .result .now) (t .ensures) _ (all _ _ _ (r .run .ensures) (b .before .before .if1 .left) (search needs)) (sym (minus-at s _ (b .byte-at .ensures)) ∙ eq-eqb _ 45 (c .if3 .taken))
 
 returns-4 : tie.Need-returns-4
 returns-4 c =
-    let s = c .before .before .before .before .before .before .before .before .args .s .now in
-    c .raise2 .ensures
-    ∙ ap upward (c .before .some-digits3 .ensures)
-    ∙ power-by s (sign-bare s (c .before .before .before .before .before .before .if1 .left) (c .before .before .before .before .if2 .left) (c .before .before .if3 .left))
+    let b = c .before in
+    let r = b .before .before .before in
+    let t = r .before .without-sign in
+    let s = r .before .before .before .args .s .now in
+    power-up s (t .result .now) (t .ensures) _ (all _ _ _ (r .run .ensures) (b .before .before .if1 .left) (search needs)) (sym (minus-at s _ (b .byte-at .ensures)) ∙ ne-eqb _ 45 (c .if3 .left))
 
 pub power-of-spec : {M : Type 1} → statement M
 power-of-spec =
     tie.close
     (tie.spec
+    without-sign-requires
+    run-requires
     returns
-    shared-slice-read-if2
-    sub-some-digits
-    part-some-digits-start
-    part-some-digits-end
-    some-digits-requires
-    raise-requires
     returns-2
-    shared-slice-read-if3
-    sub-some-digits-2
-    part-some-digits-start-2
-    part-some-digits-end-2
-    some-digits-requires-2
-    lower-requires
+    byte-at-requires
     returns-3
-    some-digits-requires-3
-    raise-requires-2
     returns-4)
