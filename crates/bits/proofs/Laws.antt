@@ -8,8 +8,7 @@ use native.Mathlib.Omega.{arith}
 use lib.ListN.{length, take, drop, getD, set}
 use native.Mathlib.Numerals.{add-one}
 use lib.Seq.{paste-suc, take-add, drop-drop, take-length, paste, length-paste}
-use lib.Pow.{pow-lt, pow-pos, pow-add, pow-mono, high, shr-shr, shr-lt}
-use lib.Arith.{digits-lt}
+use lib.Pow.{pow-lt, pow-pos, pow-mono, shr-shr, shr-lt}
 use lib.Bits.{bitAnd, and-mask}
 use lib.Dec.{leb}
 use borrow.Author.Tests.{leb-true, leb-false, eq-eqb, ne-eqb}
@@ -22,7 +21,8 @@ use Rattle.bits.specs.Reads.{takeAt, take-whole, padAt, pad-told}
 use Rattle.bits.specs.Places.{past, place-at, at, place, room, inside, Fits, room-fits, fits-room, room-short, room-less}
 use Rattle.definition.specs.Base.{if_then_else_}
 use Rattle.definition.specs.Bits.{enc, dec, bitsOf, gap}
-use Rattle.bits.specs.Bits.{enc-read, enc-zeros, bits-append, bits-take, bits-drop, enc-split, enc-low, enc-high, length-enc, length-bits, within, dec-enc-lt}
+use Rattle.bits.specs.Bits.{enc-read, enc-zeros, bits-append, bits-take, bits-drop, enc-split, enc-low, length-enc, length-bits}
+use Rattle.bits.specs.Window.{join-lt, Read, read-more, read-all}
 
 -- room is told by whole bytes
 pub room-bytes : (n : ℕ) (p : Place) (w : ℕ) → p .bit ≤ 7 → p .byte ≤ n → leb ((p .bit + w + 7) / 8) (n - p .byte) ≡ room n p w
@@ -43,36 +43,6 @@ one-shl k h = rw one-mul (mod-eq-of-lt (pow-lt h))
 
 pub masked : (v k : ℕ) → k < 64 → bitAnd v ((1 * 2 ^ k) % 2 ^ 64 - 1) ≡ v % 2 ^ k
 masked v k h = rw (one-shl k h) (and-mask v k)
-
-pub enc-join : (n k a b : ℕ) → b < 2 ^ k → enc (n + k) (a * 2 ^ k + b) ≡ enc n a ++ enc k b
-enc-join n k a b h = rw (enc-split, high a k h, enc-high)
-
-pub join-lt : (n k a b : ℕ) → a < 2 ^ n → b < 2 ^ k → a * 2 ^ k + b < 2 ^ (n + k)
-join-lt n k a b ha hb = rw (pow-add 2 n k) (digits-lt ha hb)
-
--- the first n bits of the field at a position are those of acc
-pub record Read (s : List ℕ) (at n acc : ℕ) : Type 0 where
-  pub are : take n (drop at (bitsOf s)) ≡ enc n acc
-  pub small : acc < 2 ^ n
-
-pub read-none : (s : List ℕ) (at : ℕ) → Read s at 0 0
-unfolding enc
-read-none s at = record { are = refl; small = omega arith }
-
-pub read-more : (s : List ℕ) (at n acc q r k m : ℕ) → Read s at n acc → at + n ≡ 8 * q + r → q < length s → r + (k + m) ≡ 8
-    → Read s at (n + k) (acc * 2 ^ k + getD s q 0 / 2 ^ m % 2 ^ k)
-read-more s at n acc q r k m g e h z =
-    let lo = getD s q 0 / 2 ^ m in
-    let lt : lo % 2 ^ k < 2 ^ k = mod-lt lo (pow-pos k) in
-    let mm : 8 - (r + k) ≡ m = omega arith in
-    let w : take k (drop (8 * q + r) (bitsOf s)) ≡ enc k (getD s q 0 / 2 ^ m) = rw mm at (within s q r k h (omega arith)) in
-    record {
-      are = rw (take-add n k (drop at (bitsOf s)), drop-drop n at (bitsOf s), e, w, g .are, enc-join n k acc (lo % 2 ^ k) lt, enc-low);
-      small = join-lt n k acc (lo % 2 ^ k) (g .small) lt;
-    }
-
-pub read-all : (s : List ℕ) (at w acc : ℕ) → Read s at w acc → dec (take w (drop at (bitsOf s))) ≡ acc
-read-all s at w acc g = ap dec (g .are) ∙ dec-enc-lt w acc (g .small)
 
 -- one turn of the loop of `take`
 pub read-turn : {s : List ℕ} (at w q r left : ℕ) {acc k b x acc' : ℕ} → Read s at (w - left) acc → 8 * q + r + left ≡ at + w → r < 8 → left ≤ w → at + w ≤ 8 * length s → 0 < left

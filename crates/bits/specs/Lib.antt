@@ -5,3 +5,4 @@ pub mod Reads
 pub mod Steps
 pub mod Moves
 pub mod Round
+pub mod Window

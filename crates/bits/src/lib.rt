@@ -6,6 +6,7 @@ ghost use Rattle.definition.specs.Format.{field, bit, flag, text};
 ghost use Rattle.bits.specs.Places.{at, room, inside, upTo};
 ghost use Rattle.bits.specs.Reads.{takeAt, flagAt, padAt, spanIn, Spans, int64At, int32At};
 ghost use Rattle.bits.specs.Steps.{Laid, Step, _▷_, Puts, Pads};
+ghost use Rattle.bits.specs.Window.{Read};
 ghost use Rattle.bits.specs.Moves.{cleared, bitsFrom, Flips, turned, moved, swapped, ordered, Turns, Copies};
 
 // A place in a buffer: so many whole bytes and so many bits stand before it. A bit of 8 or more is past every end.
@@ -136,6 +137,59 @@ pub fn take(s: &[u8], p: Place, width: usize) -> Field
         value: acc,
         next: Place { byte: q, bit: r },
     }
+}
+
+// Two bytes as one number, four, and five.
+fn two_at(s: &[u8], q: usize) -> u64
+    requires { ⌜ q + 2 ≤ length (now s) ⌝ }
+    ensures { λ r. ⌜ Read (now (s .entry)) (8 * q) 16 r ⌝ }
+{
+    joined(wide(s[q]), 8, wide(s[q + 1]))
+}
+
+fn four_at(s: &[u8], q: usize) -> u64
+    requires { ⌜ q + 4 ≤ length (now s) ⌝ }
+    ensures { λ r. ⌜ Read (now (s .entry)) (8 * q) 32 r ⌝ }
+{
+    joined(two_at(s, q), 16, two_at(s, q + 2))
+}
+
+fn five_at(s: &[u8], q: usize) -> u64
+    requires { ⌜ q + 5 ≤ length (now s) ⌝ }
+    ensures { λ r. ⌜ Read (now (s .entry)) (8 * q) 40 r ⌝ }
+{
+    joined(four_at(s, q), 8, wide(s[q + 4]))
+}
+
+// The field of 32 bits that stands in the five bytes at a place.
+fn take_five(s: &[u8], p: Place) -> Field
+    requires { ⌜ (p .bit < 8) × (p .byte + 5 ≤ length (now s)) ⌝ }
+    ensures { λ r. ⌜ r ≡ takeAt (now (s .entry)) p 32 ⌝ }
+{
+    let value = part(five_at(s, p.byte), 8 - p.bit, 32);
+    Field {
+        value,
+        next: Place {
+            byte: p.byte + 4,
+            bit: p.bit,
+        },
+    }
+}
+
+// A count: the field of 32 bits at a place, at once where five bytes are there.
+fn take_count(s: &[u8], p: Place) -> Field
+    ensures { λ r. ⌜ r ≡ takeAt (now (s .entry)) p 32 ⌝ }
+{
+    if s.len() < 5 {
+        return take(s, p, 32);
+    }
+    if s.len() - 5 < p.byte {
+        return take(s, p, 32);
+    }
+    if 7 < p.bit {
+        return take(s, p, 32);
+    }
+    take_five(s, p)
 }
 
 // The byte whose r first bits are those of old, the next k those of x, the rest those of old.
@@ -286,7 +340,7 @@ fn bytes_at(n: usize, p: Place, len: usize) -> Span
 pub fn take_text(s: &[u8], p: Place) -> Span
     ensures { λ r. ⌜ Spans (now (s .entry)) p r ⌝ }
 {
-    let c = take(s, p, 32);
+    let c = take_count(s, p);
     let b = take_pad(s, c.next);
     bytes_at(s.len(), b, c.value as usize)
 }

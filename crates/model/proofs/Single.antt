@@ -18,12 +18,12 @@ use Rattle.definition.specs.Text.{Text, isUtf8}
 use Rattle.definition.specs.Format.{Format, _⊗_, field, whole, count, flag, code, time, period, date, optional, number}
 use Rattle.definition.specs.Pack.{constraint}
 use Rattle.bits.specs.Places.{at, place, past, room, inside, Fits, room-fits, room-short, room-none, room-more, place-at, at-place}
-use Rattle.bits.specs.Reads.{rest, Reads, Refuses, takeAt, flagAt, read-bit, padAt, spanAt, spanOf, Spans, rest-in, rest-out, rest-past, length-rest, take-cut, take-whole, read-field, read-whole, skip-pad, chain, read-flag, read-code, refuse-code, read-time, refuse-time, read-⊗, read-period, refuse-period, read-date, refuse-date, refuse-value, refuse-first, refuse-second, refuse-test}
+use Rattle.bits.specs.Reads.{rest, Reads, Refuses, takeAt, flagAt, read-bit, spanAt, spanOf, Spans, rest-in, rest-out, rest-past, length-rest, take-cut, take-whole, read-field, read-whole, skip-pad, chain, read-flag, read-code, refuse-code, read-time, refuse-time, read-⊗, read-period, refuse-period, read-date, refuse-date, refuse-value, refuse-first, refuse-second, refuse-test}
 use Rattle.bits.specs.declared.Place.{Place}
 use Rattle.bits.specs.declared.Field.{Field}
 use Rattle.bits.specs.declared.Span.{Span}
 use Rattle.bits.specs.declared.Flag.{Flag}
-use Rattle.model.specs.Places.{NameAt}
+use Rattle.model.specs.Places.{NameAt, between}
 use Rattle.model.specs.Passes.{behind, left, bind-ext, Passes, like-named, like-optional, pass-like, pass-read, pass-refused, pass-some, pass-none, pass-both, pass-alone}
 use Rattle.model.specs.Rising.{Finds, PeriodKey, DayKey}
 use Rattle.model.specs.Parts.{raw, textBy, lagKind}
@@ -90,28 +90,6 @@ pass-optional-number h = pass-like (like-optional (like-named _ _ _)) h
 
 -- ---- texts
 
--- a text's bytes lie within
-pub span-ends : (s : List ℕ) (p : Place) {x : Span} → x ≡ spanAt s p → x .start + x .len ≤ length s
-unfolding spanAt
-span-ends s p {x} e = rw e (by-place (takeAt s p 32 .value) (padAt s (takeAt s p 32 .next)) (read-whole (read-field s p 32 refl) (skip-pad s _ refl)))
-  where
-    by-room : (b : Place) (n : ℕ) → Fits (length s) b 0 → (t : Bool) → ltb (length (drop (at b) (bitsOf s))) (8 * n) ≡ t
-        → spanOf s (some (n, drop (at b) (bitsOf s))) .start + spanOf s (some (n, drop (at b) (bitsOf s))) .len ≤ length s
-    by-room b n f true h = rw h (omega arith)
-    by-room b n f false h =
-        let l = ltb-false (length (drop (at b) (bitsOf s))) (8 * n) h in
-        let z = length-rest s (at b) in
-        rw h (omega arith)
-
-    by-inside : (b : Place) (n : ℕ) (t : Bool) → inside (length s) b ≡ t
-        → spanOf s (rest s b >>= λ l. some (n, l)) .start + spanOf s (rest s b >>= λ l. some (n, l)) .len ≤ length s
-    by-inside b n false h = rw (rest-out s b h) (omega arith)
-    by-inside b n true h = rw (rest-in s b (room-fits (length s) b 0 h)) (by-room b n (room-fits (length s) b 0 h) (ltb (length (drop (at b) (bitsOf s))) (8 * n)) refl)
-
-    by-place : (n : ℕ) (b : Place) → Reads (whole count) s p n b
-        → spanOf s (rest s p >>= whole count .get) .start + spanOf s (rest s p >>= whole count .get) .len ≤ length s
-    by-place n b h = rw (h .reads) (by-inside b n (inside (length s) b) refl)
-
 -- any bytes
 abbrev behindBytes : ℕ × Bits → Option Bits
 behindBytes x = if ltb (length (x .1)) (8 * x .0) then none else some (drop (8 * x .0) (x .1))
@@ -155,9 +133,6 @@ pass-raw s p {x} e = record { passes = bind-ext (rest s p) (left raw) (λ l. who
     by-place n b h = chain {f = whole count} behindBytes h ∙ by-inside b n (inside (length s) b) refl ∙ ap (λ (o : Option (ℕ × Bits)). rest s (spanOf s o .next)) (sym (h .reads)) ∙ ap (λ (y : Span). rest s (y .next)) (sym e)
 
 -- the bytes from start to end
-pub between : (s : List ℕ) (a n : ℕ) → take (a + n - a) (drop a s) ≡ take n (drop a s)
-between s a n = let e : a + n - a ≡ n = omega arith in rw e
-
 module _ (s : List ℕ) (p : Place) {x : Span} (h : Spans s p x) (check : Bool) where
   module _ (c : check ≡ true) {b : Bool} (e : b ≡ isUtf8 (take (x .start + x .len - x .start) (drop (x .start) s))) where
     pub text-good : b ≡ true → Passes (textBy check) s p (x .next)

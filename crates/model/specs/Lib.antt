@@ -5,3 +5,4 @@ pub mod Parts
 pub mod Splits
 pub mod Sections
 pub mod Places
+pub mod Lists

@@ -46,6 +46,10 @@ module _ (t : Format Text) where
   unfoldable pub activityRest : Format ActivityRest
   activityRest = optional t ⊗ optional constraint ⊗ optional date ⊗ optional date ⊗ optional date ⊗ optional number ⊗ code 0 3 ⊗ optional number ⊗ t
 
+  -- and from its notes on, behind its parent
+  abbrev pub activityNotes : Format (Text × ActivityRest)
+  activityNotes = t ⊗ activityRest
+
   unfoldable pub activityParts : Format (Text × (Text × (ℕ × (ℤ × (Option ℤ × (Option ℕ × (Text × ActivityRest)))))))
   activityParts = t ⊗ t ⊗ code 0 2 ⊗ number ⊗ optional number ⊗ optional row ⊗ t ⊗ activityRest
 

@@ -59,10 +59,10 @@ module _ {s : List ℕ} {p q r : Place} {l : Bits} where
   split-times {f = f} n e h i = split (times n f) _∷_ e (bind-ext (rest s p) _ (getAll f (suc n)) (λ m. sym (all-suc f n m)) ∙ h .reads) (told i)
 
 -- as many as were asked for
-abbrev size : {A : Type 0} → List A × Bits → Option ℕ
+abbrev pub size : {A : Type 0} → List A × Bits → Option ℕ
 size y = some (length (y .0))
 
-sized : {A : Type 0} (f : Format A) (n : ℕ) (m : Bits) → (getAll f n m >>= size) ≡ (getAll f n m >>= λ y. some n)
+pub sized : {A : Type 0} (f : Format A) (n : ℕ) (m : Bits) → (getAll f n m >>= size) ≡ (getAll f n m >>= λ y. some n)
 sized f zero m = rw all-zero
 sized {A} f (suc n) m = rw all-suc (first (sized f n) (f .get m))
   where

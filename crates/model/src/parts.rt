@@ -1,7 +1,9 @@
 // The parts of records of a model that was opened: where they stand, and what they are. No text is tested again.
-ghost use Rattle.definition.specs.Format.{optional, row, times, periods};
+ghost use mathlib.Core.Bool.{false};
+ghost use Rattle.definition.specs.Format.{optional, row, times, date, period, periods};
 ghost use Rattle.bits.specs.Reads.{Reads};
 ghost use Rattle.model.specs.Passes.{Passes};
+ghost use Rattle.model.specs.Rising.{Finds, PeriodKey, DayKey};
 ghost use Rattle.model.specs.Places.{rowIn, RowsAt, NameAt, BeforeParent, BeforeName, BeforePrice, CalendarAt};
 use crate::fields::skip;
 use crate::fields::skip_code;
@@ -9,6 +11,7 @@ use crate::fields::skip_optional;
 use crate::fields::skip_text;
 use crate::lists::skip_days;
 use crate::lists::skip_hours;
+use bits::Field;
 use bits::Place;
 
 // ---- what stands at a place
@@ -90,6 +93,27 @@ pub fn take_rows(s: &[u8], p: Place) -> Rows
         second: b.value as u32,
         next,
     }
+}
+
+// A date counted from the year -10000, or 0 where none is.
+pub fn take_date(s: &[u8], p: Place) -> Field
+    ensures { λ r. ⌜ Finds date (DayKey false) (now (s .entry)) p r ⌝ }
+{
+    crate::fields::take_date(s, p)
+}
+
+// A period by one number, 2048 times from, and to; or 0 where none is.
+pub fn take_period(s: &[u8], p: Place) -> Field
+    ensures { λ r. ⌜ Finds period PeriodKey (now (s .entry)) p r ⌝ }
+{
+    crate::fields::take_period(s, p)
+}
+
+// The place behind a list of periods.
+pub fn skip_periods(s: &[u8], p: Place) -> Place
+    ensures { λ r. ⌜ Passes periods (now (s .entry)) p r ⌝ }
+{
+    crate::lists::skip_periods(s, p)
 }
 
 // ---- where a part of a record stands, from the record's place

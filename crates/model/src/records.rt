@@ -4,7 +4,7 @@ ghost use Prim.Native.Nat.{_%_};
 ghost use Rattle.definition.specs.Format.{times, whole};
 ghost use Rattle.definition.specs.Pack.{project};
 ghost use Rattle.model.specs.Passes.{Passes};
-ghost use Rattle.model.specs.Parts.{textBy, calendarParts, activityParts, activityRest, linkParts, resourceParts, assignmentParts, expenseParts, recordOf};
+ghost use Rattle.model.specs.Parts.{textBy, calendarParts, activityParts, activityRest, activityNotes, linkParts, resourceParts, assignmentParts, expenseParts, recordOf};
 use crate::fields::skip;
 use crate::fields::skip_code;
 use crate::fields::skip_date;
@@ -54,6 +54,14 @@ fn skip_activity_rest(s: &[u8], p: Place, check: bool) -> Place
     let g = skip_code(s, f, 0, 3);
     let h = skip_optional(s, g, 64);
     skip_text(s, h, check)
+}
+
+// From the notes on, behind the parent.
+pub fn skip_from_notes(s: &[u8], p: Place, check: bool) -> Place
+    ensures { λ r. ⌜ Passes (activityNotes (textBy check)) (now (s .entry)) p r ⌝ }
+{
+    let a = skip_text(s, p, check);
+    skip_activity_rest(s, a, check)
 }
 
 fn skip_activity(s: &[u8], p: Place, check: bool) -> Place

@@ -273,12 +273,12 @@ good-times k {f} g = record {
 
 -- ---- zero bits to a byte
 
-same-refl : (s : List ℕ) → same s s ≡ true
+pub same-refl : (s : List ℕ) → same s s ≡ true
 unfolding same
 same-refl [] = refl
 same-refl (x ∷ s) = rw (eq-eqb x x refl) (same-refl s)
 
-same-true : (s t : List ℕ) → same s t ≡ true → s ≡ t
+pub same-true : (s t : List ℕ) → same s t ≡ true → s ≡ t
 unfolding same
 same-true [] [] h = refl
 same-true [] (y ∷ t) h = absurd (true≢false (sym h))

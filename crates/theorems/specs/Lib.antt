@@ -5,6 +5,7 @@ pub mod Dates
 pub mod Formats
 pub mod Hand
 pub mod Laws
+pub mod Leads
 pub mod Open
 pub mod Outlines
 pub mod Packing

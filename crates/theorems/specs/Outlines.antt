@@ -93,7 +93,7 @@ count-in c a (suc m) h k = go (eqb c a) refl (count-in c (suc a) m)
 
 -- ---- parents
 
-none-some : {A : Type 0} {o : Option A} {a : A} → o ≡ none → o ≡ some a → ⊥
+pub none-some : {A : Type 0} {o : Option A} {a : A} → o ≡ none → o ≡ some a → ⊥
 none-some h k = let z : _≡_ {A = ℕ} 0 1 = cc in omega arith
 
 pub parent-out : (ps : List (Option ℕ)) (c : ℕ) → length ps ≤ c → parentAt ps c ≡ none
@@ -438,11 +438,11 @@ module _ (ps : List (Option ℕ)) where
 
 -- ---- a model that passes the check
 
-and-left : (a b : Bool) → a && b ≡ true → a ≡ true
+pub and-left : (a b : Bool) → a && b ≡ true → a ≡ true
 and-left true b h = refl
 and-left false b h = h
 
-and-right : (a b : Bool) → a && b ≡ true → b ≡ true
+pub and-right : (a b : Bool) → a && b ≡ true → b ≡ true
 and-right true b h = h
 and-right false b h = let z : _≡_ {A = ℕ} 0 1 = cc in absurd (omega arith)
 

@@ -5,7 +5,8 @@ use native.Mathlib.Nat.{sub-zero}
 use lib.ListN.{length}
 use Rattle.bits.specs.Places.{room-fits}
 use Rattle.bits.specs.Reads.{take-cut}
-use Rattle.bits.proofs.Laws.{Read, read-none, read-turn, join-fits, part-lt, take-done}
+use Rattle.bits.specs.Window.{Read, read-none}
+use Rattle.bits.proofs.Laws.{read-turn, join-fits, part-lt, take-done}
 use borrow.Author.Needs.{needs}
 use native.Mathlib.Omega.{arith}
 use Rattle.bits.proofs.take.Statement.{statement}

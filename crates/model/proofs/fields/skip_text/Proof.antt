@@ -1,5 +1,6 @@
 use borrow.Author.Tests.{not-true, not-false}
-use Rattle.model.proofs.Single.{span-ends, text-good, text-bad, text-any}
+use Rattle.model.specs.Places.{span-ends}
+use Rattle.model.proofs.Single.{text-good, text-bad, text-any}
 use native.Mathlib.Omega.{arith}
 use borrow.Author.Needs.{needs}
 use Rattle.model.proofs.fields.skip_text.Statement.{statement}
