@@ -1,2 +1,4 @@
 pub mod Left
 pub mod Natural
+pub mod Zeros
+pub mod OutlineLeft

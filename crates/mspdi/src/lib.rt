@@ -1,10 +1,19 @@
 // The entries that a host calls. Each returns 0, or the number of document 01's refusal; on a refusal all that is lent is zeros.
+mod words; // words that a caller lends
+
 ghost use mathlib.Core.Path.{_≡_};
-ghost use lib.ListN.{length};
+ghost use mathlib.Core.List.{List};
+ghost use Prim.Native.Nat.{ℕ};
+ghost use lib.ListN.{length, replicate};
 ghost use Rattle.number.specs.Written.{refusalOf, writtenOf};
-ghost use Rattle.definition.specs.Refusal.{durationAnswer, timeAnswer};
+ghost use Rattle.definition.specs.Refusal.{checkAnswer, durationAnswer, timeAnswer, outlineAnswer, daySheetAnswer};
+ghost use Rattle.outline.specs.Answers.{refusalOf as outlineRefusal, countOf as outlineCount};
+ghost use Rattle.day_sheet.specs.Answer.{sheetNumber, sheetLength};
 ghost use Rattle.mspdi.specs.Outcome.{leaves, natural};
+ghost use Rattle.mspdi.specs.Outlines.{outlineLeaves};
+use day_sheet::SheetAnswer;
 use number::TextAnswer;
+use outline::OutlineAnswer;
 
 // n, or the largest number where n is below 0.
 fn from_zero(n: i64) -> u64
@@ -52,4 +61,87 @@ pub extern "C" fn mspdi_time(minutes: u32, text: &mut [u8], written: &mut u64) -
 {
     let a = number::time_text(minutes as u64, text);
     told(a, written)
+}
+
+// The check of a model: 0, or 6 or 7. The work slice may have any length; it is zeros at exit.
+#[no_mangle]
+pub extern "C" fn mspdi_check(model: &[u8], work: &mut [u32]) -> u32
+    ensures { λ r. ⌜ _≡_ {A = ℕ × List ℕ} (r, now (work .exit)) (checkAnswer (now (model .entry)), replicate (length (now (work .entry))) 0) ⌝ }
+{
+    let answer = model_check::check(model);
+    words::clear(work);
+    answer
+}
+
+// The number of an outline's answer, and how many rows it has.
+fn outline_told(a: OutlineAnswer, count: &mut u64) -> u32
+    ensures { λ r. ⌜ (r ≡ outlineRefusal a) × (now (count .exit) ≡ outlineCount a) ⌝ }
+{
+    match a {
+        OutlineAnswer::Rows(n) => {
+            *count = n as u64;
+            0
+        }
+        OutlineAnswer::NoModel => {
+            *count = 0;
+            6
+        }
+        OutlineAnswer::Short => {
+            *count = 0;
+            9
+        }
+    }
+}
+
+// The number of a sheet's answer, and the length of the sheet.
+fn sheet_number(a: SheetAnswer) -> u32
+    ensures { λ r. ⌜ r ≡ sheetNumber a ⌝ }
+{
+    match a {
+        SheetAnswer::Written(_) => 0,
+        SheetAnswer::NoModel => 6,
+        SheetAnswer::Outside => 8,
+        SheetAnswer::Short => 9,
+    }
+}
+
+fn sheet_length(a: SheetAnswer) -> u64
+    ensures { λ r. ⌜ r ≡ sheetLength a ⌝ }
+{
+    match a {
+        SheetAnswer::Written(n) => n as u64,
+        SheetAnswer::NoModel => 0,
+        SheetAnswer::Outside => 0,
+        SheetAnswer::Short => 0,
+    }
+}
+
+// The outline of a model: rows of (activity, level from 1), two words each, and how many there are. rows needs 2 words an activity, work 4.
+#[no_mangle]
+pub extern "C" fn mspdi_outline(
+    model: &[u8],
+    rows: &mut [u32],
+    work: &mut [u32],
+    count: &mut u64,
+) -> u32
+    ensures { λ r. ⌜ (r, now (rows .exit), now (work .exit), now (count .exit)) ≡ outlineLeaves (length (now (rows .entry))) (length (now (work .entry))) (outlineAnswer (now (model .entry)) (length (now (rows .entry))) (length (now (work .entry)))) ⌝ }
+{
+    let a = outline::outline(model, rows, work);
+    outline_told(a, count)
+}
+
+// The day sheet of a date, by its day number, in the calendar of a row.
+#[no_mangle]
+pub extern "C" fn mspdi_day_sheet(
+    model: &[u8],
+    calendar: u32,
+    date: i32,
+    sheet: &mut [u8],
+    written: &mut u64,
+) -> u32
+    ensures { λ r. ⌜ (r, now (sheet .exit), now (written .exit)) ≡ leaves (length (now (sheet .entry))) (daySheetAnswer (now (model .entry)) calendar date (length (now (sheet .entry)))) ⌝ }
+{
+    let a = day_sheet::day_sheet(model, calendar, date, sheet);
+    *written = sheet_length(a);
+    sheet_number(a)
 }

@@ -2,3 +2,5 @@ pub mod Ahead
 pub mod Lists
 pub mod Turns
 pub mod Whole
+pub mod Filling
+pub mod Models

@@ -1,12 +1,18 @@
-// The outline of activities whose parents stand in the work slice, four words an activity, in one pass over lists of children that are
-// built there. What the words of a row hold is said in specs/Steps.antt.
+// The outline of a model: its activities' parents are put into the work slice, four words an activity, and the rows are written in one pass
+// over lists of children that are built there. What the words of a row hold is said in specs/Steps.antt.
+mod parents; // the parents of a model's activities
 
 ghost use mathlib.Core.Path.{_≡_};
 ghost use mathlib.Core.List.{_++_};
 ghost use Prim.Native.Nat.{_+_, _-_, _*_, _<_, _≤_};
 ghost use lib.ListN.{length, getD, set, take, replicate};
+ghost use mathlib.Core.Bool.{_||_};
+ghost use lib.Dec.{ltb};
+ghost use Rattle.outline.specs.Answers.{Gives};
 ghost use Rattle.outline.specs.Words.{Outlined};
 ghost use Rattle.outline.specs.Steps.{Empty, Linked, Stepped, Climbed, Walked, Wrote, pushed, linkOf};
+use crate::parents::fill;
+use model::open;
 
 // A word that names no row.
 const NONE: u32 = 0xFFFF_FFFF;
@@ -206,4 +212,39 @@ pub fn outline_rows(n: u32, rows: &mut [u32], work: &mut [u32]) -> u32
     clear(rows, 2 * (count as usize));
     clear(work, 0);
     count
+}
+
+// How many rows the outline of a model has; NoModel where the bytes do not decode, and Short where rows has less than 2 words an activity or
+// work less than 4.
+pub enum OutlineAnswer {
+    Rows(u32),
+    NoModel,
+    Short,
+}
+
+// Whether rows or work has less than n activities need.
+fn is_short(n: u32, rows: usize, work: usize) -> bool
+    ensures { λ r. ⌜ r ≡ (ltb rows (2 * n) || ltb work (4 * n)) ⌝ }
+{
+    (rows < 2 * (n as usize)) | (work < 4 * (n as usize))
+}
+
+// The outline of a model's bytes: row and level of each activity, with zeros behind, and zeros in work; zeros alone where there are no rows to give.
+pub fn outline(s: &[u8], rows: &mut [u32], work: &mut [u32]) -> OutlineAnswer
+    ensures { λ r. ⌜ Gives (now (s .entry)) (now (rows .entry)) (now (work .entry)) (now (rows .exit)) (now (work .exit)) r ⌝ }
+{
+    let m = open(s);
+    let activities = m.activities;
+    let n = activities.count;
+    let short = is_short(n, rows.len(), work.len());
+    if m.ok & !short {
+        fill(s, activities, work);
+        return OutlineAnswer::Rows(outline_rows(n, rows, work));
+    }
+    clear(rows, 0);
+    clear(work, 0);
+    if m.ok {
+        return OutlineAnswer::Short;
+    }
+    OutlineAnswer::NoModel
 }

@@ -1,0 +1,4 @@
+pub mod Scan
+pub mod Keyed
+pub mod Right
+pub mod Whole

@@ -1,0 +1,115 @@
+// The rules that each record keeps by itself: rows in range, a parent's row below its own, names of calendars.
+ghost use mathlib.Core.Path.{_≡_};
+ghost use mathlib.Core.List.{List};
+ghost use mathlib.Core.Option.{Option};
+ghost use Prim.Native.Nat.{ℕ};
+ghost use lib.Dec.{ltb};
+ghost use Rattle.definition.specs.Base.{every?, numbered};
+ghost use Rattle.definition.specs.Text.{Text};
+ghost use Rattle.definition.specs.Format.{whole, row, text, optional};
+ghost use Rattle.definition.specs.Model.{Model, Activity};
+ghost use Rattle.definition.specs.Pack.{activity};
+ghost use Rattle.definition.specs.Check.{ifGiven, isCalendar, activityRight};
+ghost use Rattle.model.specs.Splits.{Stands};
+ghost use Rattle.model.specs.Sections.{Holds, Decoded};
+ghost use Rattle.model_check.specs.Kinds.{Item, formatOf};
+ghost use Rattle.model_check.specs.Rules.{RowsBelow, rightOf};
+use crate::keys::some_has_key;
+use bits::Place;
+use model::Section;
+use model::Sections;
+use model::parts::activity_calendar_place;
+use model::parts::parent_place;
+use model::parts::resource_calendar_place;
+use model::parts::take_name;
+use model::parts::take_row;
+use model::parts::take_rows;
+use model::records::Kind;
+use model::records::skip_record;
+
+// Whether the optional name at a place is missing, or some calendar's.
+fn calendar_known(s: &[u8], p: Place, w: Sections) -> bool
+    ensures { λ r. ⌜ ((m : Model) → Decoded (now (s .entry)) m w → (o : Option Text) → Stands (optional text) (now (s .entry)) p o → r ≡ ifGiven (isCalendar m) o) ⌝ }
+{
+    let n = take_name(s, p);
+    if !n.given {
+        return true;
+    }
+    let first = Place {
+        byte: w.calendars.at,
+        bit: 0,
+    };
+    let start = n.start;
+    let end = start + n.len;
+    some_has_key(
+        s,
+        first,
+        Kind::Calendars,
+        w.calendars.count,
+        0,
+        &s[start..end],
+    )
+}
+
+// Whether the optional row at a place is missing, or below a row.
+fn parent_below(s: &[u8], p: Place, own: u32) -> bool
+    ensures { λ r. ⌜ ((o : Option ℕ) → Stands (optional row) (now (s .entry)) p o → r ≡ ifGiven (λ (n : ℕ). ltb n own) o) ⌝ }
+{
+    let r = take_row(s, p);
+    if !r.given {
+        return true;
+    }
+    r.row < own
+}
+
+fn activity_right(s: &[u8], p: Place, own: u32, w: Sections) -> bool
+    ensures { λ r. ⌜ ((m : Model) → Decoded (now (s .entry)) m w → (a : Activity) → Stands (whole activity) (now (s .entry)) p a → r ≡ activityRight m (own, a)) ⌝ }
+{
+    parent_below(s, parent_place(s, p), own) & calendar_known(s, activity_calendar_place(s, p), w)
+}
+
+// Whether the two rows at a place are below two counts.
+fn rows_below(s: &[u8], p: Place, first: u32, second: u32) -> bool
+    ensures { λ r. ⌜ RowsBelow (now (s .entry)) p first second r ⌝ }
+{
+    let r = take_rows(s, p);
+    (r.first < first) & (r.second < second)
+}
+
+// Whether the row at a place is below a count.
+fn row_below(s: &[u8], p: Place, count: u32) -> bool
+    ensures { λ r. ⌜ ((n : ℕ) → Stands row (now (s .entry)) p n → r ≡ ltb n count) ⌝ }
+{
+    bits::take(s, p, 32).value < (count as u64)
+}
+
+// Whether the record at a place, the one of a row, keeps its rules.
+fn is_right(s: &[u8], p: Place, kind: Kind, own: u32, w: Sections) -> bool
+    ensures { λ r. ⌜ ((m : Model) → Decoded (now (s .entry)) m w → (a : Item kind) → Stands (whole (formatOf kind)) (now (s .entry)) p a → r ≡ rightOf m kind (own, a)) ⌝ }
+{
+    match kind {
+        Kind::Calendars => true,
+        Kind::Activities => activity_right(s, p, own, w),
+        Kind::Links => rows_below(s, p, w.activities.count, w.activities.count),
+        Kind::Resources => calendar_known(s, resource_calendar_place(s, p), w),
+        Kind::Assignments => rows_below(s, p, w.activities.count, w.resources.count),
+        Kind::Expenses => row_below(s, p, w.activities.count),
+    }
+}
+
+// Whether each record of a section keeps its rules.
+pub fn every_right(s: &[u8], kind: Kind, x: Section, w: Sections) -> bool
+    ensures { λ r. ⌜ ((m : Model) → Decoded (now (s .entry)) m w → (xs : List (Item kind)) (end : ℕ) → Holds (formatOf kind) (now (s .entry)) x xs end → r ≡ every? (rightOf m kind) (numbered 0 xs)) ⌝ }
+{
+    let count = x.count;
+    let mut q = Place { byte: x.at, bit: 0 };
+    let mut i: u32 = 0;
+    while i < count {
+        if !is_right(s, q, kind, i, w) {
+            return false;
+        }
+        q = skip_record(s, q, kind, false);
+        i += 1;
+    }
+    true
+}

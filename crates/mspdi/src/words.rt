@@ -1,0 +1,14 @@
+// Words that a caller lends.
+ghost use mathlib.Core.Path.{_≡_};
+ghost use lib.ListN.{length, replicate};
+
+// All zeros.
+pub fn clear(words: &mut [u32])
+    ensures { λ _. ⌜ now (words .exit) ≡ replicate (length (now (words .entry))) 0 ⌝ }
+{
+    let mut i = 0;
+    while i < words.len() {
+        words[i] = 0;
+        i += 1;
+    }
+}

@@ -1,0 +1,40 @@
+-- `outline::parents::take_parent` meets its contract. The row at the place of the parent, and the place behind all fields. Assumes nothing.
+use mathlib.Core.Path.{ap, _∙_}
+use Rattle.model.specs.Splits.{stands-is}
+use Rattle.model.specs.Places.{activity-parent, activity-passed}
+use Rattle.outline.specs.Steps.{wordOf}
+use borrow.Author.Needs.{needs}
+use Rattle.outline.proofs.parents.take_parent.Statement.{statement}
+use Rattle.outline.proofs.parents.take_parent.Tie as tie
+
+parent-place-requires : tie.Need-parent-place-requires
+parent-place-requires c κs = search needs
+
+take-row-requires : tie.Need-take-row-requires
+take-row-requires c κs = search needs
+
+skip-from-notes-requires : tie.Need-skip-from-notes-requires
+skip-from-notes-requires c κs = search needs
+
+take-pad-requires : tie.Need-take-pad-requires
+take-pad-requires c κs = search needs
+
+word-of-requires : tie.Need-word-of-requires
+word-of-requires c κs = search needs
+
+returns : tie.Need-returns
+returns c =
+    let b = c .before .before .before .before .parent-place .ensures in
+    let e = c .before .before .before .take-row .ensures in
+    record { word = λ a h. c .word-of .ensures ∙ ap wordOf (stands-is (activity-parent h b) e); next = activity-passed b e (c .before .before .skip-from-notes .ensures) (c .before .take-pad .ensures) }
+
+pub take-parent-spec : {M : Type 1} → statement M
+take-parent-spec =
+    tie.close
+    (tie.spec
+    parent-place-requires
+    take-row-requires
+    skip-from-notes-requires
+    take-pad-requires
+    word-of-requires
+    returns)
