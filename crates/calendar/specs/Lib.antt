@@ -1,0 +1,4 @@
+pub mod Hours
+pub mod Week
+pub mod Base
+pub mod Skipped

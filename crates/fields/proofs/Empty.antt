@@ -1,0 +1,71 @@
+-- A missing text is read as the empty one is; a text that is there is not empty. Assumes nothing.
+use Prim.Native.Nat.{suc}
+use native.Mathlib.Omega.{arith}
+use borrow.Author.Tests.{ne-eqb}
+use mathlib.Core.Path.{_≡_, refl, ap, _∙_}
+use mathlib.Core.Bool.{not}
+use mathlib.Core.List.{[], _∷_}
+use mathlib.Core.Option.{Option, some, none}
+use lib.Dec.{eqb}
+use lib.ListN.{length}
+use Rattle.definition.specs.Base.{_>>=_, _or_, given}
+use Rattle.definition.specs.Text.{Text, signedOf, signOf, digits, trim, trimFront, trimBack, strip, before, after}
+use Rattle.definition.specs.Date.{dateOf, dateParts, firstTen}
+use Rattle.definition.specs.Number.{Reading, absent, numberOf, decimalOf}
+use Rattle.definition.specs.Duration.{durationOf, figuresOf}
+use Rattle.definition.specs.Tree.{Element, child, textOf, nonEmpty}
+use Rattle.fields.specs.Said.{readBy, wholeSaid, dateSaid, numberSaid, minutesSaid}
+
+-- ---- read as the empty text
+
+bind-or : {A : Type 0} (f : Text → Option A) → f [] ≡ none → (o : Option Text) → f (o or []) ≡ (o >>= f)
+bind-or f e none = e
+bind-or f e (some t) = refl
+
+read-or : {A : Type 0} (f : Text → Reading A) → f [] ≡ absent → (o : Option Text) → f (o or []) ≡ readBy f o
+read-or f e none = e
+read-or f e (some t) = refl
+
+no-whole : signedOf 64 [] ≡ none
+unfolding signedOf signOf digits
+no-whole = refl
+
+no-date : dateOf [] ≡ none
+unfolding dateOf dateParts firstTen trim trimFront trimBack strip before signedOf signOf digits
+no-date = refl
+
+no-number : numberOf [] ≡ absent
+unfolding numberOf signOf decimalOf before after digits
+no-number = refl
+
+no-minutes : durationOf [] ≡ absent
+unfolding durationOf figuresOf trim trimFront trimBack strip
+no-minutes = refl
+
+-- t is what `text_of` gives
+module _ (x : Element) (name t : Text) (e : t ≡ (textOf x name or [])) where
+  pub whole-or : signedOf 64 t ≡ wholeSaid x name
+  whole-or = ap (signedOf 64) e ∙ bind-or (signedOf 64) no-whole (textOf x name)
+
+  pub date-or : dateOf t ≡ dateSaid x name
+  date-or = ap dateOf e ∙ bind-or dateOf no-date (textOf x name)
+
+  pub number-or : numberOf t ≡ numberSaid x name
+  number-or = ap numberOf e ∙ read-or numberOf no-number (textOf x name)
+
+  pub minutes-or : durationOf t ≡ minutesSaid x name
+  minutes-or = ap durationOf e ∙ read-or durationOf no-minutes (textOf x name)
+
+-- ---- given
+
+filled : (t : Text) → not (eqb (length (nonEmpty t or [])) 0) ≡ given (nonEmpty t)
+filled [] = refl
+filled (b ∷ t) = rw (ne-eqb (suc (length t)) 0 (λ e. omega arith))
+
+pub length-given : (e : Element) (n : Text) → not (eqb (length (textOf e n or [])) 0) ≡ given (textOf e n)
+unfolding textOf
+length-given e n = by (child e n)
+  where
+    by : (o : Option Element) → not (eqb (length ((o >>= λ c. nonEmpty (trim (c .text))) or [])) 0) ≡ given (o >>= λ c. nonEmpty (trim (c .text)))
+    by none = refl
+    by (some c) = filled (trim (c .text))
