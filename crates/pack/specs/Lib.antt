@@ -1,0 +1,5 @@
+pub mod Value
+pub mod Puts
+pub mod Bytes
+pub mod Record
+pub mod Calendar

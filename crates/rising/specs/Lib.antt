@@ -1,0 +1,5 @@
+pub mod New
+pub mod Items
+pub mod Places
+pub mod Inserts
+pub mod Copies
