@@ -1,5 +1,6 @@
 /* The library's boundary. Each call returns 0, or the number of a refusal; on a refusal every lent output is zeros. On success the part
-   behind the result is zeros. Nothing need be tested beforehand. */
+   behind the result is zeros. Nothing need be tested beforehand. A length counts places, and no pointer is null: where a length is 0, any
+   other address will do. */
 #ifndef MSPDI_H
 #define MSPDI_H
 
@@ -15,6 +16,21 @@ uint32_t mspdi_duration(int64_t minutes, uint8_t *text, size_t text_len, uint64_
 
 /* The text of a time of day in minutes, 0 to 1440: 08:30:00. 8, 9 as above. */
 uint32_t mspdi_time(uint32_t minutes, uint8_t *text, size_t text_len, uint64_t *written);
+
+/* Whether a model keeps the check's list: ids distinct, parents before their children, rows in range, calendars that there are, expenses
+   distinct. work may have any length, none too, and never changes the answer; it ends as zeros. 6: the model does not decode. 7: the list is
+   broken. */
+uint32_t mspdi_check(const uint8_t *model, size_t model_len, uint32_t *work, size_t work_len);
+
+/* The outline: *count rows of two words, an activity's row and its level from 1. rows needs 2 words an activity and work 4; work ends as
+   zeros. 6: the model does not decode. 9: rows or work is shorter than that. */
+uint32_t mspdi_outline(const uint8_t *model, size_t model_len, uint32_t *rows, size_t rows_len, uint32_t *work, size_t work_len, uint64_t *count);
+
+/* The sheet of a day, by its number (0 is 1970-01-01), in the calendar of a row, 0 for the main one. Packed, most significant bit first:
+   weekday 4 bits (0 is Monday), holiday 1, extra day 1, a count of 32 bits, and so many periods of two times of 11 bits, from and to, in
+   minutes; zero bits to a whole byte. 6: the model does not decode. 8: no such calendar, or a day outside the years -9999 to 9999.
+   9: the sheet is longer than its buffer. */
+uint32_t mspdi_day_sheet(const uint8_t *model, size_t model_len, uint32_t calendar, int32_t date, uint8_t *sheet, size_t sheet_len, uint64_t *written);
 
 #ifdef __cplusplus
 }

@@ -1,13 +1,14 @@
-//! Both sides' time on the same texts, in one process: the best of several runs, in ns a text, as a table in Markdown.
+//! Both sides' time on the same texts and on the same large models, in one process: the best of several runs, as tables in Markdown.
 
 use std::hint::black_box;
 use std::str::FromStr;
-use std::time::Instant;
+use std::time::{Duration, Instant};
 
 use mkperth_mspxml::exposed;
-use oracle::generate::leaf_text;
+use oracle::generate::{large_model, leaf_text};
 use oracle::leaf::Kind;
 use oracle::rng::Rng;
+use oracle::{check, model, outline, sheet};
 
 use crate::ours;
 
@@ -98,4 +99,79 @@ pub fn table(seed: u64) {
             println!("| {name} | {which} | {rust:.1} | {ours:.1} | {:.2} |", ours / rust);
         }
     }
+}
+
+// ---- models
+
+#[repr(C)]
+#[derive(Default)]
+struct Timespec {
+    seconds: i64,
+    nanoseconds: i64,
+}
+
+unsafe extern "C" {
+    fn clock_gettime(clock: i32, time: *mut Timespec) -> i32;
+}
+
+/// The processor time of this thread: runs of many milliseconds are seldom left alone on a machine that does other work too.
+fn thread_time() -> Duration {
+    const CLOCK_THREAD_CPUTIME_ID: i32 = 3;
+    let mut time = Timespec::default();
+    // Sound: `time` is a local of the form that the call fills.
+    unsafe { clock_gettime(CLOCK_THREAD_CPUTIME_ID, &mut time) };
+    Duration::new(time.seconds as u64, time.nanoseconds as u32)
+}
+
+/// One run's processor time; what it gives is dropped outside it.
+fn timed<T>(run: impl FnOnce() -> T) -> Duration {
+    let start = thread_time();
+    let result = black_box(run());
+    let time = thread_time() - start;
+    drop(result);
+    time
+}
+
+/// Prints a line: the best time of each side, which take turns.
+fn line<A, B>(what: &str, activities: usize, runs: usize, rust: impl Fn() -> A, mut ours: impl FnMut() -> B) {
+    let mut best = [Duration::MAX; 2];
+    for _ in 0..runs {
+        best[0] = best[0].min(timed(&rust));
+        best[1] = best[1].min(timed(&mut ours));
+    }
+    let [rust, ours] = best.map(|time| time.as_secs_f64() * 1e3);
+    println!("| {what} | {activities} | {rust:.3} | {ours:.3} | {:.2} |", ours / rust);
+}
+
+/// Prints the table of models: decoding, the outline with its decoding and without, a day sheet, and the check.
+pub fn models() {
+    println!("\n| of a model | activities | from the paper in Rust, ms | ours, ms | ours / the Rust |\n|---|---|---|---|---|");
+    for activities in [10_000, 100_000] {
+        let bytes = large_model(activities).encode();
+        let bytes = black_box(bytes.as_slice());
+        let (mut rows, mut work) = (vec![0; 2 * activities], vec![0; 4 * activities]);
+        let decoded = || model::decode(bytes);
+        line("decoding", activities, 15, decoded, || assert!(ours::decodes(bytes)));
+        let outlined = || decoded().map(|m| (outline::rows(&m), m));
+        line("outline, with decoding", activities, 15, outlined, || assert_eq!(ours::outline(bytes, &mut rows, &mut work).0, 0));
+        line("day sheet", activities, 15, || sheet::sheet(bytes, 3, 20_536), || assert_eq!(ours::day_sheet(bytes, 3, 20_536, &mut [0; 64]).0, 0));
+        rows_alone(bytes, activities, &mut rows, &mut work);
+    }
+    let bytes = large_model(10_000).encode();
+    line("check", 10_000, 1, || check::check(&bytes), || assert_eq!(ours::check(&bytes, &mut []), 0));
+    println!("\nThe models have {} and {} bytes.", bytes.len(), large_model(100_000).encode().len());
+}
+
+/// The rows of a model that is decoded before; ours by the difference from a call that is refused after its decoding.
+fn rows_alone(bytes: &[u8], activities: usize, rows: &mut [u32], work: &mut [u32]) {
+    let Ok(decoded) = model::decode(bytes) else { return };
+    let mut best = [Duration::MAX; 3];
+    for _ in 0..15 {
+        best[0] = best[0].min(timed(|| outline::rows(&decoded)));
+        best[1] = best[1].min(timed(|| assert_eq!(ours::outline(bytes, rows, work).0, 0)));
+        best[2] = best[2].min(timed(|| assert_eq!(ours::outline(bytes, &mut [], &mut []).0, 9)));
+    }
+    let [rust, whole, refused] = best.map(|time| time.as_secs_f64() * 1e3);
+    let ours = whole - refused;
+    println!("| outline, its rows alone | {activities} | {rust:.3} | {ours:.3} | {:.2} |", ours / rust);
 }

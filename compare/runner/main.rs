@@ -4,6 +4,7 @@ mod bench;
 #[cfg(days)]
 mod days;
 mod leaves;
+mod models;
 mod ours;
 mod shrink;
 mod trees;
@@ -11,24 +12,41 @@ mod written;
 
 use std::process::ExitCode;
 
-const USAGE: &str = "runner [SEED [COUNT]]   SEED: of the random inputs, by default 1; COUNT: random texts of each kind, by default 200000;\na tenth as many trees and five times as many rules";
+const USAGE: &str = "runner [SEED [COUNT [PART]]]   SEED: of the random inputs, by default 1; COUNT: random texts of each kind, by default 200000;
+a tenth as many trees, five times as many models and rules; PART: texts, trees, models, days or times alone, by default all";
 
 fn main() -> ExitCode {
-    let mut args = std::env::args().skip(1).map(|word| word.parse::<u64>());
-    let (Ok(seed), Ok(count), None) = (args.next().unwrap_or(Ok(1)), args.next().unwrap_or(Ok(200_000)), args.next()) else {
+    let words: Vec<String> = std::env::args().skip(1).collect();
+    let number = |at: usize, usual: u64| words.get(at).map_or(Ok(usual), |word| word.parse::<u64>());
+    let part = words.get(2).map_or("all", String::as_str);
+    let (Ok(seed), Ok(count), true, ..=3) =
+        (number(0, 1), number(1, 200_000), ["all", "texts", "trees", "models", "days", "times"].contains(&part), words.len())
+    else {
         eprintln!("{USAGE}");
         return ExitCode::FAILURE;
     };
-    #[cfg_attr(not(days), expect(unused_mut))]
-    let mut differ = leaves::compare(seed, count) + written::compare(seed, count) + trees::compare(seed, count / 10);
+    let asked = |name: &str| part == name || part == "all";
+    let mut differ = 0;
+    if asked("texts") {
+        differ += leaves::compare(seed, count) + written::compare(seed, count);
+    }
+    if asked("trees") {
+        differ += trees::compare(seed, count / 10);
+    }
+    if asked("models") {
+        differ += models::compare(seed, count * 5);
+    }
     #[cfg(days)]
-    {
+    if asked("days") {
         differ += days::compare(seed, count * 5);
     }
     println!("\n{differ} differ in all\n");
-    bench::table(seed);
-    trees::bench();
-    #[cfg(days)]
-    days::bench(seed);
+    if asked("times") {
+        bench::table(seed);
+        trees::bench();
+        bench::models();
+        #[cfg(days)]
+        days::bench(seed);
+    }
     if differ == 0 { ExitCode::SUCCESS } else { ExitCode::FAILURE }
 }

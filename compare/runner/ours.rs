@@ -19,6 +19,10 @@ unsafe extern "C" {
     fn probe_tree(s: *const u8, len: usize) -> u32;
     fn mspdi_duration(minutes: i64, text: *mut u8, len: usize, written: *mut u64) -> u32;
     fn mspdi_time(minutes: u32, text: *mut u8, len: usize, written: *mut u64) -> u32;
+    fn mspdi_check(model: *const u8, len: usize, work: *mut u32, work_len: usize) -> u32;
+    fn mspdi_outline(model: *const u8, len: usize, rows: *mut u32, rows_len: usize, work: *mut u32, work_len: usize, count: *mut u64) -> u32;
+    fn mspdi_day_sheet(model: *const u8, len: usize, calendar: u32, date: i32, sheet: *mut u8, sheet_len: usize, written: *mut u64) -> u32;
+    fn probe_model(s: *const u8, len: usize) -> u32;
 }
 
 /// What a leaf gives.
@@ -87,6 +91,33 @@ pub fn time_text(minutes: u32, text: &mut [u8]) -> (u32, u64) {
     let mut written = u64::MAX;
     // Sound: as above.
     let number = unsafe { mspdi_time(minutes, text.as_mut_ptr(), text.len(), &mut written) };
+    (number, written)
+}
+
+/// Whether a model decodes.
+pub fn decodes(model: &[u8]) -> bool {
+    // Sound: as above.
+    unsafe { probe_model(model.as_ptr(), model.len()) == 1 }
+}
+
+pub fn check(model: &[u8], work: &mut [u32]) -> u32 {
+    // Sound: as above.
+    unsafe { mspdi_check(model.as_ptr(), model.len(), work.as_mut_ptr(), work.len()) }
+}
+
+/// The refusal's number or 0, and how many rows were written.
+pub fn outline(model: &[u8], rows: &mut [u32], work: &mut [u32]) -> (u32, u64) {
+    let mut count = u64::MAX;
+    // Sound: as above.
+    let number = unsafe { mspdi_outline(model.as_ptr(), model.len(), rows.as_mut_ptr(), rows.len(), work.as_mut_ptr(), work.len(), &mut count) };
+    (number, count)
+}
+
+/// The refusal's number or 0, and how many bytes were written.
+pub fn day_sheet(model: &[u8], calendar: u32, date: i32, sheet: &mut [u8]) -> (u32, u64) {
+    let mut written = u64::MAX;
+    // Sound: as above.
+    let number = unsafe { mspdi_day_sheet(model.as_ptr(), model.len(), calendar, date, sheet.as_mut_ptr(), sheet.len(), &mut written) };
     (number, written)
 }
 

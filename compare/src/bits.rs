@@ -52,20 +52,23 @@ impl<'a> BitReader<'a> {
         BitReader { bytes, at: 0 }
     }
 
-    /// The next `width` bits, if they are there.
+    /// The next `width` bits, at most 64, if they are there.
     pub fn take(&mut self, width: u32) -> Option<u64> {
         let end = self.at + width as usize;
         if end > self.bytes.len() * 8 {
             return None;
         }
-        let mut value = 0u64;
-        while self.at < end {
-            let (byte, bit) = (self.bytes[self.at / 8] as u64, self.at % 8);
-            let step = (8 - bit).min(end - self.at);
-            value = value << step | (byte >> (8 - bit - step)) & ((1 << step) - 1);
-            self.at += step;
+        let (byte, bit) = (self.at / 8, self.at % 8);
+        self.at = end;
+        match self.bytes[byte..].first_chunk::<16>() {
+            Some(ahead) => Some(field(u128::from_be_bytes(*ahead), bit, width)),
+            // The last bytes, with zeros behind them.
+            None => {
+                let mut ahead = [0; 16];
+                ahead[..self.bytes.len() - byte].copy_from_slice(&self.bytes[byte..]);
+                Some(field(u128::from_be_bytes(ahead), bit, width))
+            }
         }
-        Some(value)
     }
 
     /// Goes to a whole byte; whether the bits passed over are zeros.
@@ -85,4 +88,14 @@ impl<'a> BitReader<'a> {
     pub fn at_end(&self) -> bool {
         self.at == self.bytes.len() * 8
     }
+
+    /// How many bytes are left.
+    pub fn left(&self) -> usize {
+        self.bytes.len() - self.at.div_ceil(8)
+    }
+}
+
+/// `width` bits of the 128 after the first `skip`, which are fewer than 8.
+fn field(ahead: u128, skip: usize, width: u32) -> u64 {
+    if width == 0 { 0 } else { (ahead << skip >> (128 - width)) as u64 }
 }

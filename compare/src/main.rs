@@ -8,7 +8,8 @@ use oracle::rng::Rng;
 use oracle::{bench, check, exception, generate, hex, outline, read, selftest, sheet};
 
 const USAGE: &str = "oracle read | readlines | leaf KIND | durtext | timetext | days | nth Y M ITEM POSITION | check | outline | sheet
-oracle gen SEED COUNT | genleaf KIND SEED COUNT | genrule SEED COUNT | genmodel SEED COUNT | fixed KIND | limit [NAME]
+oracle gen SEED COUNT | genleaf KIND SEED COUNT | genrule SEED COUNT | genmodel SEED COUNT | genodd SEED COUNT
+oracle fixed KIND | limit [NAME]
 oracle selftest [COUNT] | bigtree TASKS FIELDS | bench-tree FILE | bench-read FILE
 KIND: date time duration number i64 u64 u32 u16 i32 trim utf8";
 
@@ -45,6 +46,7 @@ fn run(args: &[&str]) -> io::Result<bool> {
         ["gen", seed, count] => generated(seed, count, generate::packed_tree)?,
         ["genrule", seed, count] => generated(seed, count, generate::packed_rule)?,
         ["genmodel", seed, count] => generated(seed, count, generate::packed_model)?,
+        ["genodd", seed, count] => numbered(seed, count, generate::packed_odd)?,
         ["genleaf", kind, seed, count] => {
             let kind = kind_named(kind)?;
             generated(seed, count, |rng| generate::leaf_text(kind, rng))?;
@@ -153,8 +155,13 @@ fn write_bytes(bytes: &[u8]) -> io::Result<()> {
 
 /// `count` random inputs as hex; each has its own generator, so that input k is the same for every count.
 fn generated(seed: &str, count: &str, make: impl Fn(&mut Rng) -> Vec<u8>) -> io::Result<()> {
+    numbered(seed, count, |rng, _| make(rng))
+}
+
+/// The same of inputs that are made by their number too.
+fn numbered(seed: &str, count: &str, make: impl Fn(&mut Rng, usize) -> Vec<u8>) -> io::Result<()> {
     let (seed, count): (u64, u64) = (number(seed)?, number(count)?);
-    say_all((0..count).map(|k| hex::encode(&make(&mut Rng::new(seed.wrapping_add(k << 32))))))
+    say_all((0..count).map(|k| hex::encode(&make(&mut Rng::new(seed.wrapping_add(k << 32)), k as usize))))
 }
 
 fn bench_line(what: &str, file: &str, run: impl Fn(&[u8]) -> std::time::Duration) -> io::Result<()> {

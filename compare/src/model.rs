@@ -386,7 +386,8 @@ impl BitReader<'_> {
     }
 
     fn records<T>(&mut self, count: u32, get: impl Fn(&mut Self) -> Decoded<T>) -> Decoded<Vec<T>> {
-        let mut items = Vec::new();
+        // A record has 18 bytes at least: a link.
+        let mut items = Vec::with_capacity((count as usize).min(self.left() / 18));
         for _ in 0..count {
             items.push(get(self)?);
             self.pad()?;

@@ -2,13 +2,18 @@
 
 use crate::Refusal;
 use crate::bits::BitWriter;
-use crate::model::{self, Calendar, FIRST_DAY, LAST_DAY, Period};
+use crate::model::{self, Calendar, FIRST_DAY, LAST_DAY, Model, Period};
 
 const DEFAULT_PERIODS: [Period; 2] = [(480, 720), (780, 1020)];
 
 /// The sheet of a date in the calendar of that row; 6 or 8, the lowest that applies.
 pub fn sheet(bytes: &[u8], calendar: u32, date: i32) -> Result<Vec<u8>, Refusal> {
     let model = model::decode(bytes).map_err(|_| 6u32)?;
+    sheet_of(&model, calendar, date)
+}
+
+/// The same of a model that decoded.
+pub fn sheet_of(model: &Model, calendar: u32, date: i32) -> Result<Vec<u8>, Refusal> {
     let calendar = model.calendars.get(calendar as usize).ok_or(8u32)?;
     if !(FIRST_DAY..=LAST_DAY).contains(&date) {
         return Err(8);

@@ -4,8 +4,11 @@
 //! The boundary that is called is `mspdi.h` beside this crate.
 
 mod boundary;
+mod model;
 
 use std::fmt;
+
+pub use model::{DaySheet, Period, Row, Weekday, check, day_sheet, outline};
 
 use boundary::Outcome;
 
@@ -29,7 +32,7 @@ pub enum Refusal {
     CheckFailed,
     /// 8: a value asked for lies outside its range.
     OutOfRange,
-    /// 9: the result is longer than its buffer.
+    /// 9: the result is longer than its buffer. The functions here make their buffers long enough.
     NoRoom,
     /// A number that the library's document does not name.
     Unknown(u32),

@@ -29,7 +29,8 @@ fn decoding(rng: &mut Rng) -> Vec<u8> {
     }
 }
 
-fn read_one(rng: &mut Rng) -> Vec<u8> {
+/// A model that the Rust reads from a random tree.
+pub fn read_one(rng: &mut Rng) -> Vec<u8> {
     loop {
         if let Ok(model) = read::read_model(&project::packed_tree(rng)) {
             return model;

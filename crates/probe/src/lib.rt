@@ -2,13 +2,14 @@
 // there is a value, which `out` then holds, 1 where there is none and 2 where document 01 refuses a number as too long, with 0 in `out`.
 ghost use mathlib.Core.Path.{_≡_};
 ghost use lib.ListN.{length};
-ghost use Rattle.definition.specs.Base.{same};
+ghost use Rattle.definition.specs.Base.{same, given};
 ghost use Rattle.definition.specs.Text.{trim, isUtf8, unsignedOf, signedOf};
 ghost use Rattle.definition.specs.Date.{dateOf};
 ghost use Rattle.definition.specs.Number.{numberOf as numberText};
 ghost use Rattle.definition.specs.Duration.{durationOf};
 ghost use Rattle.definition.specs.Time.{timeOf};
 ghost use Rattle.definition.specs.Refusal.{treeRefusal};
+ghost use Rattle.definition.specs.Pack.{decode};
 ghost use Rattle.text.specs.Answers.{u64Of, u32Of, u16Of, i64Of, i32Of};
 ghost use Rattle.date.specs.Answer.{dateMeaning, numberOf};
 ghost use Rattle.number.specs.Number.{meaning as numberMeaning};
@@ -277,4 +278,15 @@ pub extern "C" fn probe_tree(s: &[u8]) -> u32
     ensures { λ r. ⌜ r ≡ treeRefusal (now (s .entry)) ⌝ }
 {
     tree::judge(s)
+}
+
+// ---- models
+
+// Whether a model decodes.
+#[no_mangle]
+pub extern "C" fn probe_model(s: &[u8]) -> u32
+    ensures { λ r. ⌜ r ≡ one (given (decode (now (s .entry)))) ⌝ }
+{
+    let m = model::open(s);
+    as_number(m.ok)
 }
