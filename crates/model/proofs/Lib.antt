@@ -1,3 +1,2 @@
 pub mod Single
 pub mod Several
-pub mod Opening

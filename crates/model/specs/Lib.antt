@@ -6,3 +6,4 @@ pub mod Splits
 pub mod Sections
 pub mod Places
 pub mod Lists
+pub mod Opening

@@ -4,7 +4,7 @@ use mathlib.Core.Path.{_≡_, refl, sym}
 use mathlib.Core.Bool.{Bool, true, false}
 use mathlib.Core.List.{List}
 use mathlib.Core.Option.{Option, some}
-use Prim.Native.Nat.{ℕ, _+_, _-_, _*_, _≤_}
+use Prim.Native.Nat.{ℕ, _+_, _-_, _*_, _%_, _≤_}
 use native.Mathlib.Omega.{arith}
 use lib.ListN.{length, take, drop}
 use lib.Dec.{ltb}
@@ -58,16 +58,19 @@ pub record NameAt (s : List ℕ) (p : Place) (r : Name) : Type 0 where
   pub missing : r .given ≡ false → spanIn r ≡ record { start = 0; len = 0; next = behind }
 
 -- the fields of an activity before its parent: id, name, kind, duration, minutes
-pub record BeforeParent (s : List ℕ) (p q : Place) : Type 0 where
+pub record BeforeParentBy (check : Bool) (s : List ℕ) (p q : Place) : Type 0 where
   pub name : Place
   pub kind : Place
   pub duration : Place
   pub minutes : Place
-  pub passes-id : Passes (textBy false) s p name
-  pub passes-name : Passes (textBy false) s name kind
+  pub passes-id : Passes (textBy check) s p name
+  pub passes-name : Passes (textBy check) s name kind
   pub passes-kind : Passes (code 0 2) s kind duration
   pub passes-duration : Passes number s duration minutes
   pub passes-minutes : Passes (optional number) s minutes q
+
+abbrev pub BeforeParent : List ℕ → Place → Place → Type 0
+BeforeParent = BeforeParentBy false
 
 -- those before its calendar's name: its parent, its notes
 pub record BeforeName (s : List ℕ) (p q : Place) : Type 0 where
@@ -152,12 +155,12 @@ module _ {s : List ℕ} {p : Place} {a : Activity} (h : Stands (whole activity) 
   unfolding activity
   activity-id = let u = stands-named _ _ (stands-whole h) in rw (u .is) (stands-first _ (u .stands))
 
-  pub activity-parent : {q : Place} → BeforeParent s p q → Stands (optional row) s q (a .parent)
+  pub activity-parent : {check : Bool} {q : Place} → BeforeParentBy check s p q → Stands (optional row) s q (a .parent)
   unfolding activity
-  activity-parent b =
+  activity-parent {check} b =
       let u = stands-named _ _ (stands-whole h) in
-      let x1 = stands-next (u .stands) (lax-text false) (b .passes-id) in
-      let x2 = stands-next x1 (lax-text false) (b .passes-name) in
+      let x1 = stands-next (u .stands) (lax-text check) (b .passes-id) in
+      let x2 = stands-next x1 (lax-text check) (b .passes-name) in
       let x3 = stands-pass x2 (b .passes-kind) in
       let x4 = stands-pass x3 (b .passes-duration) in
       let x5 = stands-pass x4 (b .passes-minutes) in
@@ -178,12 +181,12 @@ module _ {s : List ℕ} {p : Place} {a : Activity} (h : Stands (whole activity) 
       rw (u .is) (stands-first _ x7)
 
 -- the fields before the parent, the parent, and what is behind it make the record
-pub activity-passed : {s : List ℕ} {p q n k r : Place} {o : Option ℕ} → BeforeParent s p q → Reads (optional row) s q o n → Passes (activityNotes (textBy false)) s n k
-    → r ≡ padAt s k → Passes (recordOf false Activities) s p r
+pub activity-passed : {check : Bool} {s : List ℕ} {p q n k r : Place} {o : Option ℕ} → BeforeParentBy check s p q → Reads (optional row) s q o n
+    → Passes (activityNotes (textBy check)) s n k → r ≡ padAt s k → Passes (recordOf check Activities) s p r × (r .bit % 8 ≡ 0)
 unfolding recordOf activityParts
 activity-passed b e i z =
-    pass-as refl
-    (ended (b .passes-id ⨾ b .passes-name ⨾ b .passes-kind ⨾ b .passes-duration ⨾ b .passes-minutes ⨾ pass-read e ⨾ i) z .0)
+    let x = ended (b .passes-id ⨾ b .passes-name ⨾ b .passes-kind ⨾ b .passes-duration ⨾ b .passes-minutes ⨾ pass-read e ⨾ i) z in
+    (pass-as refl (x .0), x .1)
 
 -- ---- resources
 

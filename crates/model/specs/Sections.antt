@@ -1,13 +1,14 @@
 -- What the decoding pass answers: whether the bytes are a model, and where its sections stand. Assumes nothing.
 use mathlib.Core.Path.{_≡_, refl, sym, _∙_}
-use mathlib.Core.Bool.{Bool, true, false}
+use mathlib.Core.Bool.{Bool, true, false, _&&_}
 use mathlib.Core.List.{List}
 use mathlib.Core.Option.{some, none}
 use Prim.Native.Nat.{ℕ, _+_, _-_, _*_, _%_, _≤_, _<_}
 use native.Mathlib.Nat.{sub-zero}
 use native.Mathlib.Omega.{arith}
 use lib.ListN.{length, drop}
-use Rattle.definition.specs.Base.{given}
+use lib.Dec.{eqb}
+use Rattle.definition.specs.Base.{if_then_else_, given}
 use Rattle.definition.specs.Bits.{Bits, bitsOf}
 use Rattle.definition.specs.Format.{Format, whole, times}
 use Rattle.definition.specs.Model.{Model}
@@ -64,6 +65,21 @@ empty = record { count = 0; at = 0 }
 
 abbrev pub noSections : Sections
 noSections = record { ok = false; calendars = empty; activities = empty; links = empty; resources = empty; assignments = empty; expenses = empty }
+
+-- the sections between these places, if the last one ends where so many bytes end
+abbrev pub sectionsOf : Counts → Places → Sections
+sectionsOf n w = record {
+  ok = true;
+  calendars = record { count = n .calendars; at = w .calendars .byte };
+  activities = record { count = n .activities; at = w .activities .byte };
+  links = record { count = n .links; at = w .links .byte };
+  resources = record { count = n .resources; at = w .resources .byte };
+  assignments = record { count = n .assignments; at = w .assignments .byte };
+  expenses = record { count = n .expenses; at = w .expenses .byte };
+}
+
+abbrev pub sectionsBy : ℕ → Counts → Places → Sections
+sectionsBy len n w = if eqb (w .end .bit) 0 && eqb (w .end .byte) len then sectionsOf n w else noSections
 
 -- the answer: whether the bytes decode; the sections if they do; and zeros if not
 pub record Opened (s : List ℕ) (r : Sections) : Type 0 where

@@ -6,7 +6,8 @@ pub mod parts; // the parts of records
 
 ghost use Rattle.definition.specs.Pack.{counts};
 ghost use Rattle.bits.specs.Reads.{Reads};
-ghost use Rattle.model.specs.Sections.{start, countsIn, Walks, Opened};
+ghost use mathlib.Core.Path.{_≡_};
+ghost use Rattle.model.specs.Sections.{start, countsIn, sectionsBy, Walks, Opened};
 use crate::records::Kind;
 use crate::records::skip_project;
 use crate::records::skip_records;
@@ -42,17 +43,17 @@ const NO_SECTIONS: Sections = Sections {
 };
 
 // The six counts, and the place behind them.
-struct Counts {
-    calendars: u32,
-    activities: u32,
-    links: u32,
-    resources: u32,
-    assignments: u32,
-    expenses: u32,
-    next: Place,
+pub struct Counts {
+    pub calendars: u32,
+    pub activities: u32,
+    pub links: u32,
+    pub resources: u32,
+    pub assignments: u32,
+    pub expenses: u32,
+    pub next: Place,
 }
 
-fn take_counts(s: &[u8]) -> Counts
+pub fn take_counts(s: &[u8]) -> Counts
     ensures { λ r. ⌜ Reads counts (now (s .entry)) start (countsIn r) (r .next) ⌝ }
 {
     let a = bits::take(s, Place { byte: 0, bit: 0 }, 32);
@@ -74,14 +75,14 @@ fn take_counts(s: &[u8]) -> Counts
 }
 
 // Where each section begins, and where the last one ends.
-struct Places {
-    calendars: Place,
-    activities: Place,
-    links: Place,
-    resources: Place,
-    assignments: Place,
-    expenses: Place,
-    end: Place,
+pub struct Places {
+    pub calendars: Place,
+    pub activities: Place,
+    pub links: Place,
+    pub resources: Place,
+    pub assignments: Place,
+    pub expenses: Place,
+    pub end: Place,
 }
 
 fn walk(s: &[u8], n: Counts) -> Places
@@ -105,47 +106,47 @@ fn walk(s: &[u8], n: Counts) -> Places
     }
 }
 
+// The sections of so many bytes, if the last one ends where they end.
+pub fn sections_of(len: usize, n: Counts, w: Places) -> Sections
+    ensures { λ r. ⌜ r ≡ sectionsBy len n w ⌝ }
+{
+    let end = w.end;
+    if (end.bit == 0) & (end.byte == len) {
+        return Sections {
+            ok: true,
+            calendars: Section {
+                count: n.calendars,
+                at: w.calendars.byte,
+            },
+            activities: Section {
+                count: n.activities,
+                at: w.activities.byte,
+            },
+            links: Section {
+                count: n.links,
+                at: w.links.byte,
+            },
+            resources: Section {
+                count: n.resources,
+                at: w.resources.byte,
+            },
+            assignments: Section {
+                count: n.assignments,
+                at: w.assignments.byte,
+            },
+            expenses: Section {
+                count: n.expenses,
+                at: w.expenses.byte,
+            },
+        };
+    }
+    NO_SECTIONS
+}
+
 // The one pass that decodes a model: it is refused, or these are its sections.
 pub fn open(s: &[u8]) -> Sections
     ensures { λ r. ⌜ Opened (now (s .entry)) r ⌝ }
 {
     let n = take_counts(s);
-    let w = walk(s, n);
-    let end = w.end;
-    if 0 < end.bit {
-        return NO_SECTIONS;
-    }
-    if end.byte < s.len() {
-        return NO_SECTIONS;
-    }
-    if s.len() < end.byte {
-        return NO_SECTIONS;
-    }
-    Sections {
-        ok: true,
-        calendars: Section {
-            count: n.calendars,
-            at: w.calendars.byte,
-        },
-        activities: Section {
-            count: n.activities,
-            at: w.activities.byte,
-        },
-        links: Section {
-            count: n.links,
-            at: w.links.byte,
-        },
-        resources: Section {
-            count: n.resources,
-            at: w.resources.byte,
-        },
-        assignments: Section {
-            count: n.assignments,
-            at: w.assignments.byte,
-        },
-        expenses: Section {
-            count: n.expenses,
-            at: w.expenses.byte,
-        },
-    }
+    sections_of(s.len(), n, walk(s, n))
 }

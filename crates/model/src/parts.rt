@@ -4,7 +4,7 @@ ghost use Rattle.definition.specs.Format.{optional, row, times, date, period, p
 ghost use Rattle.bits.specs.Reads.{Reads};
 ghost use Rattle.model.specs.Passes.{Passes};
 ghost use Rattle.model.specs.Rising.{Finds, PeriodKey, DayKey};
-ghost use Rattle.model.specs.Places.{rowIn, RowsAt, NameAt, BeforeParent, BeforeName, BeforePrice, CalendarAt};
+ghost use Rattle.model.specs.Places.{rowIn, RowsAt, NameAt, BeforeParentBy, BeforeParent, BeforeName, BeforePrice, CalendarAt};
 use crate::fields::skip;
 use crate::fields::skip_code;
 use crate::fields::skip_optional;
@@ -118,15 +118,21 @@ pub fn skip_periods(s: &[u8], p: Place) -> Place
 
 // ---- where a part of a record stands, from the record's place
 
-// An activity's parent.
-pub fn parent_place(s: &[u8], p: Place) -> Place
-    ensures { λ r. ⌜ BeforeParent (now (s .entry)) p r ⌝ }
+// An activity's parent. The texts before it are tested where `check` says so.
+pub fn parent_place_by(s: &[u8], p: Place, check: bool) -> Place
+    ensures { λ r. ⌜ BeforeParentBy check (now (s .entry)) p r ⌝ }
 {
-    let a = skip_text(s, p, false);
-    let b = skip_text(s, a, false);
+    let a = skip_text(s, p, check);
+    let b = skip_text(s, a, check);
     let c = skip_code(s, b, 0, 2);
     let d = skip(s, c, 64);
     skip_optional(s, d, 64)
+}
+
+pub fn parent_place(s: &[u8], p: Place) -> Place
+    ensures { λ r. ⌜ BeforeParent (now (s .entry)) p r ⌝ }
+{
+    parent_place_by(s, p, false)
 }
 
 // The name of an activity's calendar.

@@ -1,9 +1,9 @@
 -- A turn of the loop that puts the parents into the words: the record at a place is that of the next activity, and its parent's word is the
 -- activity's. Assumes nothing.
-use mathlib.Core.Path.{_≡_, refl, sym, ap, _∙_}
+use mathlib.Core.Path.{_≡_, refl, sym, ap, subst, _∙_}
 use mathlib.Core.Bool.{Bool, true, false}
 use mathlib.Core.List.{List, [], _∷_}
-use mathlib.Core.Option.{none}
+use mathlib.Core.Option.{Option, some, none}
 use Prim.Native.Nat.{ℕ, zero, suc, _+_, _-_, _*_, _≤_, _<_}
 use native.Mathlib.Omega.{arith}
 use borrow.Author.Tests.{eqb-true, eqb-false}
@@ -13,10 +13,14 @@ use lib.Seq.{getD-set-same, getD-set-other}
 use Rattle.definition.specs.Format.{whole, times}
 use Rattle.definition.specs.Model.{Activity}
 use Rattle.definition.specs.Pack.{activity}
-use Rattle.bits.specs.Reads.{Reads}
+use Rattle.definition.specs.Base.{_>>=_}
+use Rattle.definition.specs.Format.{Format}
+use Rattle.definition.specs.Bits.{Bits}
+use Rattle.bits.specs.Places.{room-short}
+use Rattle.bits.specs.Reads.{rest, Reads, rest-out}
 use Rattle.bits.specs.declared.Place.{Place}
 use Rattle.model.specs.Parts.{lax-activities}
-use Rattle.model.specs.Sections.{Holds, byteAt, none-passed, one-passed}
+use Rattle.model.specs.Sections.{Holds, byteAt, byte-rest, none-passed, one-passed}
 use Rattle.model.specs.declared.Section.{Section}
 use Rattle.outline.specs.Steps.{wordOf}
 use Rattle.outline.specs.declared.parents.Parent.{Parent}
@@ -35,13 +39,13 @@ pub record Turn (s : List ℕ) (x : Section) (xs : List Activity) (next : ℕ) (
   pub names : Names xs i w
 
 module _ {s : List ℕ} {x : Section} {xs : List Activity} {next : ℕ} (h : Holds activity s x xs next) where
-  pub turn-none : (w : List ℕ) → Turn s x xs next (byteAt (x .at)) 0 w
-  turn-none w = record { left = none-passed h; names = λ r k. absurd (omega arith) }
+  pub turn-none : {p : Place} (w : List ℕ) → p ≡ byteAt (x .at) → Turn s x xs next p 0 w
+  turn-none w e = record { left = subst (λ (q : Place). Reads (times (x .count - 0) (whole activity)) s q (drop 0 xs) (byteAt next)) (sym e) (none-passed h); names = λ r k. absurd (omega arith) }
 
   pub turn-more : {q : Place} {w : List ℕ} {a : Parent} (i : ℕ) → i < x .count → 4 * x .count ≤ length w → Turn s x xs next q i w → ParentAt s q a
       → Turn s x xs next (a .next) (i + 1) (set w (4 * i + 0) (a .word))
   turn-more {w = w} {a} i l room t p =
-      let u = one-passed h i (lax-activities false) (t .left) l (p .next) in
+      let u = one-passed h i (lax-activities true) (t .left) l (p .next) in
       record { left = u .on; names = λ r k. at r k (eqb r i) refl (p .word (u .item) (u .stands) ∙ ap wordOf (sym (parent-at xs i (u .is)))) }
     where
       at : (r : ℕ) → r < i + 1 → (b : Bool) → eqb r i ≡ b → a .word ≡ wordOf (getD (parents xs) i none)
@@ -53,3 +57,15 @@ module _ {s : List ℕ} {x : Section} {xs : List Activity} {next : ℕ} (h : Hol
       at r k false e g =
           let z : r ≡ i → ⊥ = eqb-false r i e in
           getD-set-other w (4 * i + 0) (4 * r) (a .word) 0 (λ y. z (omega arith)) ∙ t .names r (omega (arith, z))
+
+  -- a place past every end is none of theirs
+  pub turn-far : {q : Place} {w : List ℕ} {A : Type 0} (i : ℕ) → Turn s x xs next q i w → rest s q ≡ none → A
+  turn-far {q} i t e =
+      let f : Format (List Activity) = times (x .count - i) (whole activity) in
+      let z : _≡_ {A = Option (List Activity × Bits)} none (some (drop i xs, _)) =
+      sym (ap (λ (o : Option Bits). o >>= f .get) e) ∙ t .left .reads ∙ ap (λ (o : Option Bits). o >>= λ l. some (drop i xs, l)) (byte-rest s next (h .ends)) in
+      let y : _≡_ {A = ℕ} 0 1 = cc in
+      absurd (omega arith)
+
+pub far : (s : List ℕ) (q : Place) → 7 < q .bit → rest s q ≡ none
+far s q h = rest-out s q (room-short (length s) q 0 (λ b. absurd (omega arith)))

@@ -11,8 +11,9 @@ ghost use lib.Dec.{ltb};
 ghost use Rattle.outline.specs.Answers.{Gives};
 ghost use Rattle.outline.specs.Words.{Outlined};
 ghost use Rattle.outline.specs.Steps.{Empty, Linked, Stepped, Climbed, Walked, Wrote, pushed, linkOf};
-use crate::parents::fill;
-use model::open;
+use crate::parents::walk_model;
+use model::sections_of;
+use model::take_counts;
 
 // A word that names no row.
 const NONE: u32 = 0xFFFF_FFFF;
@@ -233,12 +234,12 @@ fn is_short(n: u32, rows: usize, work: usize) -> bool
 pub fn outline(s: &[u8], rows: &mut [u32], work: &mut [u32]) -> OutlineAnswer
     ensures { λ r. ⌜ Gives (now (s .entry)) (now (rows .entry)) (now (work .entry)) (now (rows .exit)) (now (work .exit)) r ⌝ }
 {
-    let m = open(s);
-    let activities = m.activities;
-    let n = activities.count;
+    let counts = take_counts(s);
+    let places = walk_model(s, counts, work);
+    let m = sections_of(s.len(), counts, places);
+    let n = m.activities.count;
     let short = is_short(n, rows.len(), work.len());
     if m.ok & !short {
-        fill(s, activities, work);
         return OutlineAnswer::Rows(outline_rows(n, rows, work));
     }
     clear(rows, 0);

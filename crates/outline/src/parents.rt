@@ -1,18 +1,22 @@
-// The parents of a model's activities, put where `outline_rows` looks for them.
+// The parents of a model's activities, put where `outline_rows` looks for them while the model is decoded.
 ghost use mathlib.Core.Path.{_≡_};
 ghost use Rattle.model.specs.Places.{rowIn};
 ghost use Rattle.outline.specs.Steps.{wordOf};
-ghost use Rattle.outline.specs.Filled.{ParentAt, Filled};
+ghost use Rattle.outline.specs.Filled.{ParentAt, Filled, Walked};
 use crate::NONE;
 use crate::PARENT;
 use crate::set_field;
 use bits::Place;
 use bits::take_pad;
-use model::Section;
+use model::Counts;
+use model::Places;
 use model::parts::Row;
-use model::parts::parent_place;
+use model::parts::parent_place_by;
 use model::parts::take_row;
+use model::records::Kind;
 use model::records::skip_from_notes;
+use model::records::skip_project;
+use model::records::skip_records;
 
 // The word for a parent.
 fn word_of(parent: Row) -> u32
@@ -30,9 +34,9 @@ struct Parent {
 fn take_parent(s: &[u8], p: Place) -> Parent
     ensures { λ r. ⌜ ParentAt (now (s .entry)) p r ⌝ }
 {
-    let at = parent_place(s, p);
+    let at = parent_place_by(s, p, true);
     let parent = take_row(s, at);
-    let end = skip_from_notes(s, parent.next, false);
+    let end = skip_from_notes(s, parent.next, true);
     let next = take_pad(s, end);
     Parent {
         word: word_of(parent),
@@ -40,21 +44,43 @@ fn take_parent(s: &[u8], p: Place) -> Parent
     }
 }
 
-// Writes the parent of each activity into the first word of its row.
-pub fn fill(s: &[u8], activities: Section, work: &mut [u32])
-    ensures { λ _. ⌜ Filled (now (s .entry)) activities (now (work .entry)) (now (work .exit)) ⌝ }
+// Passes over so many activities and writes the parent of each into the first word of its row. It ends at the first that is refused.
+fn fill(s: &[u8], p: Place, count: u32, work: &mut [u32]) -> Place
+    ensures { λ r. ⌜ Filled (now (s .entry)) p count (now (work .entry)) (now (work .exit)) r ⌝ }
 {
-    let count = activities.count;
-    let mut at = Place {
-        byte: activities.at,
-        bit: 0,
-    };
+    let mut q = p;
     let mut i: u32 = 0;
     while i < count {
-        let parent = take_parent(s, at);
+        let parent = take_parent(s, q);
         set_field(work, i, PARENT, parent.word);
         let next = parent.next;
-        at = next;
+        q = next;
+        if 7 < q.bit {
+            return q;
+        }
         i += 1;
+    }
+    q
+}
+
+// The places between the sections, as model::open finds them, with the parents in the words.
+pub fn walk_model(s: &[u8], n: Counts, work: &mut [u32]) -> Places
+    ensures { λ r. ⌜ Walked (now (s .entry)) n (now (work .entry)) (now (work .exit)) r ⌝ }
+{
+    let calendars = skip_project(s, n.next);
+    let activities = skip_records(s, calendars, Kind::Calendars, n.calendars, true);
+    let links = fill(s, activities, n.activities, work);
+    let resources = skip_records(s, links, Kind::Links, n.links, true);
+    let assignments = skip_records(s, resources, Kind::Resources, n.resources, true);
+    let expenses = skip_records(s, assignments, Kind::Assignments, n.assignments, true);
+    let end = skip_records(s, expenses, Kind::Expenses, n.expenses, true);
+    Places {
+        calendars,
+        activities,
+        links,
+        resources,
+        assignments,
+        expenses,
+        end,
     }
 }

@@ -5,14 +5,17 @@ use borrow.Author.Needs.{needs}
 use Rattle.outline.proofs.outline.Statement.{statement}
 use Rattle.outline.proofs.outline.Tie as tie
 
-open-requires : tie.Need-open-requires
-open-requires c κs = search needs
+take-counts-requires : tie.Need-take-counts-requires
+take-counts-requires c κs = search needs
+
+walk-model-requires : tie.Need-walk-model-requires
+walk-model-requires c κs = search needs
+
+sections-of-requires : tie.Need-sections-of-requires
+sections-of-requires c κs = search needs
 
 is-short-requires : tie.Need-is-short-requires
 is-short-requires c κs = search needs
-
-fill-requires : tie.Need-fill-requires
-fill-requires c κs = search needs
 
 outline-rows-requires : tie.Need-outline-rows-requires
 outline-rows-requires c κs = search needs
@@ -25,12 +28,10 @@ same-length-2 c = search needs
 
 returns : tie.Need-returns
 returns c =
-    let o = c .before .before .before .before in
-    let f = o .before .before .before .before .before in
-    let i = f .before .before in
-    let k = i .before .before in
-    let p = k .before .before in
-    gives-rows (p .«open» .ensures) (k .is-short .ensures) (i .if1 .taken) (omega (arith, i .before .struct-known .given .1 .1 .0 .0 .fits)) (f .fill .ensures) (o .outline-rows .ensures)
+    let i = c .before .before .before .before .before .before .before in
+    let p = i .before .before .before in
+    let w = p .before .before .before in
+    gives-rows (w .before .before .take-counts .ensures) (w .walk-model .ensures) (p .sections-of .ensures) (i .before .before .is-short .ensures) (i .if1 .taken) (omega (arith, i .before .struct-known .given .1 .1 .0 .0 .fits)) (c .before .before .before .before .outline-rows .ensures)
 
 clear-requires : tie.Need-clear-requires
 clear-requires c κs = search needs
@@ -46,12 +47,10 @@ same-length-4 c = search needs
 
 returns-2 : tie.Need-returns-2
 returns-2 c =
-    let w = c .before .before .before in
-    let v = w .before .before .before .before in
-    let i = v .before .before in
-    let k = i .before .before in
-    let p = k .before .before in
-    gives-short (p .«open» .ensures) (k .is-short .ensures) (v .clear .ensures) (w .clear2 .ensures) (i .if1 .left) (c .if2 .taken)
+    let i = c .before .before .before .before .before .before .before .before .before in
+    let p = i .before .before .before in
+    let w = p .before .before .before in
+    gives-short (w .before .before .take-counts .ensures) (w .walk-model .ensures) (p .sections-of .ensures) (i .before .before .is-short .ensures) (c .before .before .before .before .before .before .before .clear .ensures) (c .before .before .before .clear2 .ensures) (i .if1 .left) (c .if2 .taken)
 
 same-length-5 : tie.Need-same-length-5
 same-length-5 c = search needs
@@ -61,19 +60,19 @@ same-length-6 c = search needs
 
 returns-3 : tie.Need-returns-3
 returns-3 c =
-    let w = c .before .before .before in
-    let v = w .before .before .before .before in
-    let k = v .before .before .before .before in
-    let p = k .before .before in
-    gives-no-model (p .«open» .ensures) (k .is-short .ensures) (v .clear .ensures) (w .clear2 .ensures) (c .if2 .left)
+    let i = c .before .before .before .before .before .before .before .before .before in
+    let p = i .before .before .before in
+    let w = p .before .before .before in
+    gives-no-model (w .before .before .take-counts .ensures) (w .walk-model .ensures) (p .sections-of .ensures) (i .before .before .is-short .ensures) (c .before .before .before .before .before .before .before .clear .ensures) (c .before .before .before .clear2 .ensures) (c .if2 .left)
 
 pub outline-spec : {M : Type 1} → statement M
 outline-spec =
     tie.close
     (tie.spec
-    open-requires
+    take-counts-requires
+    walk-model-requires
+    sections-of-requires
     is-short-requires
-    fill-requires
     outline-rows-requires
     same-length
     same-length-2

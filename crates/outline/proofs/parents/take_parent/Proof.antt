@@ -7,8 +7,8 @@ use borrow.Author.Needs.{needs}
 use Rattle.outline.proofs.parents.take_parent.Statement.{statement}
 use Rattle.outline.proofs.parents.take_parent.Tie as tie
 
-parent-place-requires : tie.Need-parent-place-requires
-parent-place-requires c κs = search needs
+parent-place-by-requires : tie.Need-parent-place-by-requires
+parent-place-by-requires c κs = search needs
 
 take-row-requires : tie.Need-take-row-requires
 take-row-requires c κs = search needs
@@ -24,15 +24,16 @@ word-of-requires c κs = search needs
 
 returns : tie.Need-returns
 returns c =
-    let b = c .before .before .before .before .parent-place .ensures in
+    let b = c .before .before .before .before .parent-place-by .ensures in
     let e = c .before .before .before .take-row .ensures in
-    record { word = λ a h. c .word-of .ensures ∙ ap wordOf (stands-is (activity-parent h b) e); next = activity-passed b e (c .before .before .skip-from-notes .ensures) (c .before .take-pad .ensures) }
+    let x = activity-passed b e (c .before .before .skip-from-notes .ensures) (c .before .take-pad .ensures) in
+    record { word = λ a h. c .word-of .ensures ∙ ap wordOf (stands-is (activity-parent h b) e); next = x .0; even = x .1 }
 
 pub take-parent-spec : {M : Type 1} → statement M
 take-parent-spec =
     tie.close
     (tie.spec
-    parent-place-requires
+    parent-place-by-requires
     take-row-requires
     skip-from-notes-requires
     take-pad-requires

@@ -1,12 +1,14 @@
 -- The decoding pass: the counts and the places between the sections tell whether the bytes decode, and to what. Assumes nothing.
 use mathlib.Core.Path.{_≡_, refl, sym, ap, _∙_}
-use mathlib.Core.Bool.{true}
+use mathlib.Core.Bool.{Bool, true, false, _&&_}
 use mathlib.Core.List.{List, [], _∷_}
 use mathlib.Core.Option.{Option, some, none}
 use Prim.Native.Nat.{ℕ, _-_, _*_, _%_}
 use native.Mathlib.Omega.{arith}
 use lib.ListN.{length, drop}
-use Rattle.definition.specs.Base.{_>>=_}
+use lib.Dec.{eqb}
+use borrow.Author.Tests.{eqb-true, eq-eqb}
+use Rattle.definition.specs.Base.{if_then_else_, _>>=_}
 use Rattle.definition.specs.Bits.{Bits, bitsOf}
 use Rattle.definition.specs.Format.{Format, whole, times}
 use Rattle.definition.specs.Model.{Model}
@@ -19,7 +21,7 @@ use Rattle.model.specs.declared.Counts.{Counts}
 use Rattle.model.specs.declared.Places.{Places}
 use Rattle.model.specs.Passes.{Passes, Told, refusing, reading, told, stood, bind-bind, _⨾_}
 use Rattle.model.specs.Splits.{split-⊗, read-length}
-use Rattle.model.specs.Sections.{byteAt, start, countsIn, Walks, Holds, Decoded, noSections, Opened, rest-fits, byte-place}
+use Rattle.model.specs.Sections.{byteAt, start, countsIn, Walks, Holds, Decoded, noSections, sectionsOf, sectionsBy, Opened, rest-fits, byte-place}
 
 -- ---- places
 
@@ -89,22 +91,11 @@ module _ {s : List ℕ} {n : Counts} {w : Places} (c : Reads counts s start (cou
 
   -- ---- it does
 
-  abbrev pub sectionsOf : Sections
-  sectionsOf = record {
-    ok = true;
-    calendars = record { count = n .calendars; at = w .calendars .byte };
-    activities = record { count = n .activities; at = w .activities .byte };
-    links = record { count = n .links; at = w .links .byte };
-    resources = record { count = n .resources; at = w .resources .byte };
-    assignments = record { count = n .assignments; at = w .assignments .byte };
-    expenses = record { count = n .expenses; at = w .expenses .byte };
-  }
-
   holds : {A : Type 0} (f : Format A) {p q : Place} {l : Bits} {xs : List A} (k : ℕ) → rest s q ≡ some l → p ≡ byteAt (p .byte) → q ≡ byteAt (q .byte)
       → Reads (times k (whole f)) s p xs q → Holds f s (record { count = k; at = p .byte }) xs (q .byte)
   holds f {q = q} k e ep eq r = record { count = read-length (whole f) k e r; reads = rw (← ep, ← eq) r; ends = omega (arith, rest-fits s q e .ends) }
 
-  parts : (b : Body) → rest s (w .end) ≡ some [] → Reads (body (countsIn n)) s (n .next) b (w .end) → Decoded s (modelFrom b) sectionsOf
+  parts : (b : Body) → rest s (w .end) ≡ some [] → Reads (body (countsIn n)) s (n .next) b (w .end) → Decoded s (modelFrom b) (sectionsOf n w)
   unfolding body
   parts b e r =
       let t0 = split-⊗ e r (h .project) in
@@ -137,13 +128,13 @@ module _ {s : List ℕ} {n : Counts} {w : Places} (c : Reads counts s start (cou
         expenses = rw (← pn) (holds expense (n .expenses) e px pe (t5 .1));
       }
 
-  pub open-done : w .end .bit ≡ 0 → w .end .byte ≡ length s → Opened s sectionsOf
+  pub open-done : w .end .bit ≡ 0 → w .end .byte ≡ length s → Opened s (sectionsOf n w)
   open-done b y = by-body (told passes-body)
     where
       e : rest s (w .end) ≡ some []
       e = at-end s (w .end) b y
 
-      by-body : Told (body (countsIn n)) s (n .next) (w .end) → Opened s sectionsOf
+      by-body : Told (body (countsIn n)) s (n .next) (w .end) → Opened s (sectionsOf n w)
       by-body (refusing r z) = absurd (never (sym z ∙ e))
       by-body (reading b l z r) =
           let d : decode s ≡ some (modelFrom b) =
@@ -153,3 +144,40 @@ module _ {s : List ℕ} {n : Counts} {w : Places} (c : Reads counts s start (cou
             decoded = λ m u. let i : m ≡ modelFrom b = cc in rw i (parts b e r);
             refused = λ u. absurd (never (sym u ∙ d));
           }
+
+  -- ---- either way
+
+  false-true : {A : Type 0} → false ≡ true → A
+  false-true e = let z : _≡_ {A = ℕ} 0 1 = cc in absurd (omega arith)
+
+  both : (a b : Bool) → (a && b) ≡ true → (a ≡ true) × (b ≡ true)
+  both true b e = (refl, e)
+  both false b e = false-true e
+
+  ended : (eqb (w .end .bit) 0 && eqb (w .end .byte) (length s)) ≡ true → rest s (w .end) ≡ some []
+  ended e =
+      let k = both (eqb (w .end .bit) 0) (eqb (w .end .byte) (length s)) e in
+      at-end s (w .end) (eqb-true (w .end .bit) 0 (k .0)) (eqb-true (w .end .byte) (length s) (k .1))
+
+  pub opened : Opened s (sectionsBy (length s) n w)
+  opened = by-end (eqb (w .end .bit) 0 && eqb (w .end .byte) (length s)) refl
+    where
+      by-end : (t : Bool) → (eqb (w .end .bit) 0 && eqb (w .end .byte) (length s)) ≡ t → Opened s (if t then sectionsOf n w else noSections)
+      by-end true e =
+          let k = both (eqb (w .end .bit) 0) (eqb (w .end .byte) (length s)) e in
+          open-done (eqb-true (w .end .bit) 0 (k .0)) (eqb-true (w .end .byte) (length s) (k .1))
+      by-end false e = open-refused (λ z. false-true (sym e ∙ rw (eq-eqb (w .end .bit) 0 (end-bit s (w .end) z), eq-eqb (w .end .byte) (length s) (end-byte s (w .end) z))))
+
+  -- the activities of a model that was opened begin at a whole byte
+  pub activities-at : sectionsBy (length s) n w .ok ≡ true → w .activities ≡ byteAt (w .activities .byte)
+  activities-at = by-end (eqb (w .end .bit) 0 && eqb (w .end .byte) (length s)) refl
+    where
+      by-end : (t : Bool) → (eqb (w .end .bit) 0 && eqb (w .end .byte) (length s)) ≡ t → (if t then sectionsOf n w else noSections) .ok ≡ true → w .activities ≡ byteAt (w .activities .byte)
+      by-end false e k = false-true k
+      by-end true e k =
+          let x = stood (ended e) (h .expenses) in
+          let a = stood (x .1) (h .assignments) in
+          let o = stood (a .1) (h .resources) in
+          let l = stood (o .1) (h .links) in
+          let v = stood (l .1) (h .activities) in
+          byte-place s (w .activities) (v .1) (h .even .1)

@@ -1,7 +1,7 @@
 use Rattle.model.proofs.Single.{pass-number, pass-optional-number}
 use borrow.Author.Needs.{needs}
-use Rattle.model.proofs.parts.parent_place.Statement.{statement}
-use Rattle.model.proofs.parts.parent_place.Tie as tie
+use Rattle.model.proofs.parts.parent_place_by.Statement.{statement}
+use Rattle.model.proofs.parts.parent_place_by.Tie as tie
 
 skip-text-requires : tie.Need-skip-text-requires
 skip-text-requires c κs = search needs
@@ -32,8 +32,8 @@ returns c =
       passes-minutes = pass-optional-number (c .skip-optional .ensures);
     }
 
-pub parent-place-spec : {M : Type 1} → statement M
-parent-place-spec =
+pub parent-place-by-spec : {M : Type 1} → statement M
+parent-place-by-spec =
     tie.close
     (tie.spec
     skip-text-requires
