@@ -9,13 +9,7 @@ use Rattle.definition.specs.Date.{Date, monthLength, dateAt, yearOf, monthOf, d
 use Rattle.definition.specs.Text.{Text, before, after, unsignedOf}
 use Rattle.definition.specs.declared.Ymd.{Ymd}
 use Rattle.date.specs.declared.Civil.{Civil}
-use Rattle.date.specs.declared.DateAnswer.{DateAnswer}
 use Rattle.date.specs.declared.YmdAnswer.{YmdAnswer}
-
--- the day number of a date that is there
-unfoldable pub dateMeaning : DateAnswer → Option ℤ
-dateMeaning (DateAnswer.Is d) = some (d .0)
-dateMeaning DateAnswer.Absent = none
 
 unfoldable pub ymdMeaning : YmdAnswer → Option Ymd
 ymdMeaning (YmdAnswer.Is c) = some c
@@ -53,9 +47,6 @@ daysInMonth year m = (yearAt year >>= λ y. some (monthLength y m)) or 0
 -- 7 outside the years -9999 to 9999
 unfoldable pub weekdayAt : ℤ → ℕ
 weekdayAt n = (fromDays n >>= λ d. some (weekday d)) or 7
-
-unfoldable pub numberOf : Option Date → Option ℤ
-numberOf d = d >>= λ d. some (dayNumber d)
 
 unfoldable pub ymdAt : ℤ → Option Ymd
 ymdAt n = fromDays n >>= λ d. some (ymdOf d)

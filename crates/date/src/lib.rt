@@ -6,19 +6,14 @@ ghost use lib.IntN.{pos, _-ℤ_};
 ghost use Rattle.definition.specs.Base.{_or_};
 ghost use Rattle.definition.specs.Date.{leap, monthLength, newYear, dateAt, weekday, yearAt, fromDays, fromYmd, firstTen, dateParts, dateOf};
 ghost use Rattle.theorems.specs.Calendar.{MarchDay};
-ghost use Rattle.date.specs.Answer.{dateMeaning, ymdMeaning, civilOf, dateWithin, daysInMonth, weekdayAt, numberOf, ymdAt};
+ghost use Rattle.date.specs.Answer.{ymdMeaning, civilOf, dateWithin, daysInMonth, weekdayAt, ymdAt};
+ghost use Rattle.definition.specs.Answer.{dateMeaning, dayNumberOf};
 ghost use Rattle.date.specs.Answer.{isDay, raisedOf, placed, dayPart, monthPart};
+use definition::Date;
+use definition::DateAnswer;
 use definition::Ymd;
 use text::I32Answer;
 use text::U32Answer;
-
-// A day number: 0 is 1 January 1970.
-pub struct Date(pub i32);
-
-pub enum DateAnswer {
-    Is(Date),
-    Absent,
-}
 
 pub enum YmdAnswer {
     Is(Ymd),
@@ -220,7 +215,7 @@ pub fn is_day(y: u32, m: u32, d: u32) -> bool
 
 // The date of a year, a month and a day, if there is one.
 pub fn from_ymd(year: i32, month: u32, day: u32) -> DateAnswer
-    ensures { λ r. ⌜ dateMeaning r ≡ numberOf (fromYmd year month day) ⌝ }
+    ensures { λ r. ⌜ dateMeaning r ≡ dayNumberOf (fromYmd year month day) ⌝ }
 {
     let y = year_at(year);
     if y == 0 {
@@ -235,7 +230,7 @@ pub fn from_ymd(year: i32, month: u32, day: u32) -> DateAnswer
 
 // The date of a day number, if its year is in range.
 pub fn from_days(n: i32) -> DateAnswer
-    ensures { λ r. ⌜ dateMeaning r ≡ numberOf (fromDays n) ⌝ }
+    ensures { λ r. ⌜ dateMeaning r ≡ dayNumberOf (fromDays n) ⌝ }
 {
     if date_of_number(n) == 0 {
         return DateAnswer::Absent;
@@ -287,7 +282,7 @@ fn first_ten(s: &[u8]) -> &[u8]
 }
 
 fn day_part(year: i32, month: u32, s: &[u8]) -> DateAnswer
-    ensures { λ r. ⌜ dateMeaning r ≡ numberOf (dayPart year month (now (s .entry))) ⌝ }
+    ensures { λ r. ⌜ dateMeaning r ≡ dayNumberOf (dayPart year month (now (s .entry))) ⌝ }
 {
     match text::u32_of(s) {
         U32Answer::Is(day) => from_ymd(year, month, day),
@@ -296,7 +291,7 @@ fn day_part(year: i32, month: u32, s: &[u8]) -> DateAnswer
 }
 
 fn month_part(year: i32, s: &[u8]) -> DateAnswer
-    ensures { λ r. ⌜ dateMeaning r ≡ numberOf (monthPart year (now (s .entry))) ⌝ }
+    ensures { λ r. ⌜ dateMeaning r ≡ dayNumberOf (monthPart year (now (s .entry))) ⌝ }
 {
     let k = text::place(s, 45);
     if k < s.len() {
@@ -309,7 +304,7 @@ fn month_part(year: i32, s: &[u8]) -> DateAnswer
 }
 
 fn date_parts(s: &[u8]) -> DateAnswer
-    ensures { λ r. ⌜ dateMeaning r ≡ numberOf (dateParts (now (s .entry))) ⌝ }
+    ensures { λ r. ⌜ dateMeaning r ≡ dayNumberOf (dateParts (now (s .entry))) ⌝ }
 {
     let k = text::place(s, 45);
     if k < s.len() {
@@ -323,7 +318,7 @@ fn date_parts(s: &[u8]) -> DateAnswer
 
 // A date text: year, month and day with `-` between.
 pub fn date_of(s: &[u8]) -> DateAnswer
-    ensures { λ r. ⌜ dateMeaning r ≡ numberOf (dateOf (now (s .entry))) ⌝ }
+    ensures { λ r. ⌜ dateMeaning r ≡ dayNumberOf (dateOf (now (s .entry))) ⌝ }
 {
     date_parts(text::trim(first_ten(s)))
 }

@@ -21,3 +21,4 @@ pub mod Check
 pub mod Outline
 pub mod DaySheet
 pub mod Refusal
+pub mod Answer

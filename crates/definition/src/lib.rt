@@ -14,3 +14,18 @@ pub struct Ymd {
     pub month: u32,
     pub day: u32,
 }
+
+// A day: its number, 0 for 1 January 1970.
+pub struct Date(pub i32);
+
+// A date that may be missing.
+pub enum DateAnswer {
+    Is(Date),
+    Absent,
+}
+
+// A row that may be missing.
+pub enum RowAnswer {
+    Is(u32),
+    Absent,
+}

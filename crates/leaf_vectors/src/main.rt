@@ -4,7 +4,7 @@
 ghost use mathlib.Core.Path.{_≡_};
 ghost use Prim.Native.Nat.{_+_, _≤_};
 ghost use lib.ListN.{length};
-use date::DateAnswer;
+use definition::DateAnswer;
 use number::DurationAnswer;
 use number::NumberAnswer;
 use number::TimeAnswer;

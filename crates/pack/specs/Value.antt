@@ -13,7 +13,7 @@ use Rattle.definition.specs.Date.{Date, dayNumber, fromDays}
 use Rattle.definition.specs.Format.{Format, depending, code, number}
 use Rattle.definition.specs.Task.{constraintFrom}
 use Rattle.text.specs.Bools.{and-left}
-use Rattle.date.specs.Answer.{numberOf}
+use Rattle.definition.specs.Answer.{dayNumberOf}
 use Rattle.tasks.specs.Task.{asConstraint}
 use Rattle.tasks.specs.declared.task.Constraint.{Constraint}
 use Rattle.pack.specs.declared.value.OptionalRow.{OptionalRow}
@@ -37,12 +37,12 @@ constraintBy c = when (not (eqb (c .code) 0)) (c .code, when (not (eqb (c .code)
 abbrev pub lagKind : Format (ℕ × Option ℤ)
 lagKind = depending (code 0 2) (eqb 2) number
 
-number-back : (d : Date) → (numberOf (some d) >>= fromDays) ≡ some d → fromDays (dayNumber d) ≡ some d
-unfolding numberOf
+number-back : (d : Date) → (dayNumberOf (some d) >>= fromDays) ≡ some d → fromDays (dayNumber d) ≡ some d
+unfolding dayNumberOf
 number-back d h = h
 
 -- a constraint that was read is written as it is meant: its date stands in the years
-pub constraint-read : (kind : ℕ) (o : Option Date) → (numberOf o >>= fromDays) ≡ o → constraintBy (asConstraint (constraintFrom kind o)) ≡ constraintFrom kind o
+pub constraint-read : (kind : ℕ) (o : Option Date) → (dayNumberOf o >>= fromDays) ≡ o → constraintBy (asConstraint (constraintFrom kind o)) ≡ constraintFrom kind o
 constraint-read kind none h = by (eqb kind 1)
   where
     by : (t : Bool) → constraintBy (asConstraint (when t (1, none))) ≡ when t (1, none)

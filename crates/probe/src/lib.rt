@@ -11,12 +11,12 @@ ghost use Rattle.definition.specs.Time.{timeOf};
 ghost use Rattle.definition.specs.Refusal.{treeRefusal};
 ghost use Rattle.definition.specs.Pack.{decode};
 ghost use Rattle.text.specs.Answers.{u64Of, u32Of, u16Of, i64Of, i32Of};
-ghost use Rattle.date.specs.Answer.{dateMeaning, numberOf};
+ghost use Rattle.definition.specs.Answer.{dateMeaning, dayNumberOf};
 ghost use Rattle.number.specs.Number.{meaning as numberMeaning};
 ghost use Rattle.number.specs.Duration.{meaning as durationMeaning};
 ghost use Rattle.number.specs.Time.{meaning as timeMeaning};
 ghost use Rattle.probe.specs.Answer.{Whole, Signed, Minutes, Number, one};
-use date::DateAnswer;
+use definition::DateAnswer;
 use number::DurationAnswer;
 use number::NumberAnswer;
 use number::TimeAnswer;
@@ -189,7 +189,7 @@ fn put_date(a: DateAnswer, out: &mut i32) -> u32
 
 #[no_mangle]
 pub extern "C" fn probe_date(s: &[u8], out: &mut i32) -> u32
-    ensures { λ r. ⌜ Signed (numberOf (dateOf (now (s .entry)))) r (now (out .exit)) ⌝ }
+    ensures { λ r. ⌜ Signed (dayNumberOf (dateOf (now (s .entry)))) r (now (out .exit)) ⌝ }
 {
     put_date(date::date_of(s), out)
 }

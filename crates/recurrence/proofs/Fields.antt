@@ -15,8 +15,8 @@ use Rattle.definition.specs.Tree.{Element, textOf}
 use Rattle.text.specs.Answers.{signedMeans}
 use Rattle.text.specs.declared.Signed.{Signed}
 use Rattle.text.specs.declared.Signed.the-variants as signed
-use Rattle.date.specs.Answer.{numberOf, dateMeaning}
-use Rattle.date.specs.declared.DateAnswer.{DateAnswer}
+use Rattle.definition.specs.Answer.{dayNumberOf, dateMeaning}
+use Rattle.definition.specs.declared.DateAnswer.{DateAnswer}
 use Rattle.recurrence.specs.Dates.{back, no-date}
 use Rattle.recurrence.specs.Reading.{wholeOf, dayOfText, dateBack, pickOf, maskOf, lastBy}
 
@@ -71,10 +71,10 @@ whole-text x name = by (textOf x name)
 
 -- ---- dates
 
-pub date-text : (x : Element) (name : Text) (t : Text) (a : DateAnswer) → t ≡ (textOf x name or []) → dateMeaning a ≡ numberOf (dateOf t) → dateBack a ≡ dayOfText x name
+pub date-text : (x : Element) (name : Text) (t : Text) (a : DateAnswer) → t ≡ (textOf x name or []) → dateMeaning a ≡ dayNumberOf (dateOf t) → dateBack a ≡ dayOfText x name
 date-text x name t a e m = rw (m, e) (by (textOf x name))
   where
-    by : (o : Option Text) → (numberOf (dateOf (o or [])) >>= fromDays) ≡ (o >>= dateOf)
+    by : (o : Option Text) → (dayNumberOf (dateOf (o or [])) >>= fromDays) ≡ (o >>= dateOf)
     by none = back [] ∙ no-date
     by (some t) = back t
 

@@ -12,7 +12,7 @@ use borrow.Author.Tests.{lt-ltb, le-ltb, le-leb, leb-true, ltb-true}
 use Rattle.definition.specs.Base.{_>>=_, when, within}
 use Rattle.definition.specs.Text.{Text, before, after, signedOf, unsignedOf, signOf, digits, trim, trimFront, trimBack, strip}
 use Rattle.definition.specs.Date.{Date, dateAt, newYear, monthLength, epoch, firstDate, lastDate, fromDays, dayNumber, yearAt, fromYmd, dateOf, dateParts, firstTen, dash}
-use Rattle.date.specs.Answer.{numberOf}
+use Rattle.definition.specs.Answer.{dayNumberOf}
 use Rattle.theorems.specs.Rows.{rising}
 use Rattle.theorems.specs.Calendar.{first-new-year}
 use Rattle.recurrence.specs.Months.{IsMonth, new-year-rises, month-end}
@@ -70,8 +70,8 @@ unfolding dateOf dateParts firstTen trim trimFront trimBack strip before signedO
 no-date = refl
 
 -- a date text's number, and the date of that number
-pub back : (s : Text) → (numberOf (dateOf s) >>= fromDays) ≡ dateOf s
-unfolding numberOf
+pub back : (s : Text) → (dayNumberOf (dateOf s) >>= fromDays) ≡ dateOf s
+unfolding dayNumberOf
 back s = by (dateOf s) refl
   where
     by : (o : Option Date) → dateOf s ≡ o → ((o >>= λ d. some (dayNumber d)) >>= fromDays) ≡ o

@@ -21,8 +21,8 @@ use Rattle.definition.specs.Text.{Text, signedOf, isYes}
 use Rattle.definition.specs.Field.{textIn, intIn, yesIn, dateIn, held}
 use Rattle.text.specs.Whole.{signed-to, signed-least}
 use Rattle.theorems.specs.Calendar.{is-day}
-use Rattle.date.specs.Answer.{dateMeaning}
-use Rattle.date.specs.declared.DateAnswer.{DateAnswer}
+use Rattle.definition.specs.Answer.{dateMeaning}
+use Rattle.definition.specs.declared.DateAnswer.{DateAnswer}
 use Rattle.recurrence.specs.Months.{month-length, sunday-less}
 use Rattle.recurrence.specs.Dates.{InRange, date-in}
 use Rattle.definition.specs.Recurrence as D

@@ -16,7 +16,7 @@ ghost use Rattle.recurrence.specs.Months.{IsMonth, lastOf, dayIn, monthA
 ghost use Rattle.recurrence.specs.Meaning.{sound, daysBy, toCome, said, nthWithin};
 ghost use Rattle.recurrence.specs.Reading.{wholeOf, dayOfText, dateBack, pickOf, maskOf, lastBy, mostBy, ruleAt, noRule, ruleIn, daysIn, rangeIn};
 ghost use Rattle.recurrence.specs.Fits.{Ready, Finds, FindsYearly, candidateOf, dailyFits, yearlyFits, monthlyFits, weeklyFits, WeekDay, onMask, placeOf};
-use date::DateAnswer;
+use definition::DateAnswer;
 use text::Signed;
 use tree::Found;
 

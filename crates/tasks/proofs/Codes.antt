@@ -11,7 +11,7 @@ use Rattle.definition.specs.Base.{if_then_else_, _or_, when, given, within}
 use Rattle.definition.specs.Date.{Date, dayNumber}
 use Rattle.definition.specs.Task.{constraintFrom, durationTypeFrom}
 use Rattle.definition.specs.Link.{kindFrom}
-use Rattle.date.specs.Answer.{numberOf}
+use Rattle.definition.specs.Answer.{dayNumberOf}
 use Rattle.tasks.specs.Value.{picked}
 use Rattle.tasks.specs.Task.{typeCode, constraintBy, asConstraint}
 use Rattle.tasks.specs.Link.{kindCode}
@@ -34,8 +34,8 @@ marked-least code e = by (leb 35 code) refl e
 
 -- ---- dates
 
-pub given-date : (d : Option Date) (o : Option ℤ) (b : Bool) → b ≡ given o → o ≡ numberOf d → b ≡ given d
-unfolding numberOf
+pub given-date : (d : Option Date) (o : Option ℤ) (b : Bool) → b ≡ given o → o ≡ dayNumberOf d → b ≡ given d
+unfolding dayNumberOf
 given-date none o b e f = e ∙ ap (λ (o : Option ℤ). given o) f
 given-date (some d) o b e f = e ∙ ap (λ (o : Option ℤ). given o) f
 
@@ -88,8 +88,8 @@ module _ (kind : ℕ) where
     pub undated : (o : Option ℤ) → o ≡ none → record { code = 0; date = pos 0 } ≡ constraintBy kind o
     undated o e = rw (e, ne-eqb kind 1 n)
 
-pub constraint-is : (kind : ℕ) (d : Option Date) → constraintBy kind (numberOf d) ≡ asConstraint (constraintFrom kind d)
-unfolding numberOf
+pub constraint-is : (kind : ℕ) (d : Option Date) → constraintBy kind (dayNumberOf d) ≡ asConstraint (constraintFrom kind d)
+unfolding dayNumberOf
 constraint-is kind none = by (eqb kind 1)
   where
     by : (t : Bool) → record { code = if t then 1 else 0; date = pos 0 } ≡ asConstraint (when t (1, none))

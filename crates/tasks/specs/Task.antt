@@ -20,7 +20,7 @@ use Rattle.definition.specs.Field.{intIn, numberIn, dateIn, minutesIn}
 use Rattle.definition.specs.Task.{natural, formatOf, isElapsed, constraintFrom, constraintOf, Context, contextOf, activityOf}
 use Rattle.definition.specs.Model.{Activity}
 use Rattle.text.specs.Bools.{and-left}
-use Rattle.date.specs.Answer.{numberOf}
+use Rattle.definition.specs.Answer.{dayNumberOf}
 use Rattle.fields.specs.Said.{wholeSaid}
 use Rattle.tasks.specs.Value.{asNumber}
 use Rattle.tasks.specs.declared.task.Constraint.{Constraint}
@@ -69,10 +69,10 @@ constraintMeans c = when (not (eqb (c .code) 0)) (c .code, when (not (eqb (c .co
 -- with day numbers for dates
 abbrev pub numbered : Option (ℕ × Option Date) → Option (ℕ × Option ℤ)
 numbered none = none
-numbered (some (k, d)) = some (k, numberOf d)
+numbered (some (k, d)) = some (k, dayNumberOf d)
 
 from-back : (kind : ℕ) (d : Option Date) → constraintMeans (asConstraint (constraintFrom kind d)) ≡ numbered (constraintFrom kind d)
-unfolding numberOf
+unfolding dayNumberOf
 from-back kind none = by (eqb kind 1)
   where
     by : (t : Bool) → constraintMeans (asConstraint (when t (1, none))) ≡ numbered (when t (1, none))

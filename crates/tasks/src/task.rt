@@ -7,7 +7,7 @@ ghost use Rattle.definition.specs.Base.{given};
 ghost use Rattle.definition.specs.Number.{found};
 ghost use Rattle.definition.specs.Field.{yesIn, intIn};
 ghost use Rattle.definition.specs.Task.{levelOf, ownUid, percentFormat, elapsedFormat, isElapsed, constraintOf, durationTypeFrom, remainingOf};
-ghost use Rattle.date.specs.Answer.{dateMeaning};
+ghost use Rattle.definition.specs.Answer.{dateMeaning};
 ghost use Rattle.number.specs.Number.{meaning as numberMeans};
 ghost use Rattle.number.specs.Duration.{meaning as durationMeans};
 ghost use Rattle.tree.specs.Place.{elementAt};
@@ -20,7 +20,7 @@ use crate::value::quotient;
 use crate::value::remainder;
 use crate::value::size;
 use crate::value::some_number;
-use date::DateAnswer;
+use definition::DateAnswer;
 use number::DurationAnswer;
 use number::NumberAnswer;
 

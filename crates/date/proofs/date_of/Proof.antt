@@ -1,7 +1,7 @@
 use mathlib.Core.Path.{ap, _∙_}
 use Rattle.definition.specs.Text.{Text, trim}
 use Rattle.definition.specs.Date.{dateParts, dateOf}
-use Rattle.date.specs.Answer.{numberOf}
+use Rattle.definition.specs.Answer.{dayNumberOf}
 use borrow.Author.Needs.{needs}
 use Rattle.date.proofs.date_of.Statement.{statement}
 use Rattle.date.proofs.date_of.Tie as tie
@@ -19,7 +19,7 @@ returns : tie.Need-returns
 unfolding dateOf
 returns c =
     c .date-parts .ensures
-    ∙ ap (λ (t : Text). numberOf (dateParts t)) (c .before .trim .ensures ∙ ap trim (c .before .before .first-ten .ensures))
+    ∙ ap (λ (t : Text). dayNumberOf (dateParts t)) (c .before .trim .ensures ∙ ap trim (c .before .before .first-ten .ensures))
 
 pub date-of-spec : {M : Type 1} → statement M
 date-of-spec = tie.close (tie.spec first-ten-requires trim-requires date-parts-requires returns)

@@ -1,7 +1,8 @@
 use mathlib.Core.Path.{sym, ap, _∙_}
 use lib.IntN.{ℤ}
 use lib.Seq.{length-take-le}
-use Rattle.date.specs.Answer.{dateMeaning, numberOf, dayPart, monthPart}
+use Rattle.date.specs.Answer.{dayPart, monthPart}
+use Rattle.definition.specs.Answer.{dateMeaning, dayNumberOf}
 use Rattle.date.proofs.Signs.{back}
 use Rattle.date.proofs.Texts.{restOf, cut-none, cut-absent, cut-on}
 use Rattle.definition.specs.Text.{signedOf}
@@ -43,28 +44,28 @@ enum-told : tie.Need-enum-told
 enum-told c = search needs
 
 returns : tie.Need-returns
-unfolding dateParts monthPart dayPart dateMeaning numberOf
+unfolding dateParts monthPart dayPart dateMeaning dayNumberOf
 returns c =
     let p = c .before .before .before .before .before .before .before .before in
     let s = p .before .before .args .s .now in
     let y = c .before .before .before .year .given in
     let e = sym (c .before .before .before .before .before .i32-of .ensures) ∙ ap i32Of (y .1) in
     c .month-part .ensures
-    ∙ ap (λ (z : ℤ). numberOf (monthPart z (restOf (p .place .result) s))) (back (y .0 .0) (record { sfits = c .before .before .known-told .given .0 .1 }))
-    ∙ ap numberOf (sym (cut-on (signedOf 32) monthPart s (p .place .result) (p .place .ensures) (y .0 .0) (c .before .before .before .before .before .before .before .if1 .taken) e))
+    ∙ ap (λ (z : ℤ). dayNumberOf (monthPart z (restOf (p .place .result) s))) (back (y .0 .0) (record { sfits = c .before .before .known-told .given .0 .1 }))
+    ∙ ap dayNumberOf (sym (cut-on (signedOf 32) monthPart s (p .place .result) (p .place .ensures) (y .0 .0) (c .before .before .before .before .before .before .before .if1 .taken) e))
 
 returns-2 : tie.Need-returns-2
-unfolding dateParts monthPart dayPart dateMeaning numberOf
+unfolding dateParts monthPart dayPart dateMeaning dayNumberOf
 returns-2 c =
     let p = c .before .before .before .before .before in
     let e = sym (c .before .before .i32-of .ensures) ∙ ap i32Of (c .enum-told .given .1) in
-    ap numberOf (sym (cut-absent (signedOf 32) monthPart (p .before .before .args .s .now) (p .place .result) (p .place .ensures) e))
+    ap dayNumberOf (sym (cut-absent (signedOf 32) monthPart (p .before .before .args .s .now) (p .place .result) (p .place .ensures) e))
 
 returns-3 : tie.Need-returns-3
-unfolding dateParts monthPart dayPart dateMeaning numberOf
+unfolding dateParts monthPart dayPart dateMeaning dayNumberOf
 returns-3 c =
     let p = c .before in
-    ap numberOf (sym (cut-none (signedOf 32) monthPart (p .before .before .args .s .now) (p .place .result) (p .place .ensures) (c .if1 .left)))
+    ap dayNumberOf (sym (cut-none (signedOf 32) monthPart (p .before .before .args .s .now) (p .place .result) (p .place .ensures) (c .if1 .left)))
 
 pub date-parts-spec : {M : Type 1} → statement M
 date-parts-spec =

@@ -2,7 +2,8 @@ use mathlib.Core.Path.{sym, ap, _∙_}
 use lib.IntN.{ℤ}
 use Rattle.definition.specs.Date.{fromYmd}
 use Rattle.text.specs.Answers.{u32Of}
-use Rattle.date.specs.Answer.{dateMeaning, numberOf, dayPart}
+use Rattle.date.specs.Answer.{dayPart}
+use Rattle.definition.specs.Answer.{dateMeaning, dayNumberOf}
 use Rattle.date.proofs.Signs.{back}
 use borrow.Author.Needs.{needs}
 use Rattle.date.proofs.day_part.Statement.{statement}
@@ -26,10 +27,10 @@ returns c =
     let s = c .before .before .before .before .before .before in
     let d = c .before .before .day .given in
     let e = sym (c .before .before .before .before .u32-of .ensures) ∙ ap u32Of (d .1) in
-    rw e (c .from-ymd .ensures ∙ ap (λ (z : ℤ). numberOf (fromYmd z (s .args .month) (d .0 .0))) (back (s .args .year) (s .fits .year)))
+    rw e (c .from-ymd .ensures ∙ ap (λ (z : ℤ). dayNumberOf (fromYmd z (s .args .month) (d .0 .0))) (back (s .args .year) (s .fits .year)))
 
 returns-2 : tie.Need-returns-2
-unfolding dayPart dateMeaning numberOf
+unfolding dayPart dateMeaning dayNumberOf
 returns-2 c =
     let e = sym (c .before .before .u32-of .ensures) ∙ ap u32Of (c .enum-told .given .1) in
     rw e

@@ -3,7 +3,7 @@ use lib.IntN.{ℤ}
 use Rattle.definition.specs.Base.{_or_}
 use Rattle.definition.specs.Date.{fromDays, dayNumber}
 use mathlib.Core.Option.{some}
-use Rattle.date.specs.Answer.{dateMeaning, numberOf}
+use Rattle.definition.specs.Answer.{dateMeaning, dayNumberOf}
 use Rattle.date.proofs.Signs.{back, no-day, some-placed, days-counted}
 use borrow.Author.Needs.{needs}
 use Rattle.date.proofs.from_days.Statement.{statement}
@@ -16,11 +16,11 @@ told : (c : tie.After-date-of-number) → c .date-of-number .result ≡ fromDays
 told c = c .date-of-number .ensures ∙ ap (λ (z : ℤ). fromDays z or 0) (back (c .before .args .n) (c .before .fits .n))
 
 returns : tie.Need-returns
-unfolding dateMeaning numberOf dayNumber
+unfolding dateMeaning dayNumberOf dayNumber
 returns c = rw (no-day (c .before .before .args .n) _ (told (c .before)) (c .if1 .taken))
 
 returns-2 : tie.Need-returns-2
-unfolding dateMeaning numberOf dayNumber
+unfolding dateMeaning dayNumberOf dayNumber
 returns-2 c =
     let s = c .before .before in
     let e = some-placed (fromDays (s .args .n)) _ (told (c .before)) (c .if1 .left) in

@@ -4,7 +4,8 @@ use lib.IntN.{ℤ, pos, _-ℤ_}
 use Rattle.definition.specs.Base.{_or_}
 use Rattle.definition.specs.Date.{yearAt, fromYmd, dayNumber, epoch}
 use mathlib.Core.Option.{some}
-use Rattle.date.specs.Answer.{dateMeaning, numberOf, isDay}
+use Rattle.date.specs.Answer.{isDay}
+use Rattle.definition.specs.Answer.{dateMeaning, dayNumberOf}
 use Rattle.theorems.specs.Calendar.{IsDay}
 use Rattle.date.proofs.Steps.{tested, month-most, date-most}
 use Rattle.date.proofs.Signs.{back, difference-back, no-year, some-placed, year-counted}
@@ -26,7 +27,7 @@ valid : (c : tie.Then2) → IsDay (c .before .before .before .year-at .result) (
 valid c = tested _ _ _ (sym (c .before .is-day .ensures) ∙ c .if2 .taken)
 
 returns : tie.Need-returns
-unfolding dateMeaning numberOf fromYmd isDay dayNumber
+unfolding dateMeaning dayNumberOf fromYmd isDay dayNumber
 returns c = rw (no-year (c .before .before .args .year) _ (told (c .before)) (c .if1 .taken))
 
 is-day-requires : tie.Need-is-day-requires
@@ -48,7 +49,7 @@ lowered-requires c κs =
     (omega (arith, c .day-at .ensures, date-most _ _ _ v, k .high), omega arith)
 
 returns-2 : tie.Need-returns-2
-unfolding dateMeaning numberOf fromYmd isDay dayNumber
+unfolding dateMeaning dayNumberOf fromYmd isDay dayNumber
 returns-2 c =
     let s = c .before in
     let b = lowered-requires s (c .lowered .lifetimes) in
@@ -58,7 +59,7 @@ returns-2 c =
     rw (given (s .before .before .before), t) (ap some n)
 
 returns-3 : tie.Need-returns-3
-unfolding dateMeaning numberOf fromYmd isDay dayNumber
+unfolding dateMeaning dayNumberOf fromYmd isDay dayNumber
 returns-3 c =
     let t = sym (c .before .is-day .ensures) ∙ c .if2 .left in
     rw (given (c .before .before), t)

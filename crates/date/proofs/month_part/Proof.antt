@@ -1,7 +1,8 @@
 use mathlib.Core.Path.{sym, ap, _∙_}
 use lib.IntN.{ℤ}
 use lib.Seq.{length-take-le}
-use Rattle.date.specs.Answer.{dateMeaning, numberOf, dayPart, monthPart}
+use Rattle.date.specs.Answer.{dayPart, monthPart}
+use Rattle.definition.specs.Answer.{dateMeaning, dayNumberOf}
 use Rattle.date.proofs.Signs.{back}
 use Rattle.date.proofs.Texts.{restOf, cut-none, cut-absent, cut-on}
 use Rattle.definition.specs.Text.{unsignedOf}
@@ -42,30 +43,30 @@ enum-told : tie.Need-enum-told
 enum-told c = search needs
 
 returns : tie.Need-returns
-unfolding monthPart dateMeaning numberOf
+unfolding monthPart dateMeaning dayNumberOf
 returns c =
     let p = c .before .before .before .before .before .before .before .before in
     let a = p .before .before in
     let m = c .before .before .before .month .given in
     let e = sym (c .before .before .before .before .before .u32-of .ensures) ∙ ap u32Of (m .1) in
     c .day-part .ensures
-    ∙ ap (λ (z : ℤ). numberOf (dayPart z (m .0 .0) (restOf (p .place .result) (a .args .s .now)))) (back (a .args .year) (a .fits .year))
-    ∙ ap numberOf (sym (cut-on (unsignedOf 32) (dayPart (a .args .year)) (a .args .s .now) (p .place .result) (p .place .ensures) (m .0 .0) (c .before .before .before .before .before .before .before .if1 .taken) e))
+    ∙ ap (λ (z : ℤ). dayNumberOf (dayPart z (m .0 .0) (restOf (p .place .result) (a .args .s .now)))) (back (a .args .year) (a .fits .year))
+    ∙ ap dayNumberOf (sym (cut-on (unsignedOf 32) (dayPart (a .args .year)) (a .args .s .now) (p .place .result) (p .place .ensures) (m .0 .0) (c .before .before .before .before .before .before .before .if1 .taken) e))
 
 returns-2 : tie.Need-returns-2
-unfolding monthPart dateMeaning numberOf
+unfolding monthPart dateMeaning dayNumberOf
 returns-2 c =
     let p = c .before .before .before .before .before in
     let a = p .before .before in
     let e = sym (c .before .before .u32-of .ensures) ∙ ap u32Of (c .enum-told .given .1) in
-    ap numberOf (sym (cut-absent (unsignedOf 32) (dayPart (a .args .year)) (a .args .s .now) (p .place .result) (p .place .ensures) e))
+    ap dayNumberOf (sym (cut-absent (unsignedOf 32) (dayPart (a .args .year)) (a .args .s .now) (p .place .result) (p .place .ensures) e))
 
 returns-3 : tie.Need-returns-3
-unfolding monthPart dateMeaning numberOf
+unfolding monthPart dateMeaning dayNumberOf
 returns-3 c =
     let p = c .before in
     let a = p .before .before in
-    ap numberOf (sym (cut-none (unsignedOf 32) (dayPart (a .args .year)) (a .args .s .now) (p .place .result) (p .place .ensures) (c .if1 .left)))
+    ap dayNumberOf (sym (cut-none (unsignedOf 32) (dayPart (a .args .year)) (a .args .s .now) (p .place .result) (p .place .ensures) (c .if1 .left)))
 
 pub month-part-spec : {M : Type 1} → statement M
 month-part-spec =

@@ -1,6 +1,6 @@
 use mathlib.Core.Path.{ap}
 use mir.Syntax.{w32}
-use Rattle.date.specs.Answer.{dateMeaning}
+use Rattle.definition.specs.Answer.{dateMeaning}
 use Rattle.probe.specs.Answer.{signed-is, signed-absent}
 use borrow.Author.Needs.{needs}
 use Rattle.probe.proofs.put_date.Statement.{statement}

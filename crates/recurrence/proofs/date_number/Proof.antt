@@ -1,4 +1,4 @@
-use Rattle.date.specs.Answer.{dateMeaning}
+use Rattle.definition.specs.Answer.{dateMeaning}
 use mathlib.Core.Path.{ap, _∙_}
 use mir.Syntax.{w32}
 use mir.Facts.{toZ-ofZ}

@@ -2,7 +2,7 @@ use mathlib.Core.Path.{ap}
 use native.Mathlib.Omega.{arith}
 use mir.Syntax.{w32}
 use mir.Facts.{toZ-ofZ}
-use Rattle.date.specs.Answer.{dateMeaning}
+use Rattle.definition.specs.Answer.{dateMeaning}
 use Rattle.tasks.proofs.Codes.{late, outside, most, dated, undated}
 use borrow.Author.Needs.{needs}
 use Rattle.tasks.proofs.task.constraint_by.Statement.{statement}

@@ -1,4 +1,4 @@
-use Rattle.date.specs.Answer.{dateMeaning}
+use Rattle.definition.specs.Answer.{dateMeaning}
 use borrow.Author.Needs.{needs}
 use Rattle.tasks.proofs.task.is_date.Statement.{statement}
 use Rattle.tasks.proofs.task.is_date.Tie as tie
