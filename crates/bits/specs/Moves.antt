@@ -9,12 +9,12 @@ use borrow.Author.Tests.{le-leb, lt-leb, leb-true}
 use Rattle.definition.specs.Base.{if_then_else_}
 use Rattle.definition.specs.Bits.{Bits, enc, dec, bitsOf}
 use Rattle.bits.specs.Bits.{length-bits, length-part, enc-read}
-use Rattle.bits.specs.Places.{at, past, inside, upTo, room-fits, up-before}
+use Rattle.bits.specs.Places.{at, past, inside, upTo, Fits, room-fits, fits-room, up-before}
 use Rattle.bits.specs.Steps.{Step, _▷_}
 use Rattle.bits.specs.declared.Place.{Place}
 use Rattle.bits.specs.Over.{over, over-none, over-kept, over-prev, parts, turned-over}
 use lib.ListN.{length, take, drop, getD, set, replicate, length-append, length-reverse, length-drop, length-replicate, take-append-drop, drop-of-length-le, replicate-append-replicate}
-use lib.Seq.{take-add, take-suc, take-length, drop-cons, getD-at, set-at, length-take-le, drop-drop, take-at, drop-at}
+use lib.Seq.{take-take, take-append-le, take-add, take-suc, take-length, drop-cons, getD-at, set-at, length-take-le, drop-drop, take-at, drop-at}
 use native.Mathlib.Numerals.{add-one}
 
 -- ---- zeros from a byte on
@@ -336,6 +336,21 @@ turns h l e = record { same = l; bits = rw h e }
 
 pub turns-not : {a m e : Place} {d : List ℕ} → ordered (length d) a m e ≡ false → Turns a m e d d
 turns-not h = record { same = refl; bits = rw h }
+
+-- what stands before the first place stays
+swap-before : (n a m e : ℕ) (l : Bits) → n ≤ a → a ≤ length l → take n (swapped a m e l) ≡ take n l
+swap-before n a m e l h le = rw (take-append-le n (take a l) _ (omega (arith, length-take-le a l le)), take-take n a l h)
+
+pub turns-kept : {a m e : Place} {d d' : List ℕ} → Turns a m e d d' → (n : ℕ) → (inside (length d) e ≡ true → n ≤ at a) → take n (bitsOf d') ≡ take n (bitsOf d)
+turns-kept {a} {m} {e} {d} {d'} t n h = kept-if (ordered (length d) a m e) refl
+  where
+    kept-if : (o : Bool) → ordered (length d) a m e ≡ o → take n (bitsOf d') ≡ take n (bitsOf d)
+    kept-if false k = let s : bitsOf d' ≡ bitsOf d = rw k at (t .bits) in rw s
+    kept-if true k =
+        let o = order (length d) a m e k in
+        let s : bitsOf d' ≡ swapped (at a) (at m) (at e) (bitsOf d) = rw k at (t .bits) in
+        let i = fits-room {n = length d} {p = e} {w = 0} (record { bit = o .last; ends = omega (arith, o .ends) }) in
+        rw s (swap-before n (at a) (at m) (at e) (bitsOf d) (h i) (omega (arith, length-bits d, o .from, o .to, o .ends)))
 
 -- ---- a run of bits written again
 

@@ -587,7 +587,7 @@ pub fn turn_bits(out: &mut [u8], a: Place, m: Place, e: Place)
 
 // Writes the bits from one place to another again at p, 64 at a time.
 fn copy_all(out: &mut [u8], from: Place, to: Place, p: Place) -> Place
-    requires { ⌜ (from .bit < 8) × (to .bit < 8) × (at from ≤ at to) × (at to ≤ at p) × (at p ≤ 8 * length (now out)) ⌝ }
+    requires { ⌜ (from .bit < 8) × (to .bit < 8) × (p .bit < 8) × (at from ≤ at to) × (at to ≤ at p) × (at p ≤ 8 * length (now out)) ⌝ }
     ensures { λ r. ⌜ Step (now (out .entry)) p (λ b. b ▷ bitsFrom (at from) (at to) (now (out .entry))) (now (out .exit)) r ⌝ }
 {
     let mut q = from;

@@ -27,7 +27,7 @@ use Rattle.theorems.specs.Packing.{day-days}
 use Rattle.bits.specs.Bits.{bits-take}
 use Rattle.bits.specs.Places.{at, inside, Fits, room-none}
 use Rattle.bits.specs.Moves.{cleared}
-use Rattle.bits.specs.Steps.{Puts, Step, _▷_, sizeOf, view, view-in}
+use Rattle.bits.specs.Steps.{Puts, Step, _▷_, said, sizeOf, view, view-in}
 use Rattle.bits.specs.Round.{put-stood, overran}
 use Rattle.bits.specs.declared.Place.{Place}
 use Rattle.model.specs.Passes.{Passes, stood, pass-read}
@@ -101,7 +101,7 @@ module _ {A : Type 0} (f : Format A) (a : A) {d₀ d : List ℕ} {end : Place} (
   short h =
       let g = whole f .put 0 a in
       let n = sizeOf (view d₀ start) in
-      let s : Step d₀ start (λ b. b ▷ whole f .put n a) d end = record { same = w .step .same; bits = w .step .bits } in
+      let s : Step d₀ start (λ b. b ▷ whole f .put n a) d end = said (w .step) _ refl in
       let fits : Fits (length d₀) start 0 = record { bit = omega arith; ends = omega arith } in
       let e : n ≡ 0 = ap sizeOf (view-in d₀ start fits) in
       let lt : 8 * length d₀ < at start + length (whole f .put n a) = room-none (length d₀) start _ (overran (whole f .put n a) s h) (omega arith) in
