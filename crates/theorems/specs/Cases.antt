@@ -1,12 +1,11 @@
 -- Document 01's whole case, and the examples of its table of refusals. Assumes nothing.
-use Prim.Native.Nat.{ℕ}
 use mathlib.Core.Path.{_≡_, refl}
-use mathlib.Core.List.{List, [], _∷_, _++_}
+use mathlib.Core.List.{[], _∷_, _++_}
 use lib.ListN.{replicate}
 use Rattle.definition.specs.Ascii.{bytes}
 use Rattle.definition.specs.Text.{Text}
 use Rattle.definition.specs.Tree.{packed}
-use Rattle.definition.specs.Refusal.{Answer, refused, gives, readAnswer, checkAnswer, timeAnswer}
+use Rattle.definition.specs.Refusal.{refused, gives, readAnswer, checkAnswer, timeAnswer}
 use Rattle.theorems.specs.Open.{opened}
 use Rattle.theorems.specs.Hand.{element-at}
 

@@ -1,8 +1,8 @@
 -- The worked examples of docs/RECURRENCE.md. Assumes nothing.
 use Prim.Native.String.{String}
 use mathlib.Core.Path.{_≡_, refl}
-use mathlib.Core.List.{List, [], _∷_, map}
-use mathlib.Core.Option.{Option, some, none}
+use mathlib.Core.List.{List, [], _∷_}
+use mathlib.Core.Option.{none}
 use Rattle.definition.specs.Base.{present}
 use Rattle.definition.specs.Ascii.{bytes}
 use Rattle.definition.specs.Date.{dateOf}

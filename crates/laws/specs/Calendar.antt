@@ -9,23 +9,20 @@ use lib.Dec.{leb, ltb, eqb, eqb→eq}
 use borrow.Author.Tests.{eqb-true, eqb-false, ne-eqb, lt-ltb, le-ltb}
 use Rattle.definition.specs.Base.{if_then_else_}
 use Rattle.definition.specs.Date.{leap, yearLength, monthLength, yearsLength, monthsLength, cycle, newYear, dateAt, yearWithin, monthWithin, yearOf, monthOf, dayOf, epoch, firstDate, lastDate}
-use Rattle.theorems.specs.Rows.{last, last-within, last-reached, last-passed, rising, last-found, at}
+use Rattle.definition.specs.Format.{bit}
+use Rattle.laws.specs.Rows.{last, last-within, last-reached, last-passed, rising, last-found, at}
 
 -- ---- years
 
--- 1 where a test holds
-abbrev pub one : Bool → ℕ
-one t = if t then 1 else 0
-
 -- 1 in a leap year
 abbrev pub leapDay : ℕ → ℕ
-leapDay y = one (leap y)
+leapDay y = bit (leap y)
 
 pub year-length : (y : ℕ) → yearLength y ≡ 365 + leapDay y
 unfolding yearLength
 year-length y = by (leap y)
   where
-    by : (t : Bool) → (if t then 366 else 365) ≡ 365 + (if t then 1 else 0)
+    by : (t : Bool) → (if t then 366 else 365) ≡ 365 + bit t
     by true = refl
     by false = refl
 
@@ -72,19 +69,19 @@ new-year-next y = by (decLt (y % 400) 399)
         rw (e, q, years-zero) (omega (arith, year-length-again y))
 
 -- how the three counts of leap days go on
-fours : (y : ℕ) (t : Bool) → eqb (y % 4) 0 ≡ t → (y + 4) / 4 ≡ (y + 3) / 4 + one t
+fours : (y : ℕ) (t : Bool) → eqb (y % 4) 0 ≡ t → (y + 4) / 4 ≡ (y + 3) / 4 + bit t
 fours y true e = omega (arith, eqb-true (y % 4) 0 e)
 fours y false e = omega (arith, eqb-false (y % 4) 0 e)
 
-hundreds : (y : ℕ) (t : Bool) → eqb (y % 100) 0 ≡ t → (y + 100) / 100 ≡ (y + 99) / 100 + one t
+hundreds : (y : ℕ) (t : Bool) → eqb (y % 100) 0 ≡ t → (y + 100) / 100 ≡ (y + 99) / 100 + bit t
 hundreds y true e = omega (arith, eqb-true (y % 100) 0 e)
 hundreds y false e = omega (arith, eqb-false (y % 100) 0 e)
 
-cycles : (y : ℕ) (t : Bool) → eqb (y % 400) 0 ≡ t → (y + 400) / 400 ≡ (y + 399) / 400 + one t
+cycles : (y : ℕ) (t : Bool) → eqb (y % 400) 0 ≡ t → (y + 400) / 400 ≡ (y + 399) / 400 + bit t
 cycles y true e = omega (arith, eqb-true (y % 400) 0 e)
 cycles y false e = omega (arith, eqb-false (y % 400) 0 e)
 
-leap-one : (y : ℕ) (a b c : Bool) → eqb (y % 4) 0 ≡ a → eqb (y % 100) 0 ≡ b → eqb (y % 400) 0 ≡ c → one (a && (not b || c)) + one b ≡ one a + one c
+leap-one : (y : ℕ) (a b c : Bool) → eqb (y % 4) 0 ≡ a → eqb (y % 100) 0 ≡ b → eqb (y % 400) 0 ≡ c → bit (a && (not b || c)) + bit b ≡ bit a + bit c
 leap-one y true true true p q r = refl
 leap-one y true true false p q r = refl
 leap-one y true false true p q r = absurd (eqb-false (y % 100) 0 q (omega (arith, eqb-true (y % 400) 0 r)))
@@ -99,7 +96,7 @@ leap-days y =
     let a = eqb (y % 4) 0 in
     let b = eqb (y % 100) 0 in
     let c = eqb (y % 400) 0 in
-    rw (fours y a refl, hundreds y b refl, cycles y c refl) (sum (leapDay y) ((y + 3) / 4) ((y + 399) / 400) ((y + 99) / 100) (one a) (one b) (one c) (leap-one y a b c refl refl refl))
+    rw (fours y a refl, hundreds y b refl, cycles y c refl) (sum (leapDay y) ((y + 3) / 4) ((y + 399) / 400) ((y + 99) / 100) (bit a) (bit b) (bit c) (leap-one y a b c refl refl refl))
   where
     sum : (l p q r a b c : ℕ) → l + b ≡ a + c → l + p + q + (r + b) ≡ p + a + (q + c) + r
     sum l p q r a b c e = omega arith
@@ -191,7 +188,7 @@ lengths-by y (suc m) = rw (lengths-by y m)
 
 -- the days before a month, in whole numbers: from March on in steps of 153 days in five months
 abbrev pub monthsFormula : Bool → ℕ → ℕ
-monthsFormula l m = if ltb m 3 then 31 * (m - 1) else 59 + one l + (153 * m - 457) / 5
+monthsFormula l m = if ltb m 3 then 31 * (m - 1) else 59 + bit l + (153 * m - 457) / 5
 
 agrees : Bool → ℕ → Bool
 agrees l m = eqb (lengthsBy l m) (monthsFormula l m)

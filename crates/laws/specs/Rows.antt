@@ -6,6 +6,7 @@ use mathlib.Core.Path.{_≡_, refl}
 use mathlib.Core.Bool.{Bool, true, false, _&&_}
 use lib.Dec.{T, leb}
 use borrow.Author.Tests.{leb-true, leb-false}
+use mir.Facts.{and-yes}
 use Rattle.definition.specs.Base.{if_then_else_}
 
 -- of the first k numbers of a row, the last that is at most n; 0 where there is none
@@ -77,13 +78,9 @@ abbrev pub all : (ℕ → Bool) → ℕ → Bool
 all p zero = true
 all p (suc n) = p n && all p n
 
-split : (a b : Bool) → T (a && b) → T a × T b
-split true b t = (tt, t)
-split false b t = absurd t
-
 pub at : (p : ℕ → Bool) (n : ℕ) → T (all p n) → (k : ℕ) → k < n → T (p k)
 at p zero t k h = absurd (omega arith)
-at p (suc n) t k h = by (split (p n) (all p n) t) (decLt k n) (λ u l. at p n u k l)
+at p (suc n) t k h = by (and-yes (p n) (all p n) t) (decLt k n) (λ u l. at p n u k l)
   where
     by : T (p n) × T (all p n) → Dec (k < n) → (T (all p n) → k < n → T (p k)) → T (p k)
     by s (yes l) more = more (s .1) l

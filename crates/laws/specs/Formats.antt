@@ -2,7 +2,7 @@
 use mathlib.Core.Path.{_≡_, refl, sym, ap, _∙_, subst}
 use mathlib.Core.Bool.{Bool, true, false, true≢false, _&&_, and-false, and-eq-true-iff}
 use mathlib.Core.List.{List, [], _∷_, _++_, append-assoc}
-use mathlib.Core.Option.{Option, some, none}
+use mathlib.Core.Option.{Option, some, none, Option·some-injective}
 use Prim.Native.Nat.{ℕ, zero, suc, _+_, _*_, _%_, _^_, _≤_, _<_}
 use native.Mathlib.Omega.{arith}
 use borrow.Author.Tests.{leb-true, ltb-true, ltb-false, eqb-true, le-leb, lt-leb, le-ltb, eq-eqb, ne-eqb}
@@ -13,28 +13,15 @@ use Rattle.definition.specs.Base.{if_then_else_, _>>=_, when, given, same, with
 use Rattle.definition.specs.Bits.{Bits, enc, dec, bitsOf, bytesUpTo, gap, pad}
 use Rattle.definition.specs.Text.{Text, tailByte, following, utf8After, isUtf8}
 use Rattle.definition.specs.Format.{Format, field, _⊗_, via, putGiven, getGiven, depending, putAll, getAll, times, getPad, whole, count, countWidth, text, rises, listOf}
-use Rattle.theorems.specs.BitLaws.{Each, empty, next, each-append, each-back, each-replicate, Binary, Bytes, length-enc, enc-binary, dec-enc, take-fits, take-enc, bits-binary, length-bits, length-bytes, bytes-bits, bits-bytes}
+use Rattle.laws.specs.Options.{never, some-is, when-is}
+use Rattle.laws.specs.Each.{Each, empty, next, each-append, each-back, each-replicate}
+use Rattle.laws.specs.Bits.{Binary, Bytes, length-enc, enc-binary, dec-enc-lt, take-lt, enc-take, bits-binary, length-bits, length-bytes, bytes-bits, bits-bytes}
 
--- ---- what may be missing
-
-pub impossible : {A : Type 0} {x : A} {C : Type 0} → none ≡ some x → C
-impossible h = let z : _≡_ {A = ℕ} 0 1 = cc in absurd (omega arith)
-
--- what came out came out of something
-pub came : {A B : Type 0} (o : Option A) (k : A → Option B) (y : B) → o >>= k ≡ some y → (x : A) × (o ≡ some x) × (k x ≡ some y)
-came none k y h = impossible h
-came (some x) k y h = (x, refl, h)
+-- ---- the promises
 
 -- what came out is this
 pub got : {A : Type 0} {x y : A} (P : A → Type 0) → some x ≡ some y → P x → P y
-got {A} {x} {y} P h p = let e : x ≡ y = cc in subst P e p
-
--- what passed
-pub passed : {A : Type 0} (t : Bool) (x y : A) → when t x ≡ some y → (t ≡ true) × (some x ≡ some y)
-passed true x y h = (refl, h)
-passed false x y h = impossible h
-
--- ---- the promises
+got {x = x} {y = y} P h p = subst P (Option·some-injective x y h) p
 
 -- bits that stand behind n others end at a byte
 abbrev pub Ends : ℕ → Bits → Type 0
@@ -73,11 +60,11 @@ good-field w = record {
   binary = λ n v. enc-binary w v;
   back = λ n v rest h e.
       let k : w ≤ length (enc w v ++ rest) = rw (length-append, length-enc) (omega arith) in
-      rw (le-leb w (length (enc w v ++ rest)) k, take-at (enc w v) rest w (length-enc w v), drop-at (enc w v) rest w (length-enc w v), dec-enc w v h);
+      rw (le-leb w (length (enc w v ++ rest)) k, take-at (enc w v) rest w (length-enc w v), drop-at (enc w v) rest w (length-enc w v), dec-enc-lt w v h);
   exact = λ n l x b e h.
-      let r = passed (leb w (length l)) (dec (take w l), drop w l) x h in
+      let r = when-is (leb w (length l)) (dec (take w l), drop w l) x h in
       let k = leb-true w (length l) (r .0) in
-      got (Begins (field w) (λ v. v < 2 ^ w) n l) (r .1) (sym (rw (take-enc w b k) (take-append-drop w l)), take-fits w b k);
+      subst (Begins (field w) (λ v. v < 2 ^ w) n l) (r .1) (sym (rw (enc-take w b k) (take-append-drop w l)), take-lt w b k);
 }
 
 -- ---- a part that says how the rest is read
@@ -102,7 +89,7 @@ good-lead {f = f} key at {g = g} {F = F} {G = G} place says gf gg = record {
       rw (append-assoc s t rest, gf .back n (key b) (t ++ rest) (h .0) e')
       (gg (key b) .back (at n (key b)) b rest (h .1) (ends-after n (at n (key b)) s (t ++ rest) (place n (key b)) e'));
   exact = λ n l y b e h.
-      let (x, p, q) = came (f .get l) (λ x. g (x .0) .get (x .1)) y h in
+      let (x, p, q) = some-is (f .get l) (λ x. g (x .0) .get (x .1)) y h in
       let s = f .put n (x .0) in
       let m = at n (x .0) in
       let (u, v) = gf .exact n l x b e p in
@@ -122,7 +109,7 @@ good-keyed {A} {B} a {g} {G} gg = record {
   binary = λ n p. gg .binary n (p .1);
   back = λ n p rest h e. rw (gg .back n (p .1) rest (h .1) e) (ap (λ (x : A). some ((x, p .1), rest)) (sym (h .0)));
   exact = λ n l z b e h.
-      let (y, p, q) = came (g .get l) (λ y. some ((a, y .0), y .1)) z h in
+      let (y, p, q) = some-is (g .get l) (λ y. some ((a, y .0), y .1)) z h in
       let (u, v) = gg .exact n l y b e p in
       got (Begins (keyed a g) (λ p. (p .0 ≡ a) × G (p .1)) n l) q (u, (refl, v));
 }
@@ -188,7 +175,7 @@ good-perhaps {B} t {g} {G} gg = record {
         → Begins (perhaps t g) (λ o. (given o ≡ t) × IfGiven G o) n l x
     exact false n l x b e h = got (Begins (perhaps false g) (λ o. (given o ≡ false) × IfGiven G o) n l) h (refl, (refl, tt))
     exact true n l x b e h =
-        let (y, p, q) = came (g .get l) (λ y. some (some (y .0), y .1)) x h in
+        let (y, p, q) = some-is (g .get l) (λ y. some (some (y .0), y .1)) x h in
         let (u, v) = gg .exact n l y b e p in
         got (Begins (perhaps true g) (λ o. (given o ≡ true) × IfGiven G o) n l) q (u, (refl, v))
 
@@ -212,8 +199,8 @@ good-via {A} {to = to} {from = from} {f = f} {G = G} s g = record {
   binary = λ n b. g .binary n (from b);
   back = λ n b rest h e. rw (g .back n (from b) rest (s .fits b h) e, s .there b h);
   exact = λ n l z b e h.
-      let (x, p, q) = came (f .get l) (λ x. to (x .0) >>= λ b. some (b, x .1)) z h in
-      let (y, t, r) = came (to (x .0)) (λ b. some (b, x .1)) z q in
+      let (x, p, q) = some-is (f .get l) (λ x. to (x .0) >>= λ b. some (b, x .1)) z h in
+      let (y, t, r) = some-is (to (x .0)) (λ b. some (b, x .1)) z q in
       let (u, v) = g .exact n l x b e p in
       let (w, k) = s .back (x .0) y v t in
       got (Begins (via to from f) G n l) r (u ∙ ap (λ (a : A). f .put n a ++ x .1) (sym w), k);
@@ -255,8 +242,8 @@ all-exact : {A : Type 0} {f : Format A} {F : A → Type 0} → Good f F → (k n
 unfolding times getAll putAll
 all-exact {f = f} {F = F} g zero n l y b e h = got (Begins (times zero f) (Times F zero) n l) h (refl, record { many = refl; each = empty })
 all-exact {f = f} {F = F} g (suc k) n l z b e h =
-    let (x, p, q) = came (f .get l) (λ x. getAll f k (x .1) >>= λ y. some (x .0 ∷ y .0, y .1)) z h in
-    let (y, r, t) = came (getAll f k (x .1)) (λ y. some (x .0 ∷ y .0, y .1)) z q in
+    let (x, p, q) = some-is (f .get l) (λ x. getAll f k (x .1) >>= λ y. some (x .0 ∷ y .0, y .1)) z h in
+    let (y, r, t) = some-is (getAll f k (x .1)) (λ y. some (x .0 ∷ y .0, y .1)) z q in
     let s = f .put n (x .0) in
     let m = n + length s in
     let u = g .exact n l x b e p in
@@ -308,9 +295,9 @@ pad-exact : (n : ℕ) (l rest : Bits) → Ends n l → getPad l ≡ some rest �
 unfolding getPad
 pad-exact n l rest e h =
     let m = length l % 8 in
-    let (p, q) = passed (same (take m l) (replicate m 0)) (drop m l) rest h in
+    let (p, q) = when-is (same (take m l) (replicate m 0)) (drop m l) rest h in
     let g : m ≡ gap n = omega arith in
-    got (λ rest. l ≡ pad n ++ rest) q (rw (← g, ← same-true (take m l) (replicate m 0) p) (sym (take-append-drop m l)))
+    subst (λ (rest : Bits). l ≡ pad n ++ rest) q (rw (← g, ← same-true (take m l) (replicate m 0) p) (sym (take-append-drop m l)))
 
 good-padding : {A : Type 0} (a : A) → Good (padding a) (λ b. b ≡ a)
 unfolding padding
@@ -318,7 +305,7 @@ good-padding {A} a = record {
   binary = λ n b. each-replicate (gap n) 0 (omega arith);
   back = λ n b rest h e. rw (pad-back n rest e) (ap (λ (x : A). some (x, rest)) (sym h));
   exact = λ n l z b e h.
-      let (rest, p, q) = came (getPad l) (λ rest. some (a, rest)) z h in
+      let (rest, p, q) = some-is (getPad l) (λ rest. some (a, rest)) z h in
       got (Begins (padding a) (λ b. b ≡ a) n l) q (pad-exact n l rest e p, refl);
 }
 
@@ -428,10 +415,10 @@ good-raw k = record {
     exact : (n : ℕ) (l : Bits) (x : Text × Bits) → Binary l → (t : Bool) → ltb (length l) (8 * k) ≡ t
         → (if t then none else when (isUtf8 (bytesUpTo k l)) (bytesUpTo k l, drop (8 * k) l)) ≡ some x
         → Begins (raw k) (λ s. (length s ≡ k) × (isUtf8 s ≡ true)) n l x
-    exact n l x b true e h = impossible h
+    exact n l x b true e h = never h
     exact n l x b false e h =
-        let (u, q) = passed (isUtf8 (bytesUpTo k l)) (bytesUpTo k l, drop (8 * k) l) x h in
-        got (Begins (raw k) (λ s. (length s ≡ k) × (isUtf8 s ≡ true)) n l) q
+        let (u, q) = when-is (isUtf8 (bytesUpTo k l)) (bytesUpTo k l, drop (8 * k) l) x h in
+        subst (Begins (raw k) (λ s. (length s ≡ k) × (isUtf8 s ≡ true)) n l) q
         (sym (bits-bytes k b (ltb-false (length l) (8 * k) e)), (length-bytes k l, u))
 
 pub good-count : Good count (λ v. v < 2 ^ 32)
@@ -463,10 +450,10 @@ good-ordered lt k {f} {F} g =
       binary = all .binary;
       back = λ n l rest h e. rw (all .back n l rest (h .0) e, h .1);
       exact = λ n l x b e h.
-          let (y, p, q) = came (getAll f k l) (λ y. when (rises lt (y .0)) y) x h in
-          let (u, r) = passed (rises lt (y .0)) y x q in
+          let (y, p, q) = some-is (getAll f k l) (λ y. when (rises lt (y .0)) y) x h in
+          let (u, r) = when-is (rises lt (y .0)) y x q in
           let (v, w) = all .exact n l y b e p in
-          got (Begins (ordered lt k f) (λ l. Times F k l × (rises lt l ≡ true)) n l) r (v, (w, u));
+          subst (Begins (ordered lt k f) (λ l. Times F k l × (rises lt l ≡ true)) n l) r (v, (w, u));
     }
 
 count-length : (n a : ℕ) → length (count .put n a) ≡ countWidth
