@@ -1,4 +1,5 @@
 pub mod Bits
+pub mod Clear
 pub mod Over
 pub mod Places
 pub mod Reads

@@ -1,4 +1,4 @@
--- Moving: a tail of zeros, and runs of bits or bytes that change places. Assumes nothing.
+-- Moving: runs of bits or bytes that change places. Assumes nothing.
 use mathlib.Core.Path.{_≡_, refl, sym, ap, _∙_}
 use mathlib.Core.Bool.{Bool, true, false, _&&_}
 use mathlib.Core.List.{List, [], _∷_, _++_, append-assoc, append-nil, reverse, reverse-cons, reverse-append, reverse-reverse}
@@ -9,43 +9,12 @@ use borrow.Author.Tests.{le-leb, lt-leb, leb-true}
 use Rattle.definition.specs.Base.{if_then_else_}
 use Rattle.definition.specs.Bits.{Bits, enc, dec, bitsOf}
 use Rattle.bits.specs.Bits.{length-bits, length-part, enc-read}
-use Rattle.bits.specs.Places.{at, past, inside, upTo, Fits, room-fits, fits-room, up-before}
+use Rattle.bits.specs.Places.{at, past, inside, upTo, room-fits, fits-room, up-before}
 use Rattle.bits.specs.Steps.{Step, _▷_}
 use Rattle.bits.specs.declared.Place.{Place}
 use Rattle.bits.specs.Over.{over, over-none, over-kept, over-prev, parts, turned-over}
-use lib.ListN.{length, take, drop, getD, set, replicate, length-append, length-reverse, length-drop, length-replicate, take-append-drop, drop-of-length-le, replicate-append-replicate}
-use lib.Seq.{take-take, take-append-le, take-add, take-suc, take-length, drop-cons, getD-at, set-at, length-take-le, drop-drop, take-at, drop-at}
-use native.Mathlib.Numerals.{add-one}
-
--- ---- zeros from a byte on
-
-abbrev pub cleared : ℕ → List ℕ → List ℕ
-cleared n s = take n s ++ replicate (length s - n) 0
-
--- on the way: up to i
-abbrev pub clearing : ℕ → List ℕ → ℕ → List ℕ
-clearing n s i = take n s ++ (replicate (i - n) 0 ++ drop i s)
-
-pub clear-none : (n : ℕ) (s : List ℕ) → s ≡ clearing n s n
-clear-none n s =
-    let z : n - n ≡ 0 = omega arith in
-    rw z (sym (take-append-drop n s))
-
-pub clear-turn : (n i : ℕ) (s s' : List ℕ) → n ≤ i → i < length s → s' ≡ clearing n s i → set s' i 0 ≡ clearing n s (i + 1)
-clear-turn n i s s' h k e =
-    let p = take n s ++ replicate (i - n) 0 in
-    let l : length p ≡ i = length-append (take n s) (replicate (i - n) 0) ∙ (omega (arith, length-take-le n s (omega arith), length-replicate {A = ℕ} (i - n) 0)) in
-    let d : i + 1 - n ≡ i - n + 1 = omega arith in
-    let o : ℕ = 0 in
-    let one : replicate (i - n) o ++ (o ∷ []) ≡ replicate (i + 1 - n) o = rw d (replicate-append-replicate (i - n) 1 o) in
-    let w : s' ≡ p ++ (getD s i 0 ∷ drop (suc i) s) = e ∙ rw (drop-cons s i 0 k) (sym (append-assoc (take n s) (replicate (i - n) 0) _)) in
-    rw (w, set-at p (getD s i 0) (drop (suc i) s) 0 i l) (append-assoc (take n s) (replicate (i - n) o) (o ∷ drop (suc i) s)
-    ∙ ap (λ (t : List ℕ). take n s ++ t) (sym (append-assoc (replicate (i - n) o) (o ∷ []) (drop (suc i) s)) ∙ rw (one, add-one)))
-
-pub clear-all : (n i : ℕ) (s s' : List ℕ) → n ≤ i → length s ≤ i → i - n ≤ length s - n → s' ≡ clearing n s i → s' ≡ cleared n s
-clear-all n i s s' h k le e =
-    let j : i - n ≡ length s - n = omega arith in
-    e ∙ rw (drop-of-length-le s k, append-nil, j)
+use lib.ListN.{length, take, drop, getD, set, length-append, length-reverse, length-drop, take-append-drop}
+use lib.Seq.{take-take, take-append-le, take-add, take-suc, take-length, getD-at, set-at, length-take-le, drop-drop, take-at, drop-at}
 
 -- ---- two neighbours change places
 

@@ -1,13 +1,18 @@
+mod zeros;
+
+pub use zeros::clear;
+pub use zeros::clear_from;
+pub use zeros::clear_words_from;
 ghost use mathlib.Core.Path.{_≡_};
 ghost use Prim.Native.Nat.{_+_, _-_, _*_, _/_, _%_, _^_, _<_, _≤_, min};
-ghost use lib.ListN.{length, replicate};
+ghost use lib.ListN.{length};
 ghost use Rattle.definition.specs.Bits.{enc, bitsOf, twos, signed};
 ghost use Rattle.definition.specs.Format.{field, bit, flag, text};
 ghost use Rattle.bits.specs.Places.{at, room, inside, upTo};
 ghost use Rattle.bits.specs.Reads.{takeAt, flagAt, padAt, spanIn, Spans, int64At, int32At};
 ghost use Rattle.bits.specs.Steps.{Laid, Step, _▷_, Puts, Pads};
 ghost use Rattle.bits.specs.Window.{Read};
-ghost use Rattle.bits.specs.Moves.{cleared, bitsFrom, Flips, turned, moved, swapped, ordered, Turns, Copies};
+ghost use Rattle.bits.specs.Moves.{bitsFrom, Flips, turned, moved, swapped, ordered, Turns, Copies};
 
 // A place in a buffer: so many whole bytes and so many bits stand before it. A bit of 8 or more is past every end.
 pub struct Place {
@@ -411,23 +416,6 @@ pub fn take_i32(s: &[u8], p: Place) -> Int32
         value: signed32(f.value as u32),
         next,
     }
-}
-
-// Zeros from a byte on.
-pub fn clear_from(out: &mut [u8], from: usize)
-    ensures { λ _. ⌜ now (out .exit) ≡ cleared from (now (out .entry)) ⌝ }
-{
-    let mut i = from;
-    while i < out.len() {
-        out[i] = 0;
-        i += 1;
-    }
-}
-
-pub fn clear(out: &mut [u8])
-    ensures { λ _. ⌜ now (out .exit) ≡ replicate (length (now (out .entry))) 0 ⌝ }
-{
-    clear_from(out, 0);
 }
 
 // Turns the bytes from a to e round.

@@ -26,7 +26,7 @@ use Rattle.theorems.specs.BitLaws.{Bytes, empty, next, each-take, length-bytes,
 use Rattle.theorems.specs.Packing.{day-days}
 use Rattle.bits.specs.Bits.{bits-take}
 use Rattle.bits.specs.Places.{at, inside, Fits, room-none}
-use Rattle.bits.specs.Moves.{cleared}
+use Rattle.bits.specs.Clear.{cleared}
 use Rattle.bits.specs.Steps.{Puts, Step, _▷_, said, sizeOf, view, view-in}
 use Rattle.bits.specs.Round.{put-stood, overran}
 use Rattle.bits.specs.declared.Place.{Place}

@@ -1,11 +1,11 @@
 use mathlib.Core.Path.{_≡_, refl}
 use Prim.Native.Nat.{_-_, _≤_}
 use lib.ListN.{length, length-set}
-use Rattle.bits.specs.Moves.{clearing, clear-none, clear-turn, clear-all}
+use Rattle.bits.proofs.Clearing.{clearing, clear-none, clear-more, clear-all}
 use borrow.Author.Needs.{needs}
 use native.Mathlib.Omega.{arith}
-use Rattle.bits.proofs.clear_from.Statement.{statement}
-use Rattle.bits.proofs.clear_from.Tie as tie
+use Rattle.bits.proofs.zeros.clear_from.Statement.{statement}
+use Rattle.bits.proofs.zeros.clear_from.Tie as tie
 
 abbrev Inv-loop : tie.InvT-loop
 Inv-loop out₀ from i₀ out i = (from ≤ i) × (i - from ≤ length out₀ - from) × (length out ≡ length out₀) × (out ≡ clearing from out₀ i)
@@ -31,7 +31,7 @@ loop-again : tie.Need-loop-again Inv-loop μ-loop
 loop-again c =
     let l = c .before .loop in
     let a = c .before .before .args in
-    (omega arith, omega arith, simp length-set (l .inv .2), clear-turn (a .from) (l .i) (a .out .now) (l .out) (omega arith) (omega arith) (l .inv .3))
+    (omega arith, omega arith, simp length-set (l .inv .2), clear-more (a .from) (l .i) (a .out .now) (l .out) (omega arith) (omega arith) (l .inv .3))
 
 same-length : tie.Need-same-length Inv-loop μ-loop
 same-length c = search needs
