@@ -8,7 +8,7 @@ use lib.Dec.{leb}
 use borrow.Author.Tests.{le-leb, lt-leb, leb-true}
 use Rattle.definition.specs.Base.{if_then_else_}
 use Rattle.definition.specs.Bits.{Bits, enc, dec, bitsOf}
-use Rattle.bits.specs.Bits.{length-bits, length-part, enc-read}
+use Rattle.laws.specs.Bits.{length-bits, length-part, enc-read}
 use Rattle.bits.specs.Places.{at, past, inside, upTo, room-fits, up-before}
 use Rattle.bits.specs.Steps.{Step, _▷_}
 use Rattle.bits.specs.declared.Place.{Place}
