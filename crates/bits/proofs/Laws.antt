@@ -21,7 +21,7 @@ use Rattle.bits.specs.Reads.{takeAt, take-whole, padAt, pad-told}
 use Rattle.bits.specs.Places.{past, place-at, at, place, room, inside, Fits, room-fits, fits-room, room-short}
 use Rattle.definition.specs.Base.{if_then_else_}
 use Rattle.definition.specs.Bits.{enc, dec, bitsOf, gap}
-use Rattle.bits.specs.Bits.{enc-read, enc-zeros, bits-append, bits-take, bits-drop, enc-split, enc-low, length-enc, length-bits}
+use Rattle.laws.specs.Bits.{enc-read, enc-zeros, bits-append, bits-take, bits-drop, enc-split, enc-low, length-enc, length-bits}
 use Rattle.bits.specs.Window.{join-lt, Read, read-more, read-all}
 
 -- room is told by whole bytes

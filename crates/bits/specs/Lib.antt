@@ -1,4 +1,3 @@
-pub mod Bits
 pub mod Clear
 pub mod Over
 pub mod Places

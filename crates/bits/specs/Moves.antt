@@ -8,8 +8,8 @@ use lib.Dec.{leb}
 use borrow.Author.Tests.{le-leb, lt-leb, leb-true}
 use Rattle.definition.specs.Base.{if_then_else_}
 use Rattle.definition.specs.Bits.{Bits, enc, dec, bitsOf}
-use Rattle.bits.specs.Bits.{length-bits, length-part, enc-read}
 use Rattle.bits.specs.Places.{at, past, inside, upTo, room-fits, fits-room, up-before}
+use Rattle.laws.specs.Bits.{length-bits, length-part, enc-read}
 use Rattle.bits.specs.Steps.{Step, _▷_}
 use Rattle.bits.specs.declared.Place.{Place}
 use Rattle.bits.specs.Over.{over, over-none, over-kept, over-prev, parts, turned-over}

@@ -8,7 +8,7 @@ use lib.ListN.{length, take, drop, getD, set, length-append, length-drop, take-a
 use lib.Seq.{take-nil, set-split, take-at, drop-at, take-append-le, length-take-le, drop-drop, take-take}
 use lib.Pow.{pow-pos, high, shr-shr}
 use Rattle.definition.specs.Bits.{enc, bitsOf}
-use Rattle.bits.specs.Bits.{length-enc, length-bits, length-part, bits-append, bits-at, enc-split, enc-low, enc-high}
+use Rattle.laws.specs.Bits.{length-enc, length-bits, length-part, bits-append, bits-at, enc-split, enc-low, enc-high}
 
 -- f laid over l from place n on
 unfoldable pub over : ℕ → List ℕ → List ℕ → List ℕ

@@ -9,7 +9,7 @@ use lib.ListN.{length, take, drop, length-append, length-drop, take-append-drop}
 use lib.Seq.{take-at, drop-at}
 use Rattle.definition.specs.Bits.{Bits, enc, dec, bitsOf}
 use Rattle.definition.specs.Format.{Format, field, times, putAll, listOf, count}
-use Rattle.bits.specs.Bits.{length-bits, length-enc}
+use Rattle.laws.specs.Bits.{length-bits, length-enc}
 use Rattle.bits.specs.Over.{over, over-mid}
 use Rattle.bits.specs.Places.{at, place, past, room, inside, Fits, room-fits, place-at, at-place, next-fits}
 use Rattle.bits.specs.Steps.{holds, full, view, _▷_, sizeOf, Step, said, Puts, Laid, laid-in, view-in, view-out, ▷-fits, ▷-short, length-before, put-then, laid-kept}

@@ -16,8 +16,8 @@ use lib.IntN.{ℤ}
 use Rattle.definition.specs.Bits.{Bits, enc, bitsOf, pad, twos}
 use Rattle.definition.specs.Date.{Date, dayNumber}
 use Rattle.definition.specs.Format.{Format, field, via, whole, _⊗_, depending, optional, times, putAll, listOf, bit, count, flag, code, time, Period, period, number, date, text}
-use Rattle.bits.specs.Bits.{length-bits, length-enc}
 use Rattle.bits.specs.Over.{over, over-upto, over-before}
+use Rattle.laws.specs.Bits.{length-bits, length-enc}
 use Rattle.bits.specs.Places.{at, place, past, room, inside, Fits, room-fits, fits-room, room-short, room-none, at-place, next-fits}
 use Rattle.bits.specs.declared.Place.{Place}
 

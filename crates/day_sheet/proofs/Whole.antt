@@ -1,6 +1,6 @@
 -- A sheet from its parts: the lists of a calendar that was found, the bytes that were written, the answer. Assumes nothing.
 use mathlib.Core.Path.{_≡_, refl, sym, ap, _∙_}
-use mathlib.Core.Bool.{Bool, true, false, _&&_}
+use mathlib.Core.Bool.{Bool, true, false, _&&_, true≢false}
 use mathlib.Core.List.{List, [], _∷_}
 use mathlib.Core.Option.{Option, some, none}
 use Prim.Native.Nat.{ℕ, zero, suc, _+_, _-_, _*_, _/_, _%_, _≤_, _<_}
@@ -21,10 +21,11 @@ use Rattle.definition.specs.Pack.{calendar, decode}
 use Rattle.definition.specs.Calendar.{orHours, hoursOn, defaultPeriods, dayPeriods}
 use Rattle.definition.specs.DaySheet.{sheet, daySheet}
 use Rattle.definition.specs.Refusal.{refused, inRoom, sheetOn, sheetBy, daySheetAnswer}
-use Rattle.text.specs.Bools.{and-left, and-right}
-use Rattle.theorems.specs.BitLaws.{Bytes, empty, next, each-take, length-bytes, whole-bytes}
-use Rattle.theorems.specs.Packing.{day-days}
-use Rattle.bits.specs.Bits.{bits-take}
+use Rattle.laws.specs.Options.{never}
+use Rattle.laws.specs.Bools.{and-left, and-right}
+use Rattle.laws.specs.Bits.{Bytes, length-bytes, whole-bytes, bits-take}
+use Rattle.laws.specs.Each.{empty, next, each-take}
+use Rattle.laws.specs.Fields.{day-days}
 use Rattle.bits.specs.Places.{at, inside, Fits, room-none}
 use Rattle.bits.specs.Clear.{cleared}
 use Rattle.bits.specs.Steps.{Puts, Step, _▷_, said, sizeOf, view, view-in}
@@ -132,12 +133,6 @@ sheet-is : {s : List ℕ} {c : Calendar} {d : Date} {r : Day} → DayIs s c d r
 unfolding daySheet dayPeriods
 sheet-is {c = c} {d = d} h = rw (h .weekday, h .holiday, h .extra, or-or (hoursOn (c .exceptions) d) (getD (c .hours) (weekday d) []) defaultPeriods)
 
-never : {A : Type 0} {a : A} → none ≡ some a → ⊥
-never e = let z : _≡_ {A = ℕ} 0 1 = cc in omega arith
-
-untrue : true ≡ false → ⊥
-untrue e = let z : _≡_ {A = ℕ} 0 1 = cc in omega arith
-
 element-at : {A : Type 0} (xs : List A) (i : ℕ) {x : A} {ys : List A} → drop i xs ≡ x ∷ ys → getElem? xs i ≡ some x
 element-at [] zero e = cc
 element-at [] (suc i) e = cc
@@ -170,7 +165,7 @@ module _ {s : Text} (row : ℕ) (z : ℤ) (room : ℕ) {r : Sections} (o : Opene
   model-of e = by-decode (decode s) refl (sym (o .ok) ∙ e)
     where
       by-decode : (m : Option Model) → decode s ≡ m → given m ≡ true → (m : Model) × (decode s ≡ some m)
-      by-decode none d h = absurd (untrue (sym h))
+      by-decode none d h = absurd (true≢false (sym h))
       by-decode (some m) d h = (m, d)
 
   module _ (ok : r .ok ≡ true) {day : ℕ} (is : day ≡ (fromDays z or 0)) where

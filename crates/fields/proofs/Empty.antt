@@ -14,13 +14,10 @@ use Rattle.definition.specs.Date.{dateOf, dateParts, firstTen}
 use Rattle.definition.specs.Number.{Reading, absent, numberOf, decimalOf}
 use Rattle.definition.specs.Duration.{durationOf, figuresOf}
 use Rattle.definition.specs.Tree.{Element, child, textOf, nonEmpty}
+use Rattle.laws.specs.Options.{bind-or}
 use Rattle.fields.specs.Said.{readBy, wholeSaid, dateSaid, numberSaid, minutesSaid}
 
 -- ---- read as the empty text
-
-bind-or : {A : Type 0} (f : Text → Option A) → f [] ≡ none → (o : Option Text) → f (o or []) ≡ (o >>= f)
-bind-or f e none = e
-bind-or f e (some t) = refl
 
 read-or : {A : Type 0} (f : Text → Reading A) → f [] ≡ absent → (o : Option Text) → f (o or []) ≡ readBy f o
 read-or f e none = e

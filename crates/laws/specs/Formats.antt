@@ -14,6 +14,7 @@ use Rattle.definition.specs.Bits.{Bits, enc, dec, bitsOf, bytesUpTo, gap, pad}
 use Rattle.definition.specs.Text.{Text, tailByte, following, utf8After, isUtf8}
 use Rattle.definition.specs.Format.{Format, field, _⊗_, via, putGiven, getGiven, depending, putAll, getAll, times, getPad, whole, count, countWidth, text, rises, listOf}
 use Rattle.laws.specs.Options.{never, some-is, when-is}
+use Rattle.laws.specs.Same.{same-refl, same-eq}
 use Rattle.laws.specs.Each.{Each, empty, next, each-append, each-back, each-replicate}
 use Rattle.laws.specs.Bits.{Binary, Bytes, length-enc, enc-binary, dec-enc-lt, take-lt, enc-take, bits-binary, length-bits, length-bytes, bytes-bits, bits-bytes}
 
@@ -260,22 +261,6 @@ good-times k {f} g = record {
 
 -- ---- zero bits to a byte
 
-pub same-refl : (s : List ℕ) → same s s ≡ true
-unfolding same
-same-refl [] = refl
-same-refl (x ∷ s) = rw (eq-eqb x x refl) (same-refl s)
-
-pub same-true : (s t : List ℕ) → same s t ≡ true → s ≡ t
-unfolding same
-same-true [] [] h = refl
-same-true [] (y ∷ t) h = absurd (true≢false (sym h))
-same-true (x ∷ s) [] h = absurd (true≢false (sym h))
-same-true (x ∷ s) (y ∷ t) h = go (eqb x y) refl (same-true s t) h
-  where
-    go : (e : Bool) → eqb x y ≡ e → (same s t ≡ true → s ≡ t) → e && same s t ≡ true → _≡_ {A = List ℕ} (x ∷ s) (y ∷ t)
-    go true e f h = let p = eqb-true x y e in let q = f h in cc
-    go false e f h = absurd (true≢false (sym h))
-
 -- zero bits, and the value that stands before them
 padding : {A : Type 0} → A → Format A
 padding a = record { put = λ n b. pad n; get = λ l. getPad l >>= λ rest. some (a, rest) }
@@ -297,7 +282,7 @@ pad-exact n l rest e h =
     let m = length l % 8 in
     let (p, q) = when-is (same (take m l) (replicate m 0)) (drop m l) rest h in
     let g : m ≡ gap n = omega arith in
-    subst (λ (rest : Bits). l ≡ pad n ++ rest) q (rw (← g, ← same-true (take m l) (replicate m 0) p) (sym (take-append-drop m l)))
+    subst (λ (rest : Bits). l ≡ pad n ++ rest) q (rw (← g, ← same-eq (take m l) (replicate m 0) p) (sym (take-append-drop m l)))
 
 good-padding : {A : Type 0} (a : A) → Good (padding a) (λ b. b ≡ a)
 unfolding padding

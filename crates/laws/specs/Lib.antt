@@ -1,5 +1,6 @@
 pub mod Bits
 pub mod Bools
+pub mod Buf
 pub mod Calendar
 pub mod Each
 pub mod Fields
@@ -7,3 +8,4 @@ pub mod Formats
 pub mod Options
 pub mod Outlines
 pub mod Rows
+pub mod Same

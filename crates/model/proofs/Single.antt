@@ -1,6 +1,6 @@
 -- Laws for the fields: one for each way out of a function. Assumes nothing.
 use mathlib.Core.Path.{_≡_, refl, sym, ap, _∙_}
-use mathlib.Core.Bool.{Bool, true, false, _&&_, not}
+use mathlib.Core.Bool.{Bool, true, false, _&&_, not, and-false}
 use mathlib.Core.List.{List}
 use mathlib.Core.Option.{Option, some, none}
 use Prim.Native.Nat.{ℕ, suc, _+_, _-_, _*_, _/_, _%_, _^_, _≤_, _<_}
@@ -17,6 +17,7 @@ use Rattle.definition.specs.Time.{mostTime}
 use Rattle.definition.specs.Text.{Text, isUtf8}
 use Rattle.definition.specs.Format.{Format, _⊗_, field, whole, count, flag, code, time, period, date, optional, number}
 use Rattle.definition.specs.Pack.{constraint}
+use Rattle.laws.specs.Options.{bind-ext}
 use Rattle.bits.specs.Places.{at, place, past, room, inside, Fits, room-fits, room-short, room-none, room-more, place-at, at-place}
 use Rattle.bits.specs.Reads.{rest, Reads, Refuses, takeAt, flagAt, read-bit, spanAt, spanOf, Spans, rest-in, rest-out, rest-past, length-rest, take-cut, take-whole, read-field, read-whole, skip-pad, chain, read-flag, read-code, refuse-code, read-time, refuse-time, read-⊗, read-period, refuse-period, read-date, refuse-date, refuse-value, refuse-first, refuse-second, refuse-test}
 use Rattle.bits.specs.declared.Place.{Place}
@@ -24,7 +25,7 @@ use Rattle.bits.specs.declared.Field.{Field}
 use Rattle.bits.specs.declared.Span.{Span}
 use Rattle.bits.specs.declared.Flag.{Flag}
 use Rattle.model.specs.Places.{NameAt, between}
-use Rattle.model.specs.Passes.{behind, left, bind-ext, Passes, like-named, like-optional, pass-like, pass-read, pass-refused, pass-some, pass-none, pass-both, pass-alone}
+use Rattle.model.specs.Passes.{behind, left, Passes, like-named, like-optional, pass-like, pass-read, pass-refused, pass-some, pass-none, pass-both, pass-alone}
 use Rattle.model.specs.Rising.{Finds, PeriodKey, DayKey}
 use Rattle.model.specs.Parts.{raw, textBy, lagKind}
 
@@ -66,10 +67,6 @@ module _ (s : List ℕ) (p : Place) (lo hi : ℕ) {x : Field} (e : x ≡ takeAt 
 
   pub code-above : hi < x .value → Refuses (code lo hi) s p
   code-above h = refuse-code lo hi (read-field s p 4 e) (rw (lt-leb (x .value) hi h) (and-false (leb lo (x .value))))
-    where
-      and-false : (t : Bool) → (t && false) ≡ false
-      and-false true = refl
-      and-false false = refl
 
 -- ---- what may be missing
 

@@ -1,6 +1,6 @@
 -- The decoding pass: the counts and the places between the sections tell whether the bytes decode, and to what. Assumes nothing.
 use mathlib.Core.Path.{_≡_, refl, sym, ap, _∙_}
-use mathlib.Core.Bool.{Bool, true, false, _&&_}
+use mathlib.Core.Bool.{Bool, true, false, _&&_, false≢true}
 use mathlib.Core.List.{List, [], _∷_}
 use mathlib.Core.Option.{Option, some, none}
 use Prim.Native.Nat.{ℕ, _-_, _*_, _%_}
@@ -13,20 +13,19 @@ use Rattle.definition.specs.Bits.{Bits, bitsOf}
 use Rattle.definition.specs.Format.{Format, whole, times}
 use Rattle.definition.specs.Model.{Model}
 use Rattle.definition.specs.Pack.{Counts as CountsOf, Body, counts, body, modelFrom, model, atEnd, decode, calendar, activity, link, resource, assignment, expense}
+use Rattle.laws.specs.Bools.{both}
+use Rattle.laws.specs.Options.{bind-assoc, never}
 use Rattle.bits.specs.Places.{at, Fits}
 use Rattle.bits.specs.Reads.{rest, Reads, rest-in, length-rest, chain}
 use Rattle.bits.specs.declared.Place.{Place}
 use Rattle.model.specs.declared.Sections.{Sections}
 use Rattle.model.specs.declared.Counts.{Counts}
 use Rattle.model.specs.declared.Places.{Places}
-use Rattle.model.specs.Passes.{Passes, Told, refusing, reading, told, stood, bind-bind, _⨾_}
+use Rattle.model.specs.Passes.{Passes, Told, refusing, reading, told, stood, _⨾_}
 use Rattle.model.specs.Splits.{split-⊗, read-length}
 use Rattle.model.specs.Sections.{byteAt, start, countsIn, Walks, Holds, Decoded, noSections, sectionsOf, sectionsBy, Opened, rest-fits, byte-place}
 
 -- ---- places
-
-never : {A : Type 0} {a : A} → none ≡ some a → ⊥
-never e = let z : _≡_ {A = ℕ} 0 1 = cc in omega arith
 
 no-bits : (l : Bits) → length l ≡ 0 → l ≡ []
 no-bits [] e = refl
@@ -80,7 +79,7 @@ module _ {s : List ℕ} {n : Counts} {w : Places} (c : Reads counts s start (cou
       left-over b (x ∷ l) e = refl
 
       by-body : Told (body (countsIn n)) s (n .next) (w .end) → atEnd (rest s (n .next) >>= λ l. body (countsIn n) .get l >>= toModel) ≡ none
-      by-body (refusing r z) = ap atEnd (sym (bind-bind (rest s (n .next)) (body (countsIn n) .get) toModel) ∙ ap (λ (o : Option (Body × Bits)). o >>= toModel) (r .gives))
+      by-body (refusing r z) = ap atEnd (sym (bind-assoc (rest s (n .next)) (body (countsIn n) .get) toModel) ∙ ap (λ (o : Option (Body × Bits)). o >>= toModel) (r .gives))
       by-body (reading b l e r) =
           ap atEnd (chain {f = body (countsIn n)} toModel r ∙ ap (λ (o : Option Bits). o >>= λ m. toModel (b, m)) e) ∙ left-over b l e
 
@@ -147,13 +146,6 @@ module _ {s : List ℕ} {n : Counts} {w : Places} (c : Reads counts s start (cou
 
   -- ---- either way
 
-  false-true : {A : Type 0} → false ≡ true → A
-  false-true e = let z : _≡_ {A = ℕ} 0 1 = cc in absurd (omega arith)
-
-  both : (a b : Bool) → (a && b) ≡ true → (a ≡ true) × (b ≡ true)
-  both true b e = (refl, e)
-  both false b e = false-true e
-
   ended : (eqb (w .end .bit) 0 && eqb (w .end .byte) (length s)) ≡ true → rest s (w .end) ≡ some []
   ended e =
       let k = both (eqb (w .end .bit) 0) (eqb (w .end .byte) (length s)) e in
@@ -166,14 +158,14 @@ module _ {s : List ℕ} {n : Counts} {w : Places} (c : Reads counts s start (cou
       by-end true e =
           let k = both (eqb (w .end .bit) 0) (eqb (w .end .byte) (length s)) e in
           open-done (eqb-true (w .end .bit) 0 (k .0)) (eqb-true (w .end .byte) (length s) (k .1))
-      by-end false e = open-refused (λ z. false-true (sym e ∙ rw (eq-eqb (w .end .bit) 0 (end-bit s (w .end) z), eq-eqb (w .end .byte) (length s) (end-byte s (w .end) z))))
+      by-end false e = open-refused (λ z. false≢true (sym e ∙ rw (eq-eqb (w .end .bit) 0 (end-bit s (w .end) z), eq-eqb (w .end .byte) (length s) (end-byte s (w .end) z))))
 
   -- the activities of a model that was opened begin at a whole byte
   pub activities-at : sectionsBy (length s) n w .ok ≡ true → w .activities ≡ byteAt (w .activities .byte)
   activities-at = by-end (eqb (w .end .bit) 0 && eqb (w .end .byte) (length s)) refl
     where
       by-end : (t : Bool) → (eqb (w .end .bit) 0 && eqb (w .end .byte) (length s)) ≡ t → (if t then sectionsOf n w else noSections) .ok ≡ true → w .activities ≡ byteAt (w .activities .byte)
-      by-end false e k = false-true k
+      by-end false e k = absurd (false≢true k)
       by-end true e k =
           let x = stood (ended e) (h .expenses) in
           let a = stood (x .1) (h .assignments) in

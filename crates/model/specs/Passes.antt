@@ -10,6 +10,7 @@ use native.Mathlib.Omega.{arith}
 use Rattle.definition.specs.Base.{_>>=_}
 use Rattle.definition.specs.Bits.{Bits}
 use Rattle.definition.specs.Format.{Format, via, _⊗_, depending, getGiven, optional, whole, getPad, times, getAll, flag}
+use Rattle.laws.specs.Options.{bind-assoc, bind-ext, bind-some}
 use Rattle.bits.specs.Reads.{rest, Reads, Refuses, Skips, padAt, chain, skip-pad, pad-whole}
 use Rattle.bits.specs.declared.Place.{Place}
 
@@ -28,20 +29,6 @@ pub record Passes {A : Type 0} (f : Format A) (s : List ℕ) (p q : Place) : Typ
 pub record Like {A B : Type 0} (f : Format A) (g : Format B) : Type 0 where
   pub like : (l : Bits) → left f l ≡ left g l
 
--- ---- what may be missing
-
-pub bind-bind : {A B C : Type 0} (o : Option A) (g : A → Option B) (k : B → Option C) → (o >>= g >>= k) ≡ (o >>= λ x. g x >>= k)
-bind-bind none g k = refl
-bind-bind (some a) g k = refl
-
-pub bind-ext : {A B : Type 0} (o : Option A) (g k : A → Option B) → ((a : A) → g a ≡ k a) → (o >>= g) ≡ (o >>= k)
-bind-ext none g k e = refl
-bind-ext (some a) g k e = e a
-
-pub bind-some : {A : Type 0} (o : Option A) → (o >>= λ x. some x) ≡ o
-bind-some none = refl
-bind-some (some a) = refl
-
 -- ---- readers pass
 
 module _ {A : Type 0} {f : Format A} {s : List ℕ} {p q : Place} where
@@ -51,7 +38,7 @@ module _ {A : Type 0} {f : Format A} {s : List ℕ} {p q : Place} where
   pub pass-refused : Refuses f s p → rest s q ≡ none → Passes f s p q
   pass-refused h e =
       let k : A × Bits → Option Bits = λ x. some (x .1) in
-      record { passes = sym (bind-bind (rest s p) (f .get) k) ∙ ap (λ (o : Option (A × Bits)). o >>= k) (h .gives) ∙ sym e }
+      record { passes = sym (bind-assoc (rest s p) (f .get) k) ∙ ap (λ (o : Option (A × Bits)). o >>= k) (h .gives) ∙ sym e }
 
 -- what a place behind a value tells
 pub data Told {A : Type 0} (f : Format A) (s : List ℕ) (p q : Place) : Type 0 where
@@ -62,7 +49,7 @@ pub told : {A : Type 0} {f : Format A} {s : List ℕ} {p q : Place} → Passes f
 told {A} {f} {s} {p} {q} h = told-if (rest s p >>= f .get) refl
   where
     ends : (o : Option (A × Bits)) → (rest s p >>= f .get) ≡ o → rest s q ≡ (o >>= λ x. some (x .1))
-    ends o e = sym (h .passes) ∙ sym (bind-bind (rest s p) (f .get) (λ x. some (x .1))) ∙ ap (λ (o : Option (A × Bits)). o >>= λ x. some (x .1)) e
+    ends o e = sym (h .passes) ∙ sym (bind-assoc (rest s p) (f .get) (λ x. some (x .1))) ∙ ap (λ (o : Option (A × Bits)). o >>= λ x. some (x .1)) e
 
     told-if : (o : Option (A × Bits)) → (rest s p >>= f .get) ≡ o → Told f s p q
     told-if none e = refusing (record { gives = e }) (ends none e)
@@ -89,7 +76,7 @@ module _ {A B : Type 0} (f : Format A) (g : Format B) where
 
 -- what is left of the first is what the second goes on with
 onward : {A : Type 0} {f : Format A} {s : List ℕ} {p q : Place} (k : Bits → Option Bits) {o : Option Bits} → Passes f s p q → (rest s q >>= k) ≡ o → (rest s p >>= λ l. left f l >>= k) ≡ o
-onward {f = f} {s} {p} k h e = sym (bind-bind (rest s p) (left f) k) ∙ ap (λ (o : Option Bits). o >>= k) (h .passes) ∙ e
+onward {f = f} {s} {p} k h e = sym (bind-assoc (rest s p) (left f) k) ∙ ap (λ (o : Option Bits). o >>= k) (h .passes) ∙ e
 
 module _ {s : List ℕ} {p q r : Place} where
   infixr 20 _⨾_
@@ -188,7 +175,7 @@ again-add : (m n : ℕ) (k : Bits → Option Bits) (l : Bits) → again (m + n) 
 again-add zero n k l = rw (zero-add, again-zero)
 again-add (suc m) n k l =
     rw (suc-add, again-suc, again-suc)
-    (bind-ext (k l) (again (m + n) k) (λ r. again m k r >>= again n k) (again-add m n k) ∙ sym (bind-bind (k l) (again m k) (again n k)))
+    (bind-ext (k l) (again (m + n) k) (λ r. again m k r >>= again n k) (again-add m n k) ∙ sym (bind-assoc (k l) (again m k) (again n k)))
 
 pub again-ext : (n : ℕ) (k h : Bits → Option Bits) → ((l : Bits) → k l ≡ h l) → (l : Bits) → again n k l ≡ again n h l
 again-ext zero k h e l = rw (again-zero, again-zero)

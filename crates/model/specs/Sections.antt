@@ -13,6 +13,7 @@ use Rattle.definition.specs.Bits.{Bits, bitsOf}
 use Rattle.definition.specs.Format.{Format, whole, times}
 use Rattle.definition.specs.Model.{Model}
 use Rattle.definition.specs.Pack.{Counts as CountsOf, project, calendar, activity, link, resource, assignment, expense, decode}
+use Rattle.laws.specs.Options.{never}
 use Rattle.bits.specs.Places.{inside, Fits, room-fits}
 use Rattle.bits.specs.Reads.{rest, Reads, rest-in, rest-out}
 use Rattle.bits.specs.declared.Place.{Place}
@@ -88,9 +89,6 @@ pub record Opened (s : List ℕ) (r : Sections) : Type 0 where
   pub refused : decode s ≡ none → r ≡ noSections
 
 -- ---- laws for who walks a section
-
-never : {A : Type 0} {a : A} → none ≡ some a → ⊥
-never e = let z : _≡_ {A = ℕ} 0 1 = cc in omega arith
 
 -- a place from which bits are left is inside
 pub rest-fits : (s : List ℕ) (q : Place) {l : Bits} → rest s q ≡ some l → Fits (length s) q 0

@@ -6,7 +6,7 @@ use mathlib.Core.Option.{some, none}
 use lib.Dec.{T}
 use lib.IntN.{ℤ, pos, natAbs}
 use lib.Ieee.{Float, nan, inf, fin, binary64, round, le, lt, mul}
-use lib.Ieee.Fits.{and-l, and-r}
+use lib.Ieee.Fits.{and-i, and-l, and-r}
 use Rattle.definition.specs.Base.{_or_, when}
 use Rattle.definition.specs.Number.{float, zeroFloat, between, halfAway, nearestWhole, hundredths}
 use Rattle.number.specs.Floats.{float-100, float-1440}
@@ -54,11 +54,7 @@ module _ (p : Float) where
   percent-test = λ i. lt zeroFloat p && le p (sym float-100 i)
 
   both : T (lt zeroFloat p && le p (float 100)) → T (between 0 100 p)
-  both t = pair (le (float 0) p) (le p (float 100)) (subst (λ (y : Float). T (le y p)) (sym float-0) (of-lt zeroFloat p (and-l (lt zeroFloat p) (le p (float 100)) t))) (and-r (lt zeroFloat p) (le p (float 100)) t)
-    where
-      pair : (a b : Bool) → T a → T b → T (a && b)
-      pair true b s t = t
-      pair false b s t = absurd s
+  both t = and-i (le (float 0) p) (le p (float 100)) (subst (λ (y : Float). T (le y p)) (sym float-0) (of-lt zeroFloat p (and-l (lt zeroFloat p) (le p (float 100)) t))) (and-r (lt zeroFloat p) (le p (float 100)) t)
 
   pub percent-yes : (lt zeroFloat p && le p (fin false 25 (pos 2))) ≡ true → (y z : ℤ) → y ≡ z → z ≡ wholeWithin (mul binary64 p (float 100)) → (r : Number) → r ≡ asNumber (some y) → r ≡ asNumber (percentBy (some p))
   percent-yes h y z e f r g =

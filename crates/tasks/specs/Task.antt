@@ -19,7 +19,7 @@ use Rattle.definition.specs.Tree.{Element}
 use Rattle.definition.specs.Field.{intIn, numberIn, dateIn, minutesIn}
 use Rattle.definition.specs.Task.{natural, formatOf, isElapsed, constraintFrom, constraintOf, Context, contextOf, activityOf}
 use Rattle.definition.specs.Model.{Activity}
-use Rattle.text.specs.Bools.{and-left}
+use Rattle.laws.specs.Bools.{and-left}
 use Rattle.definition.specs.Answer.{dayNumberOf}
 use Rattle.fields.specs.Said.{wholeSaid}
 use Rattle.tasks.specs.Value.{asNumber}

@@ -1,7 +1,7 @@
 -- When two texts have the same bytes. Assumes nothing.
 use mathlib.Core.Path.{_≡_, refl, sym, ap, _∙_}
 use mathlib.Core.List.{List, [], _∷_}
-use mathlib.Core.Bool.{Bool, true, false, _&&_}
+use mathlib.Core.Bool.{Bool, true, false, _&&_, and-false, and-true}
 use Prim.Native.Nat.{ℕ, suc, _+_, _≤_, _<_}
 use native.Mathlib.Omega.{arith}
 use lib.Dec.{eqb}
@@ -9,23 +9,8 @@ use lib.ListN.{length, drop, getD}
 use borrow.Author.Tests.{eq-eqb, ne-eqb, eqb-true}
 use Rattle.definition.specs.Base.{same}
 use Rattle.definition.specs.Text.{Text, isYes}
-use Rattle.text.specs.Bools.{and-false, and-left, and-right}
+use Rattle.laws.specs.Bools.{and-left, and-right}
 use Rattle.text.specs.Parts.{at-cons, at-end}
-
-pub same-refl : (a : Text) → same a a ≡ true
-unfolding same
-same-refl [] = refl
-same-refl (x ∷ a) = rw (eq-eqb x x refl) (same-refl a)
-
-pub same-eq : (a b : Text) → same a b ≡ true → a ≡ b
-unfolding same
-same-eq [] [] e = refl
-same-eq [] (y ∷ b) e = let z : _≡_ {A = ℕ} 0 1 = cc in absurd (omega arith)
-same-eq (x ∷ a) [] e = let z : _≡_ {A = ℕ} 0 1 = cc in absurd (omega arith)
-same-eq (x ∷ a) (y ∷ b) e =
-    let p = eqb-true x y (and-left (eqb x y) (same a b) e) in
-    let q = same-eq a b (and-right (eqb x y) (same a b) e) in
-    cc
 
 -- texts of other lengths differ
 pub same-lengths : (a b : Text) → (length a ≡ length b → ⊥) → same a b ≡ false
@@ -54,10 +39,6 @@ pub yes-one : (s : Text) → length s ≡ 1 → isYes s ≡ eqb (getD s 0 0) 49
 unfolding isYes same
 yes-one [] h = absurd (omega arith)
 yes-one (b ∷ []) h = and-true (eqb b 49)
-  where
-    and-true : (x : Bool) → x && true ≡ x
-    and-true true = refl
-    and-true false = refl
 yes-one (b ∷ c ∷ s) h = absurd (omega arith)
 
 pub yes-else : (s : Text) → (length s ≡ 1 → ⊥) → isYes s ≡ false

@@ -1,6 +1,5 @@
 pub mod White
 pub mod Parts
-pub mod Bools
 pub mod Cut
 pub mod Answers
 pub mod Signs

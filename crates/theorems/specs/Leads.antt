@@ -19,7 +19,7 @@ use Rattle.definition.specs.Check.{distinct, ifGiven, isCalendar, activityRight
 use Rattle.definition.specs.Refusal.{checkOf, checkAnswer}
 use Rattle.laws.specs.Bools.{and-left, and-right, both}
 use Rattle.laws.specs.Options.{never}
-use Rattle.laws.specs.Formats.{same-refl, same-true}
+use Rattle.laws.specs.Same.{same-refl, same-eq}
 
 -- ---- what is said of a model
 
@@ -175,7 +175,7 @@ calendar-named : (m : Model) (name : Text) → isCalendar m name ≡ true → Na
 unfolding isCalendar
 calendar-named m name h =
     let t = passing (λ (c : Calendar). same (c .name) name) (m .calendars) h in
-    record { row = t .row; calendar = t .item; is = t .is; named = same-true (t .item .name) name (t .holds) }
+    record { row = t .row; calendar = t .item; is = t .is; named = same-eq (t .item .name) name (t .holds) }
 
 -- ---- a model that passes
 

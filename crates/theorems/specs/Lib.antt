@@ -1,11 +1,6 @@
-pub mod Cases
-pub mod Dates
-pub mod Hand
 pub mod Laws
 pub mod Leads
-pub mod Open
 pub mod Outlines
 pub mod Packing
-pub mod Rules
 pub mod Texts
 pub mod Whole

@@ -2,7 +2,7 @@ use mathlib.Core.Path.{_≡_, refl, ap, _∙_}
 use Prim.Native.Nat.{_+_, _-_, _*_, _<_, _≤_}
 use lib.ListN.{length}
 use Rattle.definition.specs.Bits.{bitsOf}
-use Rattle.bits.specs.Bits.{length-bits}
+use Rattle.laws.specs.Bits.{length-bits}
 use Rattle.bits.specs.Places.{at}
 use Rattle.bits.specs.Moves.{swapped, swap-none, swap-more}
 use borrow.Author.Needs.{needs}

@@ -8,8 +8,8 @@ use Rattle.definition.specs.Ascii.{bytes}
 use Rattle.definition.specs.Date.{dateOf}
 use Rattle.definition.specs.Tree.{Rec, element}
 use Rattle.definition.specs.Recurrence.{recurrenceDays, daysOf}
-use Rattle.theorems.specs.Open.{opened}
-use Rattle.theorems.specs.Hand.{Row, days, AllHold, element-at, exceptionOn}
+use Rattle.examples.specs.Open.{opened}
+use Rattle.examples.specs.Hand.{Row, days, AllHold, element-at, exceptionOn}
 
 abbrev field : String → String → Rec
 field name text = element-at 2 name text

@@ -17,7 +17,7 @@ use Rattle.definition.specs.Model.{Activity, Link}
 use Rattle.definition.specs.Task.{contextOf, activities}
 use Rattle.definition.specs.Link.{links, entered}
 use Rattle.definition.specs.Outline.{outlineOf}
-use Rattle.theorems.specs.Open.{opened}
+use Rattle.examples.specs.Open.{opened}
 
 -- ---- trees by their records
 

@@ -6,8 +6,8 @@ use Rattle.definition.specs.Ascii.{bytes}
 use Rattle.definition.specs.Text.{Text}
 use Rattle.definition.specs.Tree.{packed}
 use Rattle.definition.specs.Refusal.{refused, gives, readAnswer, checkAnswer, timeAnswer}
-use Rattle.theorems.specs.Open.{opened}
-use Rattle.theorems.specs.Hand.{element-at}
+use Rattle.examples.specs.Open.{opened}
+use Rattle.examples.specs.Hand.{element-at}
 
 -- the tree hex 02 07 00 00 and `Project`
 abbrev pub wholeTree : Text
