@@ -1,21 +1,12 @@
-#!/usr/bin/env python3
-"""Makes crates/rule_samples/stdin: rules, each with how many days the Rust gives it and a checksum of them.
-
-The first rules are the examples of docs/RECURRENCE.md, whose days must be those that stand there; the others are random ones, those of `oracle genrule` with a fixed seed that are short enough, in its order; the days are those of `oracle days`. A record:
-tree length (4 bytes), tree, number of days or FFFFFFFF for a rule that is skipped (4), checksum (4); numbers big-endian. The checksum goes on
-by check × 31 + day modulo 4294967291, a day counted from 1 January -10000.
-Usage: compare/make-rules   (after compare/build)
-"""
+"""Rules with their days by the Rust: the examples of docs/RECURRENCE.md, whose days must be those that stand there, then random ones. The form of a
+body stands in crates/samples/src/rules.rt."""
 import datetime
-import pathlib
 import struct
-import subprocess
 import sys
 
-TOP = pathlib.Path(__file__).resolve().parent.parent
-ORACLE = TOP / "target/compare/oracle"
-SEED, MADE, KEPT, LONGEST, EPOCH = "2026", "1200", 400, 700, 4371953
+from .oracle import SEED, element, hexed, oracle, short, unhex
 
+MADE, KEPT, LONGEST = "1200", 400, 700
 
 FRIDAYS = "2026-01-30 2026-02-27 2026-03-27 2026-04-24 2026-05-29 2026-06-26"
 MID_WEEK = "2026-01-07 2026-01-09 2026-01-19 2026-01-21 2026-01-23 2026-02-02 2026-02-04 2026-02-06"
@@ -37,10 +28,6 @@ EXAMPLES = [
 ]
 
 
-def element(depth, name, text=""):
-    return struct.pack(">I", depth << 25 | len(name) << 16 | len(text)) + name.encode() + text.encode()
-
-
 def packed(kind, first, last, fields):
     tree = element(1, "Exception") + element(2, "Type", kind)
     tree += element(2, "TimePeriod") + element(3, "FromDate", first) + element(3, "ToDate", last)
@@ -55,40 +42,29 @@ def written(days):
 
 
 def examples():
-    trees = [packed(*example[:4]) for example in EXAMPLES]
-    answers = oracle("days", stdin="\n".join(tree.hex() for tree in trees) + "\n")
+    words = [hexed(packed(*example[:4])) for example in EXAMPLES]
+    answers = oracle("days", stdin=words)
     for example, answer in zip(EXAMPLES, answers, strict=True):
         if written(example[4]) != answer:
-            sys.exit(f"compare/make-rules: the Rust gives other days than docs/RECURRENCE.md for {example}")
-    return list(zip(trees, answers, strict=True))
+            sys.exit(f"compare/make-samples: the Rust gives other days than docs/RECURRENCE.md for {example}")
+    return list(zip(words, answers, strict=True))
 
 
-def oracle(*words, stdin=None):
-    return subprocess.run([ORACLE, *words], input=stdin, capture_output=True, text=True, check=True).stdout.split("\n")[:-1]
+def random_rules():
+    words = short(oracle("genrule", SEED, MADE), LONGEST)
+    told = zip(words, oracle("days", stdin=words), strict=True)
+    return [(word, days) for word, days in told if not days.startswith("refused")][:KEPT]
 
 
-def summed(days):
+def count_and_check(days):
     if days == "skipped":
         return 0xFFFFFFFF, 0
+    numbers = [] if days == "-" else [int(day) for day in days.split()]
     check = 0
-    numbers = [] if days == "-" else [int(day) + EPOCH for day in days.split()]
     for number in numbers:
-        check = (check * 31 + number) % 4294967291
+        check = (check * 31 + number % 2**32) % 4294967291
     return len(numbers), check
 
 
-def main():
-    if not ORACLE.exists():
-        sys.exit(f"compare/make-rules: no {ORACLE}; run compare/build first")
-    words = [word for word in oracle("genrule", SEED, MADE) if len(word) <= 2 * LONGEST]
-    answers = oracle("days", stdin="\n".join(words) + "\n")
-    kept = [(bytes.fromhex(word), days) for word, days in zip(words, answers, strict=True) if not days.startswith("refused")][:KEPT]
-    kept = examples() + kept
-    records = [struct.pack(">I", len(tree)) + tree + struct.pack(">II", *summed(days)) for tree, days in kept]
-    crate = TOP / "crates/rule_samples"
-    (crate / "stdin").write_bytes(b"".join(records))
-    (crate / "stdout").write_text(f"{len(records)} of {len(records)} agree\n")
-    print(f"{len(records)} rules in crates/rule_samples/stdin, {len(EXAMPLES)} of them from docs/RECURRENCE.md")
-
-
-main()
+def bodies():
+    return [struct.pack(">II", *count_and_check(days)) + unhex(word) for word, days in examples() + random_rules()]
