@@ -6,11 +6,11 @@ use borrow.Author.Tests.{not-true, not-false}
 use Rattle.definition.specs.Bits.{enc, bitsOf}
 use Rattle.bits.specs.Places.{room-fits}
 use Rattle.bits.specs.Over.{over, over-none}
-use Rattle.bits.proofs.Laws.{poke-turn, poke-short, poke-done, part-lt, enc-zero}
+use Rattle.bits.proofs.Laws.{overwrite-more, overwrite-short, overwrite-done, part-lt, enc-zero}
 use borrow.Author.Needs.{needs}
 use native.Mathlib.Omega.{arith}
-use Rattle.bits.proofs.poke.Statement.{statement}
-use Rattle.bits.proofs.poke.Tie as tie
+use Rattle.bits.proofs.overwrite.Statement.{statement}
+use Rattle.bits.proofs.overwrite.Tie as tie
 
 abbrev Inv-loop : tie.InvT-loop
 Inv-loop out₀ width v q₀ r₀ left₀ out q r left = (8 * q + r + left ≡ 8 * q₀ + r₀ + width) × (r < 8) × (left ≤ width) × (8 * q₀ + r₀ + width ≤ 8 * length out₀) × (width ≤ 64) × (length out ≡ length out₀) × (bitsOf out ≡ over (8 * q₀ + r₀) (enc (width - left) (v / 2 ^ left)) (bitsOf out₀))
@@ -24,7 +24,7 @@ room-requires c κs = search needs
 returns : tie.Need-returns Inv-loop μ-loop
 returns c =
     let a = c .before .before .before .args in
-    poke-short (a .out .now) (a .p) (a .width) (a .v) (sym (c .before .room .ensures) ∙ not-true _ (c .if1 .taken))
+    overwrite-short (a .out .now) (a .p) (a .width) (a .v) (sym (c .before .room .ensures) ∙ not-true _ (c .if1 .taken))
 
 loop-holds : tie.Need-loop-holds Inv-loop μ-loop
 loop-holds c =
@@ -86,7 +86,7 @@ loop-again c =
       omega arith,
       omega arith,
       simp length-set (l .inv .5),
-      poke-turn (a .out .now) (l .out) _ _ (l .q) (l .r) (l .left) (a .v) (l .inv .5) (l .inv .6) (l .inv .2) (l .inv .0) (l .inv .1) (l .inv .3) (k .before .loop-test .taken)
+      overwrite-more (a .out .now) (l .out) _ _ (l .q) (l .r) (l .left) (a .v) (l .inv .5) (l .inv .6) (l .inv .2) (l .inv .0) (l .inv .1) (l .inv .3) (k .before .loop-test .taken)
           (k .smaller .ensures) (c .before .before .part .ensures) (c .before .before .before .wide .ensures) (c .before .mix .ensures),
     )
 
@@ -98,11 +98,11 @@ returns-2 c =
     let l = c .before .loop in
     let a = c .before .before .before .before .before .args in
     let z : l .left ≡ 0 = omega arith in
-    poke-done (a .out .now) (l .out) (a .p) (a .width) (a .v) (l .inv .5) (sym (c .before .before .before .room .ensures) ∙ not-false _ (c .before .before .if1 .left)) (omega arith) (omega arith)
+    overwrite-done (a .out .now) (l .out) (a .p) (a .width) (a .v) (l .inv .5) (sym (c .before .before .before .room .ensures) ∙ not-false _ (c .before .before .if1 .left)) (omega arith) (omega arith)
     (rw (z, sub-zero, div-one) at (l .inv .6))
 
-pub poke-spec : {M : Type 1} → statement M
-poke-spec =
+pub overwrite-spec : {M : Type 1} → statement M
+overwrite-spec =
     tie.close
     (tie.spec
     Inv-loop
