@@ -1,5 +1,5 @@
 use mathlib.Core.Path.{sym}
-use Rattle.text.specs.Equal.{yes-one, yes-else}
+use Rattle.text.proofs.Equal.{yes-one, yes-else}
 use borrow.Author.Needs.{needs}
 use Rattle.text.proofs.compare.is_yes.Statement.{statement}
 use Rattle.text.proofs.compare.is_yes.Tie as tie

@@ -3,7 +3,7 @@ use mathlib.Core.Path.{_≡_, refl, sym, _∙_}
 use Prim.Native.Nat.{_≤_, _-_}
 use Rattle.definition.specs.Base.{same as sameBytes}
 use lib.ListN.{length, drop}
-use Rattle.text.specs.Equal.{same-lengths, same-off, same-on, same-end}
+use Rattle.text.proofs.Equal.{same-lengths, same-off, same-on, same-end}
 use borrow.Author.Needs.{needs}
 use Rattle.text.proofs.compare.same.Statement.{statement}
 use Rattle.text.proofs.compare.same.Tie as tie

@@ -6,7 +6,8 @@ use lib.Dec.{eqb}
 use Rattle.definition.specs.Text.{signOf}
 use Rattle.definition.specs.Number.{unsigned, withSign}
 use Rattle.text.specs.Signs.{minus-at}
-use Rattle.text.specs.Whole.{numberTo, mostBy, signed, signed-by}
+use Rattle.text.specs.Whole.{numberTo, mostBy, signed}
+use Rattle.text.proofs.Bounds.{signed-by}
 use borrow.Author.Needs.{needs}
 use Rattle.text.proofs.whole.signed_to.Statement.{statement}
 use Rattle.text.proofs.whole.signed_to.Tie as tie

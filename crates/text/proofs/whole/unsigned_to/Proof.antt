@@ -1,6 +1,7 @@
 use mathlib.Core.Path.{sym, ap, _∙_}
 use Rattle.text.specs.Signs.{minus-at}
-use Rattle.text.specs.Whole.{numberTo, unsigned-minus, unsigned-by}
+use Rattle.text.specs.Whole.{numberTo}
+use Rattle.text.proofs.Bounds.{unsigned-minus, unsigned-by}
 use borrow.Author.Tests.{eq-eqb, ne-eqb}
 use borrow.Author.Needs.{needs}
 use Rattle.text.proofs.whole.unsigned_to.Statement.{statement}

@@ -1,7 +1,7 @@
 use mathlib.Core.Path.{sym, _∙_}
 use Rattle.definition.specs.Text.{signOf}
 use Rattle.text.specs.Parts.{all-of}
-use Rattle.text.specs.Signs.{signed-at, signed-within, behind, whole}
+use Rattle.text.proofs.Signs.{signed-at, signed-within, behind, whole}
 use borrow.Author.Needs.{needs}
 use Rattle.text.proofs.whole.without_sign.Statement.{statement}
 use Rattle.text.proofs.whole.without_sign.Tie as tie
