@@ -1,18 +1,19 @@
 -- One turn of each loop that takes white space away. Assumes nothing.
 use mathlib.Core.Path.{_≡_, refl, sym, ap, _∙_}
-use mathlib.Core.List.{List, [], _∷_, reverse, reverse-reverse}
-use mathlib.Core.Bool.{Bool, true, false, _&&_, _||_, and-false, false≢true}
-use Prim.Native.Nat.{ℕ, zero, suc, _+_, _-_, _≤_, _<_}
+use mathlib.Core.List.{[], _∷_, reverse, reverse-reverse}
+use mathlib.Core.Bool.{Bool, true, false, and-false, false≢true}
+use Prim.Native.Nat.{ℕ, zero, suc, _+_, _-_, _≤_}
 use native.Mathlib.Nat.{add-zero}
 use native.Mathlib.Omega.{arith}
-use lib.Dec.{leb, eqb}
+use lib.Dec.{leb}
 use lib.ListN.{length, take, drop, getD, length-drop, length-take, length-reverse, List·getD-eq-default}
 use lib.Seq.{drop-nil, drop-drop, take-take, getD-drop, getD-take}
 use borrow.Author.Tests.{leb-true, lt-leb, ne-eqb}
-use Rattle.definition.specs.Base.{if_then_else_, within}
+use Rattle.definition.specs.Base.{within}
 use Rattle.definition.specs.Text.{Text, white1, white2, white3, frontWidth, backWidth, strip, trimFront, trimBack}
 use Rattle.text.specs.White.{widthBy, headWidth, frontOf, backOf}
-use Rattle.text.specs.Parts.{at-end, getD-reverse, drop-reverse}
+use Rattle.text.specs.Parts.{at-end}
+use Rattle.text.proofs.Reversed.{getD-reverse, drop-reverse}
 use Rattle.laws.specs.Bools.{and-left, and-right}
 
 -- ---- taking away, whatever a width is

@@ -4,5 +4,4 @@ pub mod Cut
 pub mod Answers
 pub mod Signs
 pub mod Whole
-pub mod Equal
 pub mod Utf8
