@@ -6,8 +6,8 @@ use Rattle.definition.specs.Text.{Text}
 use Rattle.tree.specs.Place.{elementAt}
 use Rattle.fields.proofs.Empty.{length-given}
 use borrow.Author.Needs.{needs}
-use Rattle.fields.proofs.given.Statement.{statement}
-use Rattle.fields.proofs.given.Tie as tie
+use Rattle.fields.proofs.child.given.Statement.{statement}
+use Rattle.fields.proofs.child.given.Tie as tie
 
 text-of-requires : tie.Need-text-of-requires
 text-of-requires c κs = search needs

@@ -2,8 +2,8 @@ use mathlib.Core.Path.{ap, _∙_}
 use Rattle.definition.specs.Base.{same}
 use Rattle.definition.specs.Text.{Text}
 use borrow.Author.Needs.{needs}
-use Rattle.fields.proofs.text_is.Statement.{statement}
-use Rattle.fields.proofs.text_is.Tie as tie
+use Rattle.fields.proofs.child.text_is.Statement.{statement}
+use Rattle.fields.proofs.child.text_is.Tie as tie
 
 text-of-requires : tie.Need-text-of-requires
 text-of-requires c κs = search needs

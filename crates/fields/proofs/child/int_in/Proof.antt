@@ -2,8 +2,8 @@ use Rattle.tree.specs.Place.{elementAt}
 use mathlib.Core.Path.{_∙_}
 use Rattle.fields.proofs.Empty.{whole-or}
 use borrow.Author.Needs.{needs}
-use Rattle.fields.proofs.int_in.Statement.{statement}
-use Rattle.fields.proofs.int_in.Tie as tie
+use Rattle.fields.proofs.child.int_in.Statement.{statement}
+use Rattle.fields.proofs.child.int_in.Tie as tie
 
 text-of-requires : tie.Need-text-of-requires
 text-of-requires c κs = search needs

@@ -1,8 +1,8 @@
 use mathlib.Core.Path.{ap, _∙_}
 use Rattle.definition.specs.Text.{isYes}
 use borrow.Author.Needs.{needs}
-use Rattle.fields.proofs.yes_in.Statement.{statement}
-use Rattle.fields.proofs.yes_in.Tie as tie
+use Rattle.fields.proofs.child.yes_in.Statement.{statement}
+use Rattle.fields.proofs.child.yes_in.Tie as tie
 
 text-of-requires : tie.Need-text-of-requires
 text-of-requires c κs = search needs

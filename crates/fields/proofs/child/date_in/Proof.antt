@@ -3,8 +3,8 @@ use mathlib.Core.Path.{ap, _∙_}
 use Rattle.definition.specs.Answer.{dayNumberOf}
 use Rattle.fields.proofs.Empty.{date-or}
 use borrow.Author.Needs.{needs}
-use Rattle.fields.proofs.date_in.Statement.{statement}
-use Rattle.fields.proofs.date_in.Tie as tie
+use Rattle.fields.proofs.child.date_in.Statement.{statement}
+use Rattle.fields.proofs.child.date_in.Tie as tie
 
 text-of-requires : tie.Need-text-of-requires
 text-of-requires c κs = search needs
