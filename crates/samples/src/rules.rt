@@ -10,6 +10,7 @@ struct Sum {
     cursor: Cursor,
     days: u64,
     check: u64,
+    done: bool,
 }
 
 // The 32 bits of the number of a day that is counted from the year -10000.
@@ -29,25 +30,36 @@ fn next_sum(r: Rule, t: Sum) -> Sum {
             cursor: c,
             days: t.days % 65536 + 1,
             check: with_day(t.check, day_bits(d)),
+            done: false,
         },
-        Step::Done => t,
+        Step::Done => Sum {
+            cursor: at,
+            days: t.days,
+            check: t.check,
+            done: true,
+        },
         Step::Skipped => Sum {
             cursor: at,
             days: 4294967295,
             check: 0,
+            done: true,
         },
     }
 }
 
-// No rule has more than 5,000 days.
+// No rule has more than 5,000 days; one turn more would find another.
 fn sum_of(r: Rule) -> Sum {
     let mut t = Sum {
         cursor: recurrence::start(r),
         days: 0,
         check: 0,
+        done: false,
     };
     let mut turns: u32 = 0;
-    while turns < 5000 {
+    while turns < 5001 {
+        if t.done {
+            return t;
+        }
         t = next_sum(r, t);
         turns += 1;
     }

@@ -1,7 +1,7 @@
 use mathlib.Core.Path.{sym}
 use borrow.Author.Needs.{needs}
-use Rattle.probe_days.proofs.told.Statement.{statement}
-use Rattle.probe_days.proofs.told.Tie as tie
+use Rattle.probe.proofs.days.told.Statement.{statement}
+use Rattle.probe.proofs.days.told.Tie as tie
 
 enum-known-s : tie.Need-enum-known-s
 enum-known-s c = search needs

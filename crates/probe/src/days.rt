@@ -1,10 +1,10 @@
-// Rules and their days, exported for compare/ alone. A rule goes out and comes in by its fields; a date is counted from 1 January of the year -10000.
+// Rules and their days. A rule goes out and comes in by its fields; a date is counted from 1 January of the year -10000.
 ghost use mathlib.Core.Path.{_≡_};
 ghost use Rattle.definition.specs.Recurrence.{recurrenceDays, daysOf};
 ghost use Rattle.tree.specs.Place.{elementAt};
 ghost use Rattle.recurrence.specs.Meaning.{daysBy, toCome, said};
 ghost use Rattle.recurrence.specs.Reading.{daysIn};
-ghost use Rattle.probe_days.specs.Fields.{rule, cursor, range, step};
+ghost use Rattle.probe.specs.Fields.{rule, cursor, range, step};
 use recurrence::Cursor;
 use recurrence::Rule;
 use recurrence::Step;

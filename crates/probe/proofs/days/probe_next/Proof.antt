@@ -1,9 +1,9 @@
 use mathlib.Core.Path.{ap, _∙_}
 use Rattle.recurrence.specs.Meaning.{said}
-use Rattle.probe_days.specs.Fields.{rule}
+use Rattle.probe.specs.Fields.{rule}
 use borrow.Author.Needs.{needs}
-use Rattle.probe_days.proofs.probe_next.Statement.{statement}
-use Rattle.probe_days.proofs.probe_next.Tie as tie
+use Rattle.probe.proofs.days.probe_next.Statement.{statement}
+use Rattle.probe.proofs.days.probe_next.Tie as tie
 
 next-requires : tie.Need-next-requires
 next-requires c κs = search needs
