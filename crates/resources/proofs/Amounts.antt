@@ -1,5 +1,5 @@
 -- Hundredths of units, prices and money, by the tests that the code makes, and the most that they are. Assumes nothing.
-use Prim.Native.Nat.{ℕ, zero, suc, _^_, _≤_}
+use Prim.Native.Nat.{_^_, _≤_}
 use native.Mathlib.Omega.{arith}
 use mathlib.Core.Path.{_≡_, refl, sym, ap, _∙_, subst}
 use mathlib.Core.Bool.{Bool, true, false, _&&_}
@@ -14,7 +14,7 @@ use Rattle.number.specs.Floats.{float-10¹³}
 use Rattle.number.specs.Whole.{halfWithin, wholeWithin}
 use Rattle.number.specs.Order.{of-lt, from-zero, up-to}
 use Rattle.number.proofs.Rounded.{half-small, is-below, not-below}
-use Rattle.fields.specs.Hundredths.{float-0, hundredths-kept, above-0}
+use Rattle.fields.specs.Hundredths.{float-0, hundredths-kept, above-0, size-sign}
 use Rattle.resources.specs.Assignment.{Small, Means}
 use Rattle.resources.specs.declared.assignment.Amounts.{Amounts}
 
@@ -51,15 +51,11 @@ money-is m =
 
 -- ---- the most
 
-minus-size : (n : ℕ) → natAbs (negℤ (pos n)) ≡ n
-minus-size zero = refl
-minus-size (suc n) = refl
-
 whole-most : (y : Float) → natAbs (wholeWithin y) ≤ 10 ^ 18
 whole-most y = by (lt y zeroFloat) refl
   where
     by : (t : Bool) → lt y zeroFloat ≡ t → natAbs (wholeWithin y) ≤ 10 ^ 18
-    by true e = subst (λ (z : ℤ). natAbs z ≤ 10 ^ 18) (is-below y e) (rw (+ℤ-idl (negℤ (pos (halfWithin (neg y)))), minus-size) (half-small (neg y)))
+    by true e = subst (λ (z : ℤ). natAbs z ≤ 10 ^ 18) (is-below y e) (rw (+ℤ-idl (negℤ (pos (halfWithin (neg y)))), size-sign true (halfWithin (neg y))) (half-small (neg y)))
     by false e = subst (λ (z : ℤ). natAbs z ≤ 10 ^ 18) (not-below y e) (half-small y)
 
 small-when : (t : Bool) (y : Float) → Small (when t (wholeWithin y))

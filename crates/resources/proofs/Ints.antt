@@ -4,7 +4,7 @@ use native.Mathlib.Omega.{arith}
 use mathlib.Core.Path.{_≡_, refl, sym, ap, _∙_, subst}
 use mathlib.Core.Bool.{Bool, true, false, cond, not}
 use mathlib.Core.Option.{Option, some, none}
-use lib.Dec.{ltb, eqb}
+use lib.Dec.{T, ltb, eqb}
 use lib.IntN.{ℤ, pos, negsuc, natAbs, subℕ, _-ℤ_}
 use lib.Signed.{ltZ}
 use borrow.Author.Tests.{ltb-true, ltb-false, eqb-true, eqb-false, eq-eqb, ne-eqb}
@@ -21,17 +21,14 @@ use Rattle.fields.specs.Answers.{unsignedOr}
 
 -- ---- the same
 
-no-both : {A : Type 0} → true ≡ false → A
-no-both e = let z : _≡_ {A = ℕ} 0 1 = cc in absurd (omega arith)
-
 same-self : (z : ℤ) → sameℤ z z ≡ true
 same-self (pos n) = eq-eqb n n refl
 same-self (negsuc n) = eq-eqb n n refl
 
 same-is : (y z : ℤ) → sameℤ y z ≡ true → y ≡ z
 same-is (pos m) (pos n) e = ap pos (eqb-true m n e)
-same-is (pos m) (negsuc n) e = no-both (sym e)
-same-is (negsuc m) (pos n) e = no-both (sym e)
+same-is (pos m) (negsuc n) e = absurd (subst T (sym e) tt)
+same-is (negsuc m) (pos n) e = absurd (subst T (sym e) tt)
 same-is (negsuc m) (negsuc n) e = ap negsuc (eqb-true m n e)
 
 eq-same : (y z : ℤ) → SFits w64 y → SFits w64 z → eqb (ofZ w64 y) (ofZ w64 z) ≡ sameℤ y z
@@ -87,7 +84,7 @@ not-none (negsuc n) h = refl
 
 not-some : (d : ℤ) → ltZ d (pos 0) ≡ false → d ≡ pos (notBelow0 d)
 not-some (pos n) h = refl
-not-some (negsuc n) h = no-both h
+not-some (negsuc n) h = absurd (subst T h tt)
 
 module _ (p a : ℤ) (fp : SFits w64 p) (fa : SFits w64 a) (hp : natAbs p ≤ 10 ^ 18) (ha : natAbs a ≤ 10 ^ 18) where
   abbrev less : ℤ

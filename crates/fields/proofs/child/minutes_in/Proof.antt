@@ -15,4 +15,5 @@ returns c =
     ∙ minutes-or (elementAt (s .args .s .now) (s .args .at)) (s .args .name .now) _ (c .before .before .text-of .ensures)
 
 pub minutes-in-spec : {M : Type 1} → statement M
-minutes-in-spec = tie.close (tie.spec (λ c κs. search needs) (λ c κs. search needs) (λ c κs. search needs) returns)
+minutes-in-spec =
+    tie.close (tie.spec (λ c κs. search needs) (λ c κs. search needs) (λ c κs. search needs) returns)

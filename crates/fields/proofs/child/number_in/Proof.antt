@@ -15,4 +15,5 @@ returns c =
     ∙ number-or (elementAt (s .args .s .now) (s .args .at)) (s .args .name .now) _ (c .before .before .text-of .ensures)
 
 pub number-in-spec : {M : Type 1} → statement M
-number-in-spec = tie.close (tie.spec (λ c κs. search needs) (λ c κs. search needs) (λ c κs. search needs) returns)
+number-in-spec =
+    tie.close (tie.spec (λ c κs. search needs) (λ c κs. search needs) (λ c κs. search needs) returns)
