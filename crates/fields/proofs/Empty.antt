@@ -1,5 +1,5 @@
 -- A missing text is read as the empty one is; a text that is there is not empty. Assumes nothing.
-use Prim.Native.Nat.{suc}
+use Prim.Native.Nat.{ℕ, suc}
 use native.Mathlib.Omega.{arith}
 use borrow.Author.Tests.{ne-eqb}
 use mathlib.Core.Path.{_≡_, refl, ap, _∙_}
@@ -7,11 +7,12 @@ use mathlib.Core.Bool.{not}
 use mathlib.Core.List.{[], _∷_}
 use mathlib.Core.Option.{Option, some, none}
 use lib.Dec.{eqb}
+use lib.Ieee.{Float}
 use lib.ListN.{length}
 use Rattle.definition.specs.Base.{_>>=_, _or_, given}
 use Rattle.definition.specs.Text.{Text, signedOf, signOf, digits, trim, trimFront, trimBack, strip, before, after}
 use Rattle.definition.specs.Date.{dateOf, dateParts, firstTen}
-use Rattle.definition.specs.Number.{numberOf, found, decimalOf}
+use Rattle.definition.specs.Number.{Reading, numberOf, found, decimalOf}
 use Rattle.definition.specs.Duration.{durationOf, figuresOf}
 use Rattle.definition.specs.Tree.{Element, child, textOf, nonEmpty}
 use Rattle.laws.specs.Options.{bind-or}
@@ -35,6 +36,10 @@ no-minutes : found (durationOf []) ≡ none
 unfolding durationOf figuresOf trim trimFront trimBack strip
 no-minutes = refl
 
+read-or : {A : Type 0} (f : Text → Reading A) → found (f []) ≡ none → (x : Element) (name : Text) {t : Text} → t ≡ (textOf x name or []) → {a : Reading A} → a ≡ f t → found a ≡ (textOf x name >>= λ t. found (f t))
+read-or {A} f z x name e h =
+    ap (λ (a : Reading A). found a) h ∙ ap (λ (t : Text). found (f t)) e ∙ bind-or (λ (t : Text). found (f t)) z (textOf x name)
+
 -- t is what `text_of` gives
 module _ (x : Element) (name t : Text) (e : t ≡ (textOf x name or [])) where
   pub whole-or : signedOf 64 t ≡ wholeSaid x name
@@ -43,11 +48,11 @@ module _ (x : Element) (name t : Text) (e : t ≡ (textOf x name or [])) where
   pub date-or : dateOf t ≡ dateSaid x name
   date-or = ap dateOf e ∙ bind-or dateOf no-date (textOf x name)
 
-  pub number-or : found (numberOf t) ≡ numberSaid x name
-  number-or = ap (λ (t : Text). found (numberOf t)) e ∙ bind-or (λ (t : Text). found (numberOf t)) no-number (textOf x name)
+  pub number-or : {r : Option Float} {a : Reading Float} → r ≡ found a → a ≡ numberOf t → r ≡ numberSaid x name
+  number-or g h = g ∙ read-or numberOf no-number x name e h
 
-  pub minutes-or : found (durationOf t) ≡ minutesSaid x name
-  minutes-or = ap (λ (t : Text). found (durationOf t)) e ∙ bind-or (λ (t : Text). found (durationOf t)) no-minutes (textOf x name)
+  pub minutes-or : {r : Option ℕ} {a : Reading ℕ} → r ≡ found a → a ≡ durationOf t → r ≡ minutesSaid x name
+  minutes-or g h = g ∙ read-or durationOf no-minutes x name e h
 
 -- ---- given
 

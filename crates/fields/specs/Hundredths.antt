@@ -1,12 +1,13 @@
--- Hundredths of a number that is kept, where it lies from -10 ^ 13 to 10 ^ 13. Assumes nothing.
-use Prim.Native.Nat.{ℕ, _^_}
+-- Hundredths of a number that is kept, where it lies from -10 ^ 13 to 10 ^ 13; the size of a number with a sign. Assumes nothing.
+use Prim.Native.Nat.{ℕ, zero, suc, _^_}
 use mathlib.Core.Path.{_≡_, refl, sym, ap, _∙_, subst}
 use mathlib.Core.Bool.{Bool, true, false}
 use mathlib.Core.Option.{some}
 use lib.Dec.{T}
+use lib.IntN.{natAbs}
 use lib.Ieee.{Float, binary64, round, neg, le, lt, mul}
 use Rattle.definition.specs.Base.{when}
-use Rattle.definition.specs.Number.{float, zeroFloat, hundredths}
+use Rattle.definition.specs.Number.{float, zeroFloat, hundredths, withSign}
 use Rattle.number.specs.Whole.{wholeWithin, hundredths-same}
 use Rattle.number.specs.Order.{of-lt, from-zero}
 
@@ -29,3 +30,8 @@ module _ (x : Float) where
   -- above 0 is above any opposite
   pub above-0 : (n : ℕ) → T (lt zeroFloat x) → T (le (neg (float n)) x)
   above-0 n t = from-zero x 0 n (subst (λ (y : Float). T (le y x)) (sym float-0) (of-lt zeroFloat x t))
+
+pub size-sign : (b : Bool) (n : ℕ) → natAbs (withSign b n) ≡ n
+size-sign true zero = refl
+size-sign true (suc n) = refl
+size-sign false n = refl

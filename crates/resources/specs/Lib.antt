@@ -1,2 +1,1 @@
-pub mod Resource
 pub mod Assignment

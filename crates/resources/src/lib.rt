@@ -1,13 +1,11 @@
-// What a resource and an assignment say, each value by itself: a position in the lent tree in, a number out.
+// What a resource and an assignment say, each value by itself: a position in the lent tree in, a value out.
 mod assignment;
 mod resource;
 mod value;
 
-pub use assignment::AssignedCost;
-pub use assignment::AssignedWork;
+pub use assignment::Amounts;
 pub use assignment::cost;
-pub use assignment::hours;
-pub use assignment::money;
+pub use assignment::rate;
 pub use assignment::work;
 pub use resource::accrual;
 pub use resource::is_cost;

@@ -1,36 +1,45 @@
 // Numbers that may be missing.
 ghost use mathlib.Core.Path.{_≡_};
-ghost use mathlib.Core.Option.{some, none};
-ghost use lib.IntN.{pos};
-ghost use Rattle.definition.specs.Base.{_or_};
-ghost use Rattle.definition.specs.Resource.{isInt};
-ghost use Rattle.text.specs.Answers.{signedMeans};
-ghost use Rattle.tasks.specs.Value.{asNumber, numberMeans};
-use tasks::Number;
-use text::Signed;
+ghost use Rattle.definition.specs.Base.{_>>=_ as bind, _or_};
+ghost use Rattle.definition.specs.Resource.{otherThan, unitsFrom};
+ghost use Rattle.text.specs.Answers.{i64Of};
+ghost use Rattle.tree.specs.Place.{elementAt};
+ghost use Rattle.fields.specs.Said.{numberSaid};
+use fields::FloatAnswer;
+use text::I64Answer;
 
-pub(crate) fn some_number(value: i64) -> Number
-    ensures { λ r. ⌜ r ≡ asNumber (some value) ⌝ }
+// The number, or what stands for a missing one.
+pub(crate) fn number_or(a: I64Answer, absent: i64) -> i64
+    ensures { λ r. ⌜ r ≡ i64Of a or absent ⌝ }
 {
-    Number { given: true, value }
-}
-
-pub(crate) fn no_number() -> Number
-    ensures { λ r. ⌜ r ≡ asNumber none ⌝ }
-{
-    Number {
-        given: false,
-        value: 0,
+    match a {
+        I64Answer::Is(z) => z,
+        I64Answer::Absent => absent,
     }
 }
 
-// Whether a whole number is m.
-pub(crate) fn int_is(a: Signed, m: u64) -> bool
-    ensures { λ r. ⌜ r ≡ isInt (signedMeans a) m ⌝ }
+// The number, unless it is z.
+pub(crate) fn other_than(z: i64, a: I64Answer) -> I64Answer
+    ensures { λ r. ⌜ i64Of r ≡ otherThan z (i64Of a) ⌝ }
 {
     match a {
-        Signed::Up(n) => n == m,
-        Signed::Down(_) => false,
-        Signed::Absent => false,
+        I64Answer::Is(y) => {
+            if y == z {
+                I64Answer::Absent
+            } else {
+                I64Answer::Is(y)
+            }
+        }
+        I64Answer::Absent => I64Answer::Absent,
+    }
+}
+
+// Hundredths of a number from 0 to 1,000,000.
+pub(crate) fn units(s: &[u8], at: usize, name: &[u8]) -> I64Answer
+    ensures { λ r. ⌜ i64Of r ≡ bind (numberSaid (elementAt (now (s .entry)) at) (now (name .entry))) unitsFrom ⌝ }
+{
+    match fields::number_in(s, at, name) {
+        FloatAnswer::Is(u) => fields::hundredths_when((0.0 <= u) & (u <= 1000000.0), u),
+        FloatAnswer::Absent => I64Answer::Absent,
     }
 }

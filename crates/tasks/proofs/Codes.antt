@@ -1,11 +1,12 @@
 -- Codes of formats, types, kinds and constraints, by the tests that the code makes. Assumes nothing.
 use Prim.Native.Nat.{ℕ, suc, _≤_}
 use native.Mathlib.Omega.{arith}
-use mathlib.Core.Path.{_≡_, refl, ap, _∙_}
-use mathlib.Core.Bool.{Bool, true, false, not, _&&_}
+use mathlib.Core.Path.{_≡_, refl, sym, ap, _∙_, subst}
+use mathlib.Core.Bool.{Bool, true, false, _&&_}
 use mathlib.Core.Option.{Option, some, none}
-use lib.Dec.{leb, eqb}
+use lib.Dec.{T, leb, eqb, leb→le}
 use lib.IntN.{ℤ, pos, negsuc}
+use lib.Ieee.Fits.{and-l}
 use borrow.Author.Tests.{leb-true, ne-eqb}
 use Rattle.definition.specs.Base.{if_then_else_, _or_, when, given, within}
 use Rattle.definition.specs.Date.{Date, dayNumber}
@@ -15,18 +16,10 @@ use Rattle.definition.specs.Answer.{dayNumberOf}
 use Rattle.fields.specs.Answers.{unsignedOr}
 use Rattle.tasks.specs.Task.{dayNumbered}
 
-pub unnot : (a : Bool) {b : Bool} → not a ≡ b → a ≡ not b
-unnot true e = ap not e
-unnot false e = ap not e
-
 -- ---- formats
 
 pub marked-least : (code : ℕ) → within 35 52 code ≡ true → 32 ≤ code
-marked-least code e = by (leb 35 code) refl e
-  where
-    by : (t : Bool) → leb 35 code ≡ t → (t && leb code 52) ≡ true → 32 ≤ code
-    by true u h = omega (arith, leb-true 35 code u)
-    by false u h = let z : _≡_ {A = ℕ} 0 1 = cc in absurd (omega arith)
+marked-least code e = omega (arith, leb→le 35 code (and-l (leb 35 code) (leb code 52) (subst T (sym e) tt)))
 
 -- ---- dates
 

@@ -9,7 +9,8 @@ use borrow.Author.Tests.{eq-eqb, ne-eqb}
 use Rattle.definition.specs.Number.{withSign}
 use Rattle.definition.specs.Task.{percentFormat, elapsedFormat}
 use Rattle.definition.specs.Link.{Lag, workingLag, elapsedLag, lagOf, heldBy}
-use Rattle.tasks.proofs.Sign.{size-sign, cut-sign, ten-sign, held-sign}
+use Rattle.fields.specs.Hundredths.{size-sign}
+use Rattle.tasks.proofs.Sign.{cut-sign, ten-sign, held-sign}
 
 -- working time, of whole days and of others
 module _ (perDay : ℕ) (b : Bool) (m : ℕ) {z : ℤ} where

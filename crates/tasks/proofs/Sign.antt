@@ -4,7 +4,7 @@ use mathlib.Core.Bool.{Bool, true, false}
 use Prim.Native.Nat.{ℕ, zero, suc, _*_, _/_, _^_, _<_, min}
 use native.Mathlib.Omega.{arith}
 use native.Mathlib.Nat.{zero-div}
-use lib.IntN.{ℤ, pos, natAbs, negℤ, _-ℤ_, +ℤ-idl}
+use lib.IntN.{ℤ, pos, negℤ, _-ℤ_, +ℤ-idl}
 use mir.Syntax.{w64}
 use mir.Val.{toZ, ofZ, SFits}
 use mir.ValLaws.{toZ-pos, toZ-ofZ}
@@ -13,11 +13,6 @@ use Rattle.definition.specs.Link.{heldBy, cut, tenfold}
 use Rattle.number.proofs.Rounded.{opposite-fits as minus-fits}
 
 -- ---- a sign and a size
-
-pub size-sign : (b : Bool) (n : ℕ) → natAbs (withSign b n) ≡ n
-size-sign true zero = refl
-size-sign true (suc n) = refl
-size-sign false n = refl
 
 pub cut-sign : (b : Bool) (n d : ℕ) → cut (withSign b n) d ≡ withSign b (n / d)
 cut-sign true zero d = rw (zero-div d)

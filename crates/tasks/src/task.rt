@@ -216,12 +216,13 @@ fn under_way(s: &[u8], at: usize) -> bool
 pub fn remaining_of(s: &[u8], at: usize) -> I64Answer
     ensures { λ r. ⌜ i64Of r ≡ remainingOf (elementAt (now (s .entry)) at) ⌝ }
 {
-    if !under_way(s, at) {
-        return I64Answer::Absent;
-    }
-    match fields::minutes_in(s, at, b"RemainingDuration") {
-        MinutesAnswer::Is(m) => I64Answer::Is(m as i64),
-        MinutesAnswer::Absent => I64Answer::Absent,
+    if under_way(s, at) {
+        match fields::minutes_in(s, at, b"RemainingDuration") {
+            MinutesAnswer::Is(m) => I64Answer::Is(m as i64),
+            MinutesAnswer::Absent => I64Answer::Absent,
+        }
+    } else {
+        I64Answer::Absent
     }
 }
 

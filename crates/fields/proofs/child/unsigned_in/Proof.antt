@@ -10,4 +10,5 @@ returns c =
     c .unsigned-or .ensures ∙ ap (unsignedOr (s .args .below) (s .args .absent)) (c .before .int-in .ensures)
 
 pub unsigned-in-spec : {M : Type 1} → statement M
-unsigned-in-spec = tie.close (tie.spec (λ c κs. search needs) (λ c κs. search needs) returns)
+unsigned-in-spec =
+    tie.close (tie.spec (λ c κs. search needs) (λ c κs. search needs) returns)

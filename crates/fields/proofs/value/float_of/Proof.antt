@@ -7,5 +7,4 @@ returns c = rw (c .before .a .given .1)
 
 pub float-of-spec : {M : Type 1} → statement M
 float-of-spec =
-    tie.close
-    (tie.spec (λ c. search needs) (λ c. search needs) (λ c. search needs) returns (λ c. search needs) (λ c. search needs))
+    tie.close (tie.spec (λ c. search needs) (λ c. search needs) (λ c. search needs) returns (λ c. search needs) (λ c. search needs))

@@ -11,4 +11,5 @@ returns c =
     rw (c .before .if1 .taken) (ap some (toZ-ofZ w64 (c .hundredths .result) (record { sfits = c .hundredths .ok }) ∙ c .hundredths .ensures))
 
 pub hundredths-when-spec : {M : Type 1} → statement M
-hundredths-when-spec = tie.close (tie.spec (λ c κs. search needs) returns (λ c. search needs))
+hundredths-when-spec =
+    tie.close (tie.spec (λ c κs. search needs) returns (λ c. search needs))
