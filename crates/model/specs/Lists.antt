@@ -15,8 +15,8 @@ use Rattle.bits.specs.Places.{past, room-short}
 use Rattle.bits.specs.Reads.{rest, Reads, takeAt, take-cut, read-field, chain}
 use Rattle.bits.specs.declared.Place.{Place}
 use Rattle.bits.specs.declared.Field.{Field}
-use Rattle.model.specs.Passes.{Passes, bind-bind, bind-ext, all-suc}
-use Rattle.model.specs.Lax.{Lax}
+use Rattle.model.specs.Lax.{Lax, bind-bind, bind-ext, all-suc}
+use Rattle.model.specs.Passes.{Passes}
 use Rattle.model.specs.Rising.{Finds}
 use Rattle.model.specs.Splits.{Stands, not-refused, stands-is, stands-first, stands-pass, read-stands, read-length, later, size, sized}
 

@@ -15,7 +15,8 @@ use Rattle.definition.specs.Format.{Format, _⊗_, times, getAll, rises, listOf
 use Rattle.bits.specs.Reads.{rest, Reads, Refuses, chain, onto, read-no, read-more, read-on, refuse-times, read-list, refuse-items}
 use Rattle.bits.specs.declared.Place.{Place}
 use Rattle.bits.specs.declared.Field.{Field}
-use Rattle.model.specs.Passes.{Passes, pass-read, pass-refused, bind-bind}
+use Rattle.model.specs.Lax.{bind-bind}
+use Rattle.model.specs.Passes.{Passes, pass-read, pass-refused}
 
 -- an item of number v at p, and q behind it
 pub record Found {A : Type 0} (f : Format A) (K : A → ℕ → Type 0) (s : List ℕ) (p : Place) (v : ℕ) (q : Place) : Type 0 where
