@@ -1,6 +1,6 @@
 -- Laws for the fields: one for each way out of a function. Assumes nothing.
 use mathlib.Core.Path.{_≡_, refl, sym, ap, _∙_}
-use mathlib.Core.Bool.{Bool, true, false, _&&_, not}
+use mathlib.Core.Bool.{Bool, true, false, _&&_, not, and-false, false≢true}
 use mathlib.Core.List.{List}
 use mathlib.Core.Option.{Option, some, none}
 use Prim.Native.Nat.{ℕ, suc, _+_, _-_, _*_, _/_, _%_, _^_, _≤_, _<_}
@@ -20,14 +20,15 @@ use Rattle.definition.specs.Text.{Text, isUtf8}
 use Rattle.definition.specs.Format.{Format, _⊗_, field, whole, count, row, flag, code, time, period, date, text, optional, number}
 use Rattle.definition.specs.Pack.{constraint, counts}
 use Rattle.bits.specs.Places.{at, place, past, room, inside, Fits, room-fits, room-short, room-none, room-more, place-at, at-place}
-use Rattle.theorems.specs.Packing.{day-days}
 use Rattle.bits.specs.Reads.{rest, Reads, Refuses, refused, takeAt, flagAt, int32At, read-int32, refuse-int32, read-none, read-some, refuse-some, read-bit, spanAt, spanOf, Spans, rest-in, rest-out, rest-past, length-rest, take-cut, take-whole, read-field, read-whole, skip-pad, chain, read-flag, read-code, refuse-code, read-time, refuse-time, read-⊗, read-period, refuse-period, read-date, refuse-date, refuse-value, refuse-first, refuse-second, refuse-test}
 use Rattle.bits.specs.declared.Place.{Place}
 use Rattle.bits.specs.declared.Field.{Field}
 use Rattle.bits.specs.declared.Span.{Span}
 use Rattle.bits.specs.declared.Flag.{Flag}
 use Rattle.bits.specs.declared.Int32.{Int32}
-use Rattle.model.specs.Lax.{behind, left, bind-ext, like-named, like-optional}
+use Rattle.laws.specs.Options.{bind-ext, never}
+use Rattle.laws.specs.Fields.{day-days}
+use Rattle.model.specs.Lax.{behind, left, like-named, like-optional}
 use Rattle.model.specs.Passes.{Passes, pass-like, pass-read, pass-refused, pass-some, pass-none, pass-both, pass-alone}
 use Rattle.model.specs.Answers.{readAt, countsAt, rowAt, rowsAt, dateAt, nameMeaning, spanned, nameAt, read-there, read-nowhere, or-there, or-nowhere}
 use Rattle.model.specs.Splits.{stands-is, not-refused}
@@ -75,10 +76,6 @@ module _ (s : List ℕ) (p : Place) (lo hi : ℕ) {x : Field} (e : x ≡ takeAt 
 
   pub code-above : hi < x .value → Refuses (code lo hi) s p
   code-above h = refuse-code lo hi (read-field s p 4 e) (rw (lt-leb (x .value) hi h) (and-false (leb lo (x .value))))
-    where
-      and-false : (t : Bool) → (t && false) ≡ false
-      and-false true = refl
-      and-false false = refl
 
 -- ---- what may be missing
 
@@ -297,12 +294,6 @@ module _ (s : List ℕ) (p : Place) {x : Field} (e : x ≡ takeAt s p 4) where
 
 -- ---- what a reader of parts answers
 
-differ : {A : Type 0} {a : A} → none ≡ some a → ⊥
-differ e = let z : _≡_ {A = ℕ} 0 1 = cc in omega arith
-
-untrue : false ≡ true → ⊥
-untrue e = let z : _≡_ {A = ℕ} 0 1 = cc in omega arith
-
 pub far : (s : List ℕ) (q : Place) → 7 < q .bit → rest s q ≡ none
 far s q h = rest-out s q (room-short (length s) q 0 (λ b. absurd (omega arith)))
 
@@ -325,7 +316,7 @@ module _ (s : List ℕ) (p : Place) (w : ℕ) {x : Field} (e : x ≡ takeAt s p 
   take-past h = by-room (room (length s) p w) refl
     where
       by-room : (t : Bool) → room (length s) p w ≡ t → x .next ≡ past
-      by-room true r = absurd (differ (sym h ∙ take-cases .1 r))
+      by-room true r = absurd (never (sym h ∙ take-cases .1 r))
       by-room false r = take-cases .0 r
 
   -- a field that is cut is 0
@@ -464,7 +455,7 @@ module _ (s : List ℕ) (p : Place) {x : Int32} (e : x ≡ int32At s p) where
     where
       by-date : (o : Option Date) → fromDays (x .value) ≡ o → given o ≡ false → (none, past) ≡ dateAt s p
       by-date none z k = date-missing (refuse-int32 s p e z)
-      by-date (some d) z k = absurd (untrue (sym k))
+      by-date (some d) z k = absurd (false≢true (sym k))
 
   pub date-given : x .next .bit ≤ 7 → given (fromDays (x .value)) ≡ true → (some (x .value), x .next) ≡ dateAt s p
   unfolding dayNumberOf int32At
@@ -476,7 +467,7 @@ module _ (s : List ℕ) (p : Place) {x : Int32} (e : x ≡ int32At s p) where
           rw z (take-there s p 32 refl (rw z at b))
 
       by-date : (o : Option Date) → fromDays (x .value) ≡ o → given o ≡ true → (some (x .value), x .next) ≡ dateAt s p
-      by-date none z k = absurd (untrue k)
+      by-date none z k = absurd (false≢true k)
       by-date (some d) z k =
           let r : readAt date s p ≡ (some d, x .next) = read-there (there .1) (read-int32 s p e z) in
           rw (r, day-days (x .value) d z .0)

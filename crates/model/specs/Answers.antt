@@ -11,6 +11,7 @@ use lib.Seq.{drop-drop}
 use lib.IntN.{ℤ}
 use lib.Dec.{leb, ltb}
 use borrow.Author.Tests.{leb-true, leb-false}
+use Rattle.laws.specs.Options.{never}
 use Rattle.definition.specs.Base.{_>>=_, _or_, when, if_then_else_}
 use Rattle.definition.specs.Bits.{Bits, bitsOf, dec}
 use Rattle.definition.specs.Text.{Text}
@@ -65,9 +66,6 @@ unfoldable pub nameAt : List ℕ → Place → Option (ℕ × ℕ) × Place
 nameAt s p = if flagAt s p .value then spanned (spanAt s (flagAt s p .next)) else (none, flagAt s p .next)
 
 -- ---- places
-
-never : {A : Type 0} {a : A} → none ≡ some a → ⊥
-never e = let z : _≡_ {A = ℕ} 0 1 = cc in omega arith
 
 -- a place from which bits are left is inside
 pub rest-fits : (s : List ℕ) (q : Place) {l : Bits} → rest s q ≡ some l → Fits (length s) q 0

@@ -5,6 +5,7 @@ use mathlib.Core.Bool.{Bool, true, false}
 use mathlib.Core.List.{List, [], _∷_}
 use mathlib.Core.Option.{Option, some, none}
 use Prim.Native.Nat.{ℕ, zero, suc}
+use Rattle.laws.specs.Options.{bind-assoc, bind-ext}
 use Rattle.definition.specs.Base.{_>>=_}
 use Rattle.definition.specs.Bits.{Bits}
 use Rattle.definition.specs.Format.{Format, via, _⊗_, depending, getGiven, optional, whole, getPad, times, getAll, flag}
@@ -23,20 +24,6 @@ pub record Lax {A B : Type 0} (g : Format B) (f : Format A) : Type 0 where
 -- two formats that leave the same
 pub record Like {A B : Type 0} (f : Format A) (g : Format B) : Type 0 where
   pub like : (l : Bits) → left f l ≡ left g l
-
--- ---- what may be missing
-
-pub bind-bind : {A B C : Type 0} (o : Option A) (g : A → Option B) (k : B → Option C) → (o >>= g >>= k) ≡ (o >>= λ x. g x >>= k)
-bind-bind none g k = refl
-bind-bind (some a) g k = refl
-
-pub bind-ext : {A B : Type 0} (o : Option A) (g k : A → Option B) → ((a : A) → g a ≡ k a) → (o >>= g) ≡ (o >>= k)
-bind-ext none g k e = refl
-bind-ext (some a) g k e = e a
-
-pub bind-some : {A : Type 0} (o : Option A) → (o >>= λ x. some x) ≡ o
-bind-some none = refl
-bind-some (some a) = refl
 
 -- ---- one format and another
 

@@ -1,6 +1,6 @@
 -- The decoding pass: the counts and the places between the sections tell whether the bytes decode, and to what. Assumes nothing.
 use mathlib.Core.Path.{_≡_, refl, sym, ap, _∙_}
-use mathlib.Core.Bool.{Bool, true, false, _&&_}
+use mathlib.Core.Bool.{Bool, true, false, _&&_, false≢true}
 use mathlib.Core.List.{List, [], _∷_}
 use mathlib.Core.Option.{Option, some, none}
 use Prim.Native.Nat.{ℕ, _-_, _*_, _%_}
@@ -8,6 +8,8 @@ use native.Mathlib.Omega.{arith}
 use lib.ListN.{length, drop}
 use lib.Dec.{eqb}
 use borrow.Author.Tests.{eqb-true, eq-eqb}
+use Rattle.laws.specs.Bools.{both}
+use Rattle.laws.specs.Options.{bind-assoc, never}
 use Rattle.definition.specs.Base.{if_then_else_, _>>=_}
 use Rattle.definition.specs.Bits.{Bits, bitsOf}
 use Rattle.definition.specs.Format.{Format, whole, times}
@@ -20,16 +22,12 @@ use Rattle.model.specs.declared.Sections.{Sections}
 use Rattle.model.specs.declared.Opened.{Opened}
 use Rattle.model.specs.declared.Counts.{Counts}
 use Rattle.model.specs.declared.Places.{Places}
-use Rattle.model.specs.Lax.{bind-bind}
 use Rattle.model.specs.Passes.{Passes, Told, refusing, reading, told, stood, _⨾_}
 use Rattle.model.specs.Answers.{countsAt, tails-counts, or-reads, rest-fits}
 use Rattle.model.specs.Splits.{split-⊗, read-length}
 use Rattle.model.specs.Sections.{byteAt, start, countsIn, Walks, Holds, Decoded, sectionsOf, sectionsBy, Sectioned, Opens, byte-place}
 
 -- ---- places
-
-never : {A : Type 0} {a : A} → none ≡ some a → ⊥
-never e = let z : _≡_ {A = ℕ} 0 1 = cc in omega arith
 
 no-bits : (l : Bits) → length l ≡ 0 → l ≡ []
 no-bits [] e = refl
@@ -86,7 +84,7 @@ module _ {s : List ℕ} {n : Counts} {w : Places} (k : (countsIn n, n .next) ≡
       left-over b (x ∷ l) e = refl
 
       by-body : Told (body (countsIn n)) s (n .next) (w .end) → atEnd (rest s (n .next) >>= λ l. body (countsIn n) .get l >>= toModel) ≡ none
-      by-body (refusing r z) = ap atEnd (sym (bind-bind (rest s (n .next)) (body (countsIn n) .get) toModel) ∙ ap (λ (o : Option (Body × Bits)). o >>= toModel) (r .gives))
+      by-body (refusing r z) = ap atEnd (sym (bind-assoc (rest s (n .next)) (body (countsIn n) .get) toModel) ∙ ap (λ (o : Option (Body × Bits)). o >>= toModel) (r .gives))
       by-body (reading b l e r) =
           ap atEnd (chain {f = body (countsIn n)} toModel r ∙ ap (λ (o : Option Bits). o >>= λ m. toModel (b, m)) e) ∙ left-over b l e
 
@@ -159,13 +157,6 @@ module _ {s : List ℕ} {n : Counts} {w : Places} (k : (countsIn n, n .next) ≡
 
   -- ---- either way
 
-  false-true : {A : Type 0} → false ≡ true → A
-  false-true e = let z : _≡_ {A = ℕ} 0 1 = cc in absurd (omega arith)
-
-  both : (a b : Bool) → (a && b) ≡ true → (a ≡ true) × (b ≡ true)
-  both true b e = (refl, e)
-  both false b e = false-true e
-
   ended : (eqb (w .end .bit) 0 && eqb (w .end .byte) (length s)) ≡ true → rest s (w .end) ≡ some []
   ended e =
       let k = both (eqb (w .end .bit) 0) (eqb (w .end .byte) (length s)) e in
@@ -178,7 +169,7 @@ module _ {s : List ℕ} {n : Counts} {w : Places} (k : (countsIn n, n .next) ≡
       by-end true e =
           let k = both (eqb (w .end .bit) 0) (eqb (w .end .byte) (length s)) e in
           open-done (eqb-true (w .end .bit) 0 (k .0)) (eqb-true (w .end .byte) (length s) (k .1))
-      by-end false e = open-refused (λ z. false-true (sym e ∙ rw (eq-eqb (w .end .bit) 0 (end-bit s (w .end) z), eq-eqb (w .end .byte) (length s) (end-byte s (w .end) z))))
+      by-end false e = open-refused (λ z. false≢true (sym e ∙ rw (eq-eqb (w .end .bit) 0 (end-bit s (w .end) z), eq-eqb (w .end .byte) (length s) (end-byte s (w .end) z))))
 
   -- the sections of a model that was opened are those between the places, and the activities begin at a whole byte
   pub opened-at : {m : Sections} → Opened.Model m ≡ sectionsBy (length s) n w → (m ≡ sectionsOf n w) × (w .activities ≡ byteAt (w .activities .byte))

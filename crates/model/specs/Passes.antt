@@ -6,12 +6,13 @@ use mathlib.Core.List.{List, []}
 use mathlib.Core.Option.{Option, some, none}
 use Prim.Native.Nat.{ℕ, _+_, _-_, _%_, _≤_}
 use native.Mathlib.Omega.{arith}
+use Rattle.laws.specs.Options.{bind-assoc, bind-ext, bind-some}
 use Rattle.definition.specs.Base.{_>>=_}
 use Rattle.definition.specs.Bits.{Bits}
 use Rattle.definition.specs.Format.{Format, _⊗_, depending, optional, whole, times, flag}
 use Rattle.bits.specs.Reads.{rest, Reads, Refuses, Skips, padAt, chain, skip-pad, pad-whole, read-nothing, read-⊗, read-whole, read-both, read-alone, read-some, read-none, read-no, read-on, read-more, refuse-times}
 use Rattle.bits.specs.declared.Place.{Place}
-use Rattle.model.specs.Lax.{left, Lax, Like, bind-bind, bind-ext, bind-some, passed, like-passed, like-back, like-⊗, like-whole, like-depending, like-optional}
+use Rattle.model.specs.Lax.{left, Lax, Like, passed, like-passed, like-back, like-⊗, like-whole, like-depending, like-optional}
 
 -- a skipper answered the place q: the format gives a value at p, and q stands behind it; or it gives nothing, and q is past
 pub record Passes {A : Type 0} (f : Format A) (s : List ℕ) (p q : Place) : Type 0 where
@@ -24,11 +25,11 @@ module _ {A : Type 0} {f : Format A} {s : List ℕ} {p q : Place} where
   pub pass-refused : Refuses f s p → rest s q ≡ none → Passes f s p q
   pass-refused h e =
       let k : A × Bits → Option Bits = λ x. some (x .1) in
-      record { passes = sym (bind-bind (rest s p) (f .get) k) ∙ ap (λ (o : Option (A × Bits)). o >>= k) (h .gives) ∙ sym e }
+      record { passes = sym (bind-assoc (rest s p) (f .get) k) ∙ ap (λ (o : Option (A × Bits)). o >>= k) (h .gives) ∙ sym e }
 
   forgotten : Passes f s p q → Reads (passed f) s p tt q
   unfolding passed
-  forgotten h = record { reads = sym (bind-bind (rest s p) (left f) (λ r. some (tt, r))) ∙ ap (λ (o : Option Bits). o >>= λ r. some (tt, r)) (h .passes) }
+  forgotten h = record { reads = sym (bind-assoc (rest s p) (left f) (λ r. some (tt, r))) ∙ ap (λ (o : Option Bits). o >>= λ r. some (tt, r)) (h .passes) }
 
 pub pass-like : {A B : Type 0} {f : Format A} {g : Format B} {s : List ℕ} {p q : Place} → Like f g → Passes f s p q → Passes g s p q
 pass-like {f = f} {g = g} {s} {p} k h = record { passes = bind-ext (rest s p) (left g) (left f) (λ l. sym (k .like l)) ∙ h .passes }
@@ -46,7 +47,7 @@ pub told : {A : Type 0} {f : Format A} {s : List ℕ} {p q : Place} → Passes f
 told {A} {f} {s} {p} {q} h = told-if (rest s p >>= f .get) refl
   where
     ends : (o : Option (A × Bits)) → (rest s p >>= f .get) ≡ o → rest s q ≡ (o >>= λ x. some (x .1))
-    ends o e = sym (h .passes) ∙ sym (bind-bind (rest s p) (f .get) (λ x. some (x .1))) ∙ ap (λ (o : Option (A × Bits)). o >>= λ x. some (x .1)) e
+    ends o e = sym (h .passes) ∙ sym (bind-assoc (rest s p) (f .get) (λ x. some (x .1))) ∙ ap (λ (o : Option (A × Bits)). o >>= λ x. some (x .1)) e
 
     told-if : (o : Option (A × Bits)) → (rest s p >>= f .get) ≡ o → Told f s p q
     told-if none e = refusing (record { gives = e }) (ends none e)
