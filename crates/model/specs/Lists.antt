@@ -8,16 +8,16 @@ use native.Mathlib.Nat.{sub-zero}
 use native.Mathlib.Omega.{arith}
 use lib.ListN.{length, drop}
 use lib.Seq.{drop-drop}
+use Rattle.laws.specs.Options.{bind-assoc, bind-ext, never}
 use Rattle.definition.specs.Base.{_>>=_, when}
 use Rattle.definition.specs.Bits.{Bits}
 use Rattle.definition.specs.Format.{Format, _⊗_, times, getAll, rises, listOf, count}
-use Rattle.laws.specs.Options.{bind-assoc, bind-ext, never}
 use Rattle.bits.specs.Places.{past, room-short}
 use Rattle.bits.specs.Reads.{rest, Reads, takeAt, take-cut, read-field, chain}
 use Rattle.bits.specs.declared.Place.{Place}
 use Rattle.bits.specs.declared.Field.{Field}
-use Rattle.model.specs.Passes.{Passes, all-suc}
-use Rattle.model.specs.Lax.{Lax}
+use Rattle.model.specs.Lax.{Lax, all-suc}
+use Rattle.model.specs.Passes.{Passes}
 use Rattle.model.specs.Rising.{Finds}
 use Rattle.model.specs.Splits.{Stands, not-refused, stands-is, stands-first, stands-pass, read-stands, read-length, later, size, sized}
 

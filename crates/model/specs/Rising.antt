@@ -7,12 +7,12 @@ use Prim.Native.Nat.{ℕ, zero, suc, _+_, _-_, _/_, _%_, _≤_, _<_}
 use native.Mathlib.Omega.{arith}
 use lib.Dec.{ltb, eqb}
 use borrow.Author.Tests.{lt-ltb, le-ltb, ltb-true, ltb-false, eqb-true, eqb-false}
+use Rattle.laws.specs.Options.{bind-assoc}
 use Rattle.definition.specs.Base.{_>>=_, when}
 use Rattle.definition.specs.Bits.{Bits}
 use Rattle.definition.specs.Date.{Date}
 use Rattle.definition.specs.Calendar.{byDate}
 use Rattle.definition.specs.Format.{Format, _⊗_, times, getAll, rises, listOf, count, Period, periods, earlier, date}
-use Rattle.laws.specs.Options.{bind-assoc}
 use Rattle.bits.specs.Reads.{rest, Reads, Refuses, chain, onto, read-no, read-more, read-on, refuse-times, read-list, refuse-items}
 use Rattle.bits.specs.declared.Place.{Place}
 use Rattle.bits.specs.declared.Field.{Field}

@@ -7,14 +7,15 @@ use Prim.Native.Nat.{ℕ, zero, suc, _+_, _-_, _≤_, _<_}
 use native.Mathlib.Omega.{arith}
 use lib.ListN.{length, drop}
 use lib.Seq.{drop-drop, drop-at}
-use Rattle.definition.specs.Base.{_>>=_}
+use Rattle.laws.specs.Options.{bind-assoc, bind-ext, never}
+use Rattle.definition.specs.Base.{_>>=_, _or_}
 use Rattle.definition.specs.Bits.{Bits}
 use Rattle.definition.specs.Format.{Format, via, _⊗_, whole, getPad, times, getAll}
-use Rattle.laws.specs.Options.{bind-assoc, bind-ext, never}
 use Rattle.bits.specs.Reads.{rest, rest-past, Reads, Refuses, chain, onto, read-no, read-on, refuse-times}
 use Rattle.bits.specs.declared.Place.{Place}
-use Rattle.model.specs.Passes.{Passes, stood, pass-read, pass-refused, pass-cut, same-rest, Told, refusing, reading, told, all-zero, all-suc}
-use Rattle.model.specs.Lax.{Lax, lax-same, lax-times, lax-pass}
+use Rattle.model.specs.Answers.{seen, readAt, orAt}
+use Rattle.model.specs.Lax.{Regroups, Lax, lax-same, lax-times, all-zero, all-suc}
+use Rattle.model.specs.Passes.{Passes, stood, pass-read, pass-refused, pass-cut, same-rest, Told, refusing, reading, told, lax-pass}
 
 -- two parts of a whole c
 pub record Split {A B C : Type 0} (f : Format A) (g : Format B) (pair : A → B → C) (s : List ℕ) (p q r : Place) (c : C) : Type 0 where
@@ -108,6 +109,15 @@ module _ {A : Type 0} {f : Format A} {s : List ℕ} {p : Place} {a : A} where
         by-place none z = absurd (never (sym z))
         by-place (some l) z = let w : _≡_ {A = A × Bits} (a, h .left-over) (b, l) = cc in sym (ap (λ x. x .0) w)
 
+    -- and what a reader answers
+    pub stands-read : readAt f s p .0 ≡ some a
+    unfolding readAt
+    stands-read = ap (λ (o : Option (A × Bits)). seen s o .0) (h .gives)
+
+    pub stands-or : (d : A) → orAt d f s p .0 ≡ a
+    unfolding orAt
+    stands-or d = ap (λ (o : Option A). o or d) stands-read
+
     pub stands-reads : {q : Place} → Passes f s p q → Reads f s p a q
     stands-reads {q} i = by-told (told i)
       where
@@ -156,6 +166,15 @@ module _ {A B : Type 0} {f : Format A} {g : Format B} {s : List ℕ} {p : Place}
 
   pub stands-pass : {q : Place} → Passes f s p q → Stands g s q (c .1)
   stands-pass i = stands-next (lax-same f) i
+
+-- the fields in other groups
+pub stands-regroup : {A B : Type 0} {f : Format A} {g : Format B} {to : A → B} {s : List ℕ} {p : Place} {a : A} → Regroups f g to → Stands f s p a → Stands g s p (to a)
+stands-regroup {A} {B} {f} {g} {to} {s} {p} r h =
+    let k : A × Bits → Option (B × Bits) = λ x. some (to (x .0), x .1) in
+    record {
+      left-over = h .left-over;
+      gives = bind-ext (rest s p) (g .get) (λ l. f .get l >>= k) (r .same) ∙ sym (bind-assoc (rest s p) (f .get) k) ∙ ap (λ (o : Option (A × Bits)). o >>= k) (h .gives);
+    }
 
 -- a value under a name
 pub record Under {A B : Type 0} (to : A → B) (f : Format A) (s : List ℕ) (p : Place) (b : B) : Type 0 where

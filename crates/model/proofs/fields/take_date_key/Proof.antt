@@ -1,8 +1,8 @@
 use Rattle.bits.specs.Reads.{field-lt}
 use Rattle.model.proofs.Single.{date-refused, date-found}
 use borrow.Author.Needs.{needs}
-use Rattle.model.proofs.fields.take_date.Statement.{statement}
-use Rattle.model.proofs.fields.take_date.Tie as tie
+use Rattle.model.proofs.fields.take_date_key.Statement.{statement}
+use Rattle.model.proofs.fields.take_date_key.Tie as tie
 
 take-requires : tie.Need-take-requires
 take-requires c κs = search needs
@@ -22,5 +22,5 @@ returns-2 c =
     let a = c .before .before .before .before .before .args in
     date-found (a .s .now) (a .p) (c .before .before .before .take .ensures) (c .before .before .date-of .ensures) (c .before .if1 .left)
 
-pub take-date-spec : {M : Type 1} → statement M
-take-date-spec = tie.close (tie.spec take-requires date-of-requires returns returns-2)
+pub take-date-key-spec : {M : Type 1} → statement M
+take-date-key-spec = tie.close (tie.spec take-requires date-of-requires returns returns-2)

@@ -1,7 +1,7 @@
 use Rattle.model.proofs.Single.{period-level, period-late, period-found}
 use borrow.Author.Needs.{needs}
-use Rattle.model.proofs.fields.take_period.Statement.{statement}
-use Rattle.model.proofs.fields.take_period.Tie as tie
+use Rattle.model.proofs.fields.take_period_key.Statement.{statement}
+use Rattle.model.proofs.fields.take_period_key.Tie as tie
 
 take-requires : tie.Need-take-requires
 take-requires c κs = search needs
@@ -30,6 +30,6 @@ returns-3 c =
     let a = c .before .before .before .before .before .before .before .before .before .before .before .args in
     period-found (a .s .now) (a .p) (c .before .before .before .before .before .before .before .before .before .take .ensures) (c .before .before .before .before .before .before .before .before .take2 .ensures) (c .before .before .before .before .before .if1 .left) (c .before .before .before .if2 .left)
 
-pub take-period-spec : {M : Type 1} → statement M
-take-period-spec =
+pub take-period-key-spec : {M : Type 1} → statement M
+take-period-key-spec =
     tie.close (tie.spec take-requires take-requires-2 returns returns-2 mul-t9 add-t10 returns-3)
