@@ -14,7 +14,7 @@ use Rattle.definition.specs.Number.{numberOf}
 use Rattle.definition.specs.Tree.{Rec, records, layout, element, deeper, belowRoot}
 use Rattle.definition.specs.Duration.{durationOf}
 use Rattle.number.specs.Number.{meaning, numberRefusal}
-use Rattle.number.specs.Duration.{durationRefusal}
+use Rattle.number.specs.Duration.{meaning as minutes, durationRefusal}
 use Rattle.number.specs.declared.duration.DurationAnswer.{DurationAnswer}
 use Rattle.number.specs.declared.duration.DurationAnswer.the-variants as duration
 use Rattle.number.specs.declared.decimal.NumberAnswer.{NumberAnswer}
