@@ -1,9 +1,10 @@
 -- The passes over all records, by the head at a position; and the refusals in their order. Assumes nothing.
 use mathlib.Core.Path.{_≡_, refl, sym, _∙_}
 use mathlib.Core.List.{List, [], _∷_}
-use mathlib.Core.Bool.{Bool, true, false, _||_}
+use mathlib.Core.Bool.{Bool, true, false, _||_, or-false}
 use Prim.Native.Nat.{ℕ, _≤_, _<_}
 use native.Mathlib.Omega.{arith}
+use lib.Dec.{eqb}
 use lib.ListN.{length}
 use borrow.Author.Tests.{le-leb, lt-leb, le-ltb, lt-ltb}
 use Rattle.definition.specs.Base.{every?, some?, same}
@@ -12,11 +13,13 @@ use Rattle.definition.specs.Text.{Text, isUtf8, trim}
 use Rattle.definition.specs.Number.{numberOf}
 use Rattle.definition.specs.Tree.{Rec, records, layout, element, deeper, belowRoot}
 use Rattle.definition.specs.Duration.{durationOf}
-use Rattle.number.specs.Number.{meaning}
-use Rattle.number.specs.Duration.{meaning as minutes}
+use Rattle.number.specs.Number.{meaning, numberRefusal}
+use Rattle.number.specs.Duration.{meaning as minutes, durationRefusal}
 use Rattle.number.specs.declared.duration.DurationAnswer.{DurationAnswer}
+use Rattle.number.specs.declared.duration.DurationAnswer.the-variants as duration
 use Rattle.number.specs.declared.decimal.NumberAnswer.{NumberAnswer}
-use Rattle.tree.specs.Place.{headAt, verdict, recordsAt, elementAt}
+use Rattle.number.specs.declared.decimal.NumberAnswer.the-variants as number
+use Rattle.tree.specs.Place.{headAt, verdict, verdictRefusal, recordsAt, elementAt}
 use Rattle.definition.specs.Refusal.{utf8?, project?, long?, numberNames, durationNames, longIn, tooLong, treeRefusal, mostElements}
 use Rattle.tree.specs.declared.Head.the-variants.{Whole, Cut}
 use Rattle.tree.specs.declared.Verdict.the-variants.{Fine, Broken}
@@ -109,7 +112,7 @@ fine-is s {n} h = go (layout s) refl
     go false e = let f = verdict-broken s e in let z : _≡_ {A = ℕ} 0 1 = cc in absurd (omega arith)
 
 module _ (s : Text) where
-  pub refused-1 : verdict s ≡ Broken → 1 ≡ treeRefusal s
+  pub refused-1 : verdict s ≡ Broken → verdictRefusal Broken ≡ treeRefusal s
   unfolding treeRefusal
   refused-1 v = rw (broken-is s v)
 
@@ -142,38 +145,39 @@ module _ (s : Text) where
 
 -- ---- names and texts of refusal 5
 
-module _ (a n : Text) where
-  pub hit : (l : List Text) → same a n ≡ true → some? (same a) (n ∷ l) ≡ true
+-- a test of some texts, one after the other
+module _ (p : Text → Bool) where
+  pub some-first : {t u : Bool} (n : Text) (l : List Text) → t ≡ p n → u ≡ some? p l → (t || u) ≡ some? p (n ∷ l)
   unfolding some?
-  hit l h = rw h
+  some-first n l h k = rw (h, k)
 
-  pub miss : (l : List Text) → same a n ≡ false → some? (same a) (n ∷ l) ≡ some? (same a) l
+  pub some-last : {t : Bool} (n : Text) → t ≡ p n → t ≡ some? p (n ∷ [])
   unfolding some?
-  miss l h = rw h
+  some-last n h = rw h (sym (or-false (p n)))
 
-  pub last : some? (same a) (n ∷ []) ≡ same a n
-  unfolding some?
-  last = go (same a n)
-    where
-      go : (x : Bool) → x || false ≡ x
-      go true = refl
-      go false = refl
+-- a reading refuses where the number is too long
+number-long : (a : NumberAnswer) → eqb (numberRefusal a) 5 ≡ long? (meaning a)
+unfolding long?
+number-long number.Absent = refl
+number-long number.Long = refl
+number-long (number.Value x) = refl
 
--- whether a number was long, by the answer
-pub number-read : (t : Text) {u : Text} {r q : NumberAnswer} → u ≡ trim t → meaning r ≡ numberOf u → r ≡ q → long? (meaning q) ≡ long? (numberOf (trim t))
-number-read t e m k = rw (← e, ← m, k)
-
-pub duration-read : (t : Text) {r q : DurationAnswer} → minutes r ≡ durationOf t → r ≡ q → long? (minutes q) ≡ long? (durationOf t)
-duration-read t m k = rw (← m, k)
+duration-long : (a : DurationAnswer) → eqb (durationRefusal a) 5 ≡ long? (minutes a)
+unfolding long?
+duration-long duration.Absent = refl
+duration-long duration.Long = refl
+duration-long (duration.Minutes n) = refl
 
 module _ (name text : Text) where
-  pub as-number : some? (same name) numberNames ≡ true → long? (numberOf (trim text)) ≡ longIn name text
+  pub as-number : (a : NumberAnswer) {u : Text} {r : ℕ} → some? (same name) numberNames ≡ true → u ≡ trim text → meaning a ≡ numberOf u → r ≡ numberRefusal a
+      → eqb r 5 ≡ longIn name text
   unfolding longIn
-  as-number h = rw h
+  as-number a h e m k = rw (k, h, ← e, ← m) (number-long a)
 
-  pub as-duration : some? (same name) numberNames ≡ false → some? (same name) durationNames ≡ true → long? (durationOf text) ≡ longIn name text
+  pub as-duration : (a : DurationAnswer) {r : ℕ} → some? (same name) numberNames ≡ false → some? (same name) durationNames ≡ true → minutes a ≡ durationOf text
+      → r ≡ durationRefusal a → eqb r 5 ≡ longIn name text
   unfolding longIn
-  as-duration h k = rw (h, k)
+  as-duration a h i m k = rw (k, h, i, ← m) (duration-long a)
 
   pub as-other : some? (same name) numberNames ≡ false → some? (same name) durationNames ≡ false → false ≡ longIn name text
   unfolding longIn

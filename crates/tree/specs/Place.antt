@@ -37,6 +37,11 @@ headAt s at = headBy at (recordOf (drop at s))
 unfoldable pub verdict : Text → Verdict
 verdict s = if layout s then Fine (length (records s)) else Broken
 
+-- document 01's number for a verdict
+abbrev pub verdictRefusal : Verdict → ℕ
+verdictRefusal (Fine n) = 0
+verdictRefusal Broken = 1
+
 -- ---- records
 
 -- the records from a position on

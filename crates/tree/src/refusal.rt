@@ -1,12 +1,11 @@
 // When a tree is refused.
 ghost use mathlib.Core.Path.{_≡_};
 ghost use Rattle.definition.specs.Base.{every?, some?, same};
-ghost use Rattle.definition.specs.Text.{trim};
-ghost use Rattle.definition.specs.Number.{numberOf};
-ghost use Rattle.definition.specs.Duration.{durationOf};
 ghost use Rattle.definition.specs.Tree.{records, deeper, belowRoot};
+ghost use Rattle.number.specs.Number.{numberRefusal};
+ghost use Rattle.number.specs.Duration.{durationRefusal};
 ghost use Rattle.tree.specs.Place.{recordsAt};
-ghost use Rattle.definition.specs.Refusal.{utf8?, long?, numberNames, durationNames, longIn, tooLong, treeRefusal};
+ghost use Rattle.definition.specs.Refusal.{utf8?, numberNames, durationNames, longIn, tooLong, treeRefusal};
 use crate::Head;
 use crate::Verdict;
 use number::DurationAnswer;
@@ -41,65 +40,43 @@ fn all_utf8(s: &[u8]) -> bool
 fn is_number(name: &[u8]) -> bool
     ensures { λ r. ⌜ r ≡ some? (same (now (name .entry))) numberNames ⌝ }
 {
-    if text::same(name, b"MinutesPerDay") {
-        return true;
-    }
-    if text::same(name, b"PhysicalPercentComplete") {
-        return true;
-    }
-    if text::same(name, b"StandardRate") {
-        return true;
-    }
-    if text::same(name, b"MaxUnits") {
-        return true;
-    }
-    if text::same(name, b"Units") {
-        return true;
-    }
-    if text::same(name, b"Cost") {
-        return true;
-    }
-    if text::same(name, b"ActualCost") {
-        return true;
-    }
-    text::same(name, b"RemainingCost")
+    text::same(name, b"MinutesPerDay")
+        | (text::same(name, b"PhysicalPercentComplete")
+            | (text::same(name, b"StandardRate")
+                | (text::same(name, b"MaxUnits")
+                    | (text::same(name, b"Units")
+                        | (text::same(name, b"Cost")
+                            | (text::same(name, b"ActualCost")
+                                | text::same(name, b"RemainingCost")))))))
 }
 
 fn is_duration(name: &[u8]) -> bool
     ensures { λ r. ⌜ r ≡ some? (same (now (name .entry))) durationNames ⌝ }
 {
-    if text::same(name, b"Duration") {
-        return true;
-    }
-    if text::same(name, b"RemainingDuration") {
-        return true;
-    }
-    if text::same(name, b"Work") {
-        return true;
-    }
-    if text::same(name, b"ActualWork") {
-        return true;
-    }
-    text::same(name, b"RemainingWork")
+    text::same(name, b"Duration")
+        | (text::same(name, b"RemainingDuration")
+            | (text::same(name, b"Work")
+                | (text::same(name, b"ActualWork") | text::same(name, b"RemainingWork"))))
 }
 
-fn is_long_number(t: &[u8]) -> bool
-    ensures { λ r. ⌜ r ≡ long? (numberOf (trim (now (t .entry)))) ⌝ }
+// The refusal that the reading of a number is, 0 where it is none.
+fn number_refusal(a: NumberAnswer) -> u32
+    ensures { λ r. ⌜ r ≡ numberRefusal a ⌝ }
 {
-    match number::number_of(text::trim(t)) {
-        NumberAnswer::Absent => false,
-        NumberAnswer::Long => true,
-        NumberAnswer::Value(_) => false,
+    match a {
+        NumberAnswer::Absent => 0,
+        NumberAnswer::Long => 5,
+        NumberAnswer::Value(_) => 0,
     }
 }
 
-fn is_long_duration(t: &[u8]) -> bool
-    ensures { λ r. ⌜ r ≡ long? (durationOf (now (t .entry))) ⌝ }
+fn duration_refusal(a: DurationAnswer) -> u32
+    ensures { λ r. ⌜ r ≡ durationRefusal a ⌝ }
 {
-    match number::duration_of(t) {
-        DurationAnswer::Absent => false,
-        DurationAnswer::Long => true,
-        DurationAnswer::Minutes(_) => false,
+    match a {
+        DurationAnswer::Absent => 0,
+        DurationAnswer::Long => 5,
+        DurationAnswer::Minutes(_) => 0,
     }
 }
 
@@ -108,10 +85,10 @@ fn is_long(name: &[u8], t: &[u8]) -> bool
     ensures { λ r. ⌜ r ≡ longIn (now (name .entry)) (now (t .entry)) ⌝ }
 {
     if is_number(name) {
-        return is_long_number(t);
+        return number_refusal(number::number_of(text::trim(t))) == 5;
     }
     if is_duration(name) {
-        return is_long_duration(t);
+        return duration_refusal(number::duration_of(t)) == 5;
     }
     false
 }

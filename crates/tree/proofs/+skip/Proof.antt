@@ -30,106 +30,6 @@ skip-Inv-loop s at depth next p₀ p = Below s at depth next p
 abbrev skip-μ-loop : skip-lts.MeasureT-loop
 skip-μ-loop s at depth next p₀ p = length (recordsAt s p)
 
-skip-read-head-requires : (t : ℕ) → skip-lts.Need-read-head-requires (
-  read-head-reads.Asked,
-  read-head-reads.Learnt,
-  deeper-reads.Asked,
-  deeper-reads.Learnt,
-  skip-below t,
-  skip.Post,
-) (skip-at t) skip.Post skip-Inv-loop skip-μ-loop
-skip-read-head-requires t c κs = search needs
-
-skip-enum-told : (t : ℕ) → skip-lts.Need-enum-told (
-  read-head-reads.Asked,
-  read-head-reads.Learnt,
-  deeper-reads.Asked,
-  deeper-reads.Learnt,
-  skip-below t,
-  skip.Post,
-) (skip-at t) skip.Post skip-Inv-loop skip-μ-loop
-skip-enum-told t c = search needs
-
-skip-enum-known-depth : (t : ℕ) → skip-lts.Need-enum-known-depth (
-  read-head-reads.Asked,
-  read-head-reads.Learnt,
-  deeper-reads.Asked,
-  deeper-reads.Learnt,
-  skip-below t,
-  skip.Post,
-) (skip-at t) skip.Post skip-Inv-loop skip-μ-loop
-skip-enum-known-depth t c = search needs
-
-skip-loop-holds : (t : ℕ) → skip-lts.Need-loop-holds (
-  read-head-reads.Asked,
-  read-head-reads.Learnt,
-  deeper-reads.Asked,
-  deeper-reads.Learnt,
-  skip-below t,
-  skip.Post,
-) (skip-at t) skip.Post skip-Inv-loop skip-μ-loop
-skip-loop-holds t c = below-first _ _ (sym (c .before .before .before .read-head .ensures) ∙ c .before .depth .given .1)
-
-skip-deeper-requires : (t : ℕ) → skip-lts.Need-deeper-requires (
-  read-head-reads.Asked,
-  read-head-reads.Learnt,
-  deeper-reads.Asked,
-  deeper-reads.Learnt,
-  skip-below t,
-  skip.Post,
-) (skip-at t) skip.Post skip-Inv-loop skip-μ-loop
-skip-deeper-requires t c κs = search needs
-
-skip-skip-requires : (t : ℕ) → skip-lts.Need-skip-requires (
-  read-head-reads.Asked,
-  read-head-reads.Learnt,
-  deeper-reads.Asked,
-  deeper-reads.Learnt,
-  skip-below t,
-  skip.Post,
-) (skip-at t) skip.Post skip-Inv-loop skip-μ-loop
-skip-skip-requires t c κs = (omega (arith, c .before .before .loop .inv .fewer, c .before .before .before .before .before .before .before .before .pre .0), tt)
-
-skip-loop-less : (t : ℕ) → skip-lts.Need-loop-less (
-  read-head-reads.Asked,
-  read-head-reads.Learnt,
-  deeper-reads.Asked,
-  deeper-reads.Learnt,
-  skip-below t,
-  skip.Post,
-) (skip-at t) skip.Post skip-Inv-loop skip-μ-loop
-skip-loop-less t c = skip-less _ _ _ (sym (c .before .before .deeper .ensures) ∙ c .before .if1 .taken) (c .skip .ensures)
-
-skip-loop-again : (t : ℕ) → skip-lts.Need-loop-again (
-  read-head-reads.Asked,
-  read-head-reads.Learnt,
-  deeper-reads.Asked,
-  deeper-reads.Learnt,
-  skip-below t,
-  skip.Post,
-) (skip-at t) skip.Post skip-Inv-loop skip-μ-loop
-skip-loop-again t c = below-next _ _ (sym (c .before .before .before .before .before .before .before .read-head .ensures) ∙ c .before .before .before .before .before .depth .given .1) (c .before .before .before .loop .inv) (sym (c .before .before .deeper .ensures) ∙ c .before .if1 .taken) (c .skip .ensures)
-
-skip-returns : (t : ℕ) → skip-lts.Need-returns (
-  read-head-reads.Asked,
-  read-head-reads.Learnt,
-  deeper-reads.Asked,
-  deeper-reads.Learnt,
-  skip-below t,
-  skip.Post,
-) (skip-at t) skip.Post skip-Inv-loop skip-μ-loop
-skip-returns t c = skip-cut _ _ (sym (c .before .before .read-head .ensures) ∙ c .enum-told .given .1)
-
-skip-returns-2 : (t : ℕ) → skip-lts.Need-returns-2 (
-  read-head-reads.Asked,
-  read-head-reads.Learnt,
-  deeper-reads.Asked,
-  deeper-reads.Learnt,
-  skip-below t,
-  skip.Post,
-) (skip-at t) skip.Post skip-Inv-loop skip-μ-loop
-skip-returns-2 t c = below-last _ _ (sym (c .before .before .before .before .before .before .read-head .ensures) ∙ c .before .before .before .before .depth .given .1) (c .before .before .loop .inv) (sym (c .before .deeper .ensures) ∙ c .if1 .left)
-
 pub +skip-spec : {M : Type 1} → statement M
 +skip-spec = close μ-skip λ t. skip-lts.spec (
   read-head-reads.Asked,
@@ -143,13 +43,15 @@ pub +skip-spec : {M : Type 1} → statement M
     skip.Post
     skip-Inv-loop
     skip-μ-loop
-    (skip-read-head-requires t)
-    (skip-enum-told t)
-    (skip-enum-known-depth t)
-    (skip-loop-holds t)
-    (skip-deeper-requires t)
-    (skip-skip-requires t)
-    (skip-loop-less t)
-    (skip-loop-again t)
-    (skip-returns t)
-    (skip-returns-2 t)
+    (λ c κs. search needs)
+    (λ c. search needs)
+    (λ c. search needs)
+    -- the loop over the children begins, goes on and gets nearer to its end
+    (λ c. below-first _ _ (sym (c .before .before .before .read-head .ensures) ∙ c .before .depth .given .1))
+    (λ c κs. search needs)
+    (λ c κs. (omega (arith, c .before .before .loop .inv .fewer, c .before .before .before .before .before .before .before .before .pre .0), tt))
+    (λ c. skip-less _ _ _ (sym (c .before .before .deeper .ensures) ∙ c .before .if1 .taken) (c .skip .ensures))
+    (λ c. below-next _ _ (sym (c .before .before .before .before .before .before .before .read-head .ensures) ∙ c .before .before .before .before .before .depth .given .1) (c .before .before .before .loop .inv) (sym (c .before .before .deeper .ensures) ∙ c .before .if1 .taken) (c .skip .ensures))
+    -- no record, and all children passed
+    (λ c. skip-cut _ _ (sym (c .before .before .read-head .ensures) ∙ c .enum-told .given .1))
+    (λ c. below-last _ _ (sym (c .before .before .before .before .before .before .read-head .ensures) ∙ c .before .before .before .before .depth .given .1) (c .before .before .loop .inv) (sym (c .before .deeper .ensures) ∙ c .if1 .left))

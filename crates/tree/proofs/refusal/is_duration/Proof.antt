@@ -1,70 +1,25 @@
-use mathlib.Core.Path.{sym, _∙_}
-use Rattle.tree.proofs.Passes.{hit, miss, last}
+use Rattle.tree.proofs.Passes.{some-first, some-last}
 use borrow.Author.Needs.{needs}
 use Rattle.tree.proofs.refusal.is_duration.Statement.{statement}
 use Rattle.tree.proofs.refusal.is_duration.Tie as tie
-
-slice-aggregate-same : tie.Need-slice-aggregate-same
-slice-aggregate-same c = search needs
-
-same-requires : tie.Need-same-requires
-same-requires c κs = search needs
-
-returns : tie.Need-returns
-returns c = sym (hit _ _ _ (sym (c .before .same .ensures) ∙ c .if1 .taken))
-
-slice-aggregate-same-2 : tie.Need-slice-aggregate-same-2
-slice-aggregate-same-2 c = search needs
-
-same-requires-2 : tie.Need-same-requires-2
-same-requires-2 c κs = search needs
-
-returns-2 : tie.Need-returns-2
-returns-2 c = sym (miss _ _ _ (sym (c .before .before .before .before .same .ensures) ∙ c .before .before .before .if1 .left) ∙ hit _ _ _ (sym (c .before .same2 .ensures) ∙ c .if2 .taken))
-
-slice-aggregate-same-3 : tie.Need-slice-aggregate-same-3
-slice-aggregate-same-3 c = search needs
-
-same-requires-3 : tie.Need-same-requires-3
-same-requires-3 c κs = search needs
-
-returns-3 : tie.Need-returns-3
-returns-3 c = sym (miss _ _ _ (sym (c .before .before .before .before .before .before .before .same .ensures) ∙ c .before .before .before .before .before .before .if1 .left) ∙ miss _ _ _ (sym (c .before .before .before .before .same2 .ensures) ∙ c .before .before .before .if2 .left) ∙ hit _ _ _ (sym (c .before .same3 .ensures) ∙ c .if3 .taken))
-
-slice-aggregate-same-4 : tie.Need-slice-aggregate-same-4
-slice-aggregate-same-4 c = search needs
-
-same-requires-4 : tie.Need-same-requires-4
-same-requires-4 c κs = search needs
-
-returns-4 : tie.Need-returns-4
-returns-4 c = sym (miss _ _ _ (sym (c .before .before .before .before .before .before .before .before .before .before .same .ensures) ∙ c .before .before .before .before .before .before .before .before .before .if1 .left) ∙ miss _ _ _ (sym (c .before .before .before .before .before .before .before .same2 .ensures) ∙ c .before .before .before .before .before .before .if2 .left) ∙ miss _ _ _ (sym (c .before .before .before .before .same3 .ensures) ∙ c .before .before .before .if3 .left) ∙ hit _ _ _ (sym (c .before .same4 .ensures) ∙ c .if4 .taken))
-
-slice-aggregate-same-5 : tie.Need-slice-aggregate-same-5
-slice-aggregate-same-5 c = search needs
-
-same-requires-5 : tie.Need-same-requires-5
-same-requires-5 c κs = search needs
-
-returns-5 : tie.Need-returns-5
-returns-5 c = sym (miss _ _ _ (sym (c .before .before .before .before .before .before .before .before .before .before .before .before .same .ensures) ∙ c .before .before .before .before .before .before .before .before .before .before .before .if1 .left) ∙ miss _ _ _ (sym (c .before .before .before .before .before .before .before .before .before .same2 .ensures) ∙ c .before .before .before .before .before .before .before .before .if2 .left) ∙ miss _ _ _ (sym (c .before .before .before .before .before .before .same3 .ensures) ∙ c .before .before .before .before .before .if3 .left) ∙ miss _ _ _ (sym (c .before .before .before .same4 .ensures) ∙ c .before .before .if4 .left) ∙ last _ _ ∙ sym (c .same5 .ensures))
 
 pub is-duration-spec : {M : Type 1} → statement M
 is-duration-spec =
     tie.close
     (tie.spec
-    slice-aggregate-same
-    same-requires
-    returns
-    slice-aggregate-same-2
-    same-requires-2
-    returns-2
-    slice-aggregate-same-3
-    same-requires-3
-    returns-3
-    slice-aggregate-same-4
-    same-requires-4
-    returns-4
-    slice-aggregate-same-5
-    same-requires-5
-    returns-5)
+    (λ c. search needs)
+    (λ c κs. search needs)
+    (λ c. search needs)
+    (λ c κs. search needs)
+    (λ c. search needs)
+    (λ c κs. search needs)
+    (λ c. search needs)
+    (λ c κs. search needs)
+    (λ c. search needs)
+    (λ c κs. search needs)
+    (λ c.
+    some-first _ _ _ (c .before .before .before .before .before .before .before .before .same .ensures)
+    (some-first _ _ _ (c .before .before .before .before .before .before .same2 .ensures)
+    (some-first _ _ _ (c .before .before .before .before .same3 .ensures)
+    (some-first _ _ _ (c .before .before .same4 .ensures)
+    (some-last _ _ (c .same5 .ensures)))))))
