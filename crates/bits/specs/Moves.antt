@@ -10,7 +10,8 @@ use Rattle.definition.specs.Base.{if_then_else_}
 use Rattle.definition.specs.Bits.{Bits, enc, dec, bitsOf}
 use Rattle.laws.specs.Bits.{length-bits, length-part, enc-read}
 use Rattle.bits.specs.Places.{at, past, inside, upTo, room-fits, up-before}
-use Rattle.bits.specs.Steps.{Step, _▷_}
+use Rattle.laws.specs.Buf.{_▷_}
+use Rattle.bits.specs.Steps.{Step}
 use Rattle.bits.specs.declared.Place.{Place}
 use Rattle.bits.specs.Over.{over, over-none, over-kept, over-prev, parts, turned-over}
 use lib.ListN.{length, take, drop, getD, set, replicate, length-append, length-reverse, length-drop, length-replicate, take-append-drop, drop-of-length-le, replicate-append-replicate}
