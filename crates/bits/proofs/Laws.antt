@@ -16,7 +16,8 @@ use Rattle.bits.specs.declared.Place.{Place}
 use Rattle.bits.specs.declared.Field.{Field}
 use Rattle.bits.specs.Over.{over, over-is, part-before, over-next, bits-changed}
 use Rattle.bits.specs.Moves.{bitsFrom, moved, move-more, rotated, rotate-front}
-use Rattle.bits.specs.Steps.{Laid, laid-in, Step, _⨾_, stays, before-in, ▷-▷, view-none, Pads, view, _▷_, ▷-full, padded, laid-step, said, view-in, view-out, length-before}
+use Rattle.bits.specs.Steps.{Laid, laid-in, Step, _⨾_, stays, before-in, view-none, Pads, view, padded, laid-step, said, view-in, view-out, length-before}
+use Rattle.laws.specs.Buf.{▷-▷, _▷_, ▷-full}
 use Rattle.bits.specs.Reads.{takeAt, take-whole, padAt, pad-told}
 use Rattle.bits.specs.Places.{past, place-at, at, place, room, inside, Fits, room-fits, fits-room, room-short}
 use Rattle.definition.specs.Base.{if_then_else_}

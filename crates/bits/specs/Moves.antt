@@ -9,7 +9,8 @@ use Rattle.definition.specs.Bits.{Bits, enc, dec, bitsOf}
 use Rattle.laws.specs.Bits.{bits-append, bits-take, bits-drop}
 use Rattle.bits.specs.Places.{at, past, inside, upTo, room-fits, fits-room, up-before}
 use Rattle.laws.specs.Bits.{length-bits, length-part, enc-read}
-use Rattle.bits.specs.Steps.{Step, _▷_}
+use Rattle.bits.specs.Steps.{Step}
+use Rattle.laws.specs.Buf.{_▷_}
 use Rattle.bits.specs.declared.Place.{Place}
 use Rattle.bits.specs.Over.{over, over-none, over-kept, over-prev, parts, rotated-over}
 use lib.ListN.{length, take, drop, getD, set, length-append, length-reverse, length-drop, take-append-drop}

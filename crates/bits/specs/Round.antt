@@ -12,7 +12,8 @@ use Rattle.definition.specs.Format.{Format, field, times, putAll, listOf, count
 use Rattle.laws.specs.Bits.{length-bits, length-enc}
 use Rattle.bits.specs.Over.{over, over-mid}
 use Rattle.bits.specs.Places.{at, place, past, room, inside, Fits, room-fits, place-at, at-place, next-fits}
-use Rattle.bits.specs.Steps.{holds, full, view, _▷_, sizeOf, Step, said, Puts, Laid, laid-in, view-in, view-out, ▷-fits, ▷-short, length-before, put-then, laid-kept}
+use Rattle.bits.specs.Steps.{view, Step, said, Puts, Laid, laid-in, view-in, view-out, ▷-fits, ▷-short, length-before, put-then, laid-kept}
+use Rattle.laws.specs.Buf.{holds, full, _▷_, sizeOf}
 use Rattle.bits.specs.Reads.{rest, rest-in, Reads, takeAt}
 use Rattle.bits.specs.declared.Place.{Place}
 

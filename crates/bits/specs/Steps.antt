@@ -9,8 +9,7 @@ use native.Mathlib.Nat.{add-assoc, add-zero}
 use native.Mathlib.Omega.{arith}
 use lib.ListN.{length, take, length-append}
 use lib.Seq.{length-take-le, take-take, take-length}
-use lib.Dec.{leb}
-use borrow.Author.Tests.{le-leb, lt-leb, leb-false}
+use borrow.Author.Tests.{le-leb, lt-leb}
 use Rattle.definition.specs.Base.{if_then_else_}
 use lib.IntN.{ℤ}
 use Rattle.definition.specs.Bits.{Bits, enc, bitsOf, pad, twos}
@@ -18,6 +17,7 @@ use Rattle.definition.specs.Date.{Date, dayNumber}
 use Rattle.definition.specs.Format.{Format, field, via, whole, _⊗_, depending, optional, times, putAll, listOf, bit, count, flag, code, time, Period, period, number, date, text}
 use Rattle.bits.specs.Over.{over, over-upto, over-before}
 use Rattle.laws.specs.Bits.{length-bits, length-enc}
+use Rattle.laws.specs.Buf.{Buf, holds, full, _▷_, sizeOf, ▷-size}
 use Rattle.bits.specs.Places.{at, place, past, room, inside, Fits, room-fits, fits-room, room-short, room-none, at-place, next-fits}
 use Rattle.bits.specs.declared.Place.{Place}
 
@@ -34,24 +34,9 @@ laid-in h f = rw (fits-room f) at (h .bits)
 
 -- ---- steps
 
--- the bits written so far, where so many fit; or too many
-pub data Buf : Type 0 where
-  holds : ℕ → Bits → Buf
-  full : ℕ → Buf
-
 -- what a buffer and a place in it stand for: the bits before the place
 unfoldable pub view : List ℕ → Place → Buf
 view d p = if inside (length d) p then holds (8 * length d) (take (at p) (bitsOf d)) else full (8 * length d)
-
-infixl 20 _▷_
--- more bits, if they fit
-unfoldable pub _▷_ : Buf → Bits → Buf
-holds n b ▷ f = if leb (length b + length f) n then holds n (b ++ f) else full n
-full n ▷ f = full n
-
-abbrev pub sizeOf : Buf → ℕ
-sizeOf (holds n b) = length b
-sizeOf (full n) = 0
 
 -- a value in its format
 abbrev pub puts : {A : Type 0} → Format A → A → Buf → Buf
@@ -141,23 +126,6 @@ view-out d p h = rw h
 pub length-before : (d : List ℕ) (n : ℕ) → n ≤ 8 * length d → length (take n (bitsOf d)) ≡ n
 length-before d n h = length-take-le n (bitsOf d) (omega (arith, length-bits d))
 
-▷-case : (n : ℕ) (p f g : Bits) (t : Bool) → leb (length p + length f) n ≡ t → (if t then holds n (p ++ f) else full n) ▷ g ≡ holds n p ▷ (f ++ g)
-unfolding _▷_
-▷-case n p f g true e = rw (length-append p f, length-append f g, append-assoc, add-assoc)
-▷-case n p f g false e =
-    let h : n < length p + length (f ++ g) = omega (arith, leb-false (length p + length f) n e, length-append f g) in
-    rw (lt-leb _ _ h)
-
--- one after another is both at once
-pub ▷-▷ : (b : Buf) (f g : Bits) → b ▷ f ▷ g ≡ b ▷ (f ++ g)
-unfolding _▷_
-▷-▷ (full n) f g = refl
-▷-▷ (holds n p) f g = ▷-case n p f g (leb (length p + length f) n) refl
-
-pub ▷-full : (n : ℕ) (f : Bits) → full n ▷ f ≡ full n
-unfolding _▷_
-▷-full n f = refl
-
 module _ (d : List ℕ) (p : Place) where
   -- what fits is held
   pub ▷-fits : (f : Bits) → Fits (length d) p (length f) → view d p ▷ f ≡ holds (8 * length d) (take (at p) (bitsOf d) ++ f)
@@ -225,19 +193,6 @@ laid-step {d} {p} {f} {d'} {q} h = step-if (room (length d) p (length f)) refl
         }
 
 -- ---- formats
-
--- bits that go by how many stand before them
-pub ▷-size : (b : Buf) (f : Bits) (h : ℕ → Bits) → b ▷ f ▷ h (sizeOf (b ▷ f)) ≡ b ▷ (f ++ h (sizeOf b + length f))
-unfolding _▷_
-▷-size (full n) f h = refl
-▷-size (holds n p) f h = size-if (leb (length p + length f) n) refl
-  where
-    size-if : (t : Bool) → leb (length p + length f) n ≡ t
-        → (if t then holds n (p ++ f) else full n) ▷ h (sizeOf (if t then holds n (p ++ f) else full n)) ≡ holds n p ▷ (f ++ h (length p + length f))
-    size-if true e = rw (length-append p f, length-append f, append-assoc, add-assoc)
-    size-if false e =
-        let k : n < length p + length (f ++ h (length p + length f)) = omega (arith, leb-false (length p + length f) n e, length-append f (h (length p + length f))) in
-        rw (lt-leb _ _ k)
 
 -- zero bits up to a whole byte
 abbrev pub padded : Buf → Buf

@@ -10,7 +10,8 @@ ghost use Rattle.definition.specs.Bits.{enc, bitsOf, twos, signed};
 ghost use Rattle.definition.specs.Format.{field, bit, flag, text};
 ghost use Rattle.bits.specs.Places.{at, room, inside, upTo};
 ghost use Rattle.bits.specs.Reads.{takeAt, flagAt, padAt, spanIn, Spans, int64At, int32At};
-ghost use Rattle.bits.specs.Steps.{Laid, Step, _▷_, Puts, Pads};
+ghost use Rattle.laws.specs.Buf.{_▷_};
+ghost use Rattle.bits.specs.Steps.{Laid, Step, Puts, Pads};
 ghost use Rattle.bits.specs.Window.{Read};
 ghost use Rattle.bits.specs.Moves.{bitsFrom, Reverses, moved, rotated, ordered, Rotates, Copies};
 

@@ -28,7 +28,8 @@ use Rattle.laws.specs.Each.{empty, next, each-take}
 use Rattle.laws.specs.Fields.{day-days}
 use Rattle.bits.specs.Places.{at, inside, Fits, room-none}
 use Rattle.bits.specs.Clear.{cleared}
-use Rattle.bits.specs.Steps.{Puts, Step, _▷_, said, sizeOf, view, view-in}
+use Rattle.bits.specs.Steps.{Puts, Step, said, view, view-in}
+use Rattle.laws.specs.Buf.{_▷_, sizeOf}
 use Rattle.bits.specs.Round.{put-stood, overran}
 use Rattle.bits.specs.declared.Place.{Place}
 use Rattle.model.specs.Lax.{lax-same}

@@ -1,7 +1,7 @@
 -- A product and a quotient of floats whose values are known fractions: the fraction's product or quotient, rounded once. Zeros and signs included.
 -- Assumes nothing.
 use mathlib.Core.Path.{_≡_, refl, sym, ap, _∙_, subst}
-use Prim.Native.Nat.{ℕ, zero, suc, _-_, _*_, _^_, _<_}
+use Prim.Native.Nat.{ℕ, zero, suc, _*_, _^_, _<_}
 use native.Mathlib.Nat.{mul-pos, mul-comm, mul-assoc, mul-mul-mul-comm, mul-left-comm, zero-mul, lt-irrefl, not-suc-le-zero, zero-lt-suc, one-le-pow}
 use mathlib.Core.Bool.{Bool, true, false}
 use lib.Dec.{T, eqb, eqb→eq, eqb·suc-zero}

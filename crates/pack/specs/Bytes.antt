@@ -10,6 +10,7 @@ use Rattle.definition.specs.Bits.{Bits, bitsOf}
 use Rattle.definition.specs.Format.{field, count, text}
 use Rattle.bits.specs.Steps.{Step, Puts, Pads, put-same, put-text, view, _▷_, _⨾_, said, stays, ▷-▷, view-none, field-step}
 use Rattle.laws.specs.Bits.{bits-append, bits-one}
+use Rattle.laws.specs.Buf.{_▷_, ▷-▷}
 use Rattle.bits.specs.declared.Place.{Place}
 
 -- the bytes of s were written

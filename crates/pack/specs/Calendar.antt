@@ -14,7 +14,8 @@ use Rattle.definition.specs.Model.{Calendar}
 use Rattle.definition.specs.Calendar.{byDate, plainCalendar, defaultCalendar, elapsedCalendar}
 use Rattle.definition.specs.Pack.{calendar}
 use Rattle.definition.specs.Ascii.{bytes}
-use Rattle.bits.specs.Steps.{Puts, view, _▷_, said, field-step, put-same, put-via, put-no, put-more, put-list, put-period}
+use Rattle.laws.specs.Buf.{_▷_}
+use Rattle.bits.specs.Steps.{Puts, view, said, field-step, put-same, put-via, put-no, put-more, put-list, put-period}
 use Rattle.bits.specs.declared.Place.{Place}
 
 -- the seven low bits of a number as flags, Monday first

@@ -14,7 +14,8 @@ use Rattle.definition.specs.Date.{Date, epoch, dayNumber}
 use Rattle.definition.specs.Format.{Format, field, depending, optional, flag, code, date}
 use Rattle.definition.specs.Pack.{constraint}
 use Rattle.laws.specs.Bits.{enc-high}
-use Rattle.bits.specs.Steps.{Puts, view, _▷_, said, put-field, field-step, put-same, put-via, put-alone, put-both, put-date}
+use Rattle.laws.specs.Buf.{_▷_}
+use Rattle.bits.specs.Steps.{Puts, view, said, put-field, field-step, put-same, put-via, put-alone, put-both, put-date}
 use Rattle.bits.specs.declared.Place.{Place}
 
 -- ---- values that may be missing

@@ -4,35 +4,14 @@ use borrow.Author.Needs.{needs}
 use Rattle.number.proofs.write.duration_text.Statement.{statement}
 use Rattle.number.proofs.write.duration_text.Tie as tie
 
-clear-requires : tie.Need-clear-requires
-clear-requires c κs = search needs
-
-same-length : tie.Need-same-length
-same-length c = search needs
-
-returns : tie.Need-returns
-returns c = outside 1000000000 durationText (c .before .before .before .before .before .before .args .minutes) (c .before .before .before .before .before .before .args .out .now) _ (c .before .before .before .before .if1 .taken) (c .before .before .clear .ensures)
-
-put-duration-requires : tie.Need-put-duration-requires
-put-duration-requires c κs = search needs
-
-finish-requires : tie.Need-finish-requires
-finish-requires c κs = search needs
-
-same-length-2 : tie.Need-same-length-2
-same-length-2 c = search needs
-
-returns-2 : tie.Need-returns-2
-returns-2 c = inside 1000000000 durationText (c .before .before .before .before .before .before .before .before .before .before .args .minutes) (c .before .before .before .before .before .before .before .before .before .before .args .out .now) (c .before .before .before .before .before .before .before .before .if1 .left) (c .before .before .before .before .before .before .put-duration .ensures) (c .before .before .finish .ensures)
-
 pub duration-text-spec : {M : Type 1} → statement M
 duration-text-spec =
     tie.close
     (tie.spec
-    clear-requires
-    same-length
-    returns
-    put-duration-requires
-    finish-requires
-    same-length-2
-    returns-2)
+    (λ c κs. search needs)
+    (λ c. search needs)
+    (λ c. outside 1000000000 durationText _ (c .before .before .before .before .before .before .args .out .now) _ (c .before .before .before .before .if1 .taken) (c .before .before .clear .ensures))
+    (λ c κs. search needs)
+    (λ c κs. search needs)
+    (λ c. search needs)
+    (λ c. inside 1000000000 durationText _ (c .before .before .before .before .before .before .before .before .before .before .args .out .now) (c .before .before .before .before .before .before .before .before .if1 .left) (c .before .before .before .before .before .before .put-duration .ensures) (c .before .before .finish .ensures)))
