@@ -1,3 +1,9 @@
+pub mod Bytes
 pub mod Clearing
+pub mod Copied
 pub mod Laws
+pub mod Overwriting
+pub mod Rotating
+pub mod Spanning
+pub mod Taking
 pub mod Twos

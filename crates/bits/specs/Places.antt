@@ -1,5 +1,5 @@
 -- Places: where a field stands in a buffer, as a byte and a bit, so that no buffer is too long. Assumes nothing.
-use mathlib.Core.Path.{_≡_, refl, sym}
+use mathlib.Core.Path.{_≡_, refl}
 use mathlib.Core.Bool.{Bool, true, false, _&&_}
 use Prim.Native.Nat.{ℕ, _+_, _*_, _/_, _%_, _≤_, _<_}
 use native.Mathlib.Omega.{arith}
@@ -67,12 +67,6 @@ pub room-none : (n : ℕ) (p : Place) (w : ℕ) → room n p w ≡ false → p .
 unfolding room
 room-none n p w h b = leb-false _ _ (rw (lt-ltb (p .bit) 8 b) at h)
 
--- fewer bits fit too
-pub room-less : (n : ℕ) (p : Place) (w k : ℕ) → k ≤ w → room n p w ≡ true → room n p k ≡ true
-room-less n p w k h e =
-    let f = room-fits n p w e in
-    fits-room (record { bit = f .bit; ends = omega (arith, f .ends) })
-
 -- the place behind w bits that fit
 pub next-fits : {n : ℕ} {p : Place} {w : ℕ} → Fits n p w → Fits n (place (at p + w)) 0
 next-fits f = record { bit = omega arith; ends = omega (arith, f .ends) }
@@ -94,19 +88,3 @@ up-before p q h =
 pub before-up : {p q : Place} → Before p q → upTo p q ≡ true
 unfolding upTo
 before-up {p} {q} h = rw (lt-ltb (p .bit) 8 (h .bit), le-leb (at p) (at q) (h .upto))
-
-pub up-not : (p q : Place) → (p .bit < 8 → at q < at p) → upTo p q ≡ false
-unfolding upTo
-up-not p q h = short (ltb (p .bit) 8) refl
-  where
-    short : (t : Bool) → ltb (p .bit) 8 ≡ t → (t && leb (at p) (at q)) ≡ false
-    short true e = lt-leb _ _ (h (ltb-true _ _ e))
-    short false e = refl
-
--- within one byte
-pub up-bit : (p q : Place) → p .bit < 8 → p .byte ≡ q .byte → leb (p .bit) (q .bit) ≡ upTo p q
-up-bit p q h e = told (leb (p .bit) (q .bit)) refl
-  where
-    told : (t : Bool) → leb (p .bit) (q .bit) ≡ t → t ≡ upTo p q
-    told true k = sym (before-up (record { bit = h; upto = omega (arith, leb-true (p .bit) (q .bit) k) }))
-    told false k = sym (up-not p q (λ b. omega (arith, leb-false (p .bit) (q .bit) k)))
