@@ -9,7 +9,7 @@ use lib.Seq.{take-add, drop-drop}
 use lib.Pow.{pow-pos, pow-add, high}
 use lib.Arith.{digits-lt}
 use Rattle.definition.specs.Bits.{enc, dec, bitsOf}
-use Rattle.laws.specs.Bits.{enc-split, enc-low, enc-high, take-enc, drop-enc, within, dec-enc-lt}
+use Rattle.laws.specs.Bits.{enc-split, enc-low, enc-high, take-enc, drop-enc, bits-within, dec-enc-lt}
 use Rattle.bits.specs.Over.{part-before}
 
 pub enc-join : (n k a b : ℕ) → b < 2 ^ k → enc (n + k) (a * 2 ^ k + b) ≡ enc n a ++ enc k b
@@ -33,7 +33,7 @@ read-more s at n acc q r k m g e h z =
     let lo = getD s q 0 / 2 ^ m in
     let lt : lo % 2 ^ k < 2 ^ k = mod-lt lo (pow-pos k) in
     let mm : 8 - (r + k) ≡ m = omega arith in
-    let w : take k (drop (8 * q + r) (bitsOf s)) ≡ enc k (getD s q 0 / 2 ^ m) = rw mm at (within s q r k h (omega arith)) in
+    let w : take k (drop (8 * q + r) (bitsOf s)) ≡ enc k (getD s q 0 / 2 ^ m) = rw mm at (bits-within s q r k h (omega arith)) in
     record {
       are = rw (take-add n k (drop at (bitsOf s)), drop-drop n at (bitsOf s), e, w, g .are, enc-join n k acc (lo % 2 ^ k) lt, enc-low);
       small = join-lt n k acc (lo % 2 ^ k) (g .small) lt;
@@ -55,7 +55,7 @@ pub read-byte : (s : List ℕ) (q : ℕ) → q < length s → getD s q 0 < 256 �
 read-byte s q h b =
     let z : 8 * q + 0 ≡ 8 * q = omega arith in
     let o : getD s q 0 / 2 ^ 0 ≡ getD s q 0 = omega arith in
-    record { are = rw (z, o) at (within s q 0 8 h (omega arith)); small = b }
+    record { are = rw (z, o) at (bits-within s q 0 8 h (omega arith)); small = b }
 
 -- the w bits behind the first r, above the m last
 pub read-part : (s : List ℕ) (at r w m v : ℕ) → Read s at (r + (w + m)) v → Read s (at + r) w (v / 2 ^ m % 2 ^ w)
