@@ -12,7 +12,7 @@ use Rattle.bits.proofs.Overwriting.{over-is, laid-short}
 use Rattle.bits.specs.Steps.{refuses, view-out, ▷-full, Laid, Step, _⨾_, stays, ▷-▷, view-none, view, _▷_, said, Puts, field-step}
 use Rattle.bits.specs.Places.{past, place-at, at, Fits, fits-room, room-short}
 use Rattle.definition.specs.Bits.{enc, bitsOf}
-use Rattle.bits.specs.Bits.{bits-append, bits-take, bits-drop, length-bits, bits-one}
+use Rattle.laws.specs.Bits.{bits-append, bits-take, bits-drop, length-bits, bits-one}
 use Rattle.definition.specs.Format.{field}
 
 -- bytes for which there is no room, and bytes that were copied

@@ -13,7 +13,7 @@ use Rattle.bits.specs.Steps.{Laid, Step, _⨾_, stays, before-in, ▷-�
 use Rattle.bits.specs.Reads.{takeAt, take-whole}
 use Rattle.bits.specs.Places.{at, Fits}
 use Rattle.definition.specs.Bits.{enc, dec, bitsOf}
-use Rattle.bits.specs.Bits.{enc-read}
+use Rattle.laws.specs.Bits.{enc-read}
 
 pub copy-none : (d : List ℕ) (p q : Place) → Step d p (λ b. b ▷ bitsFrom (at q) (at q) d) d p
 copy-none d p q =

@@ -14,7 +14,7 @@ use Rattle.bits.specs.Steps.{Laid, Pads, view, _▷_, ▷-full, padded, 
 use Rattle.bits.specs.Places.{past, place-at, at, place, room, inside, room-fits}
 use Rattle.definition.specs.Base.{if_then_else_}
 use Rattle.definition.specs.Bits.{enc, bitsOf, gap}
-use Rattle.bits.specs.Bits.{enc-zeros, bits-append, enc-split, enc-low, length-enc, length-bits, length-part, bits-at, enc-high}
+use Rattle.laws.specs.Bits.{enc-zeros, bits-append, enc-split, enc-low, length-enc, length-bits, length-part, bits-at, enc-high}
 use Rattle.bits.proofs.Taking.{join-lt}
 use Rattle.bits.proofs.Laws.{part-lt}
 

@@ -15,7 +15,7 @@ use Rattle.bits.specs.Steps.{Laid, laid-in}
 use Rattle.bits.specs.Reads.{takeAt, take-whole}
 use Rattle.bits.specs.Places.{at, Fits}
 use Rattle.definition.specs.Bits.{enc, dec, bitsOf, Bits}
-use Rattle.bits.specs.Bits.{enc-read, bits-append, bits-take, bits-drop, length-enc, length-bits, length-part}
+use Rattle.laws.specs.Bits.{enc-read, bits-append, bits-take, bits-drop, length-enc, length-bits, length-part}
 
 -- on the way: u and v are in place, m is left
 pub record Reversal (p x z s : List ℕ) (i j : ℕ) : Type 0 where

@@ -13,7 +13,7 @@ use Rattle.bits.specs.Reads.{rest, noSpan, spanOf, spanAt, spanIn, rest-
 use Rattle.bits.specs.Places.{place-at, at, place, inside, Fits, room-fits}
 use Rattle.definition.specs.Base.{if_then_else_, _>>=_, when}
 use Rattle.definition.specs.Bits.{enc, bitsOf, Bits, bytesUpTo}
-use Rattle.bits.specs.Bits.{bits-drop, length-enc, dec-enc-lt}
+use Rattle.laws.specs.Bits.{bits-drop, length-enc, dec-enc-lt}
 use mathlib.Core.Option.{Option, some, none}
 use Rattle.definition.specs.Text.{Text, isUtf8}
 use Rattle.definition.specs.Format.{whole, count, text}

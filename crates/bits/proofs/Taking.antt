@@ -15,7 +15,7 @@ use Rattle.bits.specs.Over.{part-before}
 use Rattle.bits.specs.Reads.{takeAt, take-whole, padAt, pad-told}
 use Rattle.bits.specs.Places.{past, place-at, at, place, room, room-fits}
 use Rattle.definition.specs.Bits.{enc, dec, bitsOf}
-use Rattle.bits.specs.Bits.{enc-split, enc-low, enc-high, take-enc, drop-enc, within, dec-enc-lt}
+use Rattle.laws.specs.Bits.{enc-split, enc-low, enc-high, take-enc, drop-enc, bits-within, dec-enc-lt}
 use Rattle.bits.specs.Window.{Read}
 use lib.Arith.{digits-lt}
 
@@ -35,7 +35,7 @@ read-more s at n acc q r k m g e h z =
     let lo = getD s q 0 / 2 ^ m in
     let lt : lo % 2 ^ k < 2 ^ k = mod-lt lo (pow-pos k) in
     let mm : 8 - (r + k) ≡ m = omega arith in
-    let w : take k (drop (8 * q + r) (bitsOf s)) ≡ enc k (getD s q 0 / 2 ^ m) = rw mm at (within s q r k h (omega arith)) in
+    let w : take k (drop (8 * q + r) (bitsOf s)) ≡ enc k (getD s q 0 / 2 ^ m) = rw mm at (bits-within s q r k h (omega arith)) in
     record {
       are = rw (take-add n k (drop at (bitsOf s)), drop-drop n at (bitsOf s), e, w, g .are, enc-join n k acc (lo % 2 ^ k) lt, enc-low);
       small = join-lt n k acc (lo % 2 ^ k) (g .small) lt;
@@ -57,7 +57,7 @@ pub read-byte : (s : List ℕ) (q : ℕ) → q < length s → getD s q 0 < 256 �
 read-byte s q h b =
     let z : 8 * q + 0 ≡ 8 * q = omega arith in
     let o : getD s q 0 / 2 ^ 0 ≡ getD s q 0 = omega arith in
-    record { are = rw (z, o) at (within s q 0 8 h (omega arith)); small = b }
+    record { are = rw (z, o) at (bits-within s q 0 8 h (omega arith)); small = b }
 
 -- the w bits behind the first r, above the m last
 pub read-part : (s : List ℕ) (at r w m v : ℕ) → Read s at (r + (w + m)) v → Read s (at + r) w (v / 2 ^ m % 2 ^ w)

@@ -7,7 +7,7 @@ use native.Mathlib.Nat.{zero-add, suc-add, add-comm, mod-lt, mod-eq-of-lt, mod-o
 use native.Mathlib.Numerals.{add-one, one-add}
 use native.Mathlib.Omega.{arith}
 use lib.ListN.{length, take, drop, getD, replicate, length-append, length-drop, take-append-drop, drop-of-length-le}
-use lib.Seq.{split-at, take-at, drop-at, drop-drop, take-append-add, take-append-le, drop-append-add, drop-append-le, length-take-le}
+use lib.Seq.{split-at, take-at, drop-at, drop-drop, take-append-le, drop-append-add, drop-append-le, length-take-le}
 use lib.Pow.{pow-add, shr-shr, mod-pow-add, field, high, mod-mod-pow}
 use lib.Arith.{digits-lt}
 use Rattle.definition.specs.Bits.{Bits, enc, dec, bitsOf, bytesUpTo, bytesOf}
@@ -133,23 +133,10 @@ pub bits-at : (s : List ℕ) (q : ℕ) → q < length s → bitsOf s ≡ bitsOf 
 unfolding bitsOf
 bits-at s q h = ap bitsOf (split-at s q 0 h) ∙ bits-append (take q s) _
 
--- the bits up to the r-th of the byte at q
-pub upto : (s : List ℕ) (q r : ℕ) → q < length s → r ≤ 8 → take (8 * q + r) (bitsOf s) ≡ bitsOf (take q s) ++ enc r (getD s q 0 / 2 ^ (8 - r))
-upto s q r h le =
-    let b = getD s q 0 in
-    let n : length (bitsOf (take q s)) ≡ 8 * q = length-bits (take q s) ∙ ap (λ (k : ℕ). 8 * k) (length-take-le q s (omega arith)) in
-    let l : length (enc 8 b) ≡ 8 = length-enc 8 b in
-    let e : r + (8 - r) ≡ 8 = omega arith in
-    rw (bits-at s q h, ← n)
-    (take-append-add (bitsOf (take q s)) (enc 8 b ++ bitsOf (drop (suc q) s)) r
-    ∙ ap (λ (x : List ℕ). bitsOf (take q s) ++ x)
-    (take-append-le r (enc 8 b) (bitsOf (drop (suc q) s)) (omega arith)
-    ∙ ap (λ (k : ℕ). take r (enc k b)) (sym e) ∙ take-enc r (8 - r) b))
-
 -- k bits that stand in one byte
-pub within : (s : List ℕ) (q r k : ℕ) → q < length s → r + k ≤ 8
+pub bits-within : (s : List ℕ) (q r k : ℕ) → q < length s → r + k ≤ 8
     → take k (drop (8 * q + r) (bitsOf s)) ≡ enc k (getD s q 0 / 2 ^ (8 - (r + k)))
-within s q r k h le =
+bits-within s q r k h le =
     let b = getD s q 0 in
     let m = 8 - (r + k) in
     let n : length (bitsOf (take q s)) ≡ 8 * q = length-bits (take q s) ∙ ap (λ (k : ℕ). 8 * k) (length-take-le q s (omega arith)) in
