@@ -7,7 +7,7 @@ ghost use Rattle.number.specs.Written.{refusalOf, writtenOf};
 ghost use Rattle.definition.specs.Refusal.{checkAnswer, durationAnswer, timeAnswer, outlineAnswer, daySheetAnswer};
 ghost use Rattle.outline.specs.Answers.{refusalOf as outlineRefusal, countOf as outlineCount};
 ghost use Rattle.day_sheet.specs.Answer.{sheetNumber, sheetLength};
-ghost use Rattle.mspdi.specs.Outcome.{leaves, natural};
+ghost use Rattle.mspdi.specs.Outcome.{leaves, fromZero};
 ghost use Rattle.mspdi.specs.Outlines.{outlineLeaves};
 use day_sheet::SheetAnswer;
 use definition::Date;
@@ -16,7 +16,7 @@ use outline::OutlineAnswer;
 
 // n, or the largest number where n is below 0.
 fn from_zero(n: i64) -> u64
-    ensures { λ r. ⌜ r ≡ natural n ⌝ }
+    ensures { λ r. ⌜ r ≡ fromZero n ⌝ }
 {
     if n < 0 {
         return 18_446_744_073_709_551_615;
