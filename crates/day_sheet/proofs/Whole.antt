@@ -1,6 +1,6 @@
 -- A sheet from its parts: the lists of a calendar that was found, the bytes that were written, the answer. Assumes nothing.
 use mathlib.Core.Path.{_≡_, refl, sym, ap, _∙_}
-use mathlib.Core.Bool.{Bool, true, false, _&&_, true≢false}
+use mathlib.Core.Bool.{Bool, true, false, _&&_}
 use mathlib.Core.List.{List, [], _∷_}
 use mathlib.Core.Option.{Option, some, none}
 use Prim.Native.Nat.{ℕ, zero, suc, _+_, _-_, _*_, _/_, _%_, _≤_, _<_}
@@ -11,21 +11,20 @@ use lib.Dec.{ltb}
 use lib.IntN.{ℤ}
 use lib.ListN.{length, take, drop, getD, getElem?, replicate, length-append, length-replicate}
 use lib.Seq.{getD-drop, length-take-le}
-use Rattle.definition.specs.Base.{_or_, given}
+use Rattle.definition.specs.Base.{_>>=_, _or_}
 use Rattle.definition.specs.Text.{Text}
 use Rattle.definition.specs.Bits.{Bits, bitsOf, bytesOf}
 use Rattle.definition.specs.Date.{Date, weekday, fromDays}
 use Rattle.definition.specs.Format.{Format, Period, whole, times, periods, dates}
 use Rattle.definition.specs.Model.{Model, Calendar}
-use Rattle.definition.specs.Pack.{calendar, decode}
+use Rattle.definition.specs.Pack.{calendar}
 use Rattle.definition.specs.Calendar.{orHours, hoursOn, defaultPeriods, dayPeriods}
 use Rattle.definition.specs.DaySheet.{sheet, daySheet}
-use Rattle.definition.specs.Refusal.{refused, inRoom, sheetOn, sheetBy, daySheetAnswer}
+use Rattle.definition.specs.Refusal.{refused, inRoom, sheetOn, daySheetAnswer}
 use Rattle.laws.specs.Options.{never}
 use Rattle.laws.specs.Bools.{and-left, and-right}
 use Rattle.laws.specs.Bits.{Bytes, length-bytes, whole-bytes, bits-take}
 use Rattle.laws.specs.Each.{empty, next, each-take}
-use Rattle.laws.specs.Fields.{day-days}
 use Rattle.bits.specs.Places.{at, inside, Fits, room-none}
 use Rattle.bits.specs.Clear.{cleared}
 use Rattle.bits.specs.Steps.{Puts, Step, said, view, view-in}
@@ -38,7 +37,8 @@ use Rattle.model.specs.Parts.{recordOf, lax-calendars}
 use Rattle.model.specs.Splits.{Stands, read-stands}
 use Rattle.model.specs.Lists.{stands-rest, ahead-later, ahead-item}
 use Rattle.model.specs.Places.{CalendarAt, calendar-is}
-use Rattle.model.specs.Sections.{byteAt, byte-rest, Opened}
+use Rattle.model.specs.Sections.{byteAt, byte-rest, Opens, Sectioned}
+use Rattle.model.specs.declared.Opened.{Opened}
 use Rattle.model.specs.declared.parts.CalendarPlaces.{CalendarPlaces}
 use Rattle.model.specs.declared.Sections.{Sections}
 use Rattle.model.specs.declared.records.Kind.the-variants.{Calendars}
@@ -146,63 +146,62 @@ element-in [] (suc i) e = absurd (never e)
 element-in (y ∷ xs) zero e = omega arith
 element-in (y ∷ xs) (suc i) e = omega (arith, element-in xs i e)
 
-date-is : (z : ℤ) (day : ℕ) → day ≡ (fromDays z or 0) → 0 < day → fromDays z ≡ some day
-date-is z day e h = by-date (fromDays z) e
-  where
-    by-date : (o : Option Date) → day ≡ (o or 0) → o ≡ some day
-    by-date none k = absurd (omega arith)
-    by-date (some d) k = ap some (sym k)
-
-module _ {s : Text} (row : ℕ) (z : ℤ) (room : ℕ) {r : Sections} (o : Opened s r) where
-  pub no-model : r .ok ≡ false → daySheetAnswer s row z room ≡ refused 6
+module _ {s : Text} (row : ℕ) (z : ℤ) (room : ℕ) {o : Opened} (h : Opens s o) where
+  pub no-model : o ≡ Opened.NoModel → daySheetAnswer s row z room ≡ refused 6
   unfolding daySheetAnswer
-  no-model e = by-decode (decode s) (sym (o .ok) ∙ e)
-    where
-      by-decode : (m : Option Model) → given m ≡ false → sheetBy m row z room ≡ refused 6
-      by-decode none h = refl
-      by-decode (some m) h = cc
+  no-model e = rw (h .refused e)
 
-  model-of : r .ok ≡ true → (m : Model) × (decode s ≡ some m)
-  model-of e = by-decode (decode s) refl (sym (o .ok) ∙ e)
-    where
-      by-decode : (m : Option Model) → decode s ≡ m → given m ≡ true → (m : Model) × (decode s ≡ some m)
-      by-decode none d h = absurd (true≢false (sym h))
-      by-decode (some m) d h = (m, d)
+  module _ {r : Sections} (ok : o ≡ Opened.Model r) {w : ℕ} (is : w ≡ ((fromDays z >>= λ d. some (weekday d)) or 7)) where
+    model-of : Sectioned s r
+    model-of = h .model r ok
 
-  module _ (ok : r .ok ≡ true) {day : ℕ} (is : day ≡ (fromDays z or 0)) where
     -- the row or the date is none
-    pub outside : (ltb row (r .calendars .count) && ltb 0 day) ≡ false → daySheetAnswer s row z room ≡ refused 8
+    pub outside : (ltb row (r .calendars .count) && ltb w 7) ≡ false → daySheetAnswer s row z room ≡ refused 8
     unfolding daySheetAnswer
-    outside h =
-        let (m, e) = model-of ok in
-        let n = o .decoded m e .calendars .count in
-        rw e (by-parts m n (getElem? (m .calendars) row) (fromDays z) refl refl)
+    outside k = let m = model-of in rw (m .decodes) (by-parts (m .model) (m .sections .calendars .count) (getElem? (m .model .calendars) row) (fromDays z) refl refl)
       where
         by-parts : (m : Model) → length (m .calendars) ≡ r .calendars .count → (c : Option Calendar) (d : Option Date) → getElem? (m .calendars) row ≡ c → fromDays z ≡ d → sheetOn c d room ≡ refused 8
         by-parts m n none d i j = refl
         by-parts m n (some c) none i j = refl
         by-parts m n (some c) (some d) i j =
             let lt : row < r .calendars .count = omega (arith, element-in (m .calendars) row i) in
-            let eq : day ≡ d = is ∙ rw j in
-            let gt : 0 < day = omega (arith, day-days z d j .1) in
-            let no : true ≡ false = sym (rw (lt-ltb _ _ lt, lt-ltb _ _ gt)) ∙ h in
+            let eq : w ≡ weekday d = is ∙ rw j in
+            let l7 : w < 7 = omega (arith, weekday-lt d) in
+            let no : true ≡ false = sym (rw (lt-ltb _ _ lt, lt-ltb _ _ l7)) ∙ k in
             cc
 
     -- the calendar of the row stands where the records before it end
     pub record SheetAt (p : Place) : Type 0 where
       pub value : Calendar
+      pub date : Date
       pub stands : Stands (whole calendar) s p value
-      pub answers : daySheetAnswer s row z room ≡ inRoom room (daySheet value day)
+      pub is-date : fromDays z ≡ some date
+      pub on : w ≡ weekday date
+      pub answers : daySheetAnswer s row z room ≡ inRoom room (daySheet value date)
 
-    pub sheet-at : {p : Place} → (ltb row (r .calendars .count) && ltb 0 day) ≡ true → Passes (times row (recordOf false Calendars)) s (byteAt (r .calendars .at)) p → SheetAt p
+    dated : w < 7 → (d : Date) × (fromDays z ≡ some d) × (w ≡ weekday d)
+    dated l = by-date (fromDays z) refl
+      where
+        by-date : (o : Option Date) → fromDays z ≡ o → (d : Date) × (fromDays z ≡ some d) × (w ≡ weekday d)
+        by-date none j = let e : w ≡ 7 = is ∙ rw j in absurd (omega arith)
+        by-date (some d) j = (d, j, is ∙ rw j)
+
+    pub sheet-at : {p : Place} → (ltb row (r .calendars .count) && ltb w 7) ≡ true → Passes (times row (recordOf false Calendars)) s (byteAt (r .calendars .at)) p → SheetAt p
     unfolding daySheetAnswer
-    sheet-at h k =
-        let (m, e) = model-of ok in
-        let x = o .decoded m e .calendars in
-        let lt = ltb-true row (r .calendars .count) (and-left _ (ltb 0 day) h) in
-        let gt = ltb-true 0 day (and-right (ltb row (r .calendars .count)) _ h) in
-        let i = ahead-item (ahead-later (r .calendars .count) row (lax-calendars false) (byte-rest s _ (x .ends)) (x .reads) k) lt in
-        record { value = i .item; stands = i .stands; answers = rw (e, element-at (m .calendars) row (i .is), date-is z day is gt) }
+    sheet-at k q =
+        let m = model-of in
+        let x = m .sections .calendars in
+        let lt = ltb-true row (r .calendars .count) (and-left _ (ltb w 7) k) in
+        let d = dated (ltb-true w 7 (and-right (ltb row (r .calendars .count)) _ k)) in
+        let i = ahead-item (ahead-later (r .calendars .count) row (lax-calendars false) (byte-rest s _ (x .ends)) (x .reads) q) lt in
+        record {
+          value = i .item;
+          date = d .0;
+          stands = i .stands;
+          is-date = d .1;
+          on = d .2;
+          answers = rw (m .decodes, element-at (m .model .calendars) row (i .is), d .1);
+        }
 
 -- the sheet was put and finished
 pub answered : {s : Text} {day : ℕ} (row : ℕ) (z : ℤ) {d₀ d out : Text} {end : Place} {dd : Day} {c : Calendar} (r : SheetAnswer) → daySheetAnswer s row z (length d₀) ≡ inRoom (length d₀) (daySheet c day)

@@ -1,12 +1,14 @@
 -- What stands at the places that are looked up: a list of periods, and what a calendar says of a date. Assumes nothing.
 use mathlib.Core.Path.{_≡_}
-use mathlib.Core.Bool.{Bool}
+use mathlib.Core.Bool.{Bool, false}
+use mathlib.Core.Option.{Option, some, none}
+use lib.IntN.{ℤ, pos, negsuc}
 use mathlib.Core.List.{List, []}
 use Prim.Native.Nat.{ℕ}
 use lib.Dec.{eqb}
 use lib.ListN.{getD}
-use Rattle.definition.specs.Base.{some?}
-use Rattle.definition.specs.Date.{Date, weekday as weekdayOf}
+use Rattle.definition.specs.Base.{_>>=_, _or_, some?}
+use Rattle.definition.specs.Date.{Date, weekday as weekdayOf, fromDays}
 use Rattle.definition.specs.Format.{Format, _⊗_, Period, period, periods, date, listOf}
 use Rattle.definition.specs.Model.{Calendar}
 use Rattle.definition.specs.Calendar.{byDate, orHours, hoursOn, defaultPeriods}
@@ -18,6 +20,21 @@ use Rattle.day_sheet.specs.declared.Day.{Day}
 -- a calendar's exceptions
 abbrev pub exceptions : Format (List (Date × List Period))
 exceptions = listOf byDate (date ⊗ periods)
+
+-- the weekday of a day by document 01's number; 7 outside the years
+abbrev pub weekdayOn : ℤ → ℕ
+weekdayOn z = (fromDays z >>= λ d. some (weekdayOf d)) or 7
+
+-- whether a date that may be missing is a day, both by document 01's numbers
+abbrev pub sameDay : ℤ → ℤ → Bool
+sameDay (pos a) (pos b) = eqb a b
+sameDay (pos a) (negsuc b) = false
+sameDay (negsuc a) (pos b) = false
+sameDay (negsuc a) (negsuc b) = eqb a b
+
+abbrev pub isOn : Option ℤ → ℤ → Bool
+isOn none z = false
+isOn (some y) z = sameDay y z
 
 -- a count and so many periods stand at p; or nothing does, and there are none
 abbrev pub Listed : List ℕ → Place → List Period → Type 0

@@ -6,7 +6,7 @@ use Rattle.definition.specs.Text.{Text}
 use Rattle.definition.specs.Refusal.{Answer, result, left, ranged, durationAnswer}
 use Rattle.number.specs.Written.{refusalOf, writtenOf, Gives, minutesAnswer}
 use Rattle.number.specs.declared.write.TextAnswer.{TextAnswer}
-use Rattle.mspdi.specs.Outcome.{leaves, natural}
+use Rattle.mspdi.specs.Outcome.{leaves, fromZero}
 
 pub is-left : {a : Answer} {room : ℕ} {r : TextAnswer} {out : Text} (number count : ℕ) → Gives a room r out → number ≡ refusalOf r → count ≡ writtenOf r
     → (number, out, count) ≡ leaves room a
@@ -15,7 +15,7 @@ is-left {a} {room} {r} {out} number count g e f =
     ∙ ap (λ (l : Text). (result a, l, count)) (g .buffer)
     ∙ ap (λ (n : ℕ). (result a, left room a, n)) (f ∙ g .count)
 
-pub by-sign : (z : ℤ) (room : ℕ) → minutesAnswer (natural z) room ≡ durationAnswer z room
+pub by-sign : (z : ℤ) (room : ℕ) → minutesAnswer (fromZero z) room ≡ durationAnswer z room
 unfolding ranged durationAnswer
 by-sign (pos n) room = refl
 by-sign (negsuc n) room = refl

@@ -1,4 +1,3 @@
 pub mod Left
 pub mod Natural
-pub mod Zeros
 pub mod OutlineLeft

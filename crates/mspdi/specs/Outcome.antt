@@ -8,6 +8,6 @@ abbrev pub leaves : ℕ → Answer → ℕ × List ℕ × ℕ
 leaves room a = (result a, left room a, written a)
 
 -- a number that is not below 0; for any other the largest of 64 bits
-abbrev pub natural : ℤ → ℕ
-natural (pos n) = n
-natural (negsuc n) = 2 ^ 64 - 1
+abbrev pub fromZero : ℤ → ℕ
+fromZero (pos n) = n
+fromZero (negsuc n) = 2 ^ 64 - 1

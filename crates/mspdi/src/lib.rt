@@ -1,6 +1,4 @@
 // The entries that a host calls. Each returns 0, or the number of document 01's refusal; on a refusal all that is lent is zeros.
-mod words; // words that a caller lends
-
 ghost use mathlib.Core.Path.{_≡_};
 ghost use mathlib.Core.List.{List};
 ghost use Prim.Native.Nat.{ℕ};
@@ -9,15 +7,16 @@ ghost use Rattle.number.specs.Written.{refusalOf, writtenOf};
 ghost use Rattle.definition.specs.Refusal.{checkAnswer, durationAnswer, timeAnswer, outlineAnswer, daySheetAnswer};
 ghost use Rattle.outline.specs.Answers.{refusalOf as outlineRefusal, countOf as outlineCount};
 ghost use Rattle.day_sheet.specs.Answer.{sheetNumber, sheetLength};
-ghost use Rattle.mspdi.specs.Outcome.{leaves, natural};
+ghost use Rattle.mspdi.specs.Outcome.{leaves, fromZero};
 ghost use Rattle.mspdi.specs.Outlines.{outlineLeaves};
 use day_sheet::SheetAnswer;
+use definition::Date;
 use number::TextAnswer;
 use outline::OutlineAnswer;
 
 // n, or the largest number where n is below 0.
 fn from_zero(n: i64) -> u64
-    ensures { λ r. ⌜ r ≡ natural n ⌝ }
+    ensures { λ r. ⌜ r ≡ fromZero n ⌝ }
 {
     if n < 0 {
         return 18_446_744_073_709_551_615;
@@ -69,7 +68,7 @@ pub extern "C" fn mspdi_check(model: &[u8], work: &mut [u32]) -> u32
     ensures { λ r. ⌜ _≡_ {A = ℕ × List ℕ} (r, now (work .exit)) (checkAnswer (now (model .entry)), replicate (length (now (work .entry))) 0) ⌝ }
 {
     let answer = model_check::check(model);
-    words::clear(work);
+    bits::clear_words_from(work, 0);
     answer
 }
 
@@ -141,7 +140,7 @@ pub extern "C" fn mspdi_day_sheet(
 ) -> u32
     ensures { λ r. ⌜ (r, now (sheet .exit), now (written .exit)) ≡ leaves (length (now (sheet .entry))) (daySheetAnswer (now (model .entry)) calendar date (length (now (sheet .entry)))) ⌝ }
 {
-    let a = day_sheet::day_sheet(model, calendar, date, sheet);
+    let a = day_sheet::day_sheet(model, calendar, Date(date), sheet);
     *written = sheet_length(a);
     sheet_number(a)
 }

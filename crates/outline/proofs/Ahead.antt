@@ -14,8 +14,9 @@ use Rattle.definition.specs.Base.{if_then_else_, keep, first, count}
 use Rattle.definition.specs.Outline.{parentAt, topRows, childRows, under, outlineOf}
 use Rattle.definition.specs.Refusal.{rowWords}
 use Rattle.laws.specs.Outlines.{no-levels, parent-in, outline-length}
+use Rattle.outline.specs.Words.{noRow}
 use Rattle.outline.specs.declared.Visit.{Visit}
-use Rattle.outline.specs.Steps.{noRow, wordOf, homeOf, fellow, fellows, later, Links, climbOf, stepOf}
+use Rattle.outline.specs.Steps.{wordOf, homeOf, fellow, siblings, later, Links, climbOf, stepOf}
 
 -- ---- the rows of one parent
 
@@ -54,15 +55,15 @@ module _ (ps : List (Option ℕ)) where
   record Head (o : Option ℕ) (a c : ℕ) : Type 0 where
     parent : parentAt ps c ≡ o
     high : c < length ps
-    cut : fellows ps o a ≡ c ∷ later ps c
+    cut : siblings ps o a ≡ c ∷ later ps c
 
-  headed : (o : Option ℕ) (a c : ℕ) → a ≤ length ps → first (fellows ps o a) ≡ some c → Head o a c
-  unfolding fellows
+  headed : (o : Option ℕ) (a c : ℕ) → a ≤ length ps → first (siblings ps o a) ≡ some c → Head o a c
+  unfolding siblings
   headed o a c l h =
-      let f : Found (λ c. fellow o (parentAt ps c)) (length ps) a c (fellows ps o a) =
+      let f : Found (λ c. fellow o (parentAt ps c)) (length ps) a c (siblings ps o a) =
       found (λ c. fellow o (parentAt ps c)) (length ps) c (length ps - a) a (omega arith) h in
       let q : parentAt ps c ≡ o = fellow-same o (parentAt ps c) (f .passes) in
-      record { parent = q; high = f .high; cut = f .cut ∙ ap (λ (u : Option ℕ). c ∷ fellows ps u (suc c)) (sym q) }
+      record { parent = q; high = f .high; cut = f .cut ∙ ap (λ (u : Option ℕ). c ∷ siblings ps u (suc c)) (sym q) }
 
   -- ---- what stands ahead
 
@@ -80,7 +81,7 @@ module _ (ps : List (Option ℕ)) where
   ahead d none = []
   ahead d (some r) = under (length ps - d) ps (suc d) r ++ rest (suc d) r
 
-  rows-ahead : (o : Option ℕ) (a c d : ℕ) → Head o a c → all d (fellows ps o a) ++ rest d (homeOf o) ≡ ahead d (some c)
+  rows-ahead : (o : Option ℕ) (a c d : ℕ) → Head o a c → all d (siblings ps o a) ++ rest d (homeOf o) ≡ ahead d (some c)
   unfolding flatMap rest ahead
   rows-ahead o a c d h =
       ap (λ (l : List ℕ). all d l ++ rest d (homeOf o)) (h .cut)
@@ -88,20 +89,20 @@ module _ (ps : List (Option ℕ)) where
       ∙ ap (λ (u : Option ℕ). under (length ps - d) ps (suc d) c ++ (all d (later ps c) ++ rest d (homeOf u))) (sym (h .parent))
 
   -- a row with all below it: the row, then its children
-  open-row : (r d : ℕ) → d < length ps → ahead d (some r) ≡ (r, suc d) ∷ (all (suc d) (fellows ps (some r) 0) ++ rest (suc d) r)
-  unfolding ahead under childRows fellows
+  open-row : (r d : ℕ) → d < length ps → ahead d (some r) ≡ (r, suc d) ∷ (all (suc d) (siblings ps (some r) 0) ++ rest (suc d) r)
+  unfolding ahead under childRows siblings
   open-row r d h =
       let e : length ps - d ≡ suc (length ps - suc d) = omega arith in
       let z : length ps ≡ length ps - 0 = omega arith in
       ap (λ (k : ℕ). under k ps (suc d) r ++ rest (suc d) r) e
       ∙ ap (λ (m : ℕ). (r, suc d) ∷ (all (suc d) (keep (λ c. fellow (some r) (parentAt ps c)) (count 0 m)) ++ rest (suc d) r)) z
 
-  open-top : outlineOf ps ≡ all 0 (fellows ps none 0) ++ rest 0 0
-  unfolding outlineOf topRows fellows rest
+  open-top : outlineOf ps ≡ all 0 (siblings ps none 0) ++ rest 0 0
+  unfolding outlineOf topRows siblings rest
   open-top =
       let z : length ps ≡ length ps - 0 = omega arith in
       ap (λ (m : ℕ). flatMap (under m ps 1) (keep (λ c. fellow none (parentAt ps c)) (count 0 m))) z
-      ∙ sym (append-nil (all 0 (fellows ps none 0)))
+      ∙ sym (append-nil (all 0 (siblings ps none 0)))
 
 -- ---- the walk's words
 
@@ -119,11 +120,11 @@ pub record Ahead (ps : List (Option ℕ)) (row depth : ℕ) (l : List (ℕ × �
 
 module _ (ps : List (Option ℕ)) (few : length ps ≤ noRow) where
   -- a word that begins a list and names a row
-  arrive : (o : Option ℕ) (a d x : ℕ) → a ≤ length ps → x ≡ wordOf (first (fellows ps o a)) → (x ≡ noRow → ⊥)
-      → Ahead ps x d (all ps d (fellows ps o a) ++ rest ps d (homeOf o))
-  arrive o a d x l e n = go (first (fellows ps o a)) refl e
+  arrive : (o : Option ℕ) (a d x : ℕ) → a ≤ length ps → x ≡ wordOf (first (siblings ps o a)) → (x ≡ noRow → ⊥)
+      → Ahead ps x d (all ps d (siblings ps o a) ++ rest ps d (homeOf o))
+  arrive o a d x l e n = go (first (siblings ps o a)) refl e
     where
-      go : (u : Option ℕ) → first (fellows ps o a) ≡ u → x ≡ wordOf u → Ahead ps x d (all ps d (fellows ps o a) ++ rest ps d (homeOf o))
+      go : (u : Option ℕ) → first (siblings ps o a) ≡ u → x ≡ wordOf u → Ahead ps x d (all ps d (siblings ps o a) ++ rest ps d (homeOf o))
       go none h k = absurd (n k)
       go (some c) h k =
           let f : Head ps o a c = headed ps o a c l h in
@@ -133,11 +134,11 @@ module _ (ps : List (Option ℕ)) (few : length ps ≤ noRow) where
           }
 
   -- a word that begins a list and names none
-  pass : (o : Option ℕ) (a x : ℕ) → a ≤ length ps → x ≡ wordOf (first (fellows ps o a)) → x ≡ noRow → fellows ps o a ≡ []
-  pass o a x l e n = go (first (fellows ps o a)) refl e
+  pass : (o : Option ℕ) (a x : ℕ) → a ≤ length ps → x ≡ wordOf (first (siblings ps o a)) → x ≡ noRow → siblings ps o a ≡ []
+  pass o a x l e n = go (first (siblings ps o a)) refl e
     where
-      go : (u : Option ℕ) → first (fellows ps o a) ≡ u → x ≡ wordOf u → fellows ps o a ≡ []
-      go none h k = first-none (fellows ps o a) h
+      go : (u : Option ℕ) → first (siblings ps o a) ≡ u → x ≡ wordOf u → siblings ps o a ≡ []
+      go none h k = first-none (siblings ps o a) h
       go (some c) h k = absurd (omega (arith, headed ps o a c l h .high))
 
   nothing : (x d : ℕ) → x ≡ noRow → Ahead ps x d []
@@ -183,21 +184,21 @@ module _ (ps : List (Option ℕ)) (few : length ps ≤ noRow) where
 
     -- a row's children, then what stands behind it
     step-ahead : (r d : ℕ) → r < length ps → d < length ps
-        → (let q : Visit = stepOf (length ps) w r d in Ahead ps (q .row) (q .depth) (all ps (suc d) (fellows ps (some r) 0) ++ rest ps (suc d) r))
+        → (let q : Visit = stepOf (length ps) w r d in Ahead ps (q .row) (q .depth) (all ps (suc d) (siblings ps (some r) 0) ++ rest ps (suc d) r))
     unfolding stepOf flatMap
     step-ahead r d h k = go (eqb (getD w (4 * r + 1) 0) noRow) refl (ltb (d + 1) (length ps)) refl
       where
-        e : getD w (4 * r + 1) 0 ≡ wordOf (first (fellows ps (some r) 0))
+        e : getD w (4 * r + 1) 0 ≡ wordOf (first (siblings ps (some r) 0))
         e = links .head (some r) h
 
-        deep : length ps ≤ d + 1 → all ps (suc d) (fellows ps (some r) 0) ≡ []
+        deep : length ps ≤ d + 1 → all ps (suc d) (siblings ps (some r) 0) ≡ []
         deep l =
             let z : length ps - suc d ≡ 0 = omega arith in
-            ap (λ (m : ℕ). flatMap (under m ps (suc (suc d))) (fellows ps (some r) 0)) z ∙ no-levels ps (suc (suc d)) (fellows ps (some r) 0)
+            ap (λ (m : ℕ). flatMap (under m ps (suc (suc d))) (siblings ps (some r) 0)) z ∙ no-levels ps (suc (suc d)) (siblings ps (some r) 0)
 
         go : (t : Bool) → eqb (getD w (4 * r + 1) 0) noRow ≡ t → (u : Bool) → ltb (d + 1) (length ps) ≡ u
             → (let q : Visit = if t then climbOf w d r else if u then record { row = getD w (4 * r + 1) 0; depth = d + 1 } else climbOf w d r in
-            Ahead ps (q .row) (q .depth) (all ps (suc d) (fellows ps (some r) 0) ++ rest ps (suc d) r))
+            Ahead ps (q .row) (q .depth) (all ps (suc d) (siblings ps (some r) 0) ++ rest ps (suc d) r))
         go true t u v =
             rw (pass (some r) 0 (getD w (4 * r + 1) 0) (omega arith) e (eqb-true (getD w (4 * r + 1) 0) noRow t)) (climb-ahead d r h)
         go false t true v = rw (add-one d) (arrive (some r) 0 (suc d) (getD w (4 * r + 1) 0) (omega arith) e (eqb-false (getD w (4 * r + 1) 0) noRow t))
@@ -207,7 +208,7 @@ module _ (ps : List (Option ℕ)) (few : length ps ≤ noRow) where
     unfolding flatMap rest
     start-ahead h = go (eqb (getD w 3 0) noRow) refl
       where
-        e : getD w 3 0 ≡ wordOf (first (fellows ps none 0))
+        e : getD w 3 0 ≡ wordOf (first (siblings ps none 0))
         e = links .head none h
 
         go : (t : Bool) → eqb (getD w 3 0) noRow ≡ t → Ahead ps (getD w 3 0) 0 (outlineOf ps)

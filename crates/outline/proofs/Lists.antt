@@ -12,9 +12,9 @@ use lib.Seq.{getD-set-same, getD-set-other}
 use Rattle.definition.specs.Base.{keep, first, count}
 use Rattle.definition.specs.Outline.{parentIn, parentAt}
 use Rattle.laws.specs.Outlines.{parent-in}
-use Rattle.outline.specs.Words.{parentsIn}
+use Rattle.outline.specs.Words.{noRow, parentsIn}
 use Rattle.outline.specs.Parents.{length-parents, parents-at}
-use Rattle.outline.specs.Steps.{noRow, wordOf, homeOf, slotOf, fellow, fellows, later, Links, pushed, linkOf, Empty}
+use Rattle.outline.specs.Steps.{wordOf, homeOf, slotOf, fellow, siblings, later, Links, pushed, linkOf, Empty}
 use Rattle.outline.proofs.Ahead.{fellow-same}
 
 -- ---- one row put into its list
@@ -89,19 +89,19 @@ unfolding keep
 keep-false p x l h = rw h
 
 module _ (ps : List (Option ℕ)) (o : Option ℕ) (i : ℕ) (h : i < length ps) where
-  fellows-open : fellows ps o i ≡ keep (λ c. fellow o (parentAt ps c)) (i ∷ count (suc i) (length ps - suc i))
-  unfolding fellows count
-  fellows-open =
+  siblings-open : siblings ps o i ≡ keep (λ c. fellow o (parentAt ps c)) (i ∷ count (suc i) (length ps - suc i))
+  unfolding siblings count
+  siblings-open =
       let e : length ps - i ≡ suc (length ps - suc i) = omega arith in
       ap (λ (m : ℕ). keep (λ c. fellow o (parentAt ps c)) (count i m)) e
 
-  fellows-more : fellow o (parentAt ps i) ≡ true → fellows ps o i ≡ i ∷ fellows ps o (suc i)
-  unfolding fellows
-  fellows-more t = fellows-open ∙ keep-true (λ c. fellow o (parentAt ps c)) i (count (suc i) (length ps - suc i)) t
+  siblings-more : fellow o (parentAt ps i) ≡ true → siblings ps o i ≡ i ∷ siblings ps o (suc i)
+  unfolding siblings
+  siblings-more t = siblings-open ∙ keep-true (λ c. fellow o (parentAt ps c)) i (count (suc i) (length ps - suc i)) t
 
-  fellows-skip : fellow o (parentAt ps i) ≡ false → fellows ps o i ≡ fellows ps o (suc i)
-  unfolding fellows
-  fellows-skip t = fellows-open ∙ keep-false (λ c. fellow o (parentAt ps c)) i (count (suc i) (length ps - suc i)) t
+  siblings-skip : fellow o (parentAt ps i) ≡ false → siblings ps o i ≡ siblings ps o (suc i)
+  unfolding siblings
+  siblings-skip t = siblings-open ∙ keep-false (λ c. fellow o (parentAt ps c)) i (count (suc i) (length ps - suc i)) t
 
 -- two lists begin at one word only where they are one
 slot-same : (o u : Option ℕ) → 4 * homeOf o + slotOf o ≡ 4 * homeOf u + slotOf u → fellow o u ≡ true
@@ -145,20 +145,20 @@ module _ (ps : List (Option ℕ)) (i : ℕ) (w : List ℕ) (h : i < length ps) (
       (λ q. d (omega arith))
       (λ q. omega (arith, isOdd))
 
-  head-at : (o : Option ℕ) (t : Bool) → fellow o (parentAt ps i) ≡ t → homeOf o < length ps → getD linked (4 * homeOf o + slotOf o) 0 ≡ wordOf (first (fellows ps o i))
+  head-at : (o : Option ℕ) (t : Bool) → fellow o (parentAt ps i) ≡ t → homeOf o < length ps → getD linked (4 * homeOf o + slotOf o) 0 ≡ wordOf (first (siblings ps o i))
   unfolding first
   head-at o true t l =
       let e : parentAt ps i ≡ o = fellow-same o (parentAt ps i) t in
       ap (λ (u : Option ℕ). getD linked (4 * homeOf u + slotOf u) 0) (sym e)
       ∙ its-list w i (homeOf (parentAt ps i)) (slotOf (parentAt ps i)) half isOdd (omega (arith, home-in, slot-in (parentAt ps i)))
-      ∙ ap (λ (l : List ℕ). wordOf (first l)) (sym (fellows-more ps o i h t))
+      ∙ ap (λ (l : List ℕ). wordOf (first l)) (sym (siblings-more ps o i h t))
   head-at o false t l =
       other w i (homeOf (parentAt ps i)) (slotOf (parentAt ps i)) half isOdd (4 * homeOf o + slotOf o)
       (λ q. omega (arith, slot-odd o .1))
       (λ q. omega (arith, slot-odd o .1))
       (λ q. let z : _≡_ {A = Bool} true false = sym (slot-same o (parentAt ps i) q) ∙ t in let y : _≡_ {A = ℕ} 0 1 = cc in omega arith)
       ∙ links .head o l
-      ∙ ap (λ (l : List ℕ). wordOf (first l)) (sym (fellows-skip ps o i h t))
+      ∙ ap (λ (l : List ℕ). wordOf (first l)) (sym (siblings-skip ps o i h t))
 
   home-at : (r : ℕ) (t : Bool) → eqb r i ≡ t → i ≤ r → r < length ps → getD linked (4 * r + 0) 0 ≡ homeOf (parentAt ps r)
   home-at r true t l m =
@@ -243,7 +243,7 @@ module _ (i : ℕ) (w u : List ℕ) (e : Empty i w u) (h : 4 * i + 3 < length u)
 -- ---- before the first row is linked
 
 pub links-none : (n : ℕ) (w u : List ℕ) → Empty n w u → Links (parentsIn n w) n u
-unfolding parentAt fellows keep count first
+unfolding parentAt siblings keep count first
 links-none n w u e =
     record {
       named = λ r h.
@@ -254,7 +254,7 @@ links-none n w u e =
       head = λ o h. begins o h ∙ ap (λ (l : List ℕ). wordOf (first l)) (sym (none-left o));
     }
   where
-    none-left : (o : Option ℕ) → fellows (parentsIn n w) o n ≡ []
+    none-left : (o : Option ℕ) → siblings (parentsIn n w) o n ≡ []
     none-left o =
         let z : length (parentsIn n w) - n ≡ 0 = omega (arith, length-parents n w) in
         ap (λ (m : ℕ). keep (λ c. fellow o (parentAt (parentsIn n w) c)) (count n m)) z

@@ -24,8 +24,7 @@ use Rattle.model.specs.declared.Section.{Section}
 use Rattle.model.specs.declared.Sections.{Sections}
 use Rattle.outline.specs.declared.OutlineAnswer.{OutlineAnswer}
 use Rattle.outline.specs.declared.OutlineAnswer.the-variants as answer
-use Rattle.outline.specs.Words.{parentsIn, outlineWords, Outlined}
-use Rattle.outline.specs.Steps.{noRow}
+use Rattle.outline.specs.Words.{noRow, parentsIn, outlineWords, Outlined}
 use Rattle.outline.specs.Parents.{outline-filled}
 use Rattle.outline.specs.Filled.{parents, Names, Walked}
 use Rattle.outline.specs.Answers.{refusalOf, countOf, Gives}
@@ -91,27 +90,26 @@ gives-none : {s rows work rows′ work′ : List ℕ} {r : OutlineAnswer} {k : �
 gives-none {rows = rows} a e z f g =
     record { refusal = e ∙ sym (ap result a); count = z ∙ sym (ap rowCount a); given = f ∙ sym (ap (left (length rows)) a); cleared = g }
 
+-- words of the same length cleared, and judged
+zeros : {n : ℕ} (work₁ : List ℕ) {work′ : List ℕ} → length work₁ ≡ n → work′ ≡ cleared 0 work₁ → work′ ≡ replicate n 0
+zeros work₁ l g = g ∙ cleared-all work₁ ∙ ap (λ (n : ℕ). replicate n 0) l
+
+same-short : (n rows : ℕ) {a b : ℕ} {short t : Bool} → a ≡ b → short ≡ isShort n rows a → short ≡ t → isShort n rows b ≡ t
+same-short n rows l e u = sym (e ∙ ap (isShort n rows) l) ∙ u
+
 module _ {s rows work work₁ : List ℕ} {n : Counts} {w : Places} (c : (countsIn n, n .next) ≡ countsAt s start) (k : Walked s n work work₁ w) {o : Opened} (b : o ≡ sectionsBy (length s) n w) where
-  zeros : {work′ : List ℕ} → work′ ≡ cleared 0 work₁ → work′ ≡ replicate (length work) 0
-  zeros g = g ∙ cleared-all work₁ ∙ ap (λ (n : ℕ). replicate n 0) (k .filled .long)
-
   module _ {m : Sections} (ok : o ≡ Opened.Model m) {short : Bool} (e : short ≡ isShort (m .activities .count) (length rows) (length work₁)) where
-    is-short : short ≡ isShort (m .activities .count) (length rows) (length work)
-    is-short = e ∙ ap (isShort (m .activities .count) (length rows)) (k .filled .long)
-
-    model-of : Sectioned s m
-    model-of = opened-by c k b .model m ok
-
-    pub gives-rows : short ≡ false → m .activities .count ≤ noRow → {rows′ work′ : List ℕ} {r : ℕ}
+    pub gives-rows : short ≡ false → {rows′ work′ : List ℕ} {r : ℕ}
         → Outlined (m .activities .count) rows work₁ rows′ work′ r → Gives s rows work rows′ work′ (answer.Rows r)
-    gives-rows t few o =
+    gives-rows t o =
         let n = m .activities .count in
         let filled = filled-by c k b ok in
-        let u : isShort n (length rows) (length work) ≡ false = sym is-short ∙ t in
+        let f = opened-by c k b .model m ok in
+        let u : isShort n (length rows) (length work) ≡ false = same-short n (length rows) (k .filled .long) e t in
         let w : 4 * n ≤ length work = ltb-false (length work) (4 * n) (or-right (ltb (length rows) (2 * n)) (ltb (length work) (4 * n)) u) in
-        let d = answer-by s (length rows) (length work) model-of u in
+        let d = answer-by s (length rows) (length work) f u in
         let a : outlineWords n (length rows) work₁ ≡ outlineAnswer s (length rows) (length work) =
-        words-by n (length rows) work₁ (filled .long) u ∙ ap (λ (l : List (ℕ × ℕ)). gives (rowWords l)) (words-are model-of w few filled) ∙ sym d in
+        words-by n (length rows) work₁ (filled .long) u ∙ ap (λ (l : List (ℕ × ℕ)). gives (rowWords l)) (words-are f w (o .few) filled) ∙ sym d in
         record {
           refusal = sym (ap result d);
           count = o .counted ∙ ap rowCount a;
@@ -120,7 +118,9 @@ module _ {s rows work work₁ : List ℕ} {n : Counts} {w : Places} (c : (counts
         }
 
     pub gives-short : {rows′ work′ : List ℕ} → rows′ ≡ cleared 0 rows → work′ ≡ cleared 0 work₁ → short ≡ true → Gives s rows work rows′ work′ answer.Short
-    gives-short f g u = gives-none (answer-by s (length rows) (length work) model-of (sym is-short ∙ u)) refl refl (f ∙ cleared-all rows) (zeros g)
+    gives-short f g u =
+        gives-none (answer-by s (length rows) (length work) (opened-by c k b .model m ok) (same-short (m .activities .count) (length rows) (k .filled .long) e u)) refl refl
+        (f ∙ cleared-all rows) (zeros work₁ (k .filled .long) g)
 
   pub gives-no-model : {rows′ work′ : List ℕ} → rows′ ≡ cleared 0 rows → work′ ≡ cleared 0 work₁ → o ≡ Opened.NoModel → Gives s rows work rows′ work′ answer.NoModel
-  gives-no-model f g z = gives-none (answer-none s (length rows) (length work) (opened-by c k b .refused z)) refl refl (f ∙ cleared-all rows) (zeros g)
+  gives-no-model f g z = gives-none (answer-none s (length rows) (length work) (opened-by c k b .refused z)) refl refl (f ∙ cleared-all rows) (zeros work₁ (k .filled .long) g)

@@ -8,8 +8,9 @@ use borrow.Author.Tests.{lt-ltb, le-ltb, eq-eqb, ne-eqb}
 use lib.Dec.{eqb}
 use lib.ListN.{length, getD, take, set, replicate, replicate-append-replicate}
 use lib.Seq.{take-suc-set, take-all}
+use Rattle.outline.specs.Words.{noRow}
 use Rattle.outline.specs.declared.Visit.{Visit}
-use Rattle.outline.specs.Steps.{noRow, climbOf, stepOf}
+use Rattle.outline.specs.Steps.{climbOf, stepOf}
 
 pub zeros-more : (w₀ w : List ℕ) (from i : ℕ) → from ≤ i → i < length w → take i w ≡ take from w₀ ++ replicate (i - from) 0
     → take (i + 1) (set w i 0) ≡ take from w₀ ++ replicate (i + 1 - from) 0

@@ -8,7 +8,7 @@ use lib.ListN.{length, take, replicate}
 use lib.Seq.{length-take-le}
 use Rattle.definition.specs.Outline.{outlineOf}
 use Rattle.definition.specs.Refusal.{Answer, refused, gives, left, written, rowWords}
-use Rattle.outline.specs.Words.{parentsIn, outlineWords, Outlined}
+use Rattle.outline.specs.Words.{noRow, parentsIn, outlineWords, Outlined}
 use Rattle.outline.specs.Steps.{Empty, Linked, Walked, Wrote, wordsOf}
 use Rattle.outline.specs.Parents.{length-parents}
 use Rattle.outline.proofs.Lists.{links-none}
@@ -56,10 +56,10 @@ written-words : (a : Answer) → written a ≡ length (wordsOf a)
 written-words (refused k) = refl
 written-words (gives l) = refl
 
-pub outlined : (n : ℕ) (rows work : List ℕ) {rows₁ work₁ rows₂ work₂ : List ℕ} {r : ℕ} → Wrote n rows work rows₁ work₁ r
+pub outlined : (n : ℕ) (rows work : List ℕ) → n ≤ noRow → {rows₁ work₁ rows₂ work₂ : List ℕ} {r : ℕ} → Wrote n rows work rows₁ work₁ r
     → rows₂ ≡ take (2 * r) rows₁ ++ replicate (length rows₁ - 2 * r) 0 → work₂ ≡ take 0 work₁ ++ replicate (length work₁ - 0) 0
     → Outlined n rows work rows₂ work₂ r
-outlined n rows work {rows₁ = rows₁} {work₁ = work₁} {r = r} w e f =
+outlined n rows work few {rows₁ = rows₁} {work₁ = work₁} {r = r} w e f =
     let a : Answer = outlineWords n (length rows) work in
     let t : length (wordsOf a) ≡ 2 * r = ap length (w .words) ∙ length-take-le (2 * r) rows₁ (omega (arith, w .room, w .long-rows)) in
     let u : length rows₁ - 2 * r ≡ length rows - length (wordsOf a) = omega (arith, w .long-rows) in
@@ -67,6 +67,7 @@ outlined n rows work {rows₁ = rows₁} {work₁ = work₁} {r = r} w e f =
     let s : written a ≡ 2 * r = written-words a ∙ t in
     let d : r ≡ (2 * r) / 2 = omega arith in
     record {
+      few = few;
       given =
           e
           ∙ ap (λ (l : List ℕ). l ++ replicate (length rows₁ - 2 * r) 0) (sym (w .words))

@@ -12,8 +12,8 @@ use lib.ListN.{length, getD}
 use Rattle.definition.specs.Base.{keep, count}
 use Rattle.definition.specs.Outline.{parentIn, isTop, isUnder, parentAt, topRows, childRows, under, outlineOf}
 use Rattle.laws.specs.Outlines.{parent-out}
-use Rattle.outline.specs.Words.{parentsIn}
-use Rattle.outline.specs.Steps.{wordOf, noRow}
+use Rattle.outline.specs.Words.{noRow, parentsIn}
+use Rattle.outline.specs.Steps.{wordOf}
 
 -- ---- the parent that counts
 

@@ -11,13 +11,9 @@ use Rattle.definition.specs.Base.{if_then_else_, keep, first, count}
 use Rattle.definition.specs.Outline.{parentIn, isTop, isUnder, parentAt, outlineOf}
 use Rattle.definition.specs.Refusal.{Answer, refused, gives, rowWords}
 use Rattle.outline.specs.declared.Visit.{Visit}
-use Rattle.outline.specs.Words.{outlineWords}
+use Rattle.outline.specs.Words.{noRow, outlineWords}
 
 -- ---- the lists
-
--- a word that names no row
-abbrev pub noRow : ℕ
-noRow = 0xFFFF_FFFF
 
 abbrev pub wordOf : Option ℕ → ℕ
 wordOf none = noRow
@@ -38,19 +34,19 @@ fellow none o = isTop o
 fellow (some p) o = isUnder p o
 
 -- the rows from a row on that have a given parent, or none
-unfoldable pub fellows : List (Option ℕ) → Option ℕ → ℕ → List ℕ
-fellows ps o a = keep (λ c. fellow o (parentAt ps c)) (count a (length ps - a))
+unfoldable pub siblings : List (Option ℕ) → Option ℕ → ℕ → List ℕ
+siblings ps o a = keep (λ c. fellow o (parentAt ps c)) (count a (length ps - a))
 
 -- the rows after a row that have its parent
 abbrev pub later : List (Option ℕ) → ℕ → List ℕ
-later ps r = fellows ps (parentAt ps r) (suc r)
+later ps r = siblings ps (parentAt ps r) (suc r)
 
 -- the words where the rows from i on are in their lists, and those before it still name their parents
 pub record Links (ps : List (Option ℕ)) (i : ℕ) (w : List ℕ) : Type 0 where
   pub named : (r : ℕ) → r < i → parentIn (length ps) r (some (getD w (4 * r + 0) 0)) ≡ parentAt ps r
   pub home : (r : ℕ) → i ≤ r → r < length ps → getD w (4 * r + 0) 0 ≡ homeOf (parentAt ps r)
   pub next : (r : ℕ) → i ≤ r → r < length ps → getD w (4 * r + 2) 0 ≡ wordOf (first (later ps r))
-  pub head : (o : Option ℕ) → homeOf o < length ps → getD w (4 * homeOf o + slotOf o) 0 ≡ wordOf (first (fellows ps o i))
+  pub head : (o : Option ℕ) → homeOf o < length ps → getD w (4 * homeOf o + slotOf o) 0 ≡ wordOf (first (siblings ps o i))
 
 -- row i in front of the list that begins at a word of row p
 unfoldable pub pushed : List ℕ → ℕ → ℕ → ℕ → List ℕ

@@ -231,7 +231,8 @@ pub fn outline(s: &[u8], rows: &mut [u32], work: &mut [u32]) -> OutlineAnswer
         clear_words_from(work, 0);
         return OutlineAnswer::NoModel;
     };
-    let n = m.activities.count;
+    let activities = m.activities;
+    let n = activities.count;
     if is_short(n, rows.len(), work.len()) {
         clear_words_from(rows, 0);
         clear_words_from(work, 0);

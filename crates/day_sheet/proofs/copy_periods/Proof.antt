@@ -1,9 +1,9 @@
 use Prim.Native.Nat.{_≤_, _-_}
 use mathlib.Core.Path.{_≡_, refl, _∙_}
 use lib.ListN.{length}
+use native.Mathlib.Omega.{arith}
 use Rattle.day_sheet.proofs.Writes.{Copied, copied-none, copied-more, copied-all}
 use borrow.Author.Needs.{needs}
-use native.Mathlib.Omega.{arith}
 use Rattle.day_sheet.proofs.copy_periods.Statement.{statement}
 use Rattle.day_sheet.proofs.copy_periods.Tie as tie
 
@@ -14,15 +14,13 @@ abbrev μ-loop : tie.MeasureT-loop
 μ-loop s count out₀ q₀ at₀ i₀ out q at i = count - i
 
 loop-holds : tie.Need-loop-holds Inv-loop μ-loop
-loop-holds c =
-    let a = c .before .before .args in
-    (omega arith, refl, copied-none (a .s .now) (a .from) (a .count) (a .out .now) (a .p))
+loop-holds c = let a = c .before .before .args in (omega arith, refl, copied-none (a .s .now) (a .from) (a .count) (a .out .now) (a .p))
 
 take-period-requires : tie.Need-take-period-requires Inv-loop μ-loop
 take-period-requires c κs = search needs
 
-put-period-requires : tie.Need-put-period-requires Inv-loop μ-loop
-put-period-requires c κs = search needs
+put-taken-requires : tie.Need-put-taken-requires Inv-loop μ-loop
+put-taken-requires c κs = search needs
 
 add-i : tie.Need-add-i Inv-loop μ-loop
 add-i c = search needs
@@ -31,7 +29,7 @@ loop-less : tie.Need-loop-less Inv-loop μ-loop
 loop-less c = search needs
 
 loop-again : tie.Need-loop-again Inv-loop μ-loop
-loop-again c = (omega arith, c .before .before .before .put-period .ensures .step .same ∙ c .before .before .before .before .before .before .before .before .before .loop .inv .1, copied-more (c .before .before .before .before .before .before .before .before .before .loop .inv .2) (c .before .before .before .before .before .before .before .before .loop-test .taken) (c .before .before .before .before .before .before .before .take-period .ensures) (c .before .before .before .put-period .ensures))
+loop-again c = (omega arith, c .before .before .before .put-taken .ensures .step .same ∙ c .before .before .before .before .before .before .before .loop .inv .1, copied-more (c .before .before .before .before .before .before .before .loop .inv .2) (c .before .before .before .before .before .before .loop-test .taken) (c .before .before .before .before .before .take-period .ensures) (c .before .before .before .put-taken .ensures))
 
 same-length : tie.Need-same-length Inv-loop μ-loop
 same-length c = c .before .loop .inv .1
@@ -47,7 +45,7 @@ copy-periods-spec =
     μ-loop
     loop-holds
     take-period-requires
-    put-period-requires
+    put-taken-requires
     add-i
     loop-less
     loop-again

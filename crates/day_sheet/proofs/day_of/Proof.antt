@@ -6,9 +6,6 @@ use Rattle.day_sheet.proofs.day_of.Tie as tie
 calendar-places-requires : tie.Need-calendar-places-requires
 calendar-places-requires c κs = search needs
 
-weekday-of-requires : tie.Need-weekday-of-requires
-weekday-of-requires c κs = search needs
-
 has-date-requires : tie.Need-has-date-requires
 has-date-requires c κs = search needs
 
@@ -18,9 +15,6 @@ has-date-requires-2 c κs = search needs
 exception-place-requires : tie.Need-exception-place-requires
 exception-place-requires c κs = search needs
 
-cast-hours-place : tie.Need-cast-hours-place
-cast-hours-place c = search needs
-
 hours-place-requires : tie.Need-hours-place-requires
 hours-place-requires c κs = search needs
 
@@ -29,14 +23,13 @@ first-given-requires c κs = search needs
 
 returns : tie.Need-returns
 returns c =
-    let a = c .before .before .before .before .before .before .before .before .args in
-    λ k h.
-    let t = lists-of (c .before .before .before .before .before .before .calendar-places .ensures) h in
+    λ d e w k h.
+    let t = lists-of (c .before .before .before .before .before .calendar-places .ensures) h in
     record {
-      weekday = c .before .before .before .before .before .weekday-of .ensures;
-      holiday = c .before .before .before .before .has-date .ensures (k .holidays) (t .holidays);
-      extra = c .before .before .before .has-date2 .ensures (k .extraDays) (t .extra);
-      hours = c .first-given .ensures _ _ (c .before .before .exception-place .ensures (k .exceptions) (t .exceptions)) (t .usual (a .day) (c .before .hours-place .result) (rw (c .before .before .before .before .before .weekday-of .ensures) at (c .before .hours-place .ensures)));
+      weekday = w;
+      holiday = c .before .before .before .before .has-date .ensures d e (k .holidays) (t .holidays);
+      extra = c .before .before .before .has-date2 .ensures d e (k .extraDays) (t .extra);
+      hours = c .first-given .ensures _ _ (c .before .before .exception-place .ensures d e (k .exceptions) (t .exceptions)) (t .usual d (c .before .hours-place .result) (rw w at (c .before .hours-place .ensures)));
     }
 
 pub day-of-spec : {M : Type 1} → statement M
@@ -44,11 +37,9 @@ day-of-spec =
     tie.close
     (tie.spec
     calendar-places-requires
-    weekday-of-requires
     has-date-requires
     has-date-requires-2
     exception-place-requires
-    cast-hours-place
     hours-place-requires
     first-given-requires
     returns)

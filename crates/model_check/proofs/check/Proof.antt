@@ -8,21 +8,23 @@ use Rattle.model_check.proofs.check.Tie as tie
 open-requires : tie.Need-open-requires
 open-requires c κs = search needs
 
+enum-known-opened : tie.Need-enum-known-opened
+enum-known-opened c = search needs
+
+enum-told : tie.Need-enum-told
+enum-told c = search needs
+
 returns : tie.Need-returns
-returns c = refused (c .before .before .«open» .ensures) (not-true _ (c .if1 .taken))
+returns c = refused (c .before .before .«open» .ensures) (c .enum-told .given .1)
 
 keeps-list-requires : tie.Need-keeps-list-requires
 keeps-list-requires c κs = search needs
 
 returns-2 : tie.Need-returns-2
-returns-2 c =
-    let k = c .before .keeps-list in
-    checked (c .before .before .before .before .«open» .ensures) (not-false _ (c .before .before .if1 .left)) (k .ensures) (not-true (k .result) (c .if2 .taken))
+returns-2 c = checked (c .before .before .before .before .before .«open» .ensures) (c .before .before .before .opened .given .1) (c .before .keeps-list .ensures) (not-true _ (c .if1 .taken))
 
 returns-3 : tie.Need-returns-3
-returns-3 c =
-    let k = c .before .keeps-list in
-    checked (c .before .before .before .before .«open» .ensures) (not-false _ (c .before .before .if1 .left)) (k .ensures) (not-false (k .result) (c .if2 .left))
+returns-3 c = checked (c .before .before .before .before .before .«open» .ensures) (c .before .before .before .opened .given .1) (c .before .keeps-list .ensures) (not-false _ (c .if1 .left))
 
 pub check-spec : {M : Type 1} → statement M
-check-spec = tie.close (tie.spec open-requires returns keeps-list-requires returns-2 returns-3)
+check-spec = tie.close (tie.spec open-requires enum-known-opened enum-told returns keeps-list-requires returns-2 returns-3)

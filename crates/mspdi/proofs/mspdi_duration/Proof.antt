@@ -1,6 +1,6 @@
 use mir.Syntax.{w64}
 use mir.ValLaws.{toZ-ofZ}
-use Rattle.mspdi.specs.Outcome.{leaves, natural}
+use Rattle.mspdi.specs.Outcome.{leaves, fromZero}
 use Prim.Native.Nat.{ℕ}
 use mathlib.Core.Path.{ap, _∙_}
 use lib.ListN.{length}
@@ -26,7 +26,7 @@ same-length c = search needs
 returns : tie.Need-returns
 returns c =
     let room = length (c .before .before .before .before .before .before .before .before .args .text .now) in
-    let n = c .before .before .before .before .before .before .from-zero .ensures ∙ ap natural (toZ-ofZ w64 (c .before .before .before .before .before .before .before .before .args .minutes) (c .before .before .before .before .before .before .before .before .fits .minutes)) in
+    let n = c .before .before .before .before .before .before .from-zero .ensures ∙ ap fromZero (toZ-ofZ w64 (c .before .before .before .before .before .before .before .before .args .minutes) (c .before .before .before .before .before .before .before .before .fits .minutes)) in
     is-left (c .told .result) (c .told .last .1 .0) (c .before .before .before .before .duration-text .ensures) (c .told .ensures .0) (c .told .ensures .1)
     ∙ ap (λ (a : Answer). leaves room a) (ap (λ (k : ℕ). minutesAnswer k room) n ∙ by-sign (c .before .before .before .before .before .before .before .before .args .minutes) room)
 

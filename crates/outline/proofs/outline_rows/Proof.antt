@@ -1,5 +1,6 @@
 -- `outline::outline_rows` meets its contract. The rows that are written, and what is cleared. Assumes nothing.
 use Rattle.outline.proofs.Whole.{outlined}
+use native.Mathlib.Omega.{arith}
 use borrow.Author.Needs.{needs}
 use Rattle.outline.proofs.outline_rows.Statement.{statement}
 use Rattle.outline.proofs.outline_rows.Tie as tie
@@ -30,8 +31,9 @@ returns c =
     let k2 = c .before .before in
     let k1 = k2 .before .before .before .before in
     let w = k1 .before .before .before .before .before .before in
-    let a = w .before .before .before .before .before .args in
-    outlined (a .n) (a .rows .now) (a .work .now) (w .write-rows .ensures) (k1 .clear-words-from .ensures) (k2 .clear-words-from2 .ensures)
+    let s = w .before .before .before .before .before in
+    let a = s .args in
+    outlined (a .n) (a .rows .now) (a .work .now) (omega (arith, s .fits .n .fits)) (w .write-rows .ensures) (k1 .clear-words-from .ensures) (k2 .clear-words-from2 .ensures)
 
 pub outline-rows-spec : {M : Type 1} → statement M
 outline-rows-spec =

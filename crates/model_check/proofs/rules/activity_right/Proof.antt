@@ -1,4 +1,5 @@
 -- `model_check::rules::activity_right` meets its contract. Assumes nothing.
+use mathlib.Core.Bool.{false}
 use Rattle.definition.specs.Check.{activityRight}
 use Rattle.model.specs.Places.{activity-parent, activity-calendar}
 use borrow.Author.Needs.{needs}

@@ -1,6 +1,9 @@
 -- `model_check::rules::parent_below` meets its contract. Assumes nothing.
-use borrow.Author.Tests.{not-true, not-false}
-use Rattle.model_check.proofs.Right.{no-parent, a-parent}
+use Prim.Native.Nat.{ℕ}
+use mathlib.Core.Path.{ap, _∙_}
+use lib.Dec.{ltb}
+use Rattle.definition.specs.Check.{ifGiven}
+use Rattle.model_check.proofs.Right.{parent-right}
 use borrow.Author.Needs.{needs}
 use Rattle.model_check.proofs.rules.parent_below.Statement.{statement}
 use Rattle.model_check.proofs.rules.parent_below.Tie as tie
@@ -8,15 +11,11 @@ use Rattle.model_check.proofs.rules.parent_below.Tie as tie
 take-row-requires : tie.Need-take-row-requires
 take-row-requires c κs = search needs
 
-returns : tie.Need-returns
-returns c =
-    let a = c .before .before .before .before .args in
-    λ o h. no-parent (c .before .before .take-row .result) (a .own) h (c .before .before .take-row .ensures) (not-true _ (c .if1 .taken))
+is-below-requires : tie.Need-is-below-requires
+is-below-requires c κs = search needs
 
-returns-2 : tie.Need-returns-2
-returns-2 c =
-    let a = c .before .before .before .before .before .args in
-    λ o h. a-parent (c .before .before .before .take-row .result) (a .own) h (c .before .before .before .take-row .ensures) (not-false _ (c .before .if1 .left))
+returns : tie.Need-returns
+returns c = λ o h. c .is-below .ensures ∙ ap (ifGiven (λ (n : ℕ). ltb n (c .before .before .before .args .own))) (parent-right h (c .before .take-row .ensures))
 
 pub parent-below-spec : {M : Type 1} → statement M
-parent-below-spec = tie.close (tie.spec take-row-requires returns returns-2)
+parent-below-spec = tie.close (tie.spec take-row-requires is-below-requires returns)

@@ -1,5 +1,6 @@
 -- `outline::parents::take_parent` meets its contract. The row at the place of the parent, and the place behind all fields. Assumes nothing.
 use mathlib.Core.Path.{ap, _∙_}
+use mathlib.Core.Bool.{true}
 use mathlib.Core.Option.{Option, none}
 use Prim.Native.Nat.{ℕ}
 use Rattle.bits.specs.declared.Place.{Place}
@@ -29,8 +30,8 @@ word-of-requires c κs = search needs
 
 returns : tie.Need-returns
 returns c =
-    let b = c .before .before .before .before .before .parent-place-by .ensures in
-    let e = c .before .before .before .before .take-row .ensures in
+    let b = c .before .before .before .before .parent-place-by .ensures in
+    let e = c .before .before .before .take-row .ensures in
     let x = activity-passed true b (pass-read (or-reads tails-row none _ _ e)) (c .before .before .skip-from-notes .ensures) (c .before .take-pad .ensures) in
     record {
       word = λ a h. c .word-of .ensures ∙ ap wordOf (ap (λ (x : Option ℕ × Place). x .0) e ∙ stands-or (activity-parent h true b) none);
