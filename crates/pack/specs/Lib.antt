@@ -1,5 +1,4 @@
+pub mod Stub
 pub mod Value
-pub mod Puts
 pub mod Bytes
 pub mod Record
-pub mod Calendar
