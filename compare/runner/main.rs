@@ -1,7 +1,6 @@
 //! Both sides on the same inputs: the Rust, and ours through its static libraries. See compare/README.md.
 
 mod bench;
-#[cfg(days)]
 mod days;
 mod leaves;
 mod models;
@@ -36,7 +35,6 @@ fn main() -> ExitCode {
     if asked("models") {
         differ += models::compare(seed, count * 5);
     }
-    #[cfg(days)]
     if asked("days") {
         differ += days::compare(seed, count * 5);
     }
@@ -45,7 +43,6 @@ fn main() -> ExitCode {
         bench::table(seed);
         trees::bench();
         bench::models();
-        #[cfg(days)]
         days::bench(seed);
     }
     if differ == 0 { ExitCode::SUCCESS } else { ExitCode::FAILURE }

@@ -156,7 +156,6 @@ fn trimmed(s: &[u8]) -> String {
     part.map_or("no part of the text".into(), hex::encode)
 }
 
-#[cfg(days)]
 mod recurrence {
     unsafe extern "C" {
         pub fn probe_rule(
@@ -193,13 +192,11 @@ mod recurrence {
 }
 
 /// The day number of a date that is counted from 1 January of the year -10000.
-#[cfg(days)]
 fn day_number(date: u32) -> i32 {
     date as i32 - 4_371_953
 }
 
 /// The days of a tree whose root is an `Exception`; `None` where it is no rule.
-#[cfg(days)]
 pub fn rule_days(s: &[u8]) -> Option<Vec<i32>> {
     let mut r = [0u32; 10];
     let [kind, from, last, most, period, month, day, item, position, weekdays] = &mut r;
@@ -219,7 +216,6 @@ pub fn rule_days(s: &[u8]) -> Option<Vec<i32>> {
 }
 
 /// The days of a tree whose root is a `WeekDay`.
-#[cfg(days)]
 pub fn week_day_days(s: &[u8]) -> Vec<i32> {
     let (mut first, mut count) = (0, 0);
     // Sound: as above.

@@ -14,14 +14,14 @@ use lib.Dec.{leb}
 use borrow.Author.Tests.{leb-true, leb-false, eq-eqb, ne-eqb}
 use Rattle.bits.specs.declared.Place.{Place}
 use Rattle.bits.specs.declared.Field.{Field}
-use Rattle.bits.specs.Over.{over, over-is, over-before, part-before, over-next, bits-changed}
-use Rattle.bits.specs.Moves.{bitsFrom, moved, move-more, swapped, turn-front}
-use Rattle.bits.specs.Steps.{Laid, laid-in, Step, _⨾_, ▷-▷, view-none, Pads, view, _▷_, ▷-full, padded, laid-step, said, view-in, view-out, length-before}
+use Rattle.bits.specs.Over.{over, over-is, part-before, over-next, bits-changed}
+use Rattle.bits.specs.Moves.{bitsFrom, moved, move-more, rotated, rotate-front}
+use Rattle.bits.specs.Steps.{Laid, laid-in, Step, _⨾_, stays, before-in, ▷-▷, view-none, Pads, view, _▷_, ▷-full, padded, laid-step, said, view-in, view-out, length-before}
 use Rattle.bits.specs.Reads.{takeAt, take-whole, padAt, pad-told}
-use Rattle.bits.specs.Places.{past, place-at, at, place, room, inside, Fits, room-fits, fits-room, room-short, room-less}
+use Rattle.bits.specs.Places.{past, place-at, at, place, room, inside, Fits, room-fits, fits-room, room-short}
 use Rattle.definition.specs.Base.{if_then_else_}
 use Rattle.definition.specs.Bits.{enc, dec, bitsOf, gap}
-use Rattle.bits.specs.Bits.{enc-read, enc-zeros, bits-append, bits-take, bits-drop, enc-split, enc-low, length-enc, length-bits}
+use Rattle.laws.specs.Bits.{enc-read, enc-zeros, bits-append, bits-take, bits-drop, enc-split, enc-low, length-enc, length-bits}
 use Rattle.bits.specs.Window.{join-lt, Read, read-more, read-all}
 
 -- room is told by whole bytes
@@ -81,13 +81,13 @@ module _ (old r k x : ℕ) (e : r + k ≤ 8) (ho : old < 256) (hx : x < 2 ^ k) w
       let all = join-lt (r + k) (8 - r - k) _ (old % 2 ^ (8 - r - k)) top-lt (mod-lt old (pow-pos (8 - r - k))) in
       rw e2 at all
 
--- one turn of the loop of `poke`
-pub poke-turn : (d0 d : List ℕ) (at w q r left v : ℕ) {k x b b' : ℕ} → length d ≡ length d0 → bitsOf d ≡ over at (enc (w - left) (v / 2 ^ left)) (bitsOf d0)
+-- one turn of the loop of `overwrite`
+pub overwrite-more : (d0 d : List ℕ) (at w q r left v : ℕ) {k x b b' : ℕ} → length d ≡ length d0 → bitsOf d ≡ over at (enc (w - left) (v / 2 ^ left)) (bitsOf d0)
     → left ≤ w → 8 * q + r + left ≡ at + w → r < 8 → at + w ≤ 8 * length d0 → 0 < left
     → k ≡ min left (8 - r) → x ≡ v / 2 ^ (left - k) % 2 ^ k → b ≡ getD d q 0
     → b' ≡ (b / 2 ^ (8 - r) * 2 ^ k + x) * 2 ^ (8 - r - k) + b % 2 ^ (8 - r - k)
     → bitsOf (set d q b') ≡ over at (enc (w - (left - k)) (v / 2 ^ (left - k))) (bitsOf d0)
-poke-turn d0 d at w q r left v {k} {x} {b} {b'} ln g l e lr h z ek ex eb ec =
+overwrite-more d0 d at w q r left v {k} {x} {b} {b'} ln g l e lr h z ek ex eb ec =
     let m = 8 - r - k in
     let u = v / 2 ^ (left - k) in
     let f = enc (w - left) (v / 2 ^ left) in
@@ -111,12 +111,12 @@ enc-zero x = refl
 pub laid-short : (d : List ℕ) (p : Place) (f : List ℕ) → room (length d) p (length f) ≡ false → Laid d p f d past
 laid-short d p f e = record { same = refl; bits = rw e; next = rw e }
 
-pub poke-short : (d : List ℕ) (p : Place) (w v : ℕ) → room (length d) p w ≡ false → Laid d p (enc w v) d past
-poke-short d p w v h = laid-short d p (enc w v) (rw length-enc h)
+pub overwrite-short : (d : List ℕ) (p : Place) (w v : ℕ) → room (length d) p w ≡ false → Laid d p (enc w v) d past
+overwrite-short d p w v h = laid-short d p (enc w v) (rw length-enc h)
 
-pub poke-done : (d d' : List ℕ) (p : Place) (w v : ℕ) {q r : ℕ} → length d' ≡ length d → room (length d) p w ≡ true → r < 8 → 8 * q + r ≡ at p + w
+pub overwrite-done : (d d' : List ℕ) (p : Place) (w v : ℕ) {q r : ℕ} → length d' ≡ length d → room (length d) p w ≡ true → r < 8 → 8 * q + r ≡ at p + w
     → bitsOf d' ≡ over (at p) (enc w v) (bitsOf d) → Laid d p (enc w v) d' record { byte = q; bit = r }
-poke-done d d' p w v {q} {r} l h hr e g =
+overwrite-done d d' p w v {q} {r} l h hr e g =
     let t : room (length d) p (length (enc w v)) ≡ true = rw length-enc h in
     let n : record { byte = q; bit = r } ≡ place (at p + w) = place-at record { byte = q; bit = r } hr e in
     record { same = l; bits = rw t g; next = rw (t, length-enc, n) }
@@ -182,64 +182,37 @@ shift-turn d0 d d' e k p q {t} {r} n {f} ln g cap le bq eq ef bt et h =
     move-more d0 d e k (at p) n (at q) ln g cap le eq ev eb
 
 -- what `turn` does
-pub turn-done : (d d1 d2 : List ℕ) (a e m : Place) (k : ℕ) {f : Field} {r : Place} → a .bit < 8 → at a + k ≤ at e → at e ≤ 8 * length d → m .bit < 8 → at m + k ≡ at e → f ≡ takeAt d m k
-    → length d1 ≡ length d → bitsOf d1 ≡ moved (at a) (at a + k) (at m - at a) (bitsOf d) → Laid d1 a (enc k (f .value)) d2 r → bitsOf d2 ≡ swapped (at a) (at e - k) (at e) (bitsOf d)
-turn-done d d1 d2 a e m k {f} {r} ba h cap bm em ef l1 e1 p =
+pub rotate-last-done : (d d1 d2 : List ℕ) (a e m : Place) (k : ℕ) {f : Field} {r : Place} → a .bit < 8 → at a + k ≤ at e → at e ≤ 8 * length d → m .bit < 8 → at m + k ≡ at e → f ≡ takeAt d m k
+    → length d1 ≡ length d → bitsOf d1 ≡ moved (at a) (at a + k) (at m - at a) (bitsOf d) → Laid d1 a (enc k (f .value)) d2 r → bitsOf d2 ≡ rotated (at a) (at e - k) (at e) (bitsOf d)
+rotate-last-done d d1 d2 a e m k {f} {r} ba h cap bm em ef l1 e1 p =
     let mk : at m ≡ at e - k = omega arith in
     let fm : Fits (length d) m k = record { bit = bm; ends = omega arith } in
     let fa : Fits (length d1) a (length (enc k (f .value))) = record { bit = ba; ends = omega (arith, length-enc k (f .value)) } in
     let ev : f .value ≡ dec (take k (drop (at e - k) (bitsOf d))) = ap (λ (x : Field). x .value) (ef ∙ take-whole d m k fm) ∙ ap (λ (n : ℕ). dec (take k (drop n (bitsOf d)))) mk in
-    turn-front d (at a) (at e) k h cap ev (e1 ∙ ap (λ (n : ℕ). moved (at a) (at a + k) (n - at a) (bitsOf d)) mk) (laid-in p fa)
+    rotate-front d (at a) (at e) k h cap ev (e1 ∙ ap (λ (n : ℕ). moved (at a) (at a + k) (n - at a) (bitsOf d)) mk) (laid-in p fa)
 
--- on the way of `copy_all`: the bits from a to q stand behind p, and those before p are as they were
+-- on the way of `copy_all`: the bits from a to q stand behind p
 pub record Copying (d0 : List ℕ) (a : ℕ) (p : Place) (d : List ℕ) (q r : Place) : Type 0 where
   pub step : Step d0 p (λ b. b ▷ bitsFrom a (at q) d0) d r
-  pub kept : take (at p) (bitsOf d) ≡ take (at p) (bitsOf d0)
-  pub behind : inside (length d) r ≡ true → at p ≤ at r
 
 pub copy-none : (d : List ℕ) (p q : Place) → Copying d (at q) p d q p
 copy-none d p q =
     let z : at q - at q ≡ 0 = omega arith in
-    record { step = record { same = refl; bits = rw z (sym (view-none d p)) }; kept = refl; behind = λ h. omega arith }
-
-module _ {d : List ℕ} {r : Place} {f : List ℕ} {d' : List ℕ} {r' : Place} (h : Laid d r f d' r') (n : ℕ) (k : inside (length d) r ≡ true → n ≤ at r) where
-  laid-kept : take n (bitsOf d') ≡ take n (bitsOf d)
-  laid-kept = kept-if (room (length d) r (length f)) refl
-    where
-      kept-if : (t : Bool) → room (length d) r (length f) ≡ t → take n (bitsOf d') ≡ take n (bitsOf d)
-      kept-if false e = let s : bitsOf d' ≡ bitsOf d = rw e at (h .bits) in rw s
-      kept-if true e =
-          let i = room-fits (length d) r (length f) e in
-          let w = k (room-less (length d) r (length f) 0 (omega arith) e) in
-          rw (laid-in h i) (over-before n (at r) f (bitsOf d) w (omega (arith, i .ends, length-bits d)))
-
-  laid-behind : inside (length d') r' ≡ true → n ≤ at r'
-  laid-behind u = behind-if (room (length d) r (length f)) refl
-    where
-      behind-if : (t : Bool) → room (length d) r (length f) ≡ t → n ≤ at r'
-      behind-if true e =
-          let nx : r' ≡ place (at r + length f) = rw e at (h .next) in
-          rw nx (omega (arith, k (room-less (length d) r (length f) 0 (omega arith) e)))
-      behind-if false e =
-          let nx : r' ≡ past = rw e at (h .next) in
-          let v : inside (length d') past ≡ true = rw nx at u in
-          absurd (omega (arith, room-fits (length d') past 0 v .bit))
+    record { step = stays _ (rw z (view-none d p)) }
 
 pub copy-more : (d0 d : List ℕ) (a : ℕ) (p q : Place) {r : Place} (n : ℕ) {f : Field} {d' : List ℕ} {r' : Place} (q' : Place) → Copying d0 a p d q r → a ≤ at q → at q + n ≤ at p → at p ≤ 8 * length d0
-    → q .bit < 8 → f ≡ takeAt d q n → Laid d r (enc n (f .value)) d' r' → at q' ≡ at q + n → Copying d0 a p d' q' r'
-copy-more d0 d a p q {r} n {f} {d'} {r'} q' x ha hq hp bq ef h eq =
+    → p .bit < 8 → q .bit < 8 → f ≡ takeAt d q n → Laid d r (enc n (f .value)) d' r' → at q' ≡ at q + n → Copying d0 a p d' q' r'
+copy-more d0 d a p q {r} n {f} {d'} {r'} q' x ha hq hp bp bq ef h eq =
     let l = bitsOf d0 in
     let sl = x .step .same in
+    let fp : Fits (length d0) p 0 = record { bit = bp; ends = omega arith } in
+    let kept : take (at p) (bitsOf d) ≡ take (at p) l = rw (before-in (length d0) p fp) at (x .step .kept) in
     let fq : Fits (length d) q n = record { bit = bq; ends = omega arith } in
     let ev : f .value ≡ dec (take n (drop (at q) (bitsOf d))) = ap (λ (y : Field). y .value) (ef ∙ take-whole d q n fq) in
     let rd : enc n (f .value) ≡ take n (drop (at q) l) =
-    ap (enc n) ev ∙ enc-read d (at q) n (omega arith) ∙ part-before (at q) n (at p) (bitsOf d) hq ∙ ap (λ (b : List ℕ). take n (drop (at q) b)) (x .kept) ∙ sym (part-before (at q) n (at p) l hq) in
+    ap (enc n) ev ∙ enc-read d (at q) n (omega arith) ∙ part-before (at q) n (at p) (bitsOf d) hq ∙ ap (λ (b : List ℕ). take n (drop (at q) b)) kept ∙ sym (part-before (at q) n (at p) l hq) in
     let aq : a + (at q - a) ≡ at q = omega arith in
     let nn : at q - a + n ≡ at q' - a = omega arith in
     let j : bitsFrom a (at q) d0 ++ enc n (f .value) ≡ bitsFrom a (at q') d0 =
     rw (rd, ← nn, take-add (at q - a) n (drop a l), drop-drop (at q - a) a l, aq) in
-    record {
-      step = said (x .step ⨾ laid-step h) _ (▷-▷ (view d0 p) (bitsFrom a (at q) d0) (enc n (f .value)) ∙ ap (λ (b : List ℕ). view d0 p ▷ b) j);
-      kept = laid-kept h (at p) (x .behind) ∙ x .kept;
-      behind = laid-behind h (at p) (x .behind);
-    }
+    record { step = said (x .step ⨾ laid-step h) _ (▷-▷ (view d0 p) (bitsFrom a (at q) d0) (enc n (f .value)) ∙ ap (λ (b : List ℕ). view d0 p ▷ b) j) }

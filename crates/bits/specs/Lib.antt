@@ -1,4 +1,4 @@
-pub mod Bits
+pub mod Clear
 pub mod Over
 pub mod Places
 pub mod Reads

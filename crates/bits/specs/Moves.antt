@@ -1,78 +1,40 @@
--- Moving: a tail of zeros, and runs of bits or bytes that change places. Assumes nothing.
+-- Moving: runs of bits or bytes that change places. Assumes nothing.
 use mathlib.Core.Path.{_≡_, refl, sym, ap, _∙_}
 use mathlib.Core.Bool.{Bool, true, false, _&&_}
 use mathlib.Core.List.{List, [], _∷_, _++_, append-assoc, append-nil, reverse, reverse-cons, reverse-append, reverse-reverse}
 use Prim.Native.Nat.{ℕ, suc, _+_, _-_, _*_, _≤_, _<_}
 use native.Mathlib.Omega.{arith}
-use lib.Dec.{leb}
-use borrow.Author.Tests.{le-leb, lt-leb, leb-true}
 use Rattle.definition.specs.Base.{if_then_else_}
 use Rattle.definition.specs.Bits.{Bits, enc, dec, bitsOf}
-use Rattle.bits.specs.Bits.{length-bits, length-part, enc-read}
-use Rattle.bits.specs.Places.{at, past, inside, upTo, room-fits, up-before}
+use Rattle.laws.specs.Bits.{bits-append, bits-take, bits-drop}
+use Rattle.bits.specs.Places.{at, past, inside, upTo, room-fits, fits-room, up-before}
+use Rattle.laws.specs.Bits.{length-bits, length-part, enc-read}
 use Rattle.bits.specs.Steps.{Step, _▷_}
 use Rattle.bits.specs.declared.Place.{Place}
-use Rattle.bits.specs.Over.{over, over-none, over-kept, over-prev, parts, turned-over}
-use lib.ListN.{length, take, drop, getD, set, replicate, length-append, length-reverse, length-drop, length-replicate, take-append-drop, drop-of-length-le, replicate-append-replicate}
-use lib.Seq.{take-add, take-suc, take-length, drop-cons, getD-at, set-at, length-take-le, drop-drop, take-at, drop-at}
-use native.Mathlib.Numerals.{add-one}
-
--- ---- zeros from a byte on
-
-abbrev pub cleared : ℕ → List ℕ → List ℕ
-cleared n s = take n s ++ replicate (length s - n) 0
-
--- on the way: up to i
-abbrev pub clearing : ℕ → List ℕ → ℕ → List ℕ
-clearing n s i = take n s ++ (replicate (i - n) 0 ++ drop i s)
-
-pub clear-none : (n : ℕ) (s : List ℕ) → s ≡ clearing n s n
-clear-none n s =
-    let z : n - n ≡ 0 = omega arith in
-    rw z (sym (take-append-drop n s))
-
-pub clear-turn : (n i : ℕ) (s s' : List ℕ) → n ≤ i → i < length s → s' ≡ clearing n s i → set s' i 0 ≡ clearing n s (i + 1)
-clear-turn n i s s' h k e =
-    let p = take n s ++ replicate (i - n) 0 in
-    let l : length p ≡ i = length-append (take n s) (replicate (i - n) 0) ∙ (omega (arith, length-take-le n s (omega arith), length-replicate {A = ℕ} (i - n) 0)) in
-    let d : i + 1 - n ≡ i - n + 1 = omega arith in
-    let o : ℕ = 0 in
-    let one : replicate (i - n) o ++ (o ∷ []) ≡ replicate (i + 1 - n) o = rw d (replicate-append-replicate (i - n) 1 o) in
-    let w : s' ≡ p ++ (getD s i 0 ∷ drop (suc i) s) = e ∙ rw (drop-cons s i 0 k) (sym (append-assoc (take n s) (replicate (i - n) 0) _)) in
-    rw (w, set-at p (getD s i 0) (drop (suc i) s) 0 i l) (append-assoc (take n s) (replicate (i - n) o) (o ∷ drop (suc i) s)
-    ∙ ap (λ (t : List ℕ). take n s ++ t) (sym (append-assoc (replicate (i - n) o) (o ∷ []) (drop (suc i) s)) ∙ rw (one, add-one)))
-
-pub clear-all : (n i : ℕ) (s s' : List ℕ) → n ≤ i → length s ≤ i → i - n ≤ length s - n → s' ≡ clearing n s i → s' ≡ cleared n s
-clear-all n i s s' h k le e =
-    let j : i - n ≡ length s - n = omega arith in
-    e ∙ rw (drop-of-length-le s k, append-nil, j)
+use Rattle.bits.specs.Over.{over, over-none, over-kept, over-prev, parts, rotated-over}
+use lib.ListN.{length, take, drop, getD, set, length-append, length-reverse, length-drop, take-append-drop}
+use lib.Seq.{take-take, take-append-le, take-add, take-suc, take-length, getD-at, set-at, length-take-le, drop-drop, take-at, drop-at}
 
 -- ---- two neighbours change places
 
 -- what stands from m to e goes before what stands from a to m
-abbrev pub swapped : {A : Type 0} → ℕ → ℕ → ℕ → List A → List A
-swapped a m e l = take a l ++ (take (e - m) (drop m l) ++ (take (m - a) (drop a l) ++ drop e l))
-
-abbrev pub inOrder : ℕ → ℕ → ℕ → ℕ → Bool
-inOrder a m e n = leb a m && (leb m e && leb e n)
+abbrev pub rotated : {A : Type 0} → ℕ → ℕ → ℕ → List A → List A
+rotated a m e l = take a l ++ (take (e - m) (drop m l) ++ (take (m - a) (drop a l) ++ drop e l))
 
 -- the bits from m to e before those from a to m, if these places are in order
 abbrev pub ordered : ℕ → Place → Place → Place → Bool
 ordered n a m e = inside n e && (upTo m e && upTo a m)
 
-pub record Turns (a m e : Place) (d d' : List ℕ) : Type 0 where
+pub record Rotates (a m e : Place) (d d' : List ℕ) : Type 0 where
   pub same : length d' ≡ length d
-  pub bits : bitsOf d' ≡ if ordered (length d) a m e then swapped (at a) (at m) (at e) (bitsOf d) else bitsOf d
+  pub bits : bitsOf d' ≡ if ordered (length d) a m e then rotated (at a) (at m) (at e) (bitsOf d) else bitsOf d
 
-unfoldable pub turned : ℕ → ℕ → ℕ → List ℕ → List ℕ
-turned a m e s = if inOrder a m e (length s) then swapped a m e s else s
-
--- the bytes from a to e turned round
-abbrev pub Flips : ℕ → ℕ → List ℕ → List ℕ → Type 0
-Flips a e s s' = (p x z : List ℕ) → s ≡ p ++ (x ++ z) → length p ≡ a → a + length x ≡ e → s' ≡ p ++ (reverse x ++ z)
+-- the bytes from a to e in reverse order
+abbrev pub Reverses : ℕ → ℕ → List ℕ → List ℕ → Type 0
+Reverses a e s s' = (p x z : List ℕ) → s ≡ p ++ (x ++ z) → length p ≡ a → a + length x ≡ e → s' ≡ p ++ (reverse x ++ z)
 
 -- on the way: u and v are in place, m is left
-pub record Flip (p x z s : List ℕ) (i j : ℕ) : Type 0 where
+pub record Reversal (p x z s : List ℕ) (i j : ℕ) : Type 0 where
   pub u : List ℕ
   pub m : List ℕ
   pub v : List ℕ
@@ -81,11 +43,11 @@ pub record Flip (p x z s : List ℕ) (i j : ℕ) : Type 0 where
   pub from : length (p ++ u) ≡ i
   pub to : i + length m ≡ j
 
-abbrev pub Flipping : ℕ → ℕ → List ℕ → List ℕ → ℕ → ℕ → Type 0
-Flipping a e s s' i j = (p x z : List ℕ) → s ≡ p ++ (x ++ z) → length p ≡ a → a + length x ≡ e → Flip p x z s' i j
+abbrev pub Reversing : ℕ → ℕ → List ℕ → List ℕ → ℕ → ℕ → Type 0
+Reversing a e s s' i j = (p x z : List ℕ) → s ≡ p ++ (x ++ z) → length p ≡ a → a + length x ≡ e → Reversal p x z s' i j
 
-pub flip-none : (a e : ℕ) (s : List ℕ) → Flipping a e s s a e
-flip-none a e s p x z es ep ex =
+pub reverse-none : (a e : ℕ) (s : List ℕ) → Reversing a e s s a e
+reverse-none a e s p x z es ep ex =
     record { u = []; m = x; v = []; is = rw append-nil es; rev = sym (append-nil (reverse x)); from = rw append-nil ep; to = ex }
 
 short : (m : List ℕ) → length m ≤ 1 → reverse m ≡ m
@@ -93,8 +55,8 @@ short [] h = refl
 short (c ∷ []) h = refl
 short (c ∷ (d ∷ m)) h = absurd (omega arith)
 
-pub flip-all : (a e : ℕ) (s s' : List ℕ) (i j : ℕ) → j - i ≤ 1 → Flipping a e s s' i j → Flips a e s s'
-flip-all a e s s' i j le h p x z es ep ex =
+pub reverse-done : (a e : ℕ) (s s' : List ℕ) (i j : ℕ) → j - i ≤ 1 → Reversing a e s s' i j → Reverses a e s s'
+reverse-done a e s s' i j le h p x z es ep ex =
     let f = h p x z es ep ex in
     let sh : reverse (f .m) ≡ f .m = short (f .m) (omega (arith, f .to)) in
     f .is ∙ rw (f .rev, sh) (simp append-assoc)
@@ -114,9 +76,9 @@ ends (c ∷ m) h =
     let w : m ≡ take k m ++ (getD m k 0 ∷ []) = sym (take-length m) ∙ ap (λ (t : ℕ). take t m) (sym e) ∙ take-suc m k 0 (omega arith) in
     record { c = c; mid = take k m; d = getD m k 0; are = ap (λ (t : List ℕ). c ∷ t) w }
 
-flip-step : (p x z s u v mid : List ℕ) (c0 d0 i j' : ℕ) {b c : ℕ} → s ≡ (p ++ u) ++ ((c0 ∷ (mid ++ (d0 ∷ []))) ++ (v ++ z)) → reverse x ≡ u ++ (reverse (c0 ∷ (mid ++ (d0 ∷ []))) ++ v)
-    → length (p ++ u) ≡ i → j' ≡ i + 1 + length mid → b ≡ getD s i 0 → c ≡ getD s j' 0 → Flip p x z (set (set s i c) j' b) (i + 1) j'
-flip-step p x z s u v mid c0 d0 i j' {b} {c} is rev from to eb ec =
+reverse-step : (p x z s u v mid : List ℕ) (c0 d0 i j' : ℕ) {b c : ℕ} → s ≡ (p ++ u) ++ ((c0 ∷ (mid ++ (d0 ∷ []))) ++ (v ++ z)) → reverse x ≡ u ++ (reverse (c0 ∷ (mid ++ (d0 ∷ []))) ++ v)
+    → length (p ++ u) ≡ i → j' ≡ i + 1 + length mid → b ≡ getD s i 0 → c ≡ getD s j' 0 → Reversal p x z (set (set s i c) j' b) (i + 1) j'
+reverse-step p x z s u v mid c0 d0 i j' {b} {c} is rev from to eb ec =
     let q = p ++ u in
     let r = v ++ z in
     let s0 : s ≡ q ++ (c0 ∷ (mid ++ (d0 ∷ r))) = is ∙ simp append-assoc in
@@ -139,18 +101,19 @@ flip-step p x z s u v mid c0 d0 i j' {b} {c} is rev from to eb ec =
       to = omega arith;
     }
 
-pub flip-turn : (a e : ℕ) (s s' : List ℕ) (i j : ℕ) {j' b c : ℕ} → 1 < j - i → j' ≡ j - 1 → b ≡ getD s' i 0 → c ≡ getD s' j' 0
-    → Flipping a e s s' i j → Flipping a e s (set (set s' i c) j' b) (i + 1) j'
-flip-turn a e s s' i j {j'} lt ej eb ec h p x z es ep ex =
+pub reverse-more : (a e : ℕ) (s s' : List ℕ) (i j : ℕ) {j' b c : ℕ} → 1 < j - i → j' ≡ j - 1 → b ≡ getD s' i 0 → c ≡ getD s' j' 0
+    → Reversing a e s s' i j → Reversing a e s (set (set s' i c) j' b) (i + 1) j'
+reverse-more a e s s' i j {j'} lt ej eb ec h p x z es ep ex =
     let f = h p x z es ep ex in
     let n = ends (f .m) (omega (arith, f .to)) in
     let lm : length (f .m) ≡ suc (length (n .mid) + 1) = ap length (n .are) ∙ ap suc (length-append (n .mid) (n .d ∷ [])) in
-    flip-step p x z s' (f .u) (f .v) (n .mid) (n .c) (n .d) i j' (f .is ∙ ap (λ (t : List ℕ). (p ++ f .u) ++ (t ++ (f .v ++ z))) (n .are))
+    reverse-step p x z s' (f .u) (f .v) (n .mid) (n .c) (n .d) i j' (f .is ∙ ap (λ (t : List ℕ). (p ++ f .u) ++ (t ++ (f .v ++ z))) (n .are))
     (f .rev ∙ ap (λ (t : List ℕ). f .u ++ (reverse t ++ f .v)) (n .are)) (f .from) (omega (arith, f .to)) eb ec
 
-fronted : (r a b : ℕ) (s s1 s2 s3 : List ℕ) → r ≤ a → a ≤ b → b ≤ length s → Flips r a s s1 → Flips a b s1 s2 → Flips r b s2 s3
-    → s3 ≡ swapped r a b s
-fronted r a b s s1 s2 s3 h1 h2 h3 f g k =
+-- each part reversed, then both: they change places
+pub reversed-thrice : (r a b : ℕ) (s s1 s2 s3 : List ℕ) → r ≤ a → a ≤ b → b ≤ length s → Reverses r a s s1 → Reverses a b s1 s2 → Reverses r b s2 s3
+    → s3 ≡ rotated r a b s
+reversed-thrice r a b s s1 s2 s3 h1 h2 h3 f g k =
     let p = take r s in
     let x = take (a - r) (drop r s) in
     let y = take (b - a) (drop a s) in
@@ -171,23 +134,19 @@ fronted r a b s s1 s2 s3 h1 h2 h3 f g k =
     let rr : reverse (reverse x ++ reverse y) ≡ y ++ x = reverse-append (reverse x) (reverse y) ∙ rw (reverse-reverse y, reverse-reverse x) in
     w3 ∙ ap (λ (t : List ℕ). p ++ (t ++ z)) rr ∙ ap (λ (t : List ℕ). p ++ t) (append-assoc y x z)
 
-pub turned-all : (a m e : ℕ) (s s1 s2 s3 : List ℕ) → a ≤ m → m ≤ e → e ≤ length s → Flips a m s s1 → Flips m e s1 s2 → Flips a e s2 s3 → s3 ≡ turned a m e s
-unfolding turned
-turned-all a m e s s1 s2 s3 h1 h2 h3 f g k = fronted a m e s s1 s2 s3 h1 h2 h3 f g k ∙ rw (le-leb a m h1, le-leb m e h2, le-leb e (length s) h3)
-
--- where they are not in order, nothing changes
-pub turned-not : (a m e : ℕ) (s : List ℕ) → (a ≤ m → m ≤ e → length s < e) → turned a m e s ≡ s
-unfolding turned
-turned-not a m e s h = not-if (leb a m) (leb m e) refl refl
-  where
-    not-if : (t o : Bool) → leb a m ≡ t → leb m e ≡ o → (if t && (o && leb e (length s)) then swapped a m e s else s) ≡ s
-    not-if false o et eo = refl
-    not-if true false et eo = refl
-    not-if true true et eo = rw (lt-leb e (length s) (h (leb-true a m et) (leb-true m e eo)))
+-- of whole bytes: their bits
+pub bytes-rotated : (a m e : ℕ) (s : List ℕ) → a ≤ m → m ≤ e → e ≤ length s → bitsOf (rotated a m e s) ≡ rotated (8 * a) (8 * m) (8 * e) (bitsOf s)
+bytes-rotated a m e s h1 h2 h3 =
+    let x : 8 * e - 8 * m ≡ 8 * (e - m) = omega arith in
+    let y : 8 * m - 8 * a ≡ 8 * (m - a) = omega arith in
+    let lm = length-drop m s in
+    let la = length-drop a s in
+    rw (bits-append, bits-append, bits-append, x, y, bits-drop m s (omega arith), bits-drop a s (omega arith), bits-drop e s h3, bits-take a s (omega arith))
+    (rw (bits-take (e - m) (drop m s) (omega arith), bits-take (m - a) (drop a s) (omega arith)))
 
 -- the parts by name
-pub swap-parts : {A : Type 0} (a m e : ℕ) (p x y z : List A) → length p ≡ a → a + length x ≡ m → m + length y ≡ e → swapped a m e (p ++ (x ++ (y ++ z))) ≡ p ++ (y ++ (x ++ z))
-swap-parts a m e p x y z ep ex ey =
+pub rotate-parts : {A : Type 0} (a m e : ℕ) (p x y z : List A) → length p ≡ a → a + length x ≡ m → m + length y ≡ e → rotated a m e (p ++ (x ++ (y ++ z))) ≡ p ++ (y ++ (x ++ z))
+rotate-parts a m e p x y z ep ex ey =
     let l = p ++ (x ++ (y ++ z)) in
     let d1 : drop a l ≡ x ++ (y ++ z) = drop-at p (x ++ (y ++ z)) a ep in
     let ma : m ≡ a + length x = sym ex in
@@ -222,9 +181,9 @@ move-more d0 d e k p n q {v} {b} ln g cap le qn ev eb =
     eb ∙ rw (rd, sm, g) (over-prev (q + k) (p + k) x y l (omega arith) (omega arith)) ∙ ap (λ (t : Bits). over (q + k) t l) xy
 
 -- the last k bits before e are read, the others move up, and the k bits are laid in front
-pub turn-front : (d : List ℕ) (a e k : ℕ) {v : ℕ} {b1 b2 : Bits} → a + k ≤ e → e ≤ 8 * length d → v ≡ dec (take k (drop (e - k) (bitsOf d)))
-    → b1 ≡ moved a (a + k) (e - k - a) (bitsOf d) → b2 ≡ over a (enc k v) b1 → b2 ≡ swapped a (e - k) e (bitsOf d)
-turn-front d a e k {v} {b1} {b2} h le ev e1 e2 =
+pub rotate-front : (d : List ℕ) (a e k : ℕ) {v : ℕ} {b1 b2 : Bits} → a + k ≤ e → e ≤ 8 * length d → v ≡ dec (take k (drop (e - k) (bitsOf d)))
+    → b1 ≡ moved a (a + k) (e - k - a) (bitsOf d) → b2 ≡ over a (enc k v) b1 → b2 ≡ rotated a (e - k) e (bitsOf d)
+rotate-front d a e k {v} {b1} {b2} h le ev e1 e2 =
     let l = bitsOf d in
     let nb = length-bits d in
     let p = take a l in
@@ -239,15 +198,15 @@ turn-front d a e k {v} {b1} {b2} h le ev e1 e2 =
     let tl : drop (e - k) l ≡ y ++ z = sym (take-append-drop k (drop (e - k) l)) ∙ ap (λ (t : Bits). y ++ t) (drop-drop k (e - k) l ∙ ap (λ (n : ℕ). drop n l) e4) in
     let all : l ≡ p ++ (x ++ (y ++ z)) = parts a (e - k - a) l ∙ ap (λ (t : Bits). p ++ (x ++ t)) (ap (λ (n : ℕ). drop n l) e3 ∙ tl) in
     let rd : enc k v ≡ y = rw ev (enc-read d (e - k) k (omega arith)) in
-    let sp : swapped a (e - k) e l ≡ p ++ (y ++ (x ++ z)) = ap (swapped a (e - k) e) all ∙ swap-parts a (e - k) e p x y z lp (omega arith) (omega arith) in
-    e2 ∙ rw (rd, e1) (ap (λ (t : Bits). over a y (over (a + k) x t)) all ∙ turned-over a (a + k) p x y z lp (omega arith)) ∙ sym sp
+    let sp : rotated a (e - k) e l ≡ p ++ (y ++ (x ++ z)) = ap (rotated a (e - k) e) all ∙ rotate-parts a (e - k) e p x y z lp (omega arith) (omega arith) in
+    e2 ∙ rw (rd, e1) (ap (λ (t : Bits). over a y (over (a + k) x t)) all ∙ rotated-over a (a + k) p x y z lp (omega arith)) ∙ sym sp
 
 pub move-none : (p q : ℕ) (l : Bits) → l ≡ moved p q (p - p) l
 move-none p q l =
     let z : p - p ≡ 0 = omega arith in
     rw z (sym (over-none q l))
 
--- ---- a turn in parts
+-- ---- a rotation in parts
 
 -- a list in four parts
 record Parts (a t q e : ℕ) (l : Bits) : Type 0 where
@@ -280,26 +239,26 @@ split a t q e l h1 h2 h3 h4 =
     }
 
 -- nothing has come to the front yet
-pub swap-none : (a e : ℕ) (l : Bits) → a ≤ e → l ≡ swapped a e e l
-swap-none a e l h =
+pub rotate-none : (a e : ℕ) (l : Bits) → a ≤ e → l ≡ rotated a e e l
+rotate-none a e l h =
     let z : e - e ≡ 0 = omega arith in
     let s : a + (e - a) ≡ e = omega arith in
     rw z (sym (take-append-drop a l) ∙ ap (λ (w : Bits). take a l ++ w) (sym (take-append-drop (e - a) (drop a l)) ∙ ap (λ (w : Bits). take (e - a) (drop a l) ++ w) (drop-drop (e - a) a l ∙ ap (λ (n : ℕ). drop n l) s)))
 
 -- n bits more come to the front
-pub swap-more : (a t e n : ℕ) {q : ℕ} (l : Bits) → a ≤ t → t + n ≡ q → q ≤ e → e ≤ length l → swapped a (e - n) e (swapped a q e l) ≡ swapped a t e l
-swap-more a t e n {q} l h1 h2 h3 h4 =
+pub rotate-more : (a t e n : ℕ) {q : ℕ} (l : Bits) → a ≤ t → t + n ≡ q → q ≤ e → e ≤ length l → rotated a (e - n) e (rotated a q e l) ≡ rotated a t e l
+rotate-more a t e n {q} l h1 h2 h3 h4 =
     let c = split a t q e l h1 (omega arith) h3 h4 in
     let lxu = length-append (c .x) (c .u) in
     let luv = length-append (c .u) (c .v) in
     let lvx = length-append (c .v) (c .x) in
-    let one : swapped a q e l ≡ c .p ++ (c .v ++ ((c .x ++ c .u) ++ c .z)) =
-    ap (swapped a q e) (c .are ∙ ap (λ (w : Bits). c .p ++ w) (sym (append-assoc (c .x) (c .u) (c .v ++ c .z)))) ∙ swap-parts a q e (c .p) (c .x ++ c .u) (c .v) (c .z) (c .lp) (omega (arith, c .lx, c .lu)) (c .lv) in
+    let one : rotated a q e l ≡ c .p ++ (c .v ++ ((c .x ++ c .u) ++ c .z)) =
+    ap (rotated a q e) (c .are ∙ ap (λ (w : Bits). c .p ++ w) (sym (append-assoc (c .x) (c .u) (c .v ++ c .z)))) ∙ rotate-parts a q e (c .p) (c .x ++ c .u) (c .v) (c .z) (c .lp) (omega (arith, c .lx, c .lu)) (c .lv) in
     let two : c .p ++ (c .v ++ ((c .x ++ c .u) ++ c .z)) ≡ c .p ++ ((c .v ++ c .x) ++ (c .u ++ c .z)) = simp append-assoc in
-    let three : swapped a (e - n) e (swapped a q e l) ≡ c .p ++ (c .u ++ ((c .v ++ c .x) ++ c .z)) =
-    ap (swapped a (e - n) e) (one ∙ two) ∙ swap-parts a (e - n) e (c .p) (c .v ++ c .x) (c .u) (c .z) (c .lp) (omega (arith, c .lx, c .lu, c .lv)) (omega (arith, c .lx, c .lu, c .lv)) in
-    let four : swapped a t e l ≡ c .p ++ ((c .u ++ c .v) ++ (c .x ++ c .z)) =
-    ap (swapped a t e) (c .are ∙ ap (λ (w : Bits). c .p ++ (c .x ++ w)) (sym (append-assoc (c .u) (c .v) (c .z)))) ∙ swap-parts a t e (c .p) (c .x) (c .u ++ c .v) (c .z) (c .lp) (c .lx) (omega (arith, c .lu, c .lv)) in
+    let three : rotated a (e - n) e (rotated a q e l) ≡ c .p ++ (c .u ++ ((c .v ++ c .x) ++ c .z)) =
+    ap (rotated a (e - n) e) (one ∙ two) ∙ rotate-parts a (e - n) e (c .p) (c .v ++ c .x) (c .u) (c .z) (c .lp) (omega (arith, c .lx, c .lu, c .lv)) (omega (arith, c .lx, c .lu, c .lv)) in
+    let four : rotated a t e l ≡ c .p ++ ((c .u ++ c .v) ++ (c .x ++ c .z)) =
+    ap (rotated a t e) (c .are ∙ ap (λ (w : Bits). c .p ++ (c .x ++ w)) (sym (append-assoc (c .u) (c .v) (c .z)))) ∙ rotate-parts a t e (c .p) (c .x) (c .u ++ c .v) (c .z) (c .lp) (c .lx) (omega (arith, c .lu, c .lv)) in
     let five : c .p ++ (c .u ++ ((c .v ++ c .x) ++ c .z)) ≡ c .p ++ ((c .u ++ c .v) ++ (c .x ++ c .z)) = simp append-assoc in
     three ∙ five ∙ sym four
 
@@ -331,11 +290,36 @@ order n a m e h = order-if (inside n e) (upTo m e) refl refl h
         record { first = z .bit; middle = y .bit; last = x .bit; from = z .upto; to = y .upto; ends = omega (arith, x .ends) }
 
 -- where the places are in order, and where they are not
-pub turns : {a m e : Place} {d d' : List ℕ} → ordered (length d) a m e ≡ true → length d' ≡ length d → bitsOf d' ≡ swapped (at a) (at m) (at e) (bitsOf d) → Turns a m e d d'
-turns h l e = record { same = l; bits = rw h e }
+pub rotates : {a m e : Place} {d d' : List ℕ} → ordered (length d) a m e ≡ true → length d' ≡ length d → bitsOf d' ≡ rotated (at a) (at m) (at e) (bitsOf d) → Rotates a m e d d'
+rotates h l e = record { same = l; bits = rw h e }
 
-pub turns-not : {a m e : Place} {d : List ℕ} → ordered (length d) a m e ≡ false → Turns a m e d d
-turns-not h = record { same = refl; bits = rw h }
+-- of whole bytes
+pub rotates-bytes : {a m e : Place} {d d' : List ℕ} → ordered (length d) a m e ≡ true → a .bit + m .bit + e .bit ≡ 0 → length d' ≡ length d → d' ≡ rotated (a .byte) (m .byte) (e .byte) d → Rotates a m e d d'
+rotates-bytes {a} {m} {e} {d} {d'} h z l r =
+    let o = order (length d) a m e h in
+    let ea : at a ≡ 8 * a .byte = omega arith in
+    let em : at m ≡ 8 * m .byte = omega arith in
+    let ee : at e ≡ 8 * e .byte = omega arith in
+    let b = bytes-rotated (a .byte) (m .byte) (e .byte) d (omega (arith, o .from)) (omega (arith, o .to)) (omega (arith, o .ends)) in
+    rotates h l (rw (ea, em, ee) (ap bitsOf r ∙ b))
+
+pub rotates-not : {a m e : Place} {d : List ℕ} → ordered (length d) a m e ≡ false → Rotates a m e d d
+rotates-not h = record { same = refl; bits = rw h }
+
+-- what stands before the first place stays
+rotate-before : (n a m e : ℕ) (l : Bits) → n ≤ a → a ≤ length l → take n (rotated a m e l) ≡ take n l
+rotate-before n a m e l h le = rw (take-append-le n (take a l) _ (omega (arith, length-take-le a l le)), take-take n a l h)
+
+pub rotates-kept : {a m e : Place} {d d' : List ℕ} → Rotates a m e d d' → (n : ℕ) → (inside (length d) e ≡ true → n ≤ at a) → take n (bitsOf d') ≡ take n (bitsOf d)
+rotates-kept {a} {m} {e} {d} {d'} t n h = kept-if (ordered (length d) a m e) refl
+  where
+    kept-if : (o : Bool) → ordered (length d) a m e ≡ o → take n (bitsOf d') ≡ take n (bitsOf d)
+    kept-if false k = let s : bitsOf d' ≡ bitsOf d = rw k at (t .bits) in rw s
+    kept-if true k =
+        let o = order (length d) a m e k in
+        let s : bitsOf d' ≡ rotated (at a) (at m) (at e) (bitsOf d) = rw k at (t .bits) in
+        let i = fits-room {n = length d} {p = e} {w = 0} (record { bit = o .last; ends = omega (arith, o .ends) }) in
+        rw s (rotate-before n (at a) (at m) (at e) (bitsOf d) (h i) (omega (arith, length-bits d, o .from, o .to, o .ends)))
 
 -- ---- a run of bits written again
 

@@ -8,7 +8,7 @@ use lib.ListN.{length, take, drop, getD, set, length-append, length-drop, take-a
 use lib.Seq.{take-nil, set-split, take-at, drop-at, take-append-le, length-take-le, drop-drop, take-take}
 use lib.Pow.{pow-pos, high, shr-shr}
 use Rattle.definition.specs.Bits.{enc, bitsOf}
-use Rattle.bits.specs.Bits.{length-enc, length-bits, length-part, bits-append, bits-at, enc-split, enc-low, enc-high}
+use Rattle.laws.specs.Bits.{length-enc, length-bits, length-part, bits-append, bits-at, enc-split, enc-low, enc-high}
 
 -- f laid over l from place n on
 unfoldable pub over : ℕ → List ℕ → List ℕ → List ℕ
@@ -128,8 +128,8 @@ pub piece : (n k : ℕ) (a x z : List ℕ) → length a ≡ n → length x ≡ k
 piece n k a x z ea ex = rw (drop-at a (x ++ z) n ea) (take-at x z k ex)
 
 -- two neighbours change places: y is laid over the first bits, x behind it
-pub turned-over : (n m : ℕ) (a x y z : List ℕ) → length a ≡ n → n + length y ≡ m → over n y (over m x (a ++ (x ++ (y ++ z)))) ≡ a ++ (y ++ (x ++ z))
-turned-over n m a x y z ea em =
+pub rotated-over : (n m : ℕ) (a x y z : List ℕ) → length a ≡ n → n + length y ≡ m → over n y (over m x (a ++ (x ++ (y ++ z)))) ≡ a ++ (y ++ (x ++ z))
+rotated-over n m a x y z ea em =
     let l = a ++ (x ++ (y ++ z)) in
     let ll : length l ≡ length a + (length x + (length y + length z)) = simp length-append in
     over-prev n m x y l (sym em) (omega arith) ∙ ap (λ (t : List ℕ). over n (y ++ x) (a ++ t)) (sym (append-assoc x y z))

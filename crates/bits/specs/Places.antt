@@ -6,6 +6,7 @@ use native.Mathlib.Omega.{arith}
 use lib.Dec.{leb, ltb}
 use borrow.Author.Tests.{ltb-true, leb-true, leb-false, lt-ltb, le-leb, lt-leb}
 use Rattle.bits.specs.declared.Place.{Place}
+use Rattle.laws.specs.Bools.{both}
 
 -- how many bits stand before a place, and the place behind so many
 abbrev pub at : Place → ℕ
@@ -43,10 +44,6 @@ place-at p {n} h e =
 pub record Fits (n : ℕ) (p : Place) (w : ℕ) : Type 0 where
   pub bit : p .bit < 8
   pub ends : at p + w ≤ 8 * n
-
-both : (a b : Bool) → (a && b) ≡ true → (a ≡ true) × (b ≡ true)
-both true b h = (refl, h)
-both false b h = let z : false ≡ true = h in (z, cc)
 
 pub room-fits : (n : ℕ) (p : Place) (w : ℕ) → room n p w ≡ true → Fits n p w
 unfolding room

@@ -18,7 +18,8 @@ use Rattle.definition.specs.Date.{Date, fromDays}
 use Rattle.definition.specs.Time.{mostTime}
 use Rattle.definition.specs.Text.{Text, isUtf8}
 use Rattle.definition.specs.Format.{Format, field, via, _⊗_, depending, getGiven, optional, whole, getPad, times, getAll, rises, listOf, count, flag, code, time, Period, period, number, date, text}
-use Rattle.bits.specs.Bits.{length-bits, length-enc, dec-enc-lt, dec-part, bits-drop}
+use Rattle.laws.specs.Options.{bind-assoc, bind-ext}
+use Rattle.laws.specs.Bits.{length-bits, length-enc, dec-enc-lt, dec-part, bits-drop}
 use Rattle.bits.specs.Over.{part-before}
 use Rattle.bits.specs.Places.{at, place, past, room, inside, Fits, room-fits, fits-room, room-none, room-more, at-place, place-at, next-fits}
 use Rattle.bits.specs.declared.Place.{Place}
@@ -157,14 +158,6 @@ read-field s p w {x} ex = record { reads = read-if (room (length s) p w) refl }
     read-if true e =
         let f = room-fits (length s) p w e in
         rw (ex, take-whole s p w f, rest-in s (place (at p + w)) (next-fits f), at-place (at p + w)) (get-whole s p w f)
-
-bind-assoc : {A B C : Type 0} (o : Option A) (g : A → Option B) (k : B → Option C) → (o >>= g >>= k) ≡ (o >>= λ x. g x >>= k)
-bind-assoc none g k = refl
-bind-assoc (some a) g k = refl
-
-bind-ext : {A B : Type 0} (o : Option A) (g k : A → Option B) → ((a : A) → g a ≡ k a) → (o >>= g) ≡ (o >>= k)
-bind-ext none g k e = refl
-bind-ext (some a) g k e = e a
 
 chain-from : {A C : Type 0} (l m : Option Bits) (g : Bits → Option (A × Bits)) (a : A) (k : A × Bits → Option C) → (l >>= g) ≡ (m >>= λ r. some (a, r)) → (l >>= λ r. g r >>= k) ≡ (m >>= λ r. k (a, r))
 chain-from none none g a k e = refl

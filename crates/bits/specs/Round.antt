@@ -9,10 +9,10 @@ use lib.ListN.{length, take, drop, length-append, length-drop, take-append-drop}
 use lib.Seq.{take-at, drop-at}
 use Rattle.definition.specs.Bits.{Bits, enc, dec, bitsOf}
 use Rattle.definition.specs.Format.{Format, field, times, putAll, listOf, count}
-use Rattle.bits.specs.Bits.{length-bits, length-enc}
+use Rattle.laws.specs.Bits.{length-bits, length-enc}
 use Rattle.bits.specs.Over.{over, over-mid}
 use Rattle.bits.specs.Places.{at, place, past, room, inside, Fits, room-fits, place-at, at-place, next-fits}
-use Rattle.bits.specs.Steps.{holds, full, view, _▷_, sizeOf, Step, said, Puts, Laid, laid-in, view-in, view-out, ▷-fits, ▷-short, length-before, put-then}
+use Rattle.bits.specs.Steps.{holds, full, view, _▷_, sizeOf, Step, said, Puts, Laid, laid-in, view-in, view-out, ▷-fits, ▷-short, length-before, put-then, laid-kept}
 use Rattle.bits.specs.Reads.{rest, rest-in, Reads, takeAt}
 use Rattle.bits.specs.declared.Place.{Place}
 
@@ -75,7 +75,7 @@ module _ {d : List ℕ} {p : Place} {f : Bits} {d' : List ℕ} {q : Place} (s : 
 pub put-stood : {A : Type 0} {f : Format A} {a : A} {d : List ℕ} {p : Place} {d' : List ℕ} {q : Place} → Puts f a d p d' q → inside (length d') q ≡ true → Stood d p (f .put (at p) a) d' q
 put-stood {f = f} {a = a} {d = d} {p = p} {d' = d'} {q = q} x h =
     let n = sizeOf (view d p) in
-    let s : Step d p (λ b. b ▷ f .put n a) d' q = record { same = x .step .same; bits = x .step .bits } in
+    let s : Step d p (λ b. b ▷ f .put n a) d' q = said (x .step) _ refl in
     let b = stood (f .put n a) s h .began in
     let e : n ≡ at p = ap sizeOf (view-in d p b) ∙ length-before d (at p) (omega (arith, b .ends)) in
     stood (f .put (at p) a) (said s _ (ap (λ (m : ℕ). view d p ▷ f .put m a) e)) h
@@ -97,7 +97,12 @@ put-back {f = f} {a = a} {d = d} {p = p} {d' = d'} {q = q} x h law =
 -- bits of which the first were written anew
 pub rewrote : {d : List ℕ} {p : Place} (f g : Bits) {d' : List ℕ} {q : Place} {f' : Bits} {d'' : List ℕ} {r : Place}
     → Step d p (λ b. b ▷ (f ++ g)) d' q → Laid d' p f' d'' r → length f' ≡ length f → Step d p (λ b. b ▷ (f' ++ g)) d'' q
-rewrote {d} {p} f g {d'} {q} {f'} {d''} {r} s h e = record { same = h .same ∙ s .same; bits = anew (inside (length d') q) refl }
+rewrote {d} {p} f g {d'} {q} {f'} {d''} {r} s h e = record {
+  same = h .same ∙ s .same;
+  bits = anew (inside (length d') q) refl;
+  kept = rw (s .same) at (laid-kept h) ∙ s .kept;
+  onward = rw (h .same) (s .onward);
+}
   where
     lf : length (f' ++ g) ≡ length (f ++ g)
     lf = length-append f' g ∙ ap (λ (n : ℕ). n + length g) e ∙ sym (length-append f g)
@@ -133,7 +138,7 @@ put-recount k c lt f {xs = xs} {d = d} {p = p} x y h =
     let g = putAll f (n + 32) xs in
     let s = said (put-then count c (λ m. putAll f m xs) (x .step) (y .step)) (λ b. b ▷ (enc 32 c ++ g)) (ap (λ (m : ℕ). view d p ▷ (enc 32 c ++ putAll f (n + m) xs)) (length-enc 32 c)) in
     let z = rewrote (enc 32 c) g s h (length-enc 32 (length xs) ∙ sym (length-enc 32 c)) in
-    record { step = record { same = z .same; bits = z .bits } }
+    record { step = said z _ refl }
 
 -- 1010 0101 1100 0011: 11 bits from the fourth on, and what is left
 example-take : takeAt (165 ∷ 195 ∷ []) record { byte = 0; bit = 3 } 11 ≡ record { value = 368; next = record { byte = 1; bit = 6 } }

@@ -1,5 +1,5 @@
 -- Writing: a step goes from a buffer and a place to a buffer and a later place; steps compose, and what does not fit stays past the end.
--- Steps speak of the bits before the place. Assumes nothing.
+-- A step says what stands before the new place, and leaves what stood before the old one. Assumes nothing.
 use mathlib.Core.Path.{_≡_, refl, sym, ap, subst, _∙_}
 use mathlib.Core.Bool.{Bool, true, false}
 use mathlib.Core.List.{List, [], _∷_, _++_, append-assoc, append-nil}
@@ -8,7 +8,7 @@ use Prim.Native.Nat.{ℕ, _+_, _*_, _%_, _≤_, _<_}
 use native.Mathlib.Nat.{add-assoc, add-zero}
 use native.Mathlib.Omega.{arith}
 use lib.ListN.{length, take, length-append}
-use lib.Seq.{length-take-le}
+use lib.Seq.{length-take-le, take-take, take-length}
 use lib.Dec.{leb}
 use borrow.Author.Tests.{le-leb, lt-leb, leb-false}
 use Rattle.definition.specs.Base.{if_then_else_}
@@ -16,8 +16,8 @@ use lib.IntN.{ℤ}
 use Rattle.definition.specs.Bits.{Bits, enc, bitsOf, pad, twos}
 use Rattle.definition.specs.Date.{Date, dayNumber}
 use Rattle.definition.specs.Format.{Format, field, via, whole, _⊗_, depending, optional, times, putAll, listOf, bit, count, flag, code, time, Period, period, number, date, text}
-use Rattle.bits.specs.Bits.{length-bits, length-enc}
-use Rattle.bits.specs.Over.{over, over-upto}
+use Rattle.bits.specs.Over.{over, over-upto, over-before}
+use Rattle.laws.specs.Bits.{length-bits, length-enc}
 use Rattle.bits.specs.Places.{at, place, past, room, inside, Fits, room-fits, fits-room, room-short, room-none, at-place, next-fits}
 use Rattle.bits.specs.declared.Place.{Place}
 
@@ -57,20 +57,74 @@ sizeOf (full n) = 0
 abbrev pub puts : {A : Type 0} → Format A → A → Buf → Buf
 puts f a b = b ▷ f .put (sizeOf b) a
 
--- from the buffer d and the place p to d' and q, where what stands before the place goes by F
+-- how many bits of n bytes a step from a place on leaves: those before the place, or all where it is past the end
+unfoldable pub before : ℕ → Place → ℕ
+before n p = if inside n p then at p else 8 * n
+
+-- From the buffer d and the place p to d' and q, where what stands before the place goes by F. Whether all fits or not, the bits before p stay;
+-- from a place past the end nothing changes; and q is not before p. Where all fits, what stands behind q is open; where it does not, so is
+-- what stands behind p, and which place past the end q is.
 pub record Step (d : List ℕ) (p : Place) (F : Buf → Buf) (d' : List ℕ) (q : Place) : Type 0 where
   pub same : length d' ≡ length d
   pub bits : view d' q ≡ F (view d p)
+  pub kept : take (before (length d) p) (bitsOf d') ≡ take (before (length d) p) (bitsOf d)
+  pub onward : before (length d) p ≤ before (length d') q
 
 infixl 15 _⨾_
 -- one step and then another
 pub _⨾_ : {d : List ℕ} {p : Place} {F : Buf → Buf} {d' : List ℕ} {q : Place} {G : Buf → Buf} {d'' : List ℕ} {r : Place}
     → Step d p F d' q → Step d' q G d'' r → Step d p (λ b. G (F b)) d'' r
-_⨾_ {G = G} x y = record { same = y .same ∙ x .same; bits = y .bits ∙ ap G (x .bits) }
+_⨾_ {d} {p} {d' = d'} {q} {G} {d''} x y =
+    let n = before (length d) p in
+    let m = before (length d') q in
+    let k : take n (bitsOf d'') ≡ take n (bitsOf d') = sym (take-take n m (bitsOf d'') (x .onward)) ∙ ap (take n) (y .kept) ∙ take-take n m (bitsOf d') (x .onward) in
+    record { same = y .same ∙ x .same; bits = y .bits ∙ ap G (x .bits); kept = k ∙ x .kept; onward = omega (arith, x .onward, y .onward) }
 
 -- the same step, said otherwise
 pub said : {d : List ℕ} {p : Place} {F : Buf → Buf} {d' : List ℕ} {q : Place} → Step d p F d' q → (G : Buf → Buf) → F (view d p) ≡ G (view d p) → Step d p G d' q
-said x G e = record { same = x .same; bits = x .bits ∙ e }
+said x G e = record { same = x .same; bits = x .bits ∙ e; kept = x .kept; onward = x .onward }
+
+-- nothing is written
+pub stays : {d : List ℕ} {p : Place} (F : Buf → Buf) → F (view d p) ≡ view d p → Step d p F d p
+stays F e = record { same = refl; bits = sym e; kept = refl; onward = omega arith }
+
+-- what a step leaves
+
+pub before-in : (n : ℕ) (p : Place) {w : ℕ} → Fits n p w → before n p ≡ at p
+unfolding before
+before-in n p {w} f =
+    let g : Fits n p 0 = record { bit = f .bit; ends = omega (arith, f .ends) } in
+    rw (fits-room g)
+
+pub before-out : (n : ℕ) (p : Place) → inside n p ≡ false → before n p ≡ 8 * n
+unfolding before
+before-out n p h = rw h
+
+pub before-most : (n : ℕ) (p : Place) → before n p ≤ 8 * n
+before-most n p = most (inside n p) refl
+  where
+    most : (t : Bool) → inside n p ≡ t → before n p ≤ 8 * n
+    most true e = let f = room-fits n p 0 e in omega (arith, before-in n p f, f .ends)
+    most false e = omega (arith, before-out n p e)
+
+-- past the end nothing fits
+pub past-out : (n : ℕ) → inside n past ≡ false
+past-out n = room-short n past 0 (λ k. absurd (omega arith))
+
+-- nothing fits, and nothing is written
+pub refuses : {d : List ℕ} {p : Place} (F : Buf → Buf) → F (view d p) ≡ full (8 * length d) → Step d p F d past
+unfolding view
+refuses {d} {p} F e =
+    let o = past-out (length d) in
+    record { same = refl; bits = rw o (sym e); kept = refl; onward = omega (arith, before-most (length d) p, before-out (length d) past o) }
+
+-- from a place past the end nothing changes
+pub step-out : {d : List ℕ} {p : Place} {F : Buf → Buf} {d' : List ℕ} {q : Place} → Step d p F d' q → inside (length d) p ≡ false → bitsOf d' ≡ bitsOf d
+step-out {d} {p} {d' = d'} x h =
+    let b = before-out (length d) p h in
+    let all : (s : List ℕ) → length s ≡ length d → take (before (length d) p) (bitsOf s) ≡ bitsOf s =
+    λ s e. let n : before (length d) p ≡ length (bitsOf s) = omega (arith, length-bits s) in rw n (take-length (bitsOf s)) in
+    sym (all d' (x .same)) ∙ x .kept ∙ all d refl
 
 -- ---- laws of the bits written
 
@@ -133,13 +187,20 @@ module _ (d : List ℕ) (p : Place) where
       none-if true e = let i = room-fits (length d) p 0 e in ▷-fits [] i ∙ rw (append-nil, view-in d p i)
       none-if false e = ▷-short [] e ∙ sym (view-out d p e)
 
+-- the bits before the place stay where others were laid
+pub laid-kept : {d : List ℕ} {p : Place} {f : Bits} {d' : List ℕ} {q : Place} → Laid d p f d' q → take (before (length d) p) (bitsOf d') ≡ take (before (length d) p) (bitsOf d)
+laid-kept {d} {p} {f} {d'} h = kept-if (room (length d) p (length f)) refl
+  where
+    kept-if : (t : Bool) → room (length d) p (length f) ≡ t → take (before (length d) p) (bitsOf d') ≡ take (before (length d) p) (bitsOf d)
+    kept-if false e = let s : bitsOf d' ≡ bitsOf d = rw e at (h .bits) in rw s
+    kept-if true e =
+        let i = room-fits (length d) p (length f) e in
+        rw (laid-in h i, before-in (length d) p i) (over-before (at p) (at p) f (bitsOf d) (omega arith) (omega (arith, i .ends, length-bits d)))
+
 -- bits that were laid are a step
 pub laid-step : {d : List ℕ} {p : Place} {f : Bits} {d' : List ℕ} {q : Place} → Laid d p f d' q → Step d p (λ b. b ▷ f) d' q
 laid-step {d} {p} {f} {d'} {q} h = step-if (room (length d) p (length f)) refl
   where
-    past-out : inside (length d') past ≡ false
-    past-out = room-short (length d') past 0 (λ k. absurd (omega arith))
-
     step-if : (t : Bool) → room (length d) p (length f) ≡ t → Step d p (λ b. b ▷ f) d' q
     step-if true e =
         let i = room-fits (length d) p (length f) e in
@@ -147,10 +208,21 @@ laid-step {d} {p} {f} {d'} {q} h = step-if (room (length d) p (length f)) refl
         let bs : bitsOf d' ≡ over (at p) f (bitsOf d) = rw e at (h .bits) in
         let k : Fits (length d') (place (at p + length f)) 0 = rw (h .same) (next-fits i) in
         let up : take (at p + length f) (bitsOf d') ≡ take (at p) (bitsOf d) ++ f = rw bs (over-upto (at p) f (bitsOf d) (omega (arith, i .ends, length-bits d))) in
-        record { same = h .same; bits = rw (nx, view-in d' _ k, at-place, up, h .same) (sym (▷-fits d p f i)) }
+        record {
+          same = h .same;
+          bits = rw (nx, view-in d' _ k, at-place, up, h .same) (sym (▷-fits d p f i));
+          kept = laid-kept h;
+          onward = rw (nx, before-in (length d) p i, before-in (length d') _ k) (omega arith);
+        }
     step-if false e =
         let nx : q ≡ past = rw e at (h .next) in
-        record { same = h .same; bits = rw (nx, view-out d' past past-out, h .same) (sym (▷-short d p f e)) }
+        let o = past-out (length d') in
+        record {
+          same = h .same;
+          bits = rw (nx, view-out d' past o, h .same) (sym (▷-short d p f e));
+          kept = laid-kept h;
+          onward = rw (nx, before-out (length d') past o) (omega (arith, before-most (length d) p, h .same));
+        }
 
 -- ---- formats
 
@@ -245,7 +317,7 @@ all-more f n (y ∷ xs) x = rw (all-more f (n + length (f .put n y)) xs x, appen
 -- no items yet, one more, all of them behind their count
 pub put-no : {A : Type 0} (k : ℕ) (f : Format A) (d : List ℕ) (p : Place) → Puts (times k f) [] d p d p
 unfolding times putAll
-put-no k f d p = record { step = record { same = refl; bits = sym (view-none d p) } }
+put-no k f d p = record { step = stays _ (view-none d p) }
 
 module _ {d : List ℕ} {p : Place} {d' : List ℕ} {q : Place} {d'' : List ℕ} {r : Place} where
   pub put-more : {A : Type 0} (k : ℕ) {f : Format A} {xs : List A} {x : A} → Puts (times k f) xs d p d' q → Puts f x d' q d'' r → Puts (times k f) (xs ++ (x ∷ [])) d p d'' r

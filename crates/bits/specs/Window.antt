@@ -9,7 +9,7 @@ use lib.Seq.{take-add, drop-drop}
 use lib.Pow.{pow-pos, pow-add, high}
 use lib.Arith.{digits-lt}
 use Rattle.definition.specs.Bits.{enc, dec, bitsOf}
-use Rattle.bits.specs.Bits.{enc-split, enc-low, enc-high, take-enc, drop-enc, within, dec-enc-lt}
+use Rattle.laws.specs.Bits.{enc-split, enc-low, enc-high, take-enc, drop-enc, within, dec-enc-lt}
 use Rattle.bits.specs.Over.{part-before}
 
 pub enc-join : (n k a b : ℕ) → b < 2 ^ k → enc (n + k) (a * 2 ^ k + b) ≡ enc n a ++ enc k b

@@ -1,13 +1,18 @@
+mod zeros;
+
+pub use zeros::clear;
+pub use zeros::clear_from;
+pub use zeros::clear_words_from;
 ghost use mathlib.Core.Path.{_≡_};
 ghost use Prim.Native.Nat.{_+_, _-_, _*_, _/_, _%_, _^_, _<_, _≤_, min};
-ghost use lib.ListN.{length, replicate};
+ghost use lib.ListN.{length};
 ghost use Rattle.definition.specs.Bits.{enc, bitsOf, twos, signed};
 ghost use Rattle.definition.specs.Format.{field, bit, flag, text};
 ghost use Rattle.bits.specs.Places.{at, room, inside, upTo};
 ghost use Rattle.bits.specs.Reads.{takeAt, flagAt, padAt, spanIn, Spans, int64At, int32At};
 ghost use Rattle.bits.specs.Steps.{Laid, Step, _▷_, Puts, Pads};
 ghost use Rattle.bits.specs.Window.{Read};
-ghost use Rattle.bits.specs.Moves.{cleared, bitsFrom, Flips, turned, moved, swapped, ordered, Turns, Copies};
+ghost use Rattle.bits.specs.Moves.{bitsFrom, Reverses, moved, rotated, ordered, Rotates, Copies};
 
 // A place in a buffer: so many whole bytes and so many bits stand before it. A bit of 8 or more is past every end.
 pub struct Place {
@@ -203,7 +208,7 @@ fn mix(old: u64, r: usize, k: usize, x: u64) -> u8
 }
 
 // Writes the `width` low bits of v over those at a place, and nothing else. The place behind them.
-pub fn poke(out: &mut [u8], p: Place, width: usize, v: u64) -> Place
+pub fn overwrite(out: &mut [u8], p: Place, width: usize, v: u64) -> Place
     requires { ⌜ width ≤ 64 ⌝ }
     ensures { λ r. ⌜ Laid (now (out .entry)) p (enc width v) (now (out .exit)) r ⌝ }
 {
@@ -229,7 +234,7 @@ pub fn put(out: &mut [u8], p: Place, width: usize, v: u64) -> Place
     requires { ⌜ width ≤ 64 ⌝ }
     ensures { λ r. ⌜ Puts (field width) v (now (out .entry)) p (now (out .exit)) r ⌝ }
 {
-    poke(out, p, width, v)
+    overwrite(out, p, width, v)
 }
 
 fn bit(b: bool) -> u64
@@ -267,7 +272,7 @@ fn to_byte(bit: usize) -> usize
 pub fn pad(out: &mut [u8], p: Place) -> Place
     ensures { λ r. ⌜ Pads (now (out .entry)) p (now (out .exit)) r ⌝ }
 {
-    poke(out, p, to_byte(p.bit), 0)
+    overwrite(out, p, to_byte(p.bit), 0)
 }
 
 // Copies bytes over those at a whole byte.
@@ -413,27 +418,10 @@ pub fn take_i32(s: &[u8], p: Place) -> Int32
     }
 }
 
-// Zeros from a byte on.
-pub fn clear_from(out: &mut [u8], from: usize)
-    ensures { λ _. ⌜ now (out .exit) ≡ cleared from (now (out .entry)) ⌝ }
-{
-    let mut i = from;
-    while i < out.len() {
-        out[i] = 0;
-        i += 1;
-    }
-}
-
-pub fn clear(out: &mut [u8])
-    ensures { λ _. ⌜ now (out .exit) ≡ replicate (length (now (out .entry))) 0 ⌝ }
-{
-    clear_from(out, 0);
-}
-
-// Turns the bytes from a to e round.
-fn flip(out: &mut [u8], a: usize, e: usize)
+// Rotates the bytes from a to e round.
+fn reverse(out: &mut [u8], a: usize, e: usize)
     requires { ⌜ (a ≤ e) × (e ≤ length (now out)) ⌝ }
-    ensures { λ _. ⌜ (length (now (out .exit)) ≡ length (now (out .entry))) × Flips a e (now (out .entry)) (now (out .exit)) ⌝ }
+    ensures { λ _. ⌜ (length (now (out .exit)) ≡ length (now (out .entry))) × Reverses a e (now (out .entry)) (now (out .exit)) ⌝ }
 {
     let mut i = a;
     let mut j = e;
@@ -447,26 +435,18 @@ fn flip(out: &mut [u8], a: usize, e: usize)
     }
 }
 
-// The bytes from m to e go before those from a to m. Where these are not in order, nothing changes.
-pub fn turn_bytes(out: &mut [u8], a: usize, m: usize, e: usize)
-    ensures { λ _. ⌜ now (out .exit) ≡ turned a m e (now (out .entry)) ⌝ }
+// The bytes from m to e go before those from a to m: each part reversed, then both.
+fn rotate_bytes(out: &mut [u8], a: usize, m: usize, e: usize)
+    requires { ⌜ (a ≤ m) × (m ≤ e) × (e ≤ length (now out)) ⌝ }
+    ensures { λ _. ⌜ (length (now (out .exit)) ≡ length (now (out .entry))) × (now (out .exit) ≡ rotated a m e (now (out .entry))) ⌝ }
 {
-    if m < a {
-        return;
-    }
-    if e < m {
-        return;
-    }
-    if out.len() < e {
-        return;
-    }
-    flip(out, a, m);
-    flip(out, m, e);
-    flip(out, a, e);
+    reverse(out, a, m);
+    reverse(out, m, e);
+    reverse(out, a, e);
 }
 
 // The place k bits before another, and the place k bits behind it.
-fn back(p: Place, k: usize) -> Place
+fn place_before(p: Place, k: usize) -> Place
     requires { ⌜ (p .bit < 8) × (k ≤ 64) × (k ≤ at p) ⌝ }
     ensures { λ r. ⌜ (r .bit < 8) × (at r + k ≡ at p) ⌝ }
 {
@@ -483,7 +463,7 @@ fn back(p: Place, k: usize) -> Place
     }
 }
 
-fn forth(p: Place, k: usize) -> Place
+fn place_after(p: Place, k: usize) -> Place
     requires { ⌜ (p .bit < 8) × (k ≤ 64) × (at p + k < 2 ^ 67) ⌝ }
     ensures { λ r. ⌜ (r .bit < 8) × (at r ≡ at p + k) ⌝ }
 {
@@ -494,7 +474,7 @@ fn forth(p: Place, k: usize) -> Place
 }
 
 // How many bits stand from a place to another, 64 at most.
-fn run(a: Place, e: Place) -> usize
+fn run_length(a: Place, e: Place) -> usize
     requires { ⌜ (a .bit < 8) × (e .bit < 8) × (at a ≤ at e) ⌝ }
     ensures { λ r. ⌜ (r ≤ 64) × (at a + r ≤ at e) × (r ≡ 0 → at e ≡ at a) ⌝ }
 {
@@ -511,37 +491,37 @@ fn shift_up(out: &mut [u8], a: Place, e: Place, k: usize)
     ensures { λ _. ⌜ (length (now (out .exit)) ≡ length (now (out .entry))) × (bitsOf (now (out .exit)) ≡ moved (at a) (at a + k) (at e - at a) (bitsOf (now (out .entry)))) ⌝ }
 {
     let mut p = e;
-    let mut n = run(a, p);
+    let mut n = run_length(a, p);
     while 0 < n {
-        p = back(p, n);
+        p = place_before(p, n);
         let f = take(out, p, n);
-        poke(out, forth(p, k), n, f.value);
-        n = run(a, p);
+        overwrite(out, place_after(p, k), n, f.value);
+        n = run_length(a, p);
     }
 }
 
 // The last k bits before e go before those from a on.
-fn turn(out: &mut [u8], a: Place, e: Place, k: usize)
+fn rotate_last(out: &mut [u8], a: Place, e: Place, k: usize)
     requires { ⌜ (a .bit < 8) × (e .bit < 8) × (k ≤ 64) × (at a + k ≤ at e) × (at e ≤ 8 * length (now out)) ⌝ }
-    ensures { λ _. ⌜ (length (now (out .exit)) ≡ length (now (out .entry))) × (bitsOf (now (out .exit)) ≡ swapped (at a) (at e - k) (at e) (bitsOf (now (out .entry)))) ⌝ }
+    ensures { λ _. ⌜ (length (now (out .exit)) ≡ length (now (out .entry))) × (bitsOf (now (out .exit)) ≡ rotated (at a) (at e - k) (at e) (bitsOf (now (out .entry)))) ⌝ }
 {
-    let m = back(e, k);
+    let m = place_before(e, k);
     let f = take(out, m, k);
     shift_up(out, a, m, k);
-    poke(out, a, k, f.value);
+    overwrite(out, a, k, f.value);
 }
 
 // The bits from m to e go before those from a to m, 64 at a time.
-fn turn_all(out: &mut [u8], a: Place, m: Place, e: Place)
+fn rotate_bits(out: &mut [u8], a: Place, m: Place, e: Place)
     requires { ⌜ (a .bit < 8) × (m .bit < 8) × (e .bit < 8) × (at a ≤ at m) × (at m ≤ at e) × (at e ≤ 8 * length (now out)) ⌝ }
-    ensures { λ _. ⌜ (length (now (out .exit)) ≡ length (now (out .entry))) × (bitsOf (now (out .exit)) ≡ swapped (at a) (at m) (at e) (bitsOf (now (out .entry)))) ⌝ }
+    ensures { λ _. ⌜ (length (now (out .exit)) ≡ length (now (out .entry))) × (bitsOf (now (out .exit)) ≡ rotated (at a) (at m) (at e) (bitsOf (now (out .entry)))) ⌝ }
 {
     let mut t = e;
-    let mut n = run(m, t);
+    let mut n = run_length(m, t);
     while 0 < n {
-        turn(out, a, e, n);
-        t = back(t, n);
-        n = run(m, t);
+        rotate_last(out, a, e, n);
+        t = place_before(t, n);
+        n = run_length(m, t);
     }
 }
 
@@ -575,29 +555,34 @@ fn in_order(n: usize, a: Place, m: Place, e: Place) -> bool
     up_to(a, m)
 }
 
-// The bits from m to e go before those from a to m. Where these are not in order, nothing changes.
-pub fn turn_bits(out: &mut [u8], a: Place, m: Place, e: Place)
-    ensures { λ _. ⌜ Turns a m e (now (out .entry)) (now (out .exit)) ⌝ }
+// The bits from m to e go before those from a to m, by bytes where all three places are whole bytes. Where they are not in order, nothing
+// changes.
+pub fn rotate(out: &mut [u8], a: Place, m: Place, e: Place)
+    ensures { λ _. ⌜ Rotates a m e (now (out .entry)) (now (out .exit)) ⌝ }
 {
     if !in_order(out.len(), a, m, e) {
         return;
     }
-    turn_all(out, a, m, e);
+    if a.bit + m.bit + e.bit == 0 {
+        rotate_bytes(out, a.byte, m.byte, e.byte);
+        return;
+    }
+    rotate_bits(out, a, m, e);
 }
 
 // Writes the bits from one place to another again at p, 64 at a time.
 fn copy_all(out: &mut [u8], from: Place, to: Place, p: Place) -> Place
-    requires { ⌜ (from .bit < 8) × (to .bit < 8) × (at from ≤ at to) × (at to ≤ at p) × (at p ≤ 8 * length (now out)) ⌝ }
+    requires { ⌜ (from .bit < 8) × (to .bit < 8) × (p .bit < 8) × (at from ≤ at to) × (at to ≤ at p) × (at p ≤ 8 * length (now out)) ⌝ }
     ensures { λ r. ⌜ Step (now (out .entry)) p (λ b. b ▷ bitsFrom (at from) (at to) (now (out .entry))) (now (out .exit)) r ⌝ }
 {
     let mut q = from;
     let mut r = p;
-    let mut n = run(q, to);
+    let mut n = run_length(q, to);
     while 0 < n {
         let f = take(out, q, n);
-        r = poke(out, r, n, f.value);
-        q = forth(q, n);
-        n = run(q, to);
+        r = overwrite(out, r, n, f.value);
+        q = place_after(q, n);
+        n = run_length(q, to);
     }
     r
 }

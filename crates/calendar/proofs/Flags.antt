@@ -162,6 +162,7 @@ bits-joined w n on {b} {l} hw hn eb el =
     let e2 : bitOr ((q * 2 ^ 1) % 2 ^ 32) b ≡ q * 2 + b = rw e1 (or-shifted q 1 b hb) in
     let hp : 2 ^ n ≤ 64 = pow-mono {i = n} {j = 6} hn in
     let hl : l < 2 ^ n = rw el (mod-lt w (pow-pos n)) in
-    let small : (q * 2 + b) * 2 ^ n < 2 ^ 32 = lt-of-le-of-lt (mul-le-mul (q * 2 + b) 257 (2 ^ n) 64 (omega arith) hp) (omega arith) in
+    let hqb : q * 2 + b ≤ 257 = omega arith in
+    let small : (q * 2 + b) * 2 ^ n < 2 ^ 32 = lt-of-le-of-lt (mul-le-mul hqb hp) (omega arith) in
     let e3 : ((q * 2 + b) * 2 ^ n) % 2 ^ 32 ≡ (q * 2 + b) * 2 ^ n = mod-eq-of-lt small in
     rw (e2, e3) (or-shifted (q * 2 + b) n l hl ∙ rw (eb, el))

@@ -8,11 +8,8 @@ use Rattle.definition.specs.Time.{timeOf, timeParts}
 use Rattle.definition.specs.Tree.{Element, textOf}
 use Rattle.definition.specs.Field.{textIn}
 use Rattle.definition.specs.Calendar.{dayType}
+use Rattle.laws.specs.Options.{bind-or}
 use Rattle.calendar.specs.Hours.{timeSaid}
-
-bind-or : {A : Type 0} (f : Text → Option A) → f [] ≡ none → (o : Option Text) → f (o or []) ≡ (o >>= f)
-bind-or f e none = e
-bind-or f e (some t) = refl
 
 no-time : timeOf [] ≡ none
 unfolding timeOf timeParts trim trimFront trimBack strip before after unsignedOf signOf digits

@@ -6,7 +6,7 @@ use mathlib.Core.Option.{some, none}
 use lib.Dec.{leb, ltb, eqb}
 use borrow.Author.Tests.{lt-ltb, le-ltb, leb-true}
 use Rattle.definition.specs.Base.{if_then_else_, when}
-use Rattle.text.specs.Bools.{and-right}
+use Rattle.laws.specs.Bools.{and-right}
 use Rattle.calendar.specs.Hours.{timeBy}
 
 module _ (from until to : ℕ) (e : to ≡ (if eqb until 0 then 1440 else until)) where

@@ -10,7 +10,8 @@ use lib.Dec.{leb, eqb}
 use borrow.Author.Tests.{ne-eqb, leb-true}
 use Rattle.definition.specs.Base.{if_then_else_}
 use Rattle.definition.specs.Date.{leap, yearLength, monthLength, monthsLength, newYear, dateAt, yearOf}
-use Rattle.theorems.specs.Calendar.{one, leapDay, year-length, new-year-next, new-year, months-early, months-late, months-next, IsDay, Falls, falls, MarchDay, in-year}
+use Rattle.definition.specs.Format.{bit}
+use Rattle.laws.specs.Calendar.{leapDay, year-length, new-year-next, new-year, months-early, months-late, months-next, IsDay, Falls, falls, MarchDay, in-year}
 use Rattle.date.specs.Answer.{isDay}
 
 -- ---- 1 January
@@ -138,7 +139,7 @@ civil-late d (suc y) n h l =
 pub leap-day-le : (y : ℕ) → leapDay y ≤ 1
 leap-day-le y = by (leap y)
   where
-    by : (t : Bool) → one t ≤ 1
+    by : (t : Bool) → bit t ≤ 1
     by true = omega arith
     by false = omega arith
 

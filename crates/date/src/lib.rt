@@ -5,7 +5,7 @@ ghost use Prim.Native.Nat.{_≤_, _<_, _^_};
 ghost use lib.IntN.{pos, _-ℤ_};
 ghost use Rattle.definition.specs.Base.{_or_};
 ghost use Rattle.definition.specs.Date.{leap, monthLength, newYear, dateAt, weekday, yearAt, fromDays, fromYmd, firstTen, dateParts, dateOf};
-ghost use Rattle.theorems.specs.Calendar.{MarchDay};
+ghost use Rattle.laws.specs.Calendar.{MarchDay};
 ghost use Rattle.date.specs.Answer.{ymdMeaning, civilOf, dateWithin, daysInMonth, weekdayAt, ymdAt};
 ghost use Rattle.definition.specs.Answer.{dateMeaning, dayNumberOf};
 ghost use Rattle.date.specs.Answer.{isDay, raisedOf, placed, dayPart, monthPart};

@@ -1,6 +1,6 @@
 -- A sheet from its parts: the lists of a calendar that was found, the bytes that were written, the answer. Assumes nothing.
 use mathlib.Core.Path.{_≡_, refl, sym, ap, _∙_}
-use mathlib.Core.Bool.{Bool, true, false, _&&_}
+use mathlib.Core.Bool.{Bool, true, false, _&&_, true≢false}
 use mathlib.Core.List.{List, [], _∷_}
 use mathlib.Core.Option.{Option, some, none}
 use Prim.Native.Nat.{ℕ, zero, suc, _+_, _-_, _*_, _/_, _%_, _≤_, _<_}
@@ -21,13 +21,14 @@ use Rattle.definition.specs.Pack.{calendar, decode}
 use Rattle.definition.specs.Calendar.{orHours, hoursOn, defaultPeriods, dayPeriods}
 use Rattle.definition.specs.DaySheet.{sheet, daySheet}
 use Rattle.definition.specs.Refusal.{refused, inRoom, sheetOn, sheetBy, daySheetAnswer}
-use Rattle.text.specs.Bools.{and-left, and-right}
-use Rattle.theorems.specs.BitLaws.{Bytes, empty, next, each-take, length-bytes, whole-bytes}
-use Rattle.theorems.specs.Packing.{day-days}
-use Rattle.bits.specs.Bits.{bits-take}
+use Rattle.laws.specs.Options.{never}
+use Rattle.laws.specs.Bools.{and-left, and-right}
+use Rattle.laws.specs.Bits.{Bytes, length-bytes, whole-bytes, bits-take}
+use Rattle.laws.specs.Each.{empty, next, each-take}
+use Rattle.laws.specs.Fields.{day-days}
 use Rattle.bits.specs.Places.{at, inside, Fits, room-none}
-use Rattle.bits.specs.Moves.{cleared}
-use Rattle.bits.specs.Steps.{Puts, Step, _▷_, sizeOf, view, view-in}
+use Rattle.bits.specs.Clear.{cleared}
+use Rattle.bits.specs.Steps.{Puts, Step, _▷_, said, sizeOf, view, view-in}
 use Rattle.bits.specs.Round.{put-stood, overran}
 use Rattle.bits.specs.declared.Place.{Place}
 use Rattle.model.specs.Passes.{Passes, stood, pass-read}
@@ -101,7 +102,7 @@ module _ {A : Type 0} (f : Format A) (a : A) {d₀ d : List ℕ} {end : Place} (
   short h =
       let g = whole f .put 0 a in
       let n = sizeOf (view d₀ start) in
-      let s : Step d₀ start (λ b. b ▷ whole f .put n a) d end = record { same = w .step .same; bits = w .step .bits } in
+      let s : Step d₀ start (λ b. b ▷ whole f .put n a) d end = said (w .step) _ refl in
       let fits : Fits (length d₀) start 0 = record { bit = omega arith; ends = omega arith } in
       let e : n ≡ 0 = ap sizeOf (view-in d₀ start fits) in
       let lt : 8 * length d₀ < at start + length (whole f .put n a) = room-none (length d₀) start _ (overran (whole f .put n a) s h) (omega arith) in
@@ -131,12 +132,6 @@ sheet-is : {s : List ℕ} {c : Calendar} {d : Date} {r : Day} → DayIs s c d r
     → bytesOf (sheet .put 0 (dayValue r (orHours (hoursOn (c .exceptions) d) (getD (c .hours) (weekday d) [])))) ≡ daySheet c d
 unfolding daySheet dayPeriods
 sheet-is {c = c} {d = d} h = rw (h .weekday, h .holiday, h .extra, or-or (hoursOn (c .exceptions) d) (getD (c .hours) (weekday d) []) defaultPeriods)
-
-never : {A : Type 0} {a : A} → none ≡ some a → ⊥
-never e = let z : _≡_ {A = ℕ} 0 1 = cc in omega arith
-
-untrue : true ≡ false → ⊥
-untrue e = let z : _≡_ {A = ℕ} 0 1 = cc in omega arith
 
 element-at : {A : Type 0} (xs : List A) (i : ℕ) {x : A} {ys : List A} → drop i xs ≡ x ∷ ys → getElem? xs i ≡ some x
 element-at [] zero e = cc
@@ -170,7 +165,7 @@ module _ {s : Text} (row : ℕ) (z : ℤ) (room : ℕ) {r : Sections} (o : Opene
   model-of e = by-decode (decode s) refl (sym (o .ok) ∙ e)
     where
       by-decode : (m : Option Model) → decode s ≡ m → given m ≡ true → (m : Model) × (decode s ≡ some m)
-      by-decode none d h = absurd (untrue (sym h))
+      by-decode none d h = absurd (true≢false (sym h))
       by-decode (some m) d h = (m, d)
 
   module _ (ok : r .ok ≡ true) {day : ℕ} (is : day ≡ (fromDays z or 0)) where

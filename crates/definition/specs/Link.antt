@@ -36,14 +36,27 @@ pub record Lag : Type 0 where
   pub minutes : Option ℤ
   pub kind : ℕ × Option ℤ
 
--- a share of the predecessor's duration, in hundredths of a percent; elapsed time; working time, in days where it is whole days
+-- working time, in days where it is whole days; elapsed time; a share of the predecessor's duration, in hundredths of a percent
+abbrev pub workingLag : ℕ → ℤ → Lag
+workingLag perDay minutes =
+    let whole = eqb (natAbs minutes % perDay) 0 in
+    record { days = if whole then cut minutes perDay else pos 0; minutes = when (not whole) minutes; kind = (0, none) }
+
+abbrev pub elapsedLag : ℤ → Lag
+elapsedLag minutes = record { days = pos 0; minutes = some minutes; kind = (1, none) }
+
+abbrev pub percentLag : ℤ → Lag
+percentLag tenths = record { days = pos 0; minutes = none; kind = (2, some (heldBy 10000000 (tenfold tenths))) }
+
 unfoldable pub lagOf : ℕ → ℕ → ℤ → Lag
 lagOf perDay format tenths =
-    let minutes = cut tenths 10 in
-    let whole = eqb (natAbs minutes % perDay) 0 in
-    if percentFormat format then record { days = pos 0; minutes = none; kind = (2, some (heldBy 10000000 (tenfold tenths))) } else
-    if elapsedFormat format then record { days = pos 0; minutes = some minutes; kind = (1, none) } else
-    record { days = if whole then cut minutes perDay else pos 0; minutes = when (not whole) minutes; kind = (0, none) }
+    if percentFormat format then percentLag tenths else
+    if elapsedFormat format then elapsedLag (cut tenths 10) else
+    workingLag perDay (cut tenths 10)
+
+-- LinkLag, held to -100,000,000,000 to 100,000,000,000
+abbrev pub linkLag : ℕ → Element → Lag
+linkLag perDay l = lagOf perDay (formatOf l "LagFormat") (heldBy 100000000000 (intIn l "LinkLag" or pos 0))
 
 -- ---- the link
 
@@ -52,13 +65,16 @@ abbrev pub kindFrom : ℤ → ℕ
 kindFrom (negsuc n) = 0
 kindFrom (pos n) = if eqb n 0 then 2 else if eqb n 2 then 3 else if eqb n 3 then 1 else 0
 
+abbrev pub linkKind : Element → ℕ
+linkKind l = kindFrom (intIn l "Type" or pos 1)
+
 unfoldable pub linkOf : Context → ℕ → ℕ → Element → Link
 linkOf x predecessor successor l =
-    let lag = lagOf (x .perDay) (formatOf l "LagFormat") (heldBy 100000000000 (intIn l "LinkLag" or pos 0)) in
+    let lag = linkLag (x .perDay) l in
     record {
       predecessor = predecessor;
       successor = successor;
-      kind = kindFrom (intIn l "Type" or pos 1);
+      kind = linkKind l;
       lag = lag .days;
       minutes = lag .minutes;
       lagKind = lag .kind;

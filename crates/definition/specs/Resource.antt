@@ -21,7 +21,7 @@ use Rattle.definition.specs.Tree.{Element, child, allIn}
 use Rattle.definition.specs.Field.{textIn, intIn, numberIn, minutesIn}
 use Rattle.definition.specs.Model.{Resource, Assignment, Expense}
 use Rattle.definition.specs.Calendar.{nameOf, free}
-use Rattle.definition.specs.Task.{Context, ownUid, rowOf, unlessMain}
+use Rattle.definition.specs.Task.{Context, notBelow0, ownUid, rowOf, unlessMain}
 
 abbrev pub isInt : Option ℤ → ℕ → Bool
 isInt none m = false
@@ -30,8 +30,11 @@ isInt (some (negsuc n)) m = false
 
 -- ---- resources
 
+abbrev pub isResource : Element → Bool
+isResource r = ownUid r && given (textIn r "Name")
+
 abbrev pub resourceElements : Element → List Element
-resourceElements root = keep (λ r. ownUid r && given (textIn r "Name")) (allIn (child root (bytes "Resources")) (bytes "Resource"))
+resourceElements root = keep isResource (allIn (child root (bytes "Resources")) (bytes "Resource"))
 
 abbrev pub isCost : Element → Bool
 isCost r = isInt (intIn r "Type") 2
@@ -42,15 +45,33 @@ workResources root = keep (λ r. not (isCost r)) (resourceElements root)
 abbrev pub costResources : Element → List Element
 costResources root = keep isCost (resourceElements root)
 
+-- 0 labor, 2 material
+abbrev pub resourceKind : Element → ℕ
+resourceKind r = if isInt (intIn r "Type") 0 then 2 else 0
+
+-- hundredths of units, from 0 to 1,000,000
+abbrev pub unitsFrom : Float → Option ℤ
+unitsFrom u = when (between 0 1000000 u) (hundredths u)
+
+abbrev pub maxUnits : Element → ℤ
+maxUnits r = (numberIn r "MaxUnits" >>= unitsFrom) or pos 100
+
+-- hundredths of StandardRate, above 0 and below 10 ^ 13
+abbrev pub priceFrom : Float → Option ℤ
+priceFrom p = when (lt zeroFloat p && lt p (float (10 ^ 13))) (hundredths p)
+
+abbrev pub priceOf : Element → Option ℤ
+priceOf r = numberIn r "StandardRate" >>= priceFrom
+
 unfoldable pub resourceOf : Context → List Text → Element → Resource
 resourceOf x ids r = record {
   id = free ids ((textIn r "ID" orElse textIn r "UID") or []);
   name = textIn r "Name" or [];
-  kind = if isInt (intIn r "Type") 0 then 2 else 0;
+  kind = resourceKind r;
   unit = textIn r "MaterialLabel" or [];
-  maxUnits = (numberIn r "MaxUnits" >>= λ u. when (between 0 1000000 u) (hundredths u)) or pos 100;
+  maxUnits = maxUnits r;
   calendar = textIn r "CalendarUID" >>= nameOf (x .built) >>= unlessMain x;
-  price = numberIn r "StandardRate" >>= λ p. when (lt zeroFloat p && lt p (float (10 ^ 13))) (hundredths p);
+  price = priceOf r;
 }
 
 unfoldable pub resourcesAfter : Context → List Resource → List Element → List Resource
@@ -75,22 +96,32 @@ costOf root a = textIn a "ResourceUID" >>= λ u. findLast (λ r. same (textIn r 
 abbrev pub resourceRow : Element → Element → Option ℕ
 resourceRow root a = textIn a "ResourceUID" >>= rowOf (workResources root)
 
--- planned less actual, at least 0, and a remaining that is something else
-abbrev pub atLeastZero : ℤ → ℤ
-atLeastZero (pos n) = pos n
-atLeastZero (negsuc n) = pos 0
-
 abbrev pub sameℤ : ℤ → ℤ → Bool
 sameℤ (pos m) (pos n) = eqb m n
 sameℤ (pos m) (negsuc n) = false
 sameℤ (negsuc m) (pos n) = false
 sameℤ (negsuc m) (negsuc n) = eqb m n
 
+-- a number unless it is z
+abbrev pub otherThan : ℤ → Option ℤ → Option ℤ
+otherThan z o = o >>= λ y. when (not (sameℤ y z)) y
+
+-- planned less actual, at least 0, and a remaining that is something else
+abbrev pub leftOf : ℤ → ℤ → ℤ
+leftOf planned actual = pos (notBelow0 (planned -ℤ actual))
+
 abbrev pub unlessLeft : ℤ → ℤ → Option ℤ → Option ℤ
-unlessLeft planned actual r = r >>= λ z. when (not (sameℤ z (atLeastZero (planned -ℤ actual)))) z
+unlessLeft planned actual r = otherThan (leftOf planned actual) r
+
+-- minutes in hundredths of an hour
+abbrev pub hoursFrom : ℕ → Option ℤ
+hoursFrom m = some (pos (m * 100 / 60))
 
 abbrev pub hoursIn : Element → String → Option ℤ
-hoursIn a name = minutesIn a name >>= λ m. some (pos (m * 100 / 60))
+hoursIn a name = minutesIn a name >>= hoursFrom
+
+abbrev pub rateOf : Element → Option ℤ
+rateOf a = otherThan (pos 100) (numberIn a "Units" >>= unitsFrom)
 
 unfoldable pub assignmentFrom : ℕ → ℕ → Element → Assignment
 assignmentFrom activity resource a =
@@ -102,7 +133,7 @@ assignmentFrom activity resource a =
       planned = planned;
       actual = actual;
       remaining = unlessLeft planned actual (hoursIn a "RemainingWork");
-      rate = numberIn a "Units" >>= λ u. when (between 0 1000000 u && not (sameℤ (hundredths u) (pos 100))) (hundredths u);
+      rate = rateOf a;
     }
 
 unfoldable pub assignmentOf : Context → Element → Element → Option Assignment
@@ -115,9 +146,12 @@ assignments x root = present (map (assignmentOf x root) (assignmentElements root
 
 -- ---- expenses
 
--- below 10 ^ 13 either way
+-- hundredths of an amount, below 10 ^ 13 either way
+abbrev pub moneyFrom : Float → Option ℤ
+moneyFrom m = when (lt (neg (float (10 ^ 13))) m && lt m (float (10 ^ 13))) (hundredths m)
+
 abbrev pub moneyIn : Element → String → Option ℤ
-moneyIn a name = numberIn a name >>= λ m. when (lt (neg (float (10 ^ 13))) m && lt m (float (10 ^ 13))) (hundredths m)
+moneyIn a name = numberIn a name >>= moneyFrom
 
 abbrev pub accrualOf : Element → ℕ
 accrualOf r = if isInt (intIn r "AccrueAt") 1 then 0 else if isInt (intIn r "AccrueAt") 2 then 1 else 2

@@ -26,19 +26,23 @@ use Rattle.definition.specs.Calendar.{Named, builtCalendars, mainCalenda
 abbrev pub mostTasks : ℕ
 mostTasks = 100000
 
-abbrev pub natural : ℤ → ℕ
-natural (pos n) = n
-natural (negsuc n) = 0
+-- 0 for a number below 0
+abbrev pub notBelow0 : ℤ → ℕ
+notBelow0 (pos n) = n
+notBelow0 (negsuc n) = 0
 
 unfoldable pub levelOf : Element → ℕ
-levelOf t = natural (intIn t "OutlineLevel" or pos 1)
+levelOf t = notBelow0 (intIn t "OutlineLevel" or pos 1)
 
 -- a UID other than `0`
 abbrev pub ownUid : Element → Bool
 ownUid e = given (textIn e "UID") && not (same (textIn e "UID" or []) (bytes "0"))
 
+abbrev pub isKept : Element → Bool
+isKept t = ownUid t && leb 1 (levelOf t)
+
 unfoldable pub keptTasks : Element → List Element
-keptTasks root = keep (λ t. ownUid t && leb 1 (levelOf t)) (take mostTasks (allIn (child root (bytes "Tasks")) (bytes "Task")))
+keptTasks root = keep isKept (take mostTasks (allIn (child root (bytes "Tasks")) (bytes "Task")))
 
 -- the row of the last of some elements with a UID
 unfoldable pub rowOf : List Element → Text → Option ℕ
@@ -52,9 +56,16 @@ pub record Context : Type 0 where
   pub main : Calendar
   pub tasks : List Element
 
+-- MinutesPerDay, from 1 to 1440
+abbrev pub perDayFrom : Float → Option ℕ
+perDayFrom m = when (between 1 1440 m) (halfAway m)
+
+abbrev pub perDayOf : Element → ℕ
+perDayOf root = (numberIn root "MinutesPerDay" >>= perDayFrom) or 480
+
 unfoldable pub contextOf : Element → Context
 contextOf root = record {
-  perDay = (numberIn root "MinutesPerDay" >>= λ m. when (between 1 1440 m) (halfAway m)) or 480;
+  perDay = perDayOf root;
   built = builtCalendars root;
   main = mainCalendar root (builtCalendars root);
   tasks = keptTasks root;
@@ -67,10 +78,11 @@ unlessMain x n = when (not (same n (x .main .name))) n
 -- ---- formats of durations and lags
 
 -- without the mark of an estimate
+abbrev pub unmarked : ℕ → ℕ
+unmarked code = if within 35 52 code then code - 32 else code
+
 abbrev pub formatOf : Element → String → ℕ
-formatOf e name =
-    let code = natural (intIn e name or pos 0) in
-    if within 35 52 code then code - 32 else code
+formatOf e name = unmarked (notBelow0 (intIn e name or pos 0))
 
 abbrev pub percentFormat : ℕ → Bool
 percentFormat f = within 19 20 f
@@ -91,12 +103,12 @@ unfoldable pub parentOf : List ℕ → ℕ → Option ℕ
 parentOf levels l = findLast (λ (x : ℕ × ℕ). ltb (x .1) l) (numbered 0 levels) >>= λ x. some (x .0)
 
 -- 1 is as late as possible and has no date; 2 to 7 need theirs
-abbrev pub constraintFrom : ℕ → Option Date → Option (ℕ × Option Date)
+abbrev pub constraintFrom : {D : Type 0} → ℕ → Option D → Option (ℕ × Option D)
 constraintFrom kind none = when (eqb kind 1) (1, none)
 constraintFrom kind (some d) = if eqb kind 1 then some (1, none) else when (within 2 7 kind) (kind, some d)
 
 abbrev pub constraintOf : Element → Option (ℕ × Option Date)
-constraintOf t = constraintFrom (natural (intIn t "ConstraintType" or pos 0)) (dateIn t "ConstraintDate")
+constraintOf t = constraintFrom (notBelow0 (intIn t "ConstraintType" or pos 0)) (dateIn t "ConstraintDate")
 
 -- MSPDI's task types: 0 fixed units, 1 fixed duration, 2 fixed work
 abbrev pub durationTypeFrom : Option ℤ → ℕ
@@ -104,30 +116,47 @@ durationTypeFrom none = 0
 durationTypeFrom (some (negsuc n)) = 0
 durationTypeFrom (some (pos n)) = if eqb n 0 then 2 else if eqb n 2 then 3 else 0
 
+abbrev pub durationTypeOf : Element → ℕ
+durationTypeOf t = durationTypeFrom (intIn t "Type")
+
+-- minutes in days, a part of a day as a day; and the minutes where they are not whole days
+abbrev pub durationDays : ℕ → ℕ → ℤ
+durationDays minutes day = pos (minutes / day + (if eqb (minutes % day) 0 then 0 else 1))
+
+abbrev pub durationMinutes : ℕ → ℕ → Option ℤ
+durationMinutes minutes day = when (not (eqb (minutes % day) 0)) (pos minutes)
+
 abbrev pub calendarNameOf : Context → Element → Option Text
 calendarNameOf x t =
     if isElapsed t then some elapsedName else
     (textIn t "CalendarUID" >>= λ u. when (not (same u (bytes "-1"))) u >>= nameOf (x .built))
 
--- the minutes left, of a task that has begun and not ended
+-- begun and not ended
+abbrev pub underWay : Element → Bool
+underWay t = given (dateIn t "ActualStart") && not (given (dateIn t "ActualFinish"))
+
+-- the minutes left, of a task that is under way
 abbrev pub remainingOf : Element → Option ℤ
-remainingOf t =
-    if given (dateIn t "ActualStart") && not (given (dateIn t "ActualFinish")) then
-    (minutesIn t "RemainingDuration" >>= λ m. some (pos m))
-    else none
+remainingOf t = if underWay t then (minutesIn t "RemainingDuration" >>= λ m. some (pos m)) else none
+
+-- hundredths of PhysicalPercentComplete, above 0 and up to 100
+abbrev pub percentFrom : Float → Option ℤ
+percentFrom p = when (lt zeroFloat p && le p (float 100)) (hundredths p)
+
+abbrev pub percentOf : Element → Option ℤ
+percentOf t = numberIn t "PhysicalPercentComplete" >>= percentFrom
 
 -- from the ids and levels of the activities before it, and whether a kept link enters it
 unfoldable pub activityOf : Context → List Text → List ℕ → Bool → Element → Activity
 activityOf x ids levels entered t =
     let minutes = minutesIn t "Duration" or 0 in
     let day = if isElapsed t then 1440 else x .perDay in
-    let part = not (eqb (minutes % day) 0) in
     record {
       id = free ids (wantedId t);
       name = textIn t "Name" or [];
       kind = if yesIn t "Milestone" then (if entered then 2 else 1) else 0;
-      duration = pos (minutes / day + (if part then 1 else 0));
-      minutes = when part (pos minutes);
+      duration = durationDays minutes day;
+      minutes = durationMinutes minutes day;
       parent = parentOf levels (levelOf t);
       notes = textIn t "Notes" or [];
       calendar = calendarNameOf x t >>= unlessMain x;
@@ -135,8 +164,8 @@ activityOf x ids levels entered t =
       deadline = dateIn t "Deadline";
       start = dateIn t "ActualStart";
       finish = dateIn t "ActualFinish";
-      percent = numberIn t "PhysicalPercentComplete" >>= λ p. when (lt zeroFloat p && le p (float 100)) (hundredths p);
-      durationType = durationTypeFrom (intIn t "Type");
+      percent = percentOf t;
+      durationType = durationTypeOf t;
       remaining = remainingOf t;
       uid = textIn t "UID" or [];
     }

@@ -11,20 +11,13 @@ use lib.ListN.{length}
 use Rattle.definition.specs.Base.{_>>=_, _or_, given}
 use Rattle.definition.specs.Text.{Text, signedOf, signOf, digits, trim, trimFront, trimBack, strip, before, after}
 use Rattle.definition.specs.Date.{dateOf, dateParts, firstTen}
-use Rattle.definition.specs.Number.{Reading, absent, numberOf, decimalOf}
+use Rattle.definition.specs.Number.{numberOf, found, decimalOf}
 use Rattle.definition.specs.Duration.{durationOf, figuresOf}
 use Rattle.definition.specs.Tree.{Element, child, textOf, nonEmpty}
-use Rattle.fields.specs.Said.{readBy, wholeSaid, dateSaid, numberSaid, minutesSaid}
+use Rattle.laws.specs.Options.{bind-or}
+use Rattle.fields.specs.Said.{wholeSaid, dateSaid, numberSaid, minutesSaid}
 
 -- ---- read as the empty text
-
-bind-or : {A : Type 0} (f : Text → Option A) → f [] ≡ none → (o : Option Text) → f (o or []) ≡ (o >>= f)
-bind-or f e none = e
-bind-or f e (some t) = refl
-
-read-or : {A : Type 0} (f : Text → Reading A) → f [] ≡ absent → (o : Option Text) → f (o or []) ≡ readBy f o
-read-or f e none = e
-read-or f e (some t) = refl
 
 no-whole : signedOf 64 [] ≡ none
 unfolding signedOf signOf digits
@@ -34,11 +27,11 @@ no-date : dateOf [] ≡ none
 unfolding dateOf dateParts firstTen trim trimFront trimBack strip before signedOf signOf digits
 no-date = refl
 
-no-number : numberOf [] ≡ absent
+no-number : found (numberOf []) ≡ none
 unfolding numberOf signOf decimalOf before after digits
 no-number = refl
 
-no-minutes : durationOf [] ≡ absent
+no-minutes : found (durationOf []) ≡ none
 unfolding durationOf figuresOf trim trimFront trimBack strip
 no-minutes = refl
 
@@ -50,11 +43,11 @@ module _ (x : Element) (name t : Text) (e : t ≡ (textOf x name or [])) where
   pub date-or : dateOf t ≡ dateSaid x name
   date-or = ap dateOf e ∙ bind-or dateOf no-date (textOf x name)
 
-  pub number-or : numberOf t ≡ numberSaid x name
-  number-or = ap numberOf e ∙ read-or numberOf no-number (textOf x name)
+  pub number-or : found (numberOf t) ≡ numberSaid x name
+  number-or = ap (λ (t : Text). found (numberOf t)) e ∙ bind-or (λ (t : Text). found (numberOf t)) no-number (textOf x name)
 
-  pub minutes-or : durationOf t ≡ minutesSaid x name
-  minutes-or = ap durationOf e ∙ read-or durationOf no-minutes (textOf x name)
+  pub minutes-or : found (durationOf t) ≡ minutesSaid x name
+  minutes-or = ap (λ (t : Text). found (durationOf t)) e ∙ bind-or (λ (t : Text). found (durationOf t)) no-minutes (textOf x name)
 
 -- ---- given
 

@@ -4,14 +4,14 @@ use Prim.Native.String.{String}
 use mathlib.Core.Path.{_≡_, refl}
 use mathlib.Core.Bool.{Bool}
 use mathlib.Core.List.{[]}
-use mathlib.Core.Option.{Option, some, none}
+use mathlib.Core.Option.{Option}
 use lib.IntN.{ℤ}
 use lib.Ieee.{Float}
 use Rattle.definition.specs.Base.{_>>=_, _or_}
 use Rattle.definition.specs.Ascii.{bytes}
 use Rattle.definition.specs.Text.{Text, signedOf, isYes}
 use Rattle.definition.specs.Date.{Date, dateOf}
-use Rattle.definition.specs.Number.{Reading, absent, numberOf, found}
+use Rattle.definition.specs.Number.{numberOf, found}
 use Rattle.definition.specs.Duration.{durationOf}
 use Rattle.definition.specs.Tree.{Element, textOf}
 use Rattle.definition.specs.Field.{yesIn, intIn, dateIn, numberIn, minutesIn}
@@ -25,22 +25,14 @@ wholeSaid e name = textOf e name >>= signedOf 64
 abbrev pub dateSaid : Element → Text → Option Date
 dateSaid e name = textOf e name >>= dateOf
 
--- what reading a text gives, absent where there is none
-abbrev pub readBy : {A : Type 0} → (Text → Reading A) → Option Text → Reading A
-readBy f none = absent
-readBy f (some t) = f t
+-- a number too long gives none, as a missing one does
+abbrev pub numberSaid : Element → Text → Option Float
+numberSaid e name = textOf e name >>= λ s. found (numberOf s)
 
-abbrev pub numberSaid : Element → Text → Reading Float
-numberSaid e name = readBy numberOf (textOf e name)
-
-abbrev pub minutesSaid : Element → Text → Reading ℕ
-minutesSaid e name = readBy durationOf (textOf e name)
+abbrev pub minutesSaid : Element → Text → Option ℕ
+minutesSaid e name = textOf e name >>= λ s. found (durationOf s)
 
 -- ---- for a name that is written out
-
-found-by : {A : Type 0} (f : Text → Reading A) (o : Option Text) → found (readBy f o) ≡ (o >>= λ t. found (f t))
-found-by f none = refl
-found-by f (some t) = refl
 
 module _ (e : Element) (name : String) where
   pub yes-in : yesSaid e (bytes name) ≡ yesIn e name
@@ -55,11 +47,10 @@ module _ (e : Element) (name : String) where
   unfolding dateIn
   date-in = refl
 
-  -- a number too long gives none, as a missing one does
-  pub number-in : found (numberSaid e (bytes name)) ≡ numberIn e name
+  pub number-in : numberSaid e (bytes name) ≡ numberIn e name
   unfolding numberIn
-  number-in = found-by numberOf (textOf e (bytes name))
+  number-in = refl
 
-  pub minutes-in : found (minutesSaid e (bytes name)) ≡ minutesIn e name
+  pub minutes-in : minutesSaid e (bytes name) ≡ minutesIn e name
   unfolding minutesIn
-  minutes-in = found-by durationOf (textOf e (bytes name))
+  minutes-in = refl

@@ -12,11 +12,11 @@ use Rattle.definition.specs.Base.{_>>=_, when}
 use Rattle.definition.specs.Bits.{Bits, dec}
 use Rattle.definition.specs.Date.{Date}
 use Rattle.definition.specs.Format.{_⊗_, field, flag, times, periods, date}
-use Rattle.bits.specs.Places.{room-short}
-use Rattle.bits.specs.Reads.{rest, rest-out, Reads, read-⊗, read-nothing, refuse-first, refuse-second}
+use Rattle.bits.specs.Reads.{rest, Reads, read-⊗, read-nothing, refuse-first, refuse-second}
 use Rattle.bits.specs.declared.Place.{Place}
 use Rattle.bits.specs.declared.Field.{Field}
-use Rattle.model.specs.Passes.{behind, left, again, Passes, Like, Told, refusing, reading, told, left-times, again-zero, again-suc, again-ext, like-named, pass-like}
+use Rattle.model.specs.Lax.{behind, left, Like, left-zero, left-suc, like-then, like-times, like-named}
+use Rattle.model.specs.Passes.{Passes, Told, refusing, reading, told, pass-like}
 use Rattle.model.specs.Rising.{Found, Finds, DayKey, dayOf}
 
 -- ---- flags
@@ -36,16 +36,16 @@ one-more n b l = by-room (leb n (length l)) refl
     by-room true e = rw (le-leb (suc n) (suc (length l)) (omega (arith, leb-true n (length l) e)))
     by-room false e = rw (lt-leb (suc n) (suc (length l)) (omega (arith, leb-false n (length l) e)))
 
-bit-by-bit : (n : ℕ) (l : Bits) → again n (left (field 1)) l ≡ when (leb n (length l)) (drop n l)
-bit-by-bit zero l = again-zero (left (field 1)) l ∙ rw (le-leb 0 (length l) (omega arith))
-bit-by-bit (suc n) [] = again-suc n (left (field 1)) [] ∙ rw (left-field 1 [], lt-leb (suc n) 0 (omega arith))
+bit-by-bit : (n : ℕ) (l : Bits) → when (leb n (length l)) (drop n l) ≡ left (times n (field 1)) l
+bit-by-bit zero l = rw (le-leb 0 (length l) (omega arith)) (sym (left-zero (field 1) l))
+bit-by-bit (suc n) [] = rw (lt-leb (suc n) 0 (omega arith)) (sym (left-suc (field 1) n [] ∙ rw (left-field 1 [])))
 bit-by-bit (suc n) (b ∷ l) =
     let e : left (field 1) (b ∷ l) ≡ some l = left-field 1 (b ∷ l) ∙ rw (le-leb 1 (suc (length l)) (omega arith)) in
-    again-suc n (left (field 1)) (b ∷ l) ∙ ap (λ (o : Option Bits). o >>= again n (left (field 1))) e ∙ bit-by-bit n l ∙ one-more n b l
+    sym (left-suc (field 1) n (b ∷ l) ∙ ap (λ (o : Option Bits). o >>= left (times n (field 1))) e ∙ sym (bit-by-bit n l) ∙ one-more n b l)
 
 like-flags : (n : ℕ) → Like (field n) (times n flag)
 unfolding flag
-like-flags n = record { like = λ l. left-field n l ∙ sym (bit-by-bit n l) ∙ again-ext n (left (field 1)) (left flag) (like-named _ _ (field 1) .like) l ∙ sym (left-times flag n l) }
+like-flags n = like-then (record { like = λ l. left-field n l ∙ bit-by-bit n l }) (like-times n (like-named _ _ (field 1)))
 
 pub pass-flags : (n : ℕ) {s : List ℕ} {p q : Place} → Passes (field n) s p q → Passes (times n flag) s p q
 pass-flags n h = pass-like (like-flags n) h
@@ -77,9 +77,3 @@ module _ {s : List ℕ} {p q : Place} {x : Field} (h : Finds date (DayKey false)
   unfolding dayOf
   day-hours true e = both
   day-hours false e = let n : _≡_ {A = ℕ} 0 1 = cc in absurd (omega arith)
-
--- ---- records
-
--- a bit of 8 or more is past every end
-pub far : (s : List ℕ) (q : Place) → 7 < q .bit → rest s q ≡ none
-far s q h = rest-out s q (room-short (length s) q 0 (λ b. absurd (omega arith)))

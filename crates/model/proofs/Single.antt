@@ -1,6 +1,6 @@
 -- Laws for the fields: one for each way out of a function. Assumes nothing.
 use mathlib.Core.Path.{_≡_, refl, sym, ap, _∙_}
-use mathlib.Core.Bool.{Bool, true, false, _&&_, not}
+use mathlib.Core.Bool.{Bool, true, false, _&&_, not, and-false, false≢true}
 use mathlib.Core.List.{List}
 use mathlib.Core.Option.{Option, some, none}
 use Prim.Native.Nat.{ℕ, suc, _+_, _-_, _*_, _/_, _%_, _^_, _≤_, _<_}
@@ -9,22 +9,32 @@ use lib.ListN.{length, take, drop}
 use lib.Seq.{drop-drop}
 use lib.Dec.{leb, ltb, eqb}
 use lib.IntN.{ℤ, pos, negsuc}
-use borrow.Author.Tests.{lt-ltb, le-ltb, ltb-false, le-leb, lt-leb, leb-true, eq-eqb, ne-eqb}
-use Rattle.definition.specs.Base.{_>>=_, _or_, when, if_then_else_}
+use lib.Signed.{leZ}
+use borrow.Author.Tests.{lt-ltb, le-ltb, ltb-true, ltb-false, le-leb, lt-leb, leb-true, leb-false, eq-eqb, ne-eqb}
+use Rattle.definition.specs.Base.{_>>=_, _or_, given, when, if_then_else_}
 use Rattle.definition.specs.Bits.{Bits, bitsOf, bytesUpTo, signed}
-use Rattle.definition.specs.Date.{epoch, firstDate, lastDate, inYears, fromDays}
+use Rattle.definition.specs.Answer.{dayNumberOf}
+use Rattle.definition.specs.Date.{Date, epoch, firstDate, lastDate, inYears, fromDays}
 use Rattle.definition.specs.Time.{mostTime}
 use Rattle.definition.specs.Text.{Text, isUtf8}
-use Rattle.definition.specs.Format.{Format, _⊗_, field, whole, count, flag, code, time, period, date, optional, number}
-use Rattle.definition.specs.Pack.{constraint}
+use Rattle.definition.specs.Format.{Format, _⊗_, field, whole, count, row, flag, code, time, period, date, text, optional, number}
+use Rattle.definition.specs.Pack.{constraint, counts}
 use Rattle.bits.specs.Places.{at, place, past, room, inside, Fits, room-fits, room-short, room-none, room-more, place-at, at-place}
-use Rattle.bits.specs.Reads.{rest, Reads, Refuses, takeAt, flagAt, read-bit, spanAt, spanOf, Spans, rest-in, rest-out, rest-past, length-rest, take-cut, take-whole, read-field, read-whole, skip-pad, chain, read-flag, read-code, refuse-code, read-time, refuse-time, read-⊗, read-period, refuse-period, read-date, refuse-date, refuse-value, refuse-first, refuse-second, refuse-test}
+use Rattle.bits.specs.Reads.{rest, Reads, Refuses, refused, takeAt, flagAt, int32At, read-int32, refuse-int32, read-none, read-some, refuse-some, read-bit, spanAt, spanOf, Spans, rest-in, rest-out, rest-past, length-rest, take-cut, take-whole, read-field, read-whole, skip-pad, chain, read-flag, read-code, refuse-code, read-time, refuse-time, read-⊗, read-period, refuse-period, read-date, refuse-date, refuse-value, refuse-first, refuse-second, refuse-test}
 use Rattle.bits.specs.declared.Place.{Place}
 use Rattle.bits.specs.declared.Field.{Field}
 use Rattle.bits.specs.declared.Span.{Span}
 use Rattle.bits.specs.declared.Flag.{Flag}
-use Rattle.model.specs.Places.{NameAt, between}
-use Rattle.model.specs.Passes.{behind, left, bind-ext, Passes, like-named, like-optional, pass-like, pass-read, pass-refused, pass-some, pass-none, pass-both, pass-alone}
+use Rattle.bits.specs.declared.Int32.{Int32}
+use Rattle.laws.specs.Options.{bind-ext, never}
+use Rattle.laws.specs.Fields.{day-days}
+use Rattle.model.specs.Lax.{behind, left, like-named, like-optional}
+use Rattle.model.specs.Passes.{Passes, pass-like, pass-read, pass-refused, pass-some, pass-none, pass-both, pass-alone}
+use Rattle.model.specs.Answers.{readAt, countsAt, rowAt, rowsAt, dateAt, nameMeaning, spanned, nameAt, read-there, read-nowhere, or-there, or-nowhere}
+use Rattle.model.specs.Splits.{stands-is, not-refused}
+use Rattle.model.specs.Sections.{start}
+use Rattle.model.specs.Places.{NameTaken, between, span-ends, name-is}
+use Rattle.model.specs.declared.parts.NameAnswer.{NameAnswer}
 use Rattle.model.specs.Rising.{Finds, PeriodKey, DayKey}
 use Rattle.model.specs.Parts.{raw, textBy, lagKind}
 
@@ -66,10 +76,6 @@ module _ (s : List ℕ) (p : Place) (lo hi : ℕ) {x : Field} (e : x ≡ takeAt 
 
   pub code-above : hi < x .value → Refuses (code lo hi) s p
   code-above h = refuse-code lo hi (read-field s p 4 e) (rw (lt-leb (x .value) hi h) (and-false (leb lo (x .value))))
-    where
-      and-false : (t : Bool) → (t && false) ≡ false
-      and-false true = refl
-      and-false false = refl
 
 -- ---- what may be missing
 
@@ -223,7 +229,7 @@ module _ (s : List ℕ) (p : Place) {a b : Field} (ea : a ≡ takeAt s p 11) (eb
   unfolding period
   from-late h = refuse-value _ _ (refuse-first time (refuse-time (read-field s p 11 ea) h))
 
-  to-late : mostTime < b .value → (t : Bool) → leb (a .value) mostTime ≡ t → Refuses period s p
+  pub to-late : mostTime < b .value → (t : Bool) → leb (a .value) mostTime ≡ t → Refuses period s p
   unfolding period
   to-late h false e = from-late e
   to-late h true e = refuse-value _ _ (refuse-second (read-time (read-field s p 11 ea) e) (refuse-time (read-field s (a .next) 11 eb) (lt-leb (b .value) mostTime h)))
@@ -231,9 +237,12 @@ module _ (s : List ℕ) (p : Place) {a b : Field} (ea : a ≡ takeAt s p 11) (eb
   both-times : a .value ≤ mostTime → b .value ≤ mostTime → Reads (time ⊗ time) s p (a .value, b .value) (b .next)
   both-times h k = read-⊗ (read-time (read-field s p 11 ea) (le-leb (a .value) mostTime h)) (read-time (read-field s (a .next) 11 eb) (le-leb (b .value) mostTime k))
 
-  level : b .value ≤ a .value → (t : Bool) → leb (a .value) mostTime ≡ t → Refuses period s p
+  pub level : b .value ≤ a .value → (t : Bool) → leb (a .value) mostTime ≡ t → Refuses period s p
   level h false e = from-late e
   level h true e = let l = leb-true (a .value) mostTime e in refuse-period (both-times l (omega arith)) (le-ltb (a .value) (b .value) h)
+
+  pub period-read : a .value < b .value → b .value ≤ mostTime → Reads period s p (a .value, b .value) (b .next)
+  period-read h k = read-period (both-times (omega arith) k) (lt-ltb (a .value) (b .value) h)
 
   no-period : Refuses period s p → Finds period PeriodKey s p (record { value = 0; next = past })
   no-period h = record { found = λ l. absurd (omega arith); refuses = λ t. h; past = λ t. rest-past s }
@@ -250,7 +259,7 @@ module _ (s : List ℕ) (p : Place) {a b : Field} (ea : a ≡ takeAt s p 11) (eb
       let x : v / 2048 ≡ a .value = omega arith in
       let y : v % 2048 ≡ b .value = omega arith in
       record {
-        found = λ l. record { item = (a .value, b .value); key = (rw (x, y), l); reads = read-period (both-times (omega arith) k) (lt-ltb (a .value) (b .value) h) };
+        found = λ l. record { item = (a .value, b .value); key = (rw (x, y), l); reads = period-read h k };
         refuses = λ t. absurd (omega arith);
         past = λ t. absurd (omega arith);
       }
@@ -283,20 +292,217 @@ module _ (s : List ℕ) (p : Place) {x : Field} (e : x ≡ takeAt s p 4) where
   pub lag-plain : x .value ≤ 2 → (x .value ≡ 2 → ⊥) → Passes lagKind s p (x .next)
   lag-plain h n = pass-alone (eqb 2) number (code-in s p 0 2 e (omega arith) h) (ne-eqb 2 (x .value) (λ z. n (sym z)))
 
--- ---- flags and names
+-- ---- what a reader of parts answers
 
-pub flag-as : (s : List ℕ) (p : Place) {x : Flag} {b : Bool} → x ≡ flagAt s p → x .value ≡ b → Reads flag s p b (x .next)
-flag-as s p e h = rw (← h) (read-bit s p e)
+pub far : (s : List ℕ) (q : Place) → 7 < q .bit → rest s q ≡ none
+far s q h = rest-out s q (room-short (length s) q 0 (λ b. absurd (omega arith)))
 
-pub name-missing : (s : List ℕ) (p : Place) {x : Flag} → x ≡ flagAt s p → x .value ≡ false → NameAt s p (record { given = false; start = 0; len = 0; next = x .next })
-name-missing s p {x} e h = record { behind = x .next; is = flag-as s p e h; spans = λ g. absurd (differ g); missing = λ g. refl }
+-- the place behind a field: past, or inside
+module _ (s : List ℕ) (p : Place) (w : ℕ) {x : Field} (e : x ≡ takeAt s p w) where
+  take-cases : (room (length s) p w ≡ false → x .next ≡ past) × (room (length s) p w ≡ true → rest s (x .next) ≡ some (drop (at p + w) (bitsOf s)))
+  take-cases = (
+    λ h. ap (λ (y : Field). y .next) (e ∙ take-cut s p w h),
+    λ h. let f = room-fits (length s) p w h in ap (λ (y : Field). rest s (y .next)) (e ∙ take-whole s p w f) ∙ rest-place s (at p + w) (f .ends),
+  )
+
+  pub take-there : x .next .bit ≤ 7 → (l : Bits) × (rest s (x .next) ≡ some l)
+  take-there h = by-room (room (length s) p w) refl
+    where
+      by-room : (t : Bool) → room (length s) p w ≡ t → (l : Bits) × (rest s (x .next) ≡ some l)
+      by-room true r = (_, take-cases .1 r)
+      by-room false r = let z = ap (λ (q : Place). q .bit) (take-cases .0 r) in absurd (omega arith)
+
+  take-past : rest s (x .next) ≡ none → x .next ≡ past
+  take-past h = by-room (room (length s) p w) refl
+    where
+      by-room : (t : Bool) → room (length s) p w ≡ t → x .next ≡ past
+      by-room true r = absurd (never (sym h ∙ take-cases .1 r))
+      by-room false r = take-cases .0 r
+
+  -- a field that is cut is 0
+  pub take-above : 0 < x .value → x .next .bit ≤ 7
+  take-above h = by-room (room (length s) p w) refl
+    where
+      by-room : (t : Bool) → room (length s) p w ≡ t → x .next .bit ≤ 7
+      by-room true r = let f = room-fits (length s) p w r in let z = ap (λ (y : Field). y .next .bit) (e ∙ take-whole s p w f) in omega arith
+      by-room false r = let z = ap (λ (y : Field). y .value) (e ∙ take-cut s p w r) in absurd (omega arith)
+
+-- ---- flags
+
+module _ (s : List ℕ) (p : Place) {x : Flag} (e : x ≡ flagAt s p) where
+  pub flag-as : {b : Bool} → x .value ≡ b → Reads flag s p b (x .next)
+  flag-as h = rw (← h) (read-bit s p e)
+
+  flag-past : rest s (x .next) ≡ none → x .next ≡ past
+  unfolding flagAt
+  flag-past h = let z : x .next ≡ takeAt s p 1 .next = ap (λ (y : Flag). y .next) e in z ∙ take-past s p 1 refl (ap (rest s) (sym z) ∙ h)
+
+  -- ---- rows
+
+  pub row-missing : x .value ≡ false → (none, x .next) ≡ rowAt s p
+  row-missing h = by-rest (rest s (x .next)) refl
+    where
+      r : Reads (optional row) s p none (x .next)
+      r = read-none row (flag-as h)
+
+      by-rest : (o : Option Bits) → rest s (x .next) ≡ o → (none, x .next) ≡ rowAt s p
+      by-rest none z = ap (λ (q : Place). (none, q)) (flag-past z) ∙ sym (or-nowhere none (refused r z))
+      by-rest (some l) z = sym (or-there none z r)
+
+  module _ {v : Field} (h : x .value ≡ true) (ev : v ≡ takeAt s (x .next) 32) where
+    pub row-cut : 7 < v .next .bit → (none, past) ≡ rowAt s p
+    row-cut b = sym (or-nowhere none (refuse-some (flag-as h) (refused (read-field s (x .next) 32 ev) (far s (v .next) b))))
+
+    pub row-given : v .next .bit ≤ 7 → (some (v .value), v .next) ≡ rowAt s p
+    row-given b = sym (or-there none (take-there s (x .next) 32 ev b .1) (read-some (flag-as h) (read-field s (x .next) 32 ev)))
+
+  -- ---- names
+
+  pub name-missing : x .value ≡ false → NameTaken s p (record { name = NameAnswer.Absent; next = x .next })
+  unfolding nameAt nameMeaning
+  name-missing h =
+      record {
+        is = let z : flagAt s p .value ≡ false = ap (λ (y : Flag). y .value) (sym e) ∙ h in rw z (ap (λ (y : Flag). (none, y .next)) e);
+        within = λ start len z. absurd (no-name z);
+        text = λ o k. sym (stands-is k (read-none text (flag-as h)));
+      }
+    where
+      no-name : {a b : ℕ} → NameAnswer.Absent ≡ NameAnswer.At a b → ⊥
+      no-name z = let y : _≡_ {A = ℕ} 0 1 = cc in omega arith
+
+  module _ {t : Span} (h : x .value ≡ true) (k : Spans s (x .next) t) where
+    name-by : nameAt s p ≡ spanned t
+    unfolding nameAt
+    name-by =
+        let z : flagAt s p .value ≡ true = ap (λ (y : Flag). y .value) (sym e) ∙ h in
+        rw z (ap (λ (y : Flag). spanned (spanAt s (y .next))) (sym e) ∙ ap spanned (sym (k .is)))
+
+    no-text : 7 < t .next .bit → Refuses text s (x .next)
+    no-text b = by-utf8 (isUtf8 (take (t .len) (drop (t .start) s))) refl
+      where
+        by-utf8 : (u : Bool) → isUtf8 (take (t .len) (drop (t .start) s)) ≡ u → Refuses text s (x .next)
+        by-utf8 true z = refused (k .reads z) (far s (t .next) b)
+        by-utf8 false z = k .refuses z
+
+    pub name-cut : 7 < t .next .bit → NameTaken s p (record { name = NameAnswer.Absent; next = past })
+    unfolding nameMeaning
+    name-cut b =
+        record {
+          is = sym (name-by ∙ rw (lt-ltb 7 (t .next .bit) b));
+          within = λ start len z. absurd (no-name z);
+          text = λ o z. absurd (not-refused z (refuse-some (flag-as h) (no-text b)));
+        }
+      where
+        no-name : {a b : ℕ} → NameAnswer.Absent ≡ NameAnswer.At a b → ⊥
+        no-name z = let y : _≡_ {A = ℕ} 0 1 = cc in omega arith
+
+    pub name-given : t .next .bit ≤ 7 → NameTaken s p (record { name = NameAnswer.At (t .start) (t .len); next = t .next })
+    unfolding nameMeaning
+    name-given b =
+        record {
+          is = sym (name-by ∙ rw (le-ltb 7 (t .next .bit) b));
+          within = λ start len z.
+              let u : t .start ≡ start = cc in
+              let v : t .len ≡ len = cc in
+              let w = span-ends s (x .next) (k .is) in
+              omega arith;
+          text = λ o z. name-is z (flag-as h) k;
+        }
+
+-- ---- two rows
+
+module _ (s : List ℕ) (p : Place) {a b : Field} (ea : a ≡ takeAt s p 32) (eb : b ≡ takeAt s (a .next) 32) where
+  rows-read : Reads (row ⊗ row) s p (a .value, b .value) (b .next)
+  rows-read = read-⊗ (read-field s p 32 ea) (read-field s (a .next) 32 eb)
+
+  pub rows-cut : 7 < b .next .bit → ((0, 0), past) ≡ rowsAt s p
+  rows-cut h = sym (or-nowhere (0, 0) (refused rows-read (far s (b .next) h)))
+
+  pub rows-given : b .next .bit ≤ 7 → ((a .value, b .value), b .next) ≡ rowsAt s p
+  rows-given h = sym (or-there (0, 0) (take-there s (a .next) 32 eb h .1) rows-read)
+
+-- ---- the counts
+
+module _ (s : List ℕ) {a b c d e f : Field} (ea : a ≡ takeAt s start 32) (eb : b ≡ takeAt s (a .next) 32) (ec : c ≡ takeAt s (b .next) 32) (ed : d ≡ takeAt s (c .next) 32)
+    (ee : e ≡ takeAt s (d .next) 32) (ef : f ≡ takeAt s (e .next) 32) where
+  counts-read : Reads counts s start (a .value, (b .value, (c .value, (d .value, (e .value, f .value))))) (f .next)
+  counts-read =
+      read-⊗ (read-field s start 32 ea) (read-⊗ (read-field s (a .next) 32 eb) (read-⊗ (read-field s (b .next) 32 ec)
+      (read-⊗ (read-field s (c .next) 32 ed) (read-⊗ (read-field s (d .next) 32 ee) (read-field s (e .next) 32 ef)))))
+
+  pub counts-cut : 7 < f .next .bit → ((0, (0, (0, (0, (0, 0))))), past) ≡ countsAt s start
+  counts-cut h = sym (or-nowhere _ (refused counts-read (far s (f .next) h)))
+
+  pub counts-given : f .next .bit ≤ 7 → ((a .value, (b .value, (c .value, (d .value, (e .value, f .value))))), f .next) ≡ countsAt s start
+  counts-given h = sym (or-there _ (take-there s (e .next) 32 ef h .1) counts-read)
+
+-- ---- dates
+
+pub date-missing : {s : List ℕ} {p : Place} → Refuses date s p → (none, past) ≡ dateAt s p
+unfolding dayNumberOf
+date-missing h = rw (read-nowhere h)
+
+module _ (s : List ℕ) (p : Place) {x : Int32} (e : x ≡ int32At s p) where
+  pub date-cut : 7 < x .next .bit → (none, past) ≡ dateAt s p
+  date-cut h = date-missing (by-date (fromDays (x .value)) refl)
+    where
+      by-date : (o : Option Date) → fromDays (x .value) ≡ o → Refuses date s p
+      by-date none z = refuse-int32 s p e z
+      by-date (some d) z = refused (read-int32 s p e z) (far s (x .next) h)
+
+  pub date-outside : given (fromDays (x .value)) ≡ false → (none, past) ≡ dateAt s p
+  date-outside h = by-date (fromDays (x .value)) refl h
+    where
+      by-date : (o : Option Date) → fromDays (x .value) ≡ o → given o ≡ false → (none, past) ≡ dateAt s p
+      by-date none z k = date-missing (refuse-int32 s p e z)
+      by-date (some d) z k = absurd (false≢true (sym k))
+
+  pub date-given : x .next .bit ≤ 7 → given (fromDays (x .value)) ≡ true → (some (x .value), x .next) ≡ dateAt s p
+  unfolding dayNumberOf int32At
+  date-given b h = by-date (fromDays (x .value)) refl h
+    where
+      there : (l : Bits) × (rest s (x .next) ≡ some l)
+      there =
+          let z : x .next ≡ takeAt s p 32 .next = ap (λ (y : Int32). y .next) e in
+          rw z (take-there s p 32 refl (rw z at b))
+
+      by-date : (o : Option Date) → fromDays (x .value) ≡ o → given o ≡ true → (some (x .value), x .next) ≡ dateAt s p
+      by-date none z k = absurd (false≢true k)
+      by-date (some d) z k =
+          let r : readAt date s p ≡ (some d, x .next) = read-there (there .1) (read-int32 s p e z) in
+          rw (r, day-days (x .value) d z .0)
+
+-- the years of dates by document 01's numbers
+pub years-by : (z : ℤ) → (leZ (negsuc 4371586) z && leZ z (pos 2932896)) ≡ given (fromDays z)
+unfolding fromDays
+years-by (pos n) = sym (by-late (leb n 2932896) refl)
   where
-    differ : false ≡ true → ⊥
-    differ g = let z : _≡_ {A = ℕ} 0 1 = cc in omega arith
-
-pub name-given : (s : List ℕ) (p : Place) {x : Flag} {t : Span} → x ≡ flagAt s p → x .value ≡ true → Spans s (x .next) t
-    → NameAt s p (record { given = true; start = t .start; len = t .len; next = t .next })
-name-given s p {x} e h i = record { behind = x .next; is = flag-as s p e h; spans = λ g. i; missing = λ g. absurd (differ g) }
+    by-late : (t : Bool) → leb n 2932896 ≡ t → given (inYears (n + epoch)) ≡ t
+    by-late true h = let l = leb-true n 2932896 h in rw (le-leb firstDate (n + epoch) (omega arith), le-leb (n + epoch) lastDate (omega arith))
+    by-late false h = let l = leb-false n 2932896 h in rw (le-leb firstDate (n + epoch) (omega arith), lt-leb (n + epoch) lastDate (omega arith))
+years-by (negsuc n) = by-early (leb n 4371586) refl
   where
-    differ : true ≡ false → ⊥
-    differ g = let z : _≡_ {A = ℕ} 0 1 = cc in omega arith
+    early : 4371586 < n → (t : Bool) → ltb n epoch ≡ t → given (if t then inYears (epoch - suc n) else none) ≡ false
+    early l true h = let k = ltb-true n epoch h in rw (lt-leb firstDate (epoch - suc n) (omega arith))
+    early l false h = refl
+
+    by-early : (t : Bool) → leb n 4371586 ≡ t → (t && true) ≡ given (if ltb n epoch then inYears (epoch - suc n) else none)
+    by-early true h =
+        let l = leb-true n 4371586 h in
+        rw (lt-ltb n epoch (omega arith), le-leb firstDate (epoch - suc n) (omega arith), le-leb (epoch - suc n) lastDate (omega arith))
+    by-early false h = sym (early (leb-false n 4371586 h) (ltb n epoch) refl)
+
+-- ---- periods
+
+pub period-missing : {s : List ℕ} {p : Place} → Refuses period s p → (none, past) ≡ readAt period s p
+period-missing h = sym (read-nowhere h)
+
+module _ (s : List ℕ) (p : Place) {a b : Field} (ea : a ≡ takeAt s p 11) (eb : b ≡ takeAt s (a .next) 11) where
+  pub no-level : b .value ≤ a .value → (none, past) ≡ readAt period s p
+  no-level h = period-missing (level s p ea eb h (leb (a .value) mostTime) refl)
+
+  pub no-late : mostTime < b .value → (none, past) ≡ readAt period s p
+  no-late h = period-missing (to-late s p ea eb h (leb (a .value) mostTime) refl)
+
+  pub period-given : a .value < b .value → b .value ≤ mostTime → (some (a .value, b .value), b .next) ≡ readAt period s p
+  period-given h k = sym (read-there (take-there s (a .next) 11 eb (take-above s (a .next) 11 eb (omega arith)) .1) (period-read s p ea eb h k))

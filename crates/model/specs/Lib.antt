@@ -1,5 +1,6 @@
-pub mod Passes
 pub mod Lax
+pub mod Passes
+pub mod Answers
 pub mod Rising
 pub mod Parts
 pub mod Splits

@@ -8,6 +8,7 @@ use native.Mathlib.Nat.{sub-zero}
 use native.Mathlib.Omega.{arith}
 use lib.ListN.{length, drop}
 use lib.Seq.{drop-drop}
+use Rattle.laws.specs.Options.{bind-assoc, bind-ext, never}
 use Rattle.definition.specs.Base.{_>>=_, when}
 use Rattle.definition.specs.Bits.{Bits}
 use Rattle.definition.specs.Format.{Format, _⊗_, times, getAll, rises, listOf, count}
@@ -15,13 +16,10 @@ use Rattle.bits.specs.Places.{past, room-short}
 use Rattle.bits.specs.Reads.{rest, Reads, takeAt, take-cut, read-field, chain}
 use Rattle.bits.specs.declared.Place.{Place}
 use Rattle.bits.specs.declared.Field.{Field}
-use Rattle.model.specs.Passes.{Passes, bind-bind, bind-ext, all-suc}
-use Rattle.model.specs.Lax.{Lax}
+use Rattle.model.specs.Lax.{Lax, all-suc}
+use Rattle.model.specs.Passes.{Passes}
 use Rattle.model.specs.Rising.{Finds}
 use Rattle.model.specs.Splits.{Stands, not-refused, stands-is, stands-first, stands-pass, read-stands, read-length, later, size, sized}
-
-never : {A : Type 0} {a : A} → none ≡ some a → ⊥
-never e = let z : _≡_ {A = ℕ} 0 1 = cc in omega arith
 
 -- from a place at which something stands there are bits
 pub stands-rest : {A : Type 0} {f : Format A} {s : List ℕ} {p : Place} {a : A} → Stands f s p a → (l : Bits) × (rest s p ≡ some l)
@@ -53,7 +51,7 @@ module _ {A : Type 0} (f : Format A) {s : List ℕ} {p : Place} {xs : List A} wh
   unfolding times _⊗_
   first n h =
       by-value (rest s p >>= (f ⊗ times n f) .get) refl
-      (bind-bind (rest s p) ((f ⊗ times n f) .get) consed ∙ bind-ext (rest s p) _ (getAll f (suc n)) (λ l. each (f .get l) ∙ sym (all-suc f n l)) ∙ h .gives)
+      (bind-assoc (rest s p) ((f ⊗ times n f) .get) consed ∙ bind-ext (rest s p) _ (getAll f (suc n)) (λ l. each (f .get l) ∙ sym (all-suc f n l)) ∙ h .gives)
     where
       consed : (A × List A) × Bits → Option (List A × Bits)
       consed z = some (z .0 .0 ∷ z .0 .1, z .1)
@@ -86,7 +84,7 @@ module _ {A : Type 0} (f : Format A) {s : List ℕ} {p : Place} {xs : List A} wh
   unfolding listOf times
   stands-list lt {n} {q} h r =
       let k : ℕ × Bits → Option (List A × Bits) = λ x. getAll f (x .0) (x .1) >>= λ y. when (rises lt (y .0)) y in
-      by-items (rest s q >>= getAll f n) refl (bind-bind (rest s q) (getAll f n) risen ∙ sym (chain {f = count} k r) ∙ h .gives)
+      by-items (rest s q >>= getAll f n) refl (bind-assoc (rest s q) (getAll f n) risen ∙ sym (chain {f = count} k r) ∙ h .gives)
     where
       risen : List A × Bits → Option (List A × Bits)
       risen y = when (rises lt (y .0)) y

@@ -1,6 +1,6 @@
 -- The decoding pass: the counts and the places between the sections tell whether the bytes decode, and to what. Assumes nothing.
 use mathlib.Core.Path.{_≡_, refl, sym, ap, _∙_}
-use mathlib.Core.Bool.{Bool, true, false, _&&_}
+use mathlib.Core.Bool.{Bool, true, false, _&&_, false≢true}
 use mathlib.Core.List.{List, [], _∷_}
 use mathlib.Core.Option.{Option, some, none}
 use Prim.Native.Nat.{ℕ, _-_, _*_, _%_}
@@ -8,6 +8,8 @@ use native.Mathlib.Omega.{arith}
 use lib.ListN.{length, drop}
 use lib.Dec.{eqb}
 use borrow.Author.Tests.{eqb-true, eq-eqb}
+use Rattle.laws.specs.Bools.{both}
+use Rattle.laws.specs.Options.{bind-assoc, never}
 use Rattle.definition.specs.Base.{if_then_else_, _>>=_}
 use Rattle.definition.specs.Bits.{Bits, bitsOf}
 use Rattle.definition.specs.Format.{Format, whole, times}
@@ -17,16 +19,15 @@ use Rattle.bits.specs.Places.{at, Fits}
 use Rattle.bits.specs.Reads.{rest, Reads, rest-in, length-rest, chain}
 use Rattle.bits.specs.declared.Place.{Place}
 use Rattle.model.specs.declared.Sections.{Sections}
+use Rattle.model.specs.declared.Opened.{Opened}
 use Rattle.model.specs.declared.Counts.{Counts}
 use Rattle.model.specs.declared.Places.{Places}
-use Rattle.model.specs.Passes.{Passes, Told, refusing, reading, told, stood, bind-bind, _⨾_}
+use Rattle.model.specs.Passes.{Passes, Told, refusing, reading, told, stood, _⨾_}
+use Rattle.model.specs.Answers.{countsAt, tails-counts, or-reads, rest-fits}
 use Rattle.model.specs.Splits.{split-⊗, read-length}
-use Rattle.model.specs.Sections.{byteAt, start, countsIn, Walks, Holds, Decoded, noSections, sectionsOf, sectionsBy, Opened, rest-fits, byte-place}
+use Rattle.model.specs.Sections.{byteAt, start, countsIn, Walks, Holds, Decoded, sectionsOf, sectionsBy, Sectioned, Opens, byte-place}
 
 -- ---- places
-
-never : {A : Type 0} {a : A} → none ≡ some a → ⊥
-never e = let z : _≡_ {A = ℕ} 0 1 = cc in omega arith
 
 no-bits : (l : Bits) → length l ≡ 0 → l ≡ []
 no-bits [] e = refl
@@ -65,7 +66,10 @@ decode-on {s} {k} {q} h =
     let on : CountsOf × Bits → Option (Model × Bits) = λ x. body (x .0) .get (x .1) >>= toModel in
     ap atEnd (sym (ap (λ (o : Option Bits). o >>= λ l. counts .get l >>= on) (start-rest s)) ∙ chain {f = counts} on h)
 
-module _ {s : List ℕ} {n : Counts} {w : Places} (c : Reads counts s start (countsIn n) (n .next)) (h : Walks s n w) where
+module _ {s : List ℕ} {n : Counts} {w : Places} (k : (countsIn n, n .next) ≡ countsAt s start) (h : Walks s n w) where
+  c : Reads counts s start (countsIn n) (n .next)
+  c = or-reads tails-counts _ s start k
+
   passes-body : Passes (body (countsIn n)) s (n .next) (w .end)
   unfolding body
   passes-body = h .project ⨾ h .calendars ⨾ h .activities ⨾ h .links ⨾ h .resources ⨾ h .assignments ⨾ h .expenses
@@ -80,14 +84,17 @@ module _ {s : List ℕ} {n : Counts} {w : Places} (c : Reads counts s start (cou
       left-over b (x ∷ l) e = refl
 
       by-body : Told (body (countsIn n)) s (n .next) (w .end) → atEnd (rest s (n .next) >>= λ l. body (countsIn n) .get l >>= toModel) ≡ none
-      by-body (refusing r z) = ap atEnd (sym (bind-bind (rest s (n .next)) (body (countsIn n) .get) toModel) ∙ ap (λ (o : Option (Body × Bits)). o >>= toModel) (r .gives))
+      by-body (refusing r z) = ap atEnd (sym (bind-assoc (rest s (n .next)) (body (countsIn n) .get) toModel) ∙ ap (λ (o : Option (Body × Bits)). o >>= toModel) (r .gives))
       by-body (reading b l e r) =
           ap atEnd (chain {f = body (countsIn n)} toModel r ∙ ap (λ (o : Option Bits). o >>= λ m. toModel (b, m)) e) ∙ left-over b l e
 
-  pub open-refused : (rest s (w .end) ≡ some [] → ⊥) → Opened s noSections
+  open-refused : (rest s (w .end) ≡ some [] → ⊥) → Opens s Opened.NoModel
   open-refused n-end =
       let e = unended n-end in
-      record { ok = rw e; decoded = λ m z. absurd (never (sym e ∙ z)); refused = λ z. refl }
+      record { number = rw e; model = λ r z. absurd (never-model z); refused = λ z. e }
+    where
+      never-model : {r : Sections} → Opened.NoModel ≡ Opened.Model r → ⊥
+      never-model z = let y : _≡_ {A = ℕ} 0 1 = cc in omega arith
 
   -- ---- it does
 
@@ -128,56 +135,57 @@ module _ {s : List ℕ} {n : Counts} {w : Places} (c : Reads counts s start (cou
         expenses = rw (← pn) (holds expense (n .expenses) e px pe (t5 .1));
       }
 
-  pub open-done : w .end .bit ≡ 0 → w .end .byte ≡ length s → Opened s (sectionsOf n w)
+  open-done : w .end .bit ≡ 0 → w .end .byte ≡ length s → Opens s (Opened.Model (sectionsOf n w))
   open-done b y = by-body (told passes-body)
     where
       e : rest s (w .end) ≡ some []
       e = at-end s (w .end) b y
 
-      by-body : Told (body (countsIn n)) s (n .next) (w .end) → Opened s (sectionsOf n w)
+      never-none : Opened.Model (sectionsOf n w) ≡ Opened.NoModel → ⊥
+      never-none z = let y : _≡_ {A = ℕ} 0 1 = cc in omega arith
+
+      by-body : Told (body (countsIn n)) s (n .next) (w .end) → Opens s (Opened.Model (sectionsOf n w))
       by-body (refusing r z) = absurd (never (sym z ∙ e))
       by-body (reading b l z r) =
           let d : decode s ≡ some (modelFrom b) =
           decode-on c ∙ ap atEnd (chain {f = body (countsIn n)} toModel r ∙ ap (λ (o : Option Bits). o >>= λ m. toModel (b, m)) e) in
           record {
-            ok = rw d;
-            decoded = λ m u. let i : m ≡ modelFrom b = cc in rw i (parts b e r);
-            refused = λ u. absurd (never (sym u ∙ d));
+            number = rw d;
+            model = λ x u. let i : x ≡ sectionsOf n w = cc in record { model = modelFrom b; decodes = d; sections = rw i (parts b e r) };
+            refused = λ u. absurd (never-none u);
           }
 
   -- ---- either way
-
-  false-true : {A : Type 0} → false ≡ true → A
-  false-true e = let z : _≡_ {A = ℕ} 0 1 = cc in absurd (omega arith)
-
-  both : (a b : Bool) → (a && b) ≡ true → (a ≡ true) × (b ≡ true)
-  both true b e = (refl, e)
-  both false b e = false-true e
 
   ended : (eqb (w .end .bit) 0 && eqb (w .end .byte) (length s)) ≡ true → rest s (w .end) ≡ some []
   ended e =
       let k = both (eqb (w .end .bit) 0) (eqb (w .end .byte) (length s)) e in
       at-end s (w .end) (eqb-true (w .end .bit) 0 (k .0)) (eqb-true (w .end .byte) (length s) (k .1))
 
-  pub opened : Opened s (sectionsBy (length s) n w)
+  pub opened : Opens s (sectionsBy (length s) n w)
   opened = by-end (eqb (w .end .bit) 0 && eqb (w .end .byte) (length s)) refl
     where
-      by-end : (t : Bool) → (eqb (w .end .bit) 0 && eqb (w .end .byte) (length s)) ≡ t → Opened s (if t then sectionsOf n w else noSections)
+      by-end : (t : Bool) → (eqb (w .end .bit) 0 && eqb (w .end .byte) (length s)) ≡ t → Opens s (if t then Opened.Model (sectionsOf n w) else Opened.NoModel)
       by-end true e =
           let k = both (eqb (w .end .bit) 0) (eqb (w .end .byte) (length s)) e in
           open-done (eqb-true (w .end .bit) 0 (k .0)) (eqb-true (w .end .byte) (length s) (k .1))
-      by-end false e = open-refused (λ z. false-true (sym e ∙ rw (eq-eqb (w .end .bit) 0 (end-bit s (w .end) z), eq-eqb (w .end .byte) (length s) (end-byte s (w .end) z))))
+      by-end false e = open-refused (λ z. false≢true (sym e ∙ rw (eq-eqb (w .end .bit) 0 (end-bit s (w .end) z), eq-eqb (w .end .byte) (length s) (end-byte s (w .end) z))))
 
-  -- the activities of a model that was opened begin at a whole byte
-  pub activities-at : sectionsBy (length s) n w .ok ≡ true → w .activities ≡ byteAt (w .activities .byte)
-  activities-at = by-end (eqb (w .end .bit) 0 && eqb (w .end .byte) (length s)) refl
+  -- the sections of a model that was opened are those between the places, and the activities begin at a whole byte
+  pub opened-at : {m : Sections} → Opened.Model m ≡ sectionsBy (length s) n w → (m ≡ sectionsOf n w) × (w .activities ≡ byteAt (w .activities .byte))
+  opened-at {m} = by-end (eqb (w .end .bit) 0 && eqb (w .end .byte) (length s)) refl
     where
-      by-end : (t : Bool) → (eqb (w .end .bit) 0 && eqb (w .end .byte) (length s)) ≡ t → (if t then sectionsOf n w else noSections) .ok ≡ true → w .activities ≡ byteAt (w .activities .byte)
-      by-end false e k = false-true k
+      never-model : Opened.Model m ≡ Opened.NoModel → ⊥
+      never-model z = let y : _≡_ {A = ℕ} 0 1 = cc in omega arith
+
+      by-end : (t : Bool) → (eqb (w .end .bit) 0 && eqb (w .end .byte) (length s)) ≡ t → Opened.Model m ≡ (if t then Opened.Model (sectionsOf n w) else Opened.NoModel)
+          → (m ≡ sectionsOf n w) × (w .activities ≡ byteAt (w .activities .byte))
+      by-end false e k = absurd (never-model k)
       by-end true e k =
           let x = stood (ended e) (h .expenses) in
           let a = stood (x .1) (h .assignments) in
           let o = stood (a .1) (h .resources) in
           let l = stood (o .1) (h .links) in
           let v = stood (l .1) (h .activities) in
-          byte-place s (w .activities) (v .1) (h .even .1)
+          let z : m ≡ sectionsOf n w = cc in
+          (z, byte-place s (w .activities) (v .1) (h .even .1))

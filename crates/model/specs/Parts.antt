@@ -15,8 +15,7 @@ use Rattle.definition.specs.Date.{Date}
 use Rattle.definition.specs.Calendar.{byDate}
 use Rattle.definition.specs.Format.{Format, _⊗_, Period, depending, whole, times, count, row, flag, code, number, text, date, optional, listOf, periods, dates}
 use Rattle.definition.specs.Pack.{constraint, calendar, activity, link, resource, assignment, expense}
-use Rattle.model.specs.Passes.{behind, Like, passed, like-named, like-passed, like-then, like-whole}
-use Rattle.model.specs.Lax.{Lax, lax-same, lax-⊗, lax-optional, lax-whole, lax-like, lax-of}
+use Rattle.model.specs.Lax.{behind, Like, Lax, Regroups, passed, lax-same, lax-⊗, lax-optional, lax-whole, lax-like, lax-of, regroup-none, regroup-more, regroup-like, like-then, like-named, like-whole, like-passed}
 use Rattle.model.specs.declared.records.Kind.{Kind}
 use Rattle.model.specs.declared.records.Kind.the-variants.{Calendars, Activities, Links, Resources, Assignments, Expenses}
 
@@ -39,7 +38,11 @@ module _ (t : Format Text) where
   unfoldable pub calendarParts : Format (Text × (List Bool × (List (List Period) × (List Date × (List Date × List (Date × List Period))))))
   calendarParts = t ⊗ times 7 flag ⊗ times 7 periods ⊗ dates ⊗ dates ⊗ listOf byDate (date ⊗ periods)
 
-  -- an activity from its calendar's name on
+  -- an activity before its parent: id, name, kind, duration, minutes
+  abbrev pub activityHead : Format (Text × (Text × (ℕ × (ℤ × Option ℤ))))
+  activityHead = t ⊗ t ⊗ code 0 2 ⊗ number ⊗ optional number
+
+  -- from its calendar's name on
   abbrev pub ActivityRest : Type 0
   ActivityRest = Option Text × (Option (ℕ × Option Date) × (Option Date × (Option Date × (Option Date × (Option ℤ × (ℕ × (Option ℤ × Text)))))))
 
@@ -50,11 +53,15 @@ module _ (t : Format Text) where
   abbrev pub activityNotes : Format (Text × ActivityRest)
   activityNotes = t ⊗ activityRest
 
-  unfoldable pub activityParts : Format (Text × (Text × (ℕ × (ℤ × (Option ℤ × (Option ℕ × (Text × ActivityRest)))))))
-  activityParts = t ⊗ t ⊗ code 0 2 ⊗ number ⊗ optional number ⊗ optional row ⊗ t ⊗ activityRest
+  unfoldable pub activityParts : Format ((Text × (Text × (ℕ × (ℤ × Option ℤ)))) × (Option ℕ × (Text × ActivityRest)))
+  activityParts = activityHead ⊗ optional row ⊗ activityNotes
 
-  unfoldable pub resourceParts : Format (Text × (Text × (ℕ × (Text × (ℤ × (Option Text × Option ℤ))))))
-  resourceParts = t ⊗ t ⊗ code 0 2 ⊗ t ⊗ number ⊗ optional t ⊗ optional number
+  -- a resource before its calendar's name: id, name, kind, unit, max units
+  abbrev pub resourceHead : Format (Text × (Text × (ℕ × (Text × ℤ))))
+  resourceHead = t ⊗ t ⊗ code 0 2 ⊗ t ⊗ number
+
+  unfoldable pub resourceParts : Format ((Text × (Text × (ℕ × (Text × ℤ)))) × (Option Text × Option ℤ))
+  resourceParts = resourceHead ⊗ optional t ⊗ optional number
 
   unfoldable pub expenseParts : Format (ℕ × (Text × (ℤ × (ℤ × (Option ℤ × ℕ)))))
   expenseParts = row ⊗ t ⊗ number ⊗ number ⊗ optional number ⊗ code 0 2
@@ -101,23 +108,46 @@ unfolding textBy
 lax-text true = lax-same text
 lax-text false = lax-raw
 
+-- five fields before the others
+pub regroup-five : {A B C D E F : Type 0} (a : Format A) (b : Format B) (c : Format C) (d : Format D) (e : Format E) (f : Format F)
+    → Regroups (a ⊗ b ⊗ c ⊗ d ⊗ e ⊗ f) ((a ⊗ b ⊗ c ⊗ d ⊗ e) ⊗ f) (λ v. ((v .0, (v .1 .0, (v .1 .1 .0, (v .1 .1 .1 .0, v .1 .1 .1 .1 .0)))), v .1 .1 .1 .1 .1))
+regroup-five a b c d e f = regroup-more a (b ⊗ c ⊗ d ⊗ e) f (regroup-more b (c ⊗ d ⊗ e) f (regroup-more c (d ⊗ e) f (regroup-more d e f (regroup-none (e ⊗ f)))))
+
+like-activity : Like (activityParts text) activity
+unfolding activityParts activityRest activity
+like-activity = like-then (regroup-like (regroup-five text text (code 0 2) number (optional number) _)) (like-named _ _ _)
+
+like-resource : Like (resourceParts text) resource
+unfolding resourceParts resource
+like-resource = like-then (regroup-like (regroup-five text text (code 0 2) text number _)) (like-named _ _ _)
+
 module _ (check : Bool) where
   pub lax-calendar : Lax (calendarParts (textBy check)) calendar
   unfolding calendarParts calendar
   lax-calendar = lax-of (lax-⊗ (lax-text check) (lax-same _)) (like-named _ _ _)
 
-  pub lax-activity : Lax (activityParts (textBy check)) activity
-  unfolding activityParts activityRest activity
-  lax-activity =
+  pub lax-activity-head : Lax (activityHead (textBy check)) (activityHead text)
+  lax-activity-head = let t = lax-text check in lax-⊗ t (lax-⊗ t (lax-same _))
+
+  pub lax-resource-head : Lax (resourceHead (textBy check)) (resourceHead text)
+  lax-resource-head = let t = lax-text check in lax-⊗ t (lax-⊗ t (lax-⊗ (lax-same _) (lax-⊗ t (lax-same _))))
+
+  lax-activity-parts : Lax (activityParts (textBy check)) (activityParts text)
+  unfolding activityParts activityRest
+  lax-activity-parts =
       let t = lax-text check in
       let rest = lax-⊗ (lax-optional t) (lax-⊗ (lax-same _) (lax-⊗ (lax-same _) (lax-⊗ (lax-same _) (lax-⊗ (lax-same _) (lax-⊗ (lax-same _) (lax-⊗ (lax-same _) (lax-⊗ (lax-same _) t))))))) in
-      lax-of (lax-⊗ t (lax-⊗ t (lax-⊗ (lax-same _) (lax-⊗ (lax-same _) (lax-⊗ (lax-same _) (lax-⊗ (lax-same _) (lax-⊗ t rest))))))) (like-named _ _ _)
+      lax-⊗ lax-activity-head (lax-⊗ (lax-same _) (lax-⊗ t rest))
+
+  lax-resource-parts : Lax (resourceParts (textBy check)) (resourceParts text)
+  unfolding resourceParts
+  lax-resource-parts = lax-⊗ lax-resource-head (lax-⊗ (lax-optional (lax-text check)) (lax-same _))
+
+  pub lax-activity : Lax (activityParts (textBy check)) activity
+  lax-activity = lax-of lax-activity-parts like-activity
 
   pub lax-resource : Lax (resourceParts (textBy check)) resource
-  unfolding resourceParts resource
-  lax-resource =
-      let t = lax-text check in
-      lax-of (lax-⊗ t (lax-⊗ t (lax-⊗ (lax-same _) (lax-⊗ t (lax-⊗ (lax-same _) (lax-⊗ (lax-optional t) (lax-same _))))))) (like-named _ _ _)
+  lax-resource = lax-of lax-resource-parts like-resource
 
   pub lax-expense : Lax (expenseParts (textBy check)) expense
   unfolding expenseParts expense
@@ -138,16 +168,16 @@ unfolding recordOf textBy calendarParts calendar
 strict-calendars = like-then (like-passed _) (like-whole (like-named _ _ _))
 
 pub strict-activities : Like (recordOf true Activities) (whole activity)
-unfolding recordOf textBy activityParts activityRest activity
-strict-activities = like-then (like-passed _) (like-whole (like-named _ _ _))
+unfolding recordOf textBy
+strict-activities = like-then (like-passed _) (like-whole like-activity)
 
 pub strict-links : Like (recordOf true Links) (whole link)
 unfolding recordOf linkParts link
 strict-links = like-then (like-passed _) (like-whole (like-named _ _ _))
 
 pub strict-resources : Like (recordOf true Resources) (whole resource)
-unfolding recordOf textBy resourceParts resource
-strict-resources = like-then (like-passed _) (like-whole (like-named _ _ _))
+unfolding recordOf textBy
+strict-resources = like-then (like-passed _) (like-whole like-resource)
 
 pub strict-assignments : Like (recordOf true Assignments) (whole assignment)
 unfolding recordOf assignmentParts assignment

@@ -1,6 +1,6 @@
 -- What the readers of parts answer, and what the parts of a decoded record are: each law goes from a record that stands at a place, and from what a
 -- reader answered there, to the field of the record. Assumes nothing.
-use mathlib.Core.Path.{_≡_, refl, sym}
+use mathlib.Core.Path.{_≡_, refl, sym, ap, _∙_}
 use mathlib.Core.Bool.{Bool, true, false}
 use mathlib.Core.List.{List}
 use mathlib.Core.Option.{Option, some}
@@ -20,77 +20,30 @@ use Rattle.bits.specs.Places.{at, inside, Fits, room-fits}
 use Rattle.bits.specs.Reads.{rest, Reads, takeAt, padAt, spanAt, spanOf, Spans, rest-in, rest-out, length-rest, read-field, read-whole, skip-pad, read-none, read-some, refuse-some}
 use Rattle.bits.specs.declared.Place.{Place}
 use Rattle.bits.specs.declared.Span.{Span}
-use Rattle.model.specs.Passes.{Passes, pass-read, pass-as, _⨾_, ended}
-use Rattle.model.specs.Parts.{textBy, activityParts, activityNotes, recordOf, lax-text}
-use Rattle.model.specs.Splits.{Stands, not-refused, stands-is, stands-reads, stands-first, stands-next, stands-pass, stands-named, stands-whole}
+use Rattle.model.specs.Lax.{regroup-none, regroup-more, regroup-like, lax-same, lax-⊗}
+use Rattle.model.specs.Passes.{Passes, pass-as, pass-like, _⨾_, ended}
+use Rattle.model.specs.Answers.{nameMeaning, nameAt, rowsAt}
+use Rattle.model.specs.Parts.{textBy, activityHead, activityParts, activityNotes, resourceHead, recordOf, regroup-five, lax-text, lax-activity-head, lax-resource-head}
+use Rattle.model.specs.Splits.{Stands, not-refused, stands-is, stands-reads, stands-first, stands-next, stands-pass, stands-named, stands-whole, stands-regroup, stands-or}
 use Rattle.model.specs.declared.records.Kind.the-variants.{Activities}
-use Rattle.model.specs.declared.parts.Row.{Row}
-use Rattle.model.specs.declared.parts.Name.{Name}
-use Rattle.model.specs.declared.parts.Rows.{Rows}
+use Rattle.model.specs.declared.parts.NameAnswer.{NameAnswer}
+use Rattle.model.specs.declared.parts.NameField.{NameField}
 use Rattle.model.specs.declared.parts.CalendarPlaces.{CalendarPlaces}
 
 -- ---- answers
 
-abbrev pub rowIn : Row → Option ℕ
-rowIn r = when (r .given) (r .row)
-
 -- the bytes of a text, and of an optional one
-abbrev pub textIn : List ℕ → Span → Text
-textIn s x = take (x .len) (drop (x .start) s)
+abbrev pub textIn : List ℕ → ℕ × ℕ → Text
+textIn s x = take (x .1) (drop (x .0) s)
 
-abbrev pub spanIn : Name → Span
-spanIn r = record { start = r .start; len = r .len; next = r .next }
+abbrev pub nameIn : List ℕ → Option (ℕ × ℕ) → Option Text
+nameIn s o = o >>= λ x. some (textIn s x)
 
-abbrev pub nameIn : List ℕ → Name → Option Text
-nameIn s r = when (r .given) (textIn s (spanIn r))
-
--- a row, and another behind it
-pub record RowsAt (s : List ℕ) (p : Place) (r : Rows) : Type 0 where
-  pub middle : Place
-  pub first : Reads row s p (r .first) middle
-  pub second : Reads row s middle (r .second) (r .next)
-
--- a flag, and the text behind it if it is set
-pub record NameAt (s : List ℕ) (p : Place) (r : Name) : Type 0 where
-  pub behind : Place
-  pub is : Reads flag s p (r .given) behind
-  pub spans : r .given ≡ true → Spans s behind (spanIn r)
-  pub missing : r .given ≡ false → spanIn r ≡ record { start = 0; len = 0; next = behind }
-
--- the fields of an activity before its parent: id, name, kind, duration, minutes
-pub record BeforeParentBy (check : Bool) (s : List ℕ) (p q : Place) : Type 0 where
-  pub name : Place
-  pub kind : Place
-  pub duration : Place
-  pub minutes : Place
-  pub passes-id : Passes (textBy check) s p name
-  pub passes-name : Passes (textBy check) s name kind
-  pub passes-kind : Passes (code 0 2) s kind duration
-  pub passes-duration : Passes number s duration minutes
-  pub passes-minutes : Passes (optional number) s minutes q
-
-abbrev pub BeforeParent : List ℕ → Place → Place → Type 0
-BeforeParent = BeforeParentBy false
-
--- those before its calendar's name: its parent, its notes
-pub record BeforeName (s : List ℕ) (p q : Place) : Type 0 where
-  pub parent : Place
-  pub notes : Place
-  pub before : BeforeParent s p parent
-  pub passes-parent : Passes (optional row) s parent notes
-  pub passes-notes : Passes (textBy false) s notes q
-
--- the fields of a resource before its calendar's name: id, name, kind, unit, max units
-pub record BeforePrice (s : List ℕ) (p q : Place) : Type 0 where
-  pub name : Place
-  pub kind : Place
-  pub unit : Place
-  pub units : Place
-  pub passes-id : Passes (textBy false) s p name
-  pub passes-name : Passes (textBy false) s name kind
-  pub passes-kind : Passes (code 0 2) s kind unit
-  pub passes-unit : Passes (textBy false) s unit units
-  pub passes-units : Passes number s units q
+-- a flag, and where the text behind it stands if it is set; where an optional text stands, it is that
+pub record NameTaken (s : List ℕ) (p : Place) (r : NameField) : Type 0 where
+  pub is : (nameMeaning (r .name), r .next) ≡ nameAt s p
+  pub within : (start len : ℕ) → r .name ≡ NameAnswer.At start len → start + len ≤ length s
+  pub text : (o : Option Text) → Stands (optional text) s p o → o ≡ nameIn s (nameMeaning (r .name))
 
 pub record CalendarAt (s : List ℕ) (p : Place) (r : CalendarPlaces) : Type 0 where
   pub name : Passes (textBy false) s p (r .week)
@@ -127,26 +80,20 @@ span-ends s p {x} e = rw e (by-place (takeAt s p 32 .value) (padAt s (takeAt s p
 pub between : (s : List ℕ) (a n : ℕ) → take (a + n - a) (drop a s) ≡ take n (drop a s)
 between s a n = let e : a + n - a ≡ n = omega arith in rw e
 
-pub text-is : {s : List ℕ} {p : Place} {x : Span} {t : Text} → Stands text s p t → Spans s p x → t ≡ textIn s x
-text-is {s} {p} {x} {t} h i = by-utf8 (isUtf8 (textIn s x)) refl
+pub text-is : {s : List ℕ} {p : Place} {x : Span} {t : Text} → Stands text s p t → Spans s p x → t ≡ textIn s (x .start, x .len)
+text-is {s} {p} {x} {t} h i = by-utf8 (isUtf8 (textIn s (x .start, x .len))) refl
   where
-    by-utf8 : (b : Bool) → isUtf8 (textIn s x) ≡ b → t ≡ textIn s x
+    by-utf8 : (b : Bool) → isUtf8 (textIn s (x .start, x .len)) ≡ b → t ≡ textIn s (x .start, x .len)
     by-utf8 true e = sym (stands-is h (i .reads e))
     by-utf8 false e = absurd (not-refused h (i .refuses e))
 
-pub name-is : {s : List ℕ} {p : Place} {r : Name} {o : Option Text} → Stands (optional text) s p o → NameAt s p r → o ≡ nameIn s r
-name-is {s} {p} {r} {o} h i = by-flag (r .given) refl
+-- an optional text whose flag is set
+pub name-is : {s : List ℕ} {p q : Place} {x : Span} {o : Option Text} → Stands (optional text) s p o → Reads flag s p true q → Spans s q x → o ≡ some (textIn s (x .start, x .len))
+name-is {s} {p} {q} {x} {o} h f i = by-utf8 (isUtf8 (textIn s (x .start, x .len))) refl
   where
-    flag-is : (b : Bool) → r .given ≡ b → Reads flag s p b (i .behind)
-    flag-is b e = rw (← e) (i .is)
-
-    by-utf8 : r .given ≡ true → (b : Bool) → isUtf8 (textIn s (spanIn r)) ≡ b → o ≡ some (textIn s (spanIn r))
-    by-utf8 g true e = sym (stands-is h (read-some (flag-is true g) (i .spans g .reads e)))
-    by-utf8 g false e = absurd (not-refused h (refuse-some (flag-is true g) (i .spans g .refuses e)))
-
-    by-flag : (b : Bool) → r .given ≡ b → o ≡ when b (textIn s (spanIn r))
-    by-flag true e = by-utf8 e (isUtf8 (textIn s (spanIn r))) refl
-    by-flag false e = sym (stands-is h (read-none text (flag-is false e)))
+    by-utf8 : (b : Bool) → isUtf8 (textIn s (x .start, x .len)) ≡ b → o ≡ some (textIn s (x .start, x .len))
+    by-utf8 true e = sym (stands-is h (read-some f (i .reads e)))
+    by-utf8 false e = absurd (not-refused h (refuse-some f (i .refuses e)))
 
 -- ---- activities
 
@@ -155,37 +102,33 @@ module _ {s : List ℕ} {p : Place} {a : Activity} (h : Stands (whole activity) 
   unfolding activity
   activity-id = let u = stands-named _ _ (stands-whole h) in rw (u .is) (stands-first _ (u .stands))
 
-  pub activity-parent : {check : Bool} {q : Place} → BeforeParentBy check s p q → Stands (optional row) s q (a .parent)
+  pub activity-parent : (check : Bool) {q : Place} → Passes (activityHead (textBy check)) s p q → Stands (optional row) s q (a .parent)
   unfolding activity
-  activity-parent {check} b =
+  activity-parent check b =
       let u = stands-named _ _ (stands-whole h) in
-      let x1 = stands-next (u .stands) (lax-text check) (b .passes-id) in
-      let x2 = stands-next x1 (lax-text check) (b .passes-name) in
-      let x3 = stands-pass x2 (b .passes-kind) in
-      let x4 = stands-pass x3 (b .passes-duration) in
-      let x5 = stands-pass x4 (b .passes-minutes) in
-      rw (u .is) (stands-first _ x5)
+      let x = stands-next (stands-regroup (regroup-five _ _ _ _ _ _) (u .stands)) (lax-activity-head check) b in
+      rw (u .is) (stands-first _ x)
 
-  pub activity-calendar : {q : Place} → BeforeName s p q → Stands (optional text) s q (a .calendar)
+  pub activity-calendar : {q : Place} → Passes (activityHead (textBy false) ⊗ optional row ⊗ textBy false) s p q → Stands (optional text) s q (a .calendar)
   unfolding activity
-  activity-calendar n =
-      let b = n .before in
+  activity-calendar b =
+      let t = lax-text false in
       let u = stands-named _ _ (stands-whole h) in
-      let x1 = stands-next (u .stands) (lax-text false) (b .passes-id) in
-      let x2 = stands-next x1 (lax-text false) (b .passes-name) in
-      let x3 = stands-pass x2 (b .passes-kind) in
-      let x4 = stands-pass x3 (b .passes-duration) in
-      let x5 = stands-pass x4 (b .passes-minutes) in
-      let x6 = stands-pass x5 (n .passes-parent) in
-      let x7 = stands-next x6 (lax-text false) (n .passes-notes) in
-      rw (u .is) (stands-first _ x7)
+      let n1 = optional row ⊗ text in
+      let n2 = optional number ⊗ n1 in
+      let n3 = number ⊗ n2 in
+      let n4 = code 0 2 ⊗ n3 in
+      let g = regroup-more text (text ⊗ n4) _ (regroup-more text n4 _ (regroup-more (code 0 2) n3 _ (regroup-more number n2 _ (regroup-more (optional number) n1 _ (regroup-more (optional row) text _ (regroup-none (text ⊗ _))))))) in
+      let k = lax-⊗ t (lax-⊗ t (lax-⊗ (lax-same (code 0 2)) (lax-⊗ (lax-same number) (lax-⊗ (lax-same (optional number)) (lax-⊗ (lax-same (optional row)) t))))) in
+      let x = stands-next (stands-regroup g (u .stands)) k (pass-like (regroup-like (regroup-five _ _ _ _ _ _)) b) in
+      rw (u .is) (stands-first _ x)
 
 -- the fields before the parent, the parent, and what is behind it make the record
-pub activity-passed : {check : Bool} {s : List ℕ} {p q n k r : Place} {o : Option ℕ} → BeforeParentBy check s p q → Reads (optional row) s q o n
+pub activity-passed : (check : Bool) {s : List ℕ} {p q n k r : Place} → Passes (activityHead (textBy check)) s p q → Passes (optional row) s q n
     → Passes (activityNotes (textBy check)) s n k → r ≡ padAt s k → Passes (recordOf check Activities) s p r × (r .bit % 8 ≡ 0)
 unfolding recordOf activityParts
-activity-passed b e i z =
-    let x = ended (b .passes-id ⨾ b .passes-name ⨾ b .passes-kind ⨾ b .passes-duration ⨾ b .passes-minutes ⨾ pass-read e ⨾ i) z in
+activity-passed check b e i z =
+    let x = ended (b ⨾ e ⨾ i) z in
     (pass-as refl (x .0), x .1)
 
 -- ---- resources
@@ -195,27 +138,25 @@ module _ {s : List ℕ} {p : Place} {a : Resource} (h : Stands (whole resource) 
   unfolding resource
   resource-id = let u = stands-named _ _ (stands-whole h) in rw (u .is) (stands-first _ (u .stands))
 
-  pub resource-calendar : {q : Place} → BeforePrice s p q → Stands (optional text) s q (a .calendar)
+  pub resource-calendar : {q : Place} → Passes (resourceHead (textBy false)) s p q → Stands (optional text) s q (a .calendar)
   unfolding resource
   resource-calendar b =
       let u = stands-named _ _ (stands-whole h) in
-      let x1 = stands-next (u .stands) (lax-text false) (b .passes-id) in
-      let x2 = stands-next x1 (lax-text false) (b .passes-name) in
-      let x3 = stands-pass x2 (b .passes-kind) in
-      let x4 = stands-next x3 (lax-text false) (b .passes-unit) in
-      let x5 = stands-pass x4 (b .passes-units) in
-      rw (u .is) (stands-first _ x5)
+      let x = stands-next (stands-regroup (regroup-five _ _ _ _ _ _) (u .stands)) (lax-resource-head false) b in
+      rw (u .is) (stands-first _ x)
 
 -- ---- links, assignments, expenses
 
-rows-are : {A : Type 0} (f : Format A) {s : List ℕ} {p : Place} {r : Rows} {c : ℕ × (ℕ × A)} → Stands (row ⊗ row ⊗ f) s p c → RowsAt s p r → (r .first ≡ c .0) × (r .second ≡ c .1 .0)
-rows-are f h i = (stands-is (stands-first _ h) (i .first), stands-is (stands-first _ (stands-pass h (pass-read (i .first)))) (i .second))
+rows-are : {A : Type 0} (f : Format A) {s : List ℕ} {p : Place} {r : (ℕ × ℕ) × Place} {c : ℕ × (ℕ × A)} → Stands (row ⊗ row ⊗ f) s p c → r ≡ rowsAt s p → (r .0 .0 ≡ c .0) × (r .0 .1 ≡ c .1 .0)
+rows-are f {r = r} {c = c} h e =
+    let z : _≡_ {A = ℕ × ℕ} (r .0) (c .0, c .1 .0) = ap (λ (x : (ℕ × ℕ) × Place). x .0) e ∙ stands-or (stands-first f (stands-regroup (regroup-more row row f (regroup-none (row ⊗ f))) h)) (0, 0) in
+    (ap (λ (x : ℕ × ℕ). x .0) z, ap (λ (x : ℕ × ℕ). x .1) z)
 
-pub link-rows : {s : List ℕ} {p : Place} {r : Rows} {a : Link} → Stands (whole link) s p a → RowsAt s p r → (r .first ≡ a .predecessor) × (r .second ≡ a .successor)
+pub link-rows : {s : List ℕ} {p : Place} {r : (ℕ × ℕ) × Place} {a : Link} → Stands (whole link) s p a → r ≡ rowsAt s p → (r .0 .0 ≡ a .predecessor) × (r .0 .1 ≡ a .successor)
 unfolding link
 link-rows h i = let u = stands-named _ _ (stands-whole h) in rw (u .is) (rows-are _ (u .stands) i)
 
-pub assignment-rows : {s : List ℕ} {p : Place} {r : Rows} {a : Assignment} → Stands (whole assignment) s p a → RowsAt s p r → (r .first ≡ a .activity) × (r .second ≡ a .resource)
+pub assignment-rows : {s : List ℕ} {p : Place} {r : (ℕ × ℕ) × Place} {a : Assignment} → Stands (whole assignment) s p a → r ≡ rowsAt s p → (r .0 .0 ≡ a .activity) × (r .0 .1 ≡ a .resource)
 unfolding assignment
 assignment-rows h i = let u = stands-named _ _ (stands-whole h) in rw (u .is) (rows-are _ (u .stands) i)
 

@@ -1,12 +1,13 @@
 -- Lists that rise, read item by item: each item has a number above 0, and one is below another if its number is. Assumes nothing.
 use mathlib.Core.Path.{_≡_, refl, sym, ap, _∙_}
-use mathlib.Core.Bool.{Bool, true, false, _&&_, _||_}
+use mathlib.Core.Bool.{Bool, true, false, _&&_, _||_, and-true, and-assoc}
 use mathlib.Core.List.{List, [], _∷_, _++_, append-assoc}
 use mathlib.Core.Option.{Option, some, none}
 use Prim.Native.Nat.{ℕ, zero, suc, _+_, _-_, _/_, _%_, _≤_, _<_}
 use native.Mathlib.Omega.{arith}
 use lib.Dec.{ltb, eqb}
 use borrow.Author.Tests.{lt-ltb, le-ltb, ltb-true, ltb-false, eqb-true, eqb-false}
+use Rattle.laws.specs.Options.{bind-assoc}
 use Rattle.definition.specs.Base.{_>>=_, when}
 use Rattle.definition.specs.Bits.{Bits}
 use Rattle.definition.specs.Date.{Date}
@@ -15,7 +16,7 @@ use Rattle.definition.specs.Format.{Format, _⊗_, times, getAll, rises, listOf
 use Rattle.bits.specs.Reads.{rest, Reads, Refuses, chain, onto, read-no, read-more, read-on, refuse-times, read-list, refuse-items}
 use Rattle.bits.specs.declared.Place.{Place}
 use Rattle.bits.specs.declared.Field.{Field}
-use Rattle.model.specs.Passes.{Passes, pass-read, pass-refused, bind-bind}
+use Rattle.model.specs.Passes.{Passes, pass-read, pass-refused}
 
 -- an item of number v at p, and q behind it
 pub record Found {A : Type 0} (f : Format A) (K : A → ℕ → Type 0) (s : List ℕ) (p : Place) (v : ℕ) (q : Place) : Type 0 where
@@ -62,20 +63,12 @@ find-pass {f = f} {s = s} {p} {x} h = by-value (x .value) refl
     by-value zero e = pass-refused (h .refuses e) (h .past e)
     by-value (suc n) e = pass-read (h .found (omega arith) .reads)
 
-and-true : (a : Bool) → (a && true) ≡ a
-and-true true = refl
-and-true false = refl
-
-and-assoc : (a b c : Bool) → (a && (b && c)) ≡ ((a && b) && c)
-and-assoc true b c = refl
-and-assoc false b c = refl
-
 module _ {A : Type 0} (lt : A → A → Bool) where
   rises-more : (xs : List A) (y x : A) → rises lt (xs ++ (y ∷ x ∷ [])) ≡ (rises lt (xs ++ (y ∷ [])) && lt y x)
   unfolding rises
   rises-more [] y x = and-true (lt y x)
   rises-more (a ∷ []) y x = ap (λ (t : Bool). lt a y && t) (and-true (lt y x)) ∙ ap (λ (t : Bool). t && lt y x) (sym (and-true (lt a y)))
-  rises-more (a ∷ b ∷ xs) y x = ap (λ (t : Bool). lt a b && t) (rises-more (b ∷ xs) y x) ∙ and-assoc (lt a b) (rises lt (b ∷ (xs ++ (y ∷ [])))) (lt y x)
+  rises-more (a ∷ b ∷ xs) y x = ap (λ (t : Bool). lt a b && t) (rises-more (b ∷ xs) y x) ∙ sym (and-assoc (lt a b) (rises lt (b ∷ (xs ++ (y ∷ [])))) (lt y x))
 
   -- what does not rise does not with more behind it
   rises-not : (xs ys : List A) → rises lt xs ≡ false → rises lt (xs ++ ys) ≡ false
@@ -106,7 +99,7 @@ module _ {A : Type 0} (lt : A → A → Bool) where
       let j : List A × Bits → Option (List A × Bits) = λ y. when (rises lt (y .0)) y in
       let g : ℕ × Bits → Option (List A × Bits) = λ x. getAll f (x .0) (x .1) >>= j in
       let o : Option (List A × Bits) → Option (List A × Bits) = λ o. o >>= j in
-      record { gives = chain {f = count} g h ∙ sym (bind-bind (rest s q) (getAll f n) j) ∙ ap (λ (n : ℕ). rest s q >>= getAll f n >>= j) z ∙ ap o (read-on f k m i) ∙ falls m (rest s r) }
+      record { gives = chain {f = count} g h ∙ sym (bind-assoc (rest s q) (getAll f n) j) ∙ ap (λ (n : ℕ). rest s q >>= getAll f n >>= j) z ∙ ap o (read-on f k m i) ∙ falls m (rest s r) }
     where
       more : (o : Option (List A × Bits)) → (o >>= onto xs >>= λ y. when (rises lt (y .0)) y) ≡ none
       more none = refl

@@ -1,6 +1,6 @@
 -- What the decoding pass answers: whether the bytes are a model, and where its sections stand. Assumes nothing.
-use mathlib.Core.Path.{_≡_, refl, sym, _∙_}
-use mathlib.Core.Bool.{Bool, true, false, _&&_}
+use mathlib.Core.Path.{_≡_, _∙_}
+use mathlib.Core.Bool.{_&&_}
 use mathlib.Core.List.{List}
 use mathlib.Core.Option.{some, none}
 use Prim.Native.Nat.{ℕ, _+_, _-_, _*_, _%_, _≤_, _<_}
@@ -13,12 +13,15 @@ use Rattle.definition.specs.Bits.{Bits, bitsOf}
 use Rattle.definition.specs.Format.{Format, whole, times}
 use Rattle.definition.specs.Model.{Model}
 use Rattle.definition.specs.Pack.{Counts as CountsOf, project, calendar, activity, link, resource, assignment, expense, decode}
-use Rattle.bits.specs.Places.{inside, Fits, room-fits}
-use Rattle.bits.specs.Reads.{rest, Reads, rest-in, rest-out}
+use Rattle.bits.specs.Places.{Fits}
+use Rattle.bits.specs.Reads.{rest, Reads, rest-in}
 use Rattle.bits.specs.declared.Place.{Place}
-use Rattle.model.specs.Passes.{Passes}
 use Rattle.model.specs.Lax.{Lax}
+use Rattle.model.specs.Passes.{Passes}
+use Rattle.model.specs.Answers.{rest-fits}
 use Rattle.model.specs.Splits.{Step, step, later}
+use Rattle.model.specs.declared.Opened.{Opened}
+use Rattle.model.specs.declared.Head.{Head}
 use Rattle.model.specs.declared.Section.{Section}
 use Rattle.model.specs.declared.Sections.{Sections}
 use Rattle.model.specs.declared.Counts.{Counts}
@@ -34,6 +37,23 @@ start = byteAt 0
 abbrev pub countsIn : Counts → CountsOf
 countsIn n = (n .calendars, (n .activities, (n .links, (n .resources, (n .assignments, n .expenses)))))
 
+-- the places of the first two sections, each at a whole byte or past every end
+pub record Heads (s : List ℕ) (n : Counts) (h : Head) : Type 0 where
+  pub project : Passes (whole project) s (n .next) (h .calendars)
+  pub calendars : Passes (times (n .calendars) (whole calendar)) s (h .calendars) (h .activities)
+  pub even : (h .calendars .bit % 8 ≡ 0) × (h .activities .bit % 8 ≡ 0)
+
+-- the places of the sections behind the activities, which end at a place
+pub record Behind (s : List ℕ) (n : Counts) (h : Head) (end : Place) (w : Places) : Type 0 where
+  pub calendars-at : w .calendars ≡ h .calendars
+  pub activities-at : w .activities ≡ h .activities
+  pub links-at : w .links ≡ end
+  pub links : Passes (times (n .links) (whole link)) s end (w .resources)
+  pub resources : Passes (times (n .resources) (whole resource)) s (w .resources) (w .assignments)
+  pub assignments : Passes (times (n .assignments) (whole assignment)) s (w .assignments) (w .expenses)
+  pub expenses : Passes (times (n .expenses) (whole expense)) s (w .expenses) (w .end)
+  pub even : end .bit % 8 ≡ 0 → (w .resources .bit % 8 ≡ 0) × (w .assignments .bit % 8 ≡ 0) × (w .expenses .bit % 8 ≡ 0)
+
 -- the places between the sections, each at a whole byte or past every end
 pub record Walks (s : List ℕ) (n : Counts) (w : Places) : Type 0 where
   pub project : Passes (whole project) s (n .next) (w .calendars)
@@ -44,6 +64,22 @@ pub record Walks (s : List ℕ) (n : Counts) (w : Places) : Type 0 where
   pub assignments : Passes (times (n .assignments) (whole assignment)) s (w .assignments) (w .expenses)
   pub expenses : Passes (times (n .expenses) (whole expense)) s (w .expenses) (w .end)
   pub even : (w .calendars .bit % 8 ≡ 0) × (w .activities .bit % 8 ≡ 0) × (w .links .bit % 8 ≡ 0) × (w .resources .bit % 8 ≡ 0) × (w .assignments .bit % 8 ≡ 0) × (w .expenses .bit % 8 ≡ 0)
+
+-- whoever passes over the activities between the two has walked over all
+pub walks : {s : List ℕ} {n : Counts} {h : Head} {end : Place} {w : Places} → Heads s n h → Passes (times (n .activities) (whole activity)) s (h .activities) end → end .bit % 8 ≡ 0
+    → Behind s n h end w → Walks s n w
+walks {s} {n} a p e b =
+    let i = b .even e in
+    record {
+      project = rw (b .calendars-at) (a .project);
+      calendars = rw (b .calendars-at, b .activities-at) (a .calendars);
+      activities = rw (b .activities-at, b .links-at) p;
+      links = rw (b .links-at) (b .links);
+      resources = b .resources;
+      assignments = b .assignments;
+      expenses = b .expenses;
+      even = rw (b .calendars-at, b .activities-at, b .links-at) (a .even .0, a .even .1, e, i .0, i .1, i .2);
+    }
 
 -- a section holds these records, and the next one begins at a byte
 pub record Holds {A : Type 0} (f : Format A) (s : List ℕ) (x : Section) (xs : List A) (next : ℕ) : Type 0 where
@@ -60,16 +96,9 @@ pub record Decoded (s : List ℕ) (m : Model) (r : Sections) : Type 0 where
   pub assignments : Holds assignment s (r .assignments) (m .assignments) (r .expenses .at)
   pub expenses : Holds expense s (r .expenses) (m .expenses) (length s)
 
-abbrev pub empty : Section
-empty = record { count = 0; at = 0 }
-
-abbrev pub noSections : Sections
-noSections = record { ok = false; calendars = empty; activities = empty; links = empty; resources = empty; assignments = empty; expenses = empty }
-
 -- the sections between these places, if the last one ends where so many bytes end
 abbrev pub sectionsOf : Counts → Places → Sections
 sectionsOf n w = record {
-  ok = true;
   calendars = record { count = n .calendars; at = w .calendars .byte };
   activities = record { count = n .activities; at = w .activities .byte };
   links = record { count = n .links; at = w .links .byte };
@@ -78,27 +107,27 @@ sectionsOf n w = record {
   expenses = record { count = n .expenses; at = w .expenses .byte };
 }
 
-abbrev pub sectionsBy : ℕ → Counts → Places → Sections
-sectionsBy len n w = if eqb (w .end .bit) 0 && eqb (w .end .byte) len then sectionsOf n w else noSections
+abbrev pub sectionsBy : ℕ → Counts → Places → Opened
+sectionsBy len n w = if eqb (w .end .bit) 0 && eqb (w .end .byte) len then Opened.Model (sectionsOf n w) else Opened.NoModel
 
--- the answer: whether the bytes decode; the sections if they do; and zeros if not
-pub record Opened (s : List ℕ) (r : Sections) : Type 0 where
-  pub ok : r .ok ≡ given (decode s)
-  pub decoded : (m : Model) → decode s ≡ some m → Decoded s m r
-  pub refused : decode s ≡ none → r ≡ noSections
+-- document 01's number
+abbrev pub openedNumber : Opened → ℕ
+openedNumber (Opened.Model r) = 0
+openedNumber Opened.NoModel = 6
+
+-- bytes that decode, and the sections of the model
+pub record Sectioned (s : List ℕ) (r : Sections) : Type 0 where
+  pub model : Model
+  pub decodes : decode s ≡ some model
+  pub sections : Decoded s model r
+
+-- the answer: the sections if the bytes decode; else that they do not
+pub record Opens (s : List ℕ) (o : Opened) : Type 0 where
+  pub number : openedNumber o ≡ (if given (decode s) then 0 else 6)
+  pub model : (r : Sections) → o ≡ Opened.Model r → Sectioned s r
+  pub refused : o ≡ Opened.NoModel → decode s ≡ none
 
 -- ---- laws for who walks a section
-
-never : {A : Type 0} {a : A} → none ≡ some a → ⊥
-never e = let z : _≡_ {A = ℕ} 0 1 = cc in omega arith
-
--- a place from which bits are left is inside
-pub rest-fits : (s : List ℕ) (q : Place) {l : Bits} → rest s q ≡ some l → Fits (length s) q 0
-rest-fits s q {l} e = by-room (inside (length s) q) refl
-  where
-    by-room : (t : Bool) → inside (length s) q ≡ t → Fits (length s) q 0
-    by-room false h = absurd (never (sym (rest-out s q h) ∙ e))
-    by-room true h = room-fits (length s) q 0 h
 
 -- a place of a record that is there is a whole byte
 pub byte-place : (s : List ℕ) (q : Place) {l : Bits} → rest s q ≡ some l → q .bit % 8 ≡ 0 → q ≡ byteAt (q .byte)

@@ -7,16 +7,15 @@ use Prim.Native.Nat.{ℕ, zero, suc, _+_, _-_, _≤_, _<_}
 use native.Mathlib.Omega.{arith}
 use lib.ListN.{length, drop}
 use lib.Seq.{drop-drop, drop-at}
-use Rattle.definition.specs.Base.{_>>=_}
+use Rattle.laws.specs.Options.{bind-assoc, bind-ext, never}
+use Rattle.definition.specs.Base.{_>>=_, _or_}
 use Rattle.definition.specs.Bits.{Bits}
 use Rattle.definition.specs.Format.{Format, via, _⊗_, whole, getPad, times, getAll}
 use Rattle.bits.specs.Reads.{rest, rest-past, Reads, Refuses, chain, onto, read-no, read-on, refuse-times}
 use Rattle.bits.specs.declared.Place.{Place}
-use Rattle.model.specs.Passes.{Passes, stood, pass-read, pass-refused, pass-cut, same-rest, Told, refusing, reading, told, bind-bind, bind-ext, all-zero, all-suc}
-use Rattle.model.specs.Lax.{Lax, lax-same, lax-times, lax-pass}
-
-never : {A : Type 0} {a : A} → none ≡ some a → ⊥
-never e = let z : _≡_ {A = ℕ} 0 1 = cc in omega arith
+use Rattle.model.specs.Answers.{seen, readAt, orAt}
+use Rattle.model.specs.Lax.{Regroups, Lax, lax-same, lax-times, all-zero, all-suc}
+use Rattle.model.specs.Passes.{Passes, stood, pass-read, pass-refused, pass-cut, same-rest, Told, refusing, reading, told, lax-pass}
 
 -- two parts of a whole c
 pub record Split {A B C : Type 0} (f : Format A) (g : Format B) (pair : A → B → C) (s : List ℕ) (p q r : Place) (c : C) : Type 0 where
@@ -33,7 +32,7 @@ module _ {A B C : Type 0} {f : Format A} (g : Format B) (pair : A → B → C) {
   split : (rest s p >>= λ m. f .get m >>= λ x. g .get (x .1) >>= joined pair (x .0)) ≡ (rest s r >>= λ m. some (c, m)) → Told f s p q → Split f g pair s p q r c
   split h (refusing n z) =
       let k : A × Bits → Option (C × Bits) = λ x. g .get (x .1) >>= joined pair (x .0) in
-      absurd (never (sym (ap (λ (o : Option (A × Bits)). o >>= k) (n .gives)) ∙ bind-bind (rest s p) (f .get) k ∙ h ∙ ends))
+      absurd (never (sym (ap (λ (o : Option (A × Bits)). o >>= k) (n .gives)) ∙ bind-assoc (rest s p) (f .get) k ∙ h ∙ ends))
     where
       ends : _≡_ {A = Option (C × Bits)} (rest s r >>= λ m. some (c, m)) (some (c, l))
       ends = rw e
@@ -84,8 +83,8 @@ read-length {A} f {s} {p} {q} {xs} {l} n e h =
     let k : List A × Bits → Option ℕ = λ y. some n in
     let z : _≡_ {A = Option (List A × Bits)} (rest s p >>= getAll f n) (some (xs, l)) = h .reads ∙ rw e in
     let w : some (length xs) ≡ some n =
-    sym (ap (λ (o : Option (List A × Bits)). o >>= size) z) ∙ bind-bind (rest s p) (getAll f n) size ∙ bind-ext (rest s p) _ (λ m. getAll f n m >>= k) (sized f n)
-    ∙ sym (bind-bind (rest s p) (getAll f n) k) ∙ ap (λ (o : Option (List A × Bits)). o >>= k) z in
+    sym (ap (λ (o : Option (List A × Bits)). o >>= size) z) ∙ bind-assoc (rest s p) (getAll f n) size ∙ bind-ext (rest s p) _ (λ m. getAll f n m >>= k) (sized f n)
+    ∙ sym (bind-assoc (rest s p) (getAll f n) k) ∙ ap (λ (o : Option (List A × Bits)). o >>= k) z in
     cc
 
 -- ---- a value stands at a place, whatever is behind it
@@ -110,6 +109,15 @@ module _ {A : Type 0} {f : Format A} {s : List ℕ} {p : Place} {a : A} where
         by-place none z = absurd (never (sym z))
         by-place (some l) z = let w : _≡_ {A = A × Bits} (a, h .left-over) (b, l) = cc in sym (ap (λ x. x .0) w)
 
+    -- and what a reader answers
+    pub stands-read : readAt f s p .0 ≡ some a
+    unfolding readAt
+    stands-read = ap (λ (o : Option (A × Bits)). seen s o .0) (h .gives)
+
+    pub stands-or : (d : A) → orAt d f s p .0 ≡ a
+    unfolding orAt
+    stands-or d = ap (λ (o : Option A). o or d) stands-read
+
     pub stands-reads : {q : Place} → Passes f s p q → Reads f s p a q
     stands-reads {q} i = by-told (told i)
       where
@@ -126,7 +134,7 @@ record Parted {A B : Type 0} (f : Format A) (g : Format B) (s : List ℕ) (p : P
 
 parted : {A B : Type 0} {f : Format A} {g : Format B} {s : List ℕ} {p : Place} {c : A × B} → Stands (f ⊗ g) s p c → Parted f g s p c
 unfolding _⊗_
-parted {A} {B} {f} {g} {s} {p} {c} h = by-first (rest s p >>= f .get) refl (bind-bind (rest s p) (f .get) k ∙ h .gives)
+parted {A} {B} {f} {g} {s} {p} {c} h = by-first (rest s p >>= f .get) refl (bind-assoc (rest s p) (f .get) k ∙ h .gives)
   where
     k : A × Bits → Option ((A × B) × Bits)
     k x = g .get (x .1) >>= λ y. some ((x .0, y .0), y .1)
@@ -153,11 +161,20 @@ module _ {A B : Type 0} {f : Format A} {g : Format B} {s : List ℕ} {p : Place}
   stands-next {k = k} {q} a i =
       let t = parted h in
       let u : Passes f s p q = lax-pass a (not-refused (stands-first g h)) i in
-      let v : rest s q ≡ some (t .middle) = sym (u .passes) ∙ sym (bind-bind (rest s p) (f .get) (λ x. some (x .1))) ∙ ap (λ (o : Option (A × Bits)). o >>= λ x. some (x .1)) (t .first) in
+      let v : rest s q ≡ some (t .middle) = sym (u .passes) ∙ sym (bind-assoc (rest s p) (f .get) (λ x. some (x .1))) ∙ ap (λ (o : Option (A × Bits)). o >>= λ x. some (x .1)) (t .first) in
       record { left-over = t .end; gives = ap (λ (o : Option Bits). o >>= g .get) v ∙ t .second }
 
   pub stands-pass : {q : Place} → Passes f s p q → Stands g s q (c .1)
   stands-pass i = stands-next (lax-same f) i
+
+-- the fields in other groups
+pub stands-regroup : {A B : Type 0} {f : Format A} {g : Format B} {to : A → B} {s : List ℕ} {p : Place} {a : A} → Regroups f g to → Stands f s p a → Stands g s p (to a)
+stands-regroup {A} {B} {f} {g} {to} {s} {p} r h =
+    let k : A × Bits → Option (B × Bits) = λ x. some (to (x .0), x .1) in
+    record {
+      left-over = h .left-over;
+      gives = bind-ext (rest s p) (g .get) (λ l. f .get l >>= k) (r .same) ∙ sym (bind-assoc (rest s p) (f .get) k) ∙ ap (λ (o : Option (A × Bits)). o >>= k) (h .gives);
+    }
 
 -- a value under a name
 pub record Under {A B : Type 0} (to : A → B) (f : Format A) (s : List ℕ) (p : Place) (b : B) : Type 0 where
@@ -167,7 +184,7 @@ pub record Under {A B : Type 0} (to : A → B) (f : Format A) (s : List ℕ) (p 
 
 pub stands-named : {A B : Type 0} (to : A → B) (from : B → A) {f : Format A} {s : List ℕ} {p : Place} {b : B} → Stands (via (λ a. some (to a)) from f) s p b → Under to f s p b
 unfolding via
-stands-named {A} {B} to from {f} {s} {p} {b} h = by-value (rest s p >>= f .get) refl (bind-bind (rest s p) (f .get) k ∙ h .gives)
+stands-named {A} {B} to from {f} {s} {p} {b} h = by-value (rest s p >>= f .get) refl (bind-assoc (rest s p) (f .get) k ∙ h .gives)
   where
     k : A × Bits → Option (B × Bits)
     k x = some (to (x .0)) >>= λ b. some (b, x .1)
@@ -180,7 +197,7 @@ stands-named {A} {B} to from {f} {s} {p} {b} h = by-value (rest s p >>= f .get) 
 
 pub stands-whole : {A : Type 0} {f : Format A} {s : List ℕ} {p : Place} {a : A} → Stands (whole f) s p a → Stands f s p a
 unfolding whole
-stands-whole {A} {f} {s} {p} {a} h = by-value (rest s p >>= f .get) refl (bind-bind (rest s p) (f .get) k ∙ h .gives)
+stands-whole {A} {f} {s} {p} {a} h = by-value (rest s p >>= f .get) refl (bind-assoc (rest s p) (f .get) k ∙ h .gives)
   where
     k : A × Bits → Option (A × Bits)
     k x = getPad (x .1) >>= λ r. some (x .0, r)

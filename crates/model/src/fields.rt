@@ -96,7 +96,8 @@ fn date_of(v: u64) -> u64
     in_years(v + 4371953 - 0x1_0000_0000)
 }
 
-pub fn take_date(s: &[u8], p: Place) -> Field
+// A date by its number, counted from the year -10000; 0, and a place past every end, where it is outside the years.
+pub fn take_date_key(s: &[u8], p: Place) -> Field
     ensures { λ r. ⌜ Finds date (DayKey false) (now (s .entry)) p r ⌝ }
 {
     let f = bits::take(s, p, 32);
@@ -111,11 +112,11 @@ pub fn take_date(s: &[u8], p: Place) -> Field
 pub fn skip_date(s: &[u8], p: Place) -> Place
     ensures { λ r. ⌜ Passes date (now (s .entry)) p r ⌝ }
 {
-    take_date(s, p).next
+    take_date_key(s, p).next
 }
 
-// A period by one number: 2048 times from, and to.
-pub fn take_period(s: &[u8], p: Place) -> Field
+// A period by one number: 2048 times from, and to; 0, and a place past every end, where none is.
+pub fn take_period_key(s: &[u8], p: Place) -> Field
     ensures { λ r. ⌜ Finds period PeriodKey (now (s .entry)) p r ⌝ }
 {
     let from = bits::take(s, p, 11);

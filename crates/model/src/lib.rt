@@ -4,13 +4,14 @@ mod lists; // lists of periods and days
 pub mod records; // records, one and many
 pub mod parts; // the parts of records
 
-ghost use Rattle.definition.specs.Pack.{counts};
-ghost use Rattle.bits.specs.Reads.{Reads};
 ghost use mathlib.Core.Path.{_≡_};
-ghost use Rattle.model.specs.Sections.{start, countsIn, sectionsBy, Walks, Opened};
+ghost use Prim.Native.Nat.{_%_};
+ghost use Rattle.model.specs.Answers.{countsAt};
+ghost use Rattle.model.specs.Sections.{start, countsIn, sectionsBy, Heads, Behind, Walks, Opens};
 use crate::records::Kind;
 use crate::records::skip_project;
 use crate::records::skip_records;
+use bits::PAST;
 use bits::Place;
 
 // A section: how many records it has, and the byte at which the first stands.
@@ -19,9 +20,8 @@ pub struct Section {
     pub at: usize,
 }
 
-// A model's sections. Where it does not decode, ok is false and all else is 0.
+// A model's sections.
 pub struct Sections {
-    pub ok: bool,
     pub calendars: Section,
     pub activities: Section,
     pub links: Section,
@@ -30,19 +30,13 @@ pub struct Sections {
     pub expenses: Section,
 }
 
-const EMPTY: Section = Section { count: 0, at: 0 };
+// What the decoding of some bytes comes to.
+pub enum Opened {
+    Model(Sections),
+    NoModel,
+}
 
-const NO_SECTIONS: Sections = Sections {
-    ok: false,
-    calendars: EMPTY,
-    activities: EMPTY,
-    links: EMPTY,
-    resources: EMPTY,
-    assignments: EMPTY,
-    expenses: EMPTY,
-};
-
-// The six counts, and the place behind them.
+// The six counts, and the place behind them; where they cannot be read, zeros and a place past every end.
 pub struct Counts {
     pub calendars: u32,
     pub activities: u32,
@@ -53,8 +47,18 @@ pub struct Counts {
     pub next: Place,
 }
 
+const NO_COUNTS: Counts = Counts {
+    calendars: 0,
+    activities: 0,
+    links: 0,
+    resources: 0,
+    assignments: 0,
+    expenses: 0,
+    next: PAST,
+};
+
 pub fn take_counts(s: &[u8]) -> Counts
-    ensures { λ r. ⌜ Reads counts (now (s .entry)) start (countsIn r) (r .next) ⌝ }
+    ensures { λ r. ⌜ (countsIn r, r .next) ≡ countsAt (now (s .entry)) start ⌝ }
 {
     let a = bits::take(s, Place { byte: 0, bit: 0 }, 32);
     let b = bits::take(s, a.next, 32);
@@ -63,6 +67,9 @@ pub fn take_counts(s: &[u8]) -> Counts
     let e = bits::take(s, d.next, 32);
     let f = bits::take(s, e.next, 32);
     let next = f.next;
+    if 7 < next.bit {
+        return NO_COUNTS;
+    }
     Counts {
         calendars: a.value as u32,
         activities: b.value as u32,
@@ -85,12 +92,30 @@ pub struct Places {
     pub end: Place,
 }
 
-fn walk(s: &[u8], n: Counts) -> Places
-    ensures { λ r. ⌜ Walks (now (s .entry)) n r ⌝ }
+// Where the first two sections begin.
+pub struct Head {
+    pub calendars: Place,
+    pub activities: Place,
+}
+
+// The walk up to the activities.
+pub fn walk_head(s: &[u8], n: Counts) -> Head
+    ensures { λ r. ⌜ Heads (now (s .entry)) n r ⌝ }
 {
     let calendars = skip_project(s, n.next);
     let activities = skip_records(s, calendars, Kind::Calendars, n.calendars, true);
-    let links = skip_records(s, activities, Kind::Activities, n.activities, true);
+    Head {
+        calendars,
+        activities,
+    }
+}
+
+// The walk from the links on, behind the activities.
+pub fn walk_behind(s: &[u8], n: Counts, head: Head, links: Place) -> Places
+    ensures { λ r. ⌜ Behind (now (s .entry)) n head links r ⌝ }
+{
+    let calendars = head.calendars;
+    let activities = head.activities;
     let resources = skip_records(s, links, Kind::Links, n.links, true);
     let assignments = skip_records(s, resources, Kind::Resources, n.resources, true);
     let expenses = skip_records(s, assignments, Kind::Assignments, n.assignments, true);
@@ -106,14 +131,22 @@ fn walk(s: &[u8], n: Counts) -> Places
     }
 }
 
+fn walk(s: &[u8], n: Counts) -> Places
+    ensures { λ r. ⌜ Walks (now (s .entry)) n r ⌝ }
+{
+    let head = walk_head(s, n);
+    let activities = head.activities;
+    let links = skip_records(s, activities, Kind::Activities, n.activities, true);
+    walk_behind(s, n, head, links)
+}
+
 // The sections of so many bytes, if the last one ends where they end.
-pub fn sections_of(len: usize, n: Counts, w: Places) -> Sections
+pub fn sections_of(len: usize, n: Counts, w: Places) -> Opened
     ensures { λ r. ⌜ r ≡ sectionsBy len n w ⌝ }
 {
     let end = w.end;
     if (end.bit == 0) & (end.byte == len) {
-        return Sections {
-            ok: true,
+        return Opened::Model(Sections {
             calendars: Section {
                 count: n.calendars,
                 at: w.calendars.byte,
@@ -138,14 +171,14 @@ pub fn sections_of(len: usize, n: Counts, w: Places) -> Sections
                 count: n.expenses,
                 at: w.expenses.byte,
             },
-        };
+        });
     }
-    NO_SECTIONS
+    Opened::NoModel
 }
 
 // The one pass that decodes a model: it is refused, or these are its sections.
-pub fn open(s: &[u8]) -> Sections
-    ensures { λ r. ⌜ Opened (now (s .entry)) r ⌝ }
+pub fn open(s: &[u8]) -> Opened
+    ensures { λ r. ⌜ Opens (now (s .entry)) r ⌝ }
 {
     let n = take_counts(s);
     sections_of(s.len(), n, walk(s, n))

@@ -2,8 +2,8 @@
 ghost use Rattle.definition.specs.Format.{periods, times};
 ghost use Rattle.model.specs.Passes.{Passes};
 ghost use Rattle.model.specs.Rising.{Finds, DayKey, dayOf, daysOf};
-use crate::fields::take_date;
-use crate::fields::take_period;
+use crate::fields::take_date_key;
+use crate::fields::take_period_key;
 use bits::Field;
 use bits::PAST;
 use bits::Place;
@@ -17,7 +17,7 @@ pub fn skip_periods(s: &[u8], p: Place) -> Place
     let mut last: u64 = 0;
     let mut i: u64 = 0;
     while i < count {
-        let t = take_period(s, q);
+        let t = take_period_key(s, q);
         if t.value <= last {
             return PAST;
         }
@@ -32,7 +32,7 @@ pub fn skip_periods(s: &[u8], p: Place) -> Place
 fn take_day(s: &[u8], p: Place, hours: bool) -> Field
     ensures { λ r. ⌜ Finds (dayOf hours) (DayKey hours) (now (s .entry)) p r ⌝ }
 {
-    let d = take_date(s, p);
+    let d = take_date_key(s, p);
     if !hours {
         return d;
     }

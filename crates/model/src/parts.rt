@@ -1,76 +1,92 @@
 // The parts of records of a model that was opened: where they stand, and what they are. No text is tested again.
+ghost use mathlib.Core.Path.{_≡_};
 ghost use mathlib.Core.Bool.{false};
-ghost use Rattle.definition.specs.Format.{optional, row, times, date, period, periods};
-ghost use Rattle.bits.specs.Reads.{Reads};
+ghost use Rattle.definition.specs.Base.{given};
+ghost use Rattle.definition.specs.Date.{fromDays};
+ghost use Rattle.definition.specs.Answer.{rowMeaning, dateMeaning};
+ghost use Rattle.definition.specs.Format.{_⊗_, optional, row, times, period, periods};
 ghost use Rattle.model.specs.Passes.{Passes};
-ghost use Rattle.model.specs.Rising.{Finds, PeriodKey, DayKey};
-ghost use Rattle.model.specs.Places.{rowIn, RowsAt, NameAt, BeforeParentBy, BeforeParent, BeforeName, BeforePrice, CalendarAt};
+ghost use Rattle.model.specs.Parts.{textBy, activityHead, resourceHead};
+ghost use Rattle.model.specs.Answers.{readAt, rowAt, rowsAt, dateAt, periodMeaning};
+ghost use Rattle.model.specs.Places.{NameTaken, CalendarAt};
 use crate::fields::skip;
 use crate::fields::skip_code;
 use crate::fields::skip_optional;
 use crate::fields::skip_text;
 use crate::lists::skip_days;
 use crate::lists::skip_hours;
-use bits::Field;
+use bits::PAST;
 use bits::Place;
+use definition::Date;
+use definition::DateAnswer;
+use definition::RowAnswer;
 
-// ---- what stands at a place
+// ---- what stands at a place. Where nothing can be read, a value is missing or 0, and the next place is past every end
 
 // An optional row, and the place behind it.
-pub struct Row {
-    pub given: bool,
-    pub row: u32,
+pub struct RowField {
+    pub row: RowAnswer,
     pub next: Place,
 }
 
-pub fn take_row(s: &[u8], p: Place) -> Row
-    ensures { λ r. ⌜ Reads (optional row) (now (s .entry)) p (rowIn r) (r .next) ⌝ }
+pub fn take_row(s: &[u8], p: Place) -> RowField
+    ensures { λ r. ⌜ (rowMeaning (r .row), r .next) ≡ rowAt (now (s .entry)) p ⌝ }
 {
     let f = bits::take_flag(s, p);
     let at = f.next;
     if !f.value {
-        return Row {
-            given: false,
-            row: 0,
+        return RowField {
+            row: RowAnswer::Absent,
             next: at,
         };
     }
     let v = bits::take(s, at, 32);
     let next = v.next;
-    Row {
-        given: true,
-        row: v.value as u32,
+    if 7 < next.bit {
+        return RowField {
+            row: RowAnswer::Absent,
+            next: PAST,
+        };
+    }
+    RowField {
+        row: RowAnswer::Is(v.value as u32),
         next,
     }
 }
 
-// An optional text: where its bytes stand, and the place behind them.
-pub struct Name {
-    pub given: bool,
-    pub start: usize,
-    pub len: usize,
+// Where the bytes of a text stand: the first of them, and how many there are.
+pub enum NameAnswer {
+    At(usize, usize),
+    Absent,
+}
+
+// An optional text, and the place behind it. It is not tested for UTF-8.
+pub struct NameField {
+    pub name: NameAnswer,
     pub next: Place,
 }
 
-pub fn take_name(s: &[u8], p: Place) -> Name
-    ensures { λ r. ⌜ NameAt (now (s .entry)) p r ⌝ }
+pub fn take_name(s: &[u8], p: Place) -> NameField
+    ensures { λ r. ⌜ NameTaken (now (s .entry)) p r ⌝ }
 {
     let f = bits::take_flag(s, p);
     let at = f.next;
     if !f.value {
-        return Name {
-            given: false,
-            start: 0,
-            len: 0,
+        return NameField {
+            name: NameAnswer::Absent,
             next: at,
         };
     }
     let t = bits::take_text(s, at);
     let next = t.next;
-    Name {
-        given: true,
-        start: t.start,
-        len: t.len,
+    if 7 < next.bit {
+        return NameField {
+            name: NameAnswer::Absent,
+            next: PAST,
+        };
+    }
+    NameField {
+        name: NameAnswer::At(t.start, t.len),
         next,
     }
 }
@@ -83,11 +99,18 @@ pub struct Rows {
 }
 
 pub fn take_rows(s: &[u8], p: Place) -> Rows
-    ensures { λ r. ⌜ RowsAt (now (s .entry)) p r ⌝ }
+    ensures { λ r. ⌜ ((r .first, r .second), r .next) ≡ rowsAt (now (s .entry)) p ⌝ }
 {
     let a = bits::take(s, p, 32);
     let b = bits::take(s, a.next, 32);
     let next = b.next;
+    if 7 < next.bit {
+        return Rows {
+            first: 0,
+            second: 0,
+            next: PAST,
+        };
+    }
     Rows {
         first: a.value as u32,
         second: b.value as u32,
@@ -95,18 +118,85 @@ pub fn take_rows(s: &[u8], p: Place) -> Rows
     }
 }
 
-// A date counted from the year -10000, or 0 where none is.
-pub fn take_date(s: &[u8], p: Place) -> Field
-    ensures { λ r. ⌜ Finds date (DayKey false) (now (s .entry)) p r ⌝ }
+// Whether a day lies in the years of dates.
+fn is_date(n: i32) -> bool
+    ensures { λ r. ⌜ r ≡ given (fromDays n) ⌝ }
 {
-    crate::fields::take_date(s, p)
+    (-4_371_587 <= n) & (n <= 2_932_896)
 }
 
-// A period by one number, 2048 times from, and to; or 0 where none is.
-pub fn take_period(s: &[u8], p: Place) -> Field
-    ensures { λ r. ⌜ Finds period PeriodKey (now (s .entry)) p r ⌝ }
+// A date, and the place behind it.
+pub struct DateField {
+    pub date: DateAnswer,
+    pub next: Place,
+}
+
+pub fn take_date(s: &[u8], p: Place) -> DateField
+    ensures { λ r. ⌜ (dateMeaning (r .date), r .next) ≡ dateAt (now (s .entry)) p ⌝ }
 {
-    crate::fields::take_period(s, p)
+    let f = bits::take_i32(s, p);
+    let next = f.next;
+    let day = f.value;
+    if 7 < next.bit {
+        return DateField {
+            date: DateAnswer::Absent,
+            next: PAST,
+        };
+    }
+    if !is_date(day) {
+        return DateField {
+            date: DateAnswer::Absent,
+            next: PAST,
+        };
+    }
+    DateField {
+        date: DateAnswer::Is(Date(day)),
+        next,
+    }
+}
+
+// From a minute of the day to another.
+pub struct Period {
+    pub from: u16,
+    pub to: u16,
+}
+
+pub enum PeriodAnswer {
+    Is(Period),
+    Absent,
+}
+
+// A period, and the place behind it.
+pub struct PeriodField {
+    pub period: PeriodAnswer,
+    pub next: Place,
+}
+
+pub fn take_period(s: &[u8], p: Place) -> PeriodField
+    ensures { λ r. ⌜ (periodMeaning (r .period), r .next) ≡ readAt period (now (s .entry)) p ⌝ }
+{
+    let from = bits::take(s, p, 11);
+    let to = bits::take(s, from.next, 11);
+    let next = to.next;
+    if to.value <= from.value {
+        return PeriodField {
+            period: PeriodAnswer::Absent,
+            next: PAST,
+        };
+    }
+    if 1440 < to.value {
+        return PeriodField {
+            period: PeriodAnswer::Absent,
+            next: PAST,
+        };
+    }
+    PeriodField {
+        period: PeriodAnswer::Is(Period {
+            from: from.value as u16,
+            to: to.value as u16,
+        }),
+        next,
+    }
 }
 
 // The place behind a list of periods.
@@ -120,7 +210,7 @@ pub fn skip_periods(s: &[u8], p: Place) -> Place
 
 // An activity's parent. The texts before it are tested where `check` says so.
 pub fn parent_place_by(s: &[u8], p: Place, check: bool) -> Place
-    ensures { λ r. ⌜ BeforeParentBy check (now (s .entry)) p r ⌝ }
+    ensures { λ r. ⌜ Passes (activityHead (textBy check)) (now (s .entry)) p r ⌝ }
 {
     let a = skip_text(s, p, check);
     let b = skip_text(s, a, check);
@@ -130,29 +220,35 @@ pub fn parent_place_by(s: &[u8], p: Place, check: bool) -> Place
 }
 
 pub fn parent_place(s: &[u8], p: Place) -> Place
-    ensures { λ r. ⌜ BeforeParent (now (s .entry)) p r ⌝ }
+    ensures { λ r. ⌜ Passes (activityHead (textBy false)) (now (s .entry)) p r ⌝ }
 {
     parent_place_by(s, p, false)
 }
 
 // The name of an activity's calendar.
 pub fn activity_calendar_place(s: &[u8], p: Place) -> Place
-    ensures { λ r. ⌜ BeforeName (now (s .entry)) p r ⌝ }
+    ensures { λ r. ⌜ Passes (activityHead (textBy false) ⊗ optional row ⊗ textBy false) (now (s .entry)) p r ⌝ }
 {
     let a = parent_place(s, p);
     let b = skip_optional(s, a, 32);
     skip_text(s, b, false)
 }
 
-// The name of a resource's calendar.
-pub fn resource_calendar_place(s: &[u8], p: Place) -> Place
-    ensures { λ r. ⌜ BeforePrice (now (s .entry)) p r ⌝ }
+// The name of a resource's calendar. The texts before it are tested where `check` says so.
+pub fn resource_calendar_place_by(s: &[u8], p: Place, check: bool) -> Place
+    ensures { λ r. ⌜ Passes (resourceHead (textBy check)) (now (s .entry)) p r ⌝ }
 {
-    let a = skip_text(s, p, false);
-    let b = skip_text(s, a, false);
+    let a = skip_text(s, p, check);
+    let b = skip_text(s, a, check);
     let c = skip_code(s, b, 0, 2);
-    let d = skip_text(s, c, false);
+    let d = skip_text(s, c, check);
     skip(s, d, 64)
+}
+
+pub fn resource_calendar_place(s: &[u8], p: Place) -> Place
+    ensures { λ r. ⌜ Passes (resourceHead (textBy false)) (now (s .entry)) p r ⌝ }
+{
+    resource_calendar_place_by(s, p, false)
 }
 
 // An expense's name, behind its activity's row.

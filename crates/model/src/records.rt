@@ -16,6 +16,8 @@ use crate::fields::skip_optional_text;
 use crate::fields::skip_text;
 use crate::lists::skip_days;
 use crate::lists::skip_hours;
+use crate::parts::parent_place_by;
+use crate::parts::resource_calendar_place_by;
 use bits::Place;
 
 pub fn skip_project(s: &[u8], p: Place) -> Place
@@ -67,14 +69,9 @@ pub fn skip_from_notes(s: &[u8], p: Place, check: bool) -> Place
 fn skip_activity(s: &[u8], p: Place, check: bool) -> Place
     ensures { λ r. ⌜ Passes (whole (activityParts (textBy check))) (now (s .entry)) p r × (r .bit % 8 ≡ 0) ⌝ }
 {
-    let a = skip_text(s, p, check);
-    let b = skip_text(s, a, check);
-    let c = skip_code(s, b, 0, 2);
-    let d = skip(s, c, 64);
-    let e = skip_optional(s, d, 64);
-    let f = skip_optional(s, e, 32);
-    let g = skip_text(s, f, check);
-    bits::take_pad(s, skip_activity_rest(s, g, check))
+    let a = parent_place_by(s, p, check);
+    let b = skip_optional(s, a, 32);
+    bits::take_pad(s, skip_from_notes(s, b, check))
 }
 
 fn skip_link(s: &[u8], p: Place) -> Place
@@ -91,13 +88,9 @@ fn skip_link(s: &[u8], p: Place) -> Place
 fn skip_resource(s: &[u8], p: Place, check: bool) -> Place
     ensures { λ r. ⌜ Passes (whole (resourceParts (textBy check))) (now (s .entry)) p r × (r .bit % 8 ≡ 0) ⌝ }
 {
-    let a = skip_text(s, p, check);
-    let b = skip_text(s, a, check);
-    let c = skip_code(s, b, 0, 2);
-    let d = skip_text(s, c, check);
-    let e = skip(s, d, 64);
-    let f = skip_optional_text(s, e, check);
-    bits::take_pad(s, skip_optional(s, f, 64))
+    let a = resource_calendar_place_by(s, p, check);
+    let b = skip_optional_text(s, a, check);
+    bits::take_pad(s, skip_optional(s, b, 64))
 }
 
 fn skip_assignment(s: &[u8], p: Place) -> Place

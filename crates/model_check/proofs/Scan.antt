@@ -14,9 +14,10 @@ use Rattle.definition.specs.Base.{if_then_else_, _>>=_, some?, every?, numbered
 use Rattle.definition.specs.Bits.{Bits}
 use Rattle.definition.specs.Check.{distinct}
 use Rattle.definition.specs.Format.{Format, whole, times, getAll}
+use Rattle.laws.specs.Options.{bind-assoc, bind-ext, never}
 use Rattle.bits.specs.Reads.{rest, Reads}
 use Rattle.bits.specs.declared.Place.{Place}
-use Rattle.model.specs.Passes.{Passes, bind-bind, bind-ext, all-suc}
+use Rattle.model.specs.Passes.{Passes, all-suc}
 use Rattle.model.specs.Parts.{recordOf}
 use Rattle.model.specs.Splits.{Stands, Step, step, read-length}
 use Rattle.model.specs.Sections.{byteAt, byte-rest}
@@ -82,9 +83,6 @@ pub record First (kind : Kind) (s : List ℕ) (q : Place) (i : ℕ) (xs : List (
   pub is : drop i xs ≡ item ∷ drop (i + 1) xs
   pub stands : Stands (whole (formatOf kind)) s q item
 
-never : {A : Type 0} {a : A} → none ≡ some a → ⊥
-never e = let z : _≡_ {A = ℕ} 0 1 = cc in omega arith
-
 record Headed {A : Type 0} (f : Format A) (s : List ℕ) (p : Place) (xs : List A) : Type 0 where
   item : A
   others : List A
@@ -96,7 +94,7 @@ first : {A : Type 0} {f : Format A} {s : List ℕ} {p r : Place} {xs : List A} {
 unfolding times
 first {A} {f} {s} {p} {r} {xs} {l} n e h =
     by-item (rest s p >>= f .get) refl
-    (bind-bind (rest s p) (f .get) k ∙ bind-ext (rest s p) (λ m. f .get m >>= k) (getAll f (suc n)) (λ m. sym (all-suc f n m)) ∙ h .reads ∙ rw e)
+    (bind-assoc (rest s p) (f .get) k ∙ bind-ext (rest s p) (λ m. f .get m >>= k) (getAll f (suc n)) (λ m. sym (all-suc f n m)) ∙ h .reads ∙ rw e)
   where
     onto : A → List A × Bits → Option (List A × Bits)
     onto a y = some (a ∷ y .0, y .1)

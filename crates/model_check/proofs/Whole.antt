@@ -1,6 +1,6 @@
 -- The check's list from the answers to its lines, and the number from both passes. Assumes nothing.
 use mathlib.Core.Path.{_≡_, refl, sym, ap, _∙_}
-use mathlib.Core.Bool.{Bool, true, false, _&&_, not}
+use mathlib.Core.Bool.{Bool, true, false, _&&_, not, false≢true}
 use mathlib.Core.List.{List, [], _∷_, map}
 use mathlib.Core.Option.{Option, some, none}
 use Prim.Native.Nat.{ℕ, suc}
@@ -36,9 +36,6 @@ every-plain p i (x ∷ l) = ap (λ (b : Bool). p x && b) (every-plain p (suc i) 
 
 -- ---- the number
 
-false-true : false ≡ true → ⊥
-false-true e = let z : _≡_ {A = ℕ} 0 1 = cc in omega arith
-
 module _ {s : Text} {r : Sections} (h : Opened s r) where
   pub refused : r .ok ≡ false → 6 ≡ checkAnswer s
   unfolding checkAnswer
@@ -46,12 +43,12 @@ module _ {s : Text} {r : Sections} (h : Opened s r) where
     where
       by-model : (o : Option Model) → given o ≡ false → 6 ≡ checkOf o
       by-model none z = refl
-      by-model (some m) z = absurd (false-true (sym z))
+      by-model (some m) z = absurd (false≢true (sym z))
 
   pub checked : {b g : Bool} → r .ok ≡ true → ((m : Model) → Decoded s m r → b ≡ keepsList m) → b ≡ g → (if g then 0 else 7) ≡ checkAnswer s
   unfolding checkAnswer
   checked {b} {g} e k u = by-model (decode s) refl (sym (h .ok) ∙ e)
     where
       by-model : (o : Option Model) → decode s ≡ o → given o ≡ true → (if g then 0 else 7) ≡ checkOf o
-      by-model none z y = absurd (false-true y)
+      by-model none z y = absurd (false≢true y)
       by-model (some m) z y = rw (← u, k m (h .decoded m z))

@@ -17,7 +17,7 @@ use Rattle.definition.specs.Number.{Reading, absent, isDot, isE, unsigned, scal
 use Rattle.number.specs.Number.{limit, hold, Ran, powerBy, powerOf, powerAt, scaledBy, ended}
 use Rattle.number.specs.declared.decimal.Power.{Power}
 use Rattle.number.specs.declared.decimal.Power.the-variants as power
-use Rattle.text.specs.Bools.{and-left, and-right}
+use Rattle.laws.specs.Bools.{and-left, and-right}
 use Rattle.text.specs.Cut.{place-within, after-drop}
 use Rattle.text.specs.Parts.{le-or-lt, at-cons, at-end}
 use Rattle.text.specs.Signs.{minus?}

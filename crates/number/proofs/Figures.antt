@@ -10,6 +10,7 @@ use lib.Dec.{T, eqb, eqb·suc-suc, eqb-refl}
 use lib.ListN.{length, take, drop, getD, length-append, length-drop}
 use lib.Seq.{getD-drop, drop-drop}
 use lib.Ieee.{Float, le, lt, eq}
+use lib.Ieee.Fits.{and-i, and-l, and-r}
 use Rattle.definition.specs.Base.{if_then_else_, _or_, same}
 use Rattle.definition.specs.Text.{Text, before, after}
 use Rattle.definition.specs.Number.{Reading, absent, long, value, zeroFloat, numberOf}
@@ -188,18 +189,6 @@ zero-least : T (le zeroFloat zeroFloat)
 unfolding le lt eq
 zero-least = tt
 
-both : (a b : Bool) → T a → T b → T (a && b)
-both true b p q = q
-both false b p q = p
-
-left : (a b : Bool) → T (a && b) → T a
-left true b p = tt
-left false b p = p
-
-right : (a b : Bool) → T (a && b) → T b
-right true b p = p
-right false b p = absurd p
-
 pub record Least (f : Figures) : Type 0 where
   pub days : T (le zeroFloat (f .days))
   pub hours : T (le zeroFloat (f .hours))
@@ -212,14 +201,14 @@ of-test f t =
     let h = le zeroFloat (f .hours) in
     let m = le zeroFloat (f .minutes) in
     let s = le zeroFloat (f .seconds) in
-    let hms = right d (h && (m && s)) t in
-    let ms = right h (m && s) hms in
-    record { days = left d (h && (m && s)) t; hours = left h (m && s) hms; minutes = left m s ms; seconds = right m s ms }
+    let hms = and-r d (h && (m && s)) t in
+    let ms = and-r h (m && s) hms in
+    record { days = and-l d (h && (m && s)) t; hours = and-l h (m && s) hms; minutes = and-l m s ms; seconds = and-r m s ms }
 
 to-test : (f : Figures) → Least f → T (notBelow f)
 to-test f l =
-    both (le zeroFloat (f .days)) _ (l .days)
-    (both (le zeroFloat (f .hours)) _ (l .hours) (both (le zeroFloat (f .minutes)) (le zeroFloat (f .seconds)) (l .minutes) (l .seconds)))
+    and-i (le zeroFloat (f .days)) _ (l .days)
+    (and-i (le zeroFloat (f .hours)) _ (l .hours) (and-i (le zeroFloat (f .minutes)) (le zeroFloat (f .seconds)) (l .minutes) (l .seconds)))
 
 set-least : (b : ℕ) (x : Float) (f : Figures) → T (le zeroFloat x) → T (notBelow f) → T (notBelow (setUnit b x f))
 unfolding setUnit

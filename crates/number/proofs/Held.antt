@@ -1,6 +1,6 @@
 -- Digits read one after the other, one at least, and that a number past the limit may as well be the limit. Assumes nothing.
 use mathlib.Core.Path.{_≡_, refl, sym, ap, _∙_, subst}
-use mathlib.Core.Bool.{Bool, true, false}
+use mathlib.Core.Bool.{Bool, true, false, and-false}
 use mathlib.Core.List.{[], _∷_}
 use mathlib.Core.Option.{Option, some, none}
 use Prim.Native.Nat.{ℕ, zero, suc, _+_, _-_, _*_, _≤_, _<_, min}
@@ -11,7 +11,6 @@ use lib.ListN.{length, drop, getD}
 use Rattle.definition.specs.Base.{if_then_else_}
 use Rattle.definition.specs.Text.{Text, isDigit, digits, digitsAfter}
 use Rattle.number.specs.Number.{limit, hold, Reads, start, digit}
-use Rattle.text.specs.Bools.{and-false}
 use Rattle.text.specs.Parts.{at-cons}
 
 pub low : (x : ℕ) → x < 48 → isDigit x ≡ false

@@ -10,7 +10,7 @@ use lib.Dec.{ltb, leb}
 use lib.Ieee.{round, binary64}
 use Rattle.definition.specs.Base.{if_then_else_}
 use Rattle.definition.specs.Number.{absent, long, value, short?, nearest, zeroFloat, magnitude}
-use Rattle.text.specs.Bools.{and-left, and-right}
+use Rattle.laws.specs.Bools.{and-left, and-right}
 use Rattle.text.specs.Parts.{le-or-lt}
 use Rattle.number.specs.Number.{limit, decimal, upBy, downBy, isWrong, scaledBy}
 use Rattle.number.specs.declared.decimal.Power.{Power}

@@ -1,6 +1,6 @@
 -- The first byte of a text that is one of three: one turn of the loop that looks for it. Assumes nothing.
 use mathlib.Core.Path.{_≡_, sym}
-use mathlib.Core.Bool.{Bool, true, false}
+use mathlib.Core.Bool.{Bool, true, false, or-true}
 use mathlib.Core.List.{[], _∷_}
 use Prim.Native.Nat.{ℕ, zero, suc, _+_, _≤_, _<_}
 use native.Mathlib.Omega.{arith}
@@ -9,7 +9,6 @@ use lib.Dec.{eqb}
 use lib.ListN.{length, take, drop, getD}
 use lib.Seq.{length-take-le}
 use Rattle.definition.specs.Text.{Text}
-use Rattle.text.specs.Bools.{or-true}
 use Rattle.text.specs.Cut.{placeOf, place-within, place-here, place-on, place-end}
 use Rattle.number.specs.Scan.{oneOf}
 

@@ -14,6 +14,12 @@ meaning answer.Absent = absent
 meaning answer.Long = long
 meaning (answer.Minutes n) = value n
 
+-- document 01's number for an answer: a number that is too long refuses the tree
+abbrev pub durationRefusal : DurationAnswer → ℕ
+durationRefusal answer.Absent = 0
+durationRefusal answer.Long = 5
+durationRefusal (answer.Minutes n) = 0
+
 abbrev pub figuresMeaning : FiguresAnswer → Reading Figures
 figuresMeaning figures.Absent = absent
 figuresMeaning figures.Long = long

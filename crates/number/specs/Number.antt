@@ -20,6 +20,12 @@ meaning answer.Absent = absent
 meaning answer.Long = long
 meaning (answer.Value x) = value x
 
+-- document 01's number for an answer: a number that is too long refuses the tree
+abbrev pub numberRefusal : NumberAnswer → ℕ
+numberRefusal answer.Absent = 0
+numberRefusal answer.Long = 5
+numberRefusal (answer.Value x) = 0
+
 -- ---- digits, held to a limit that is past every length
 abbrev pub limit : ℕ
 limit = 10 ^ 19

@@ -5,7 +5,7 @@ ghost use Prim.Native.Nat.{_+_, _%_, _≤_, _<_};
 ghost use lib.ListN.{length, replicate};
 ghost use Rattle.definition.specs.Duration.{decimal, durationText};
 ghost use Rattle.definition.specs.Time.{twoDigits, timeText};
-ghost use Rattle.number.specs.Written.{Put, Gives, shown, answerOf, minutesAnswer};
+ghost use Rattle.number.specs.Written.{Put, Gives, view, answerOf, minutesAnswer};
 ghost use Rattle.definition.specs.Refusal.{timeAnswer};
 
 pub enum TextAnswer {
@@ -58,7 +58,7 @@ fn put_decimal(out: &mut [u8], at: usize, n: u64) -> usize
 
 // What was written up to a place, and zeros behind it; zeros alone where it did not fit.
 fn finish(out: &mut [u8], at: usize) -> TextAnswer
-    ensures { λ r. ⌜ Gives (answerOf (shown (now (out .entry)) at)) (length (now (out .entry))) r (now (out .exit)) ⌝ }
+    ensures { λ r. ⌜ Gives (answerOf (view (now (out .entry)) at)) (length (now (out .entry))) r (now (out .exit)) ⌝ }
 {
     if at <= out.len() {
         clear(&mut out[at..]);

@@ -13,7 +13,7 @@ use lib.Seq.{take-suc-set}
 use Rattle.definition.specs.Base.{if_then_else_, keep, first, count}
 use Rattle.definition.specs.Outline.{parentAt, topRows, childRows, under, outlineOf}
 use Rattle.definition.specs.Refusal.{rowWords}
-use Rattle.theorems.specs.Outlines.{no-levels, parent-in, outline-length}
+use Rattle.laws.specs.Outlines.{no-levels, parent-in, outline-length}
 use Rattle.outline.specs.declared.Place.{Place}
 use Rattle.outline.specs.Steps.{noRow, wordOf, homeOf, fellow, fellows, later, Links, climbOf, stepOf}
 

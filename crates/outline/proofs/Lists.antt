@@ -11,7 +11,7 @@ use lib.ListN.{length, getD, set, length-set}
 use lib.Seq.{getD-set-same, getD-set-other}
 use Rattle.definition.specs.Base.{keep, first, count}
 use Rattle.definition.specs.Outline.{parentIn, parentAt}
-use Rattle.theorems.specs.Outlines.{parent-in}
+use Rattle.laws.specs.Outlines.{parent-in}
 use Rattle.outline.specs.Words.{parentsIn}
 use Rattle.outline.specs.Parents.{length-parents, parents-at}
 use Rattle.outline.specs.Steps.{noRow, wordOf, homeOf, slotOf, fellow, fellows, later, Links, pushed, linkOf, Empty}

@@ -1,6 +1,6 @@
 -- From a model's bytes to what the definition says of them: the model's outline, or why there is none. Assumes nothing.
 use mathlib.Core.Path.{_≡_, refl, sym, ap, subst, _∙_}
-use mathlib.Core.Bool.{Bool, true, false, _&&_, _||_, not}
+use mathlib.Core.Bool.{Bool, true, false, _&&_, _||_, not, false≢true}
 use mathlib.Core.List.{List, _++_}
 use mathlib.Core.Option.{Option, some, none}
 use Prim.Native.Nat.{ℕ, _-_, _*_, _≤_}
@@ -14,7 +14,7 @@ use Rattle.definition.specs.Model.{Activity, Model}
 use Rattle.definition.specs.Pack.{activity, decode}
 use Rattle.definition.specs.Outline.{outlineOf, outline}
 use Rattle.definition.specs.Refusal.{refused, gives, result, left, rowCount, rowWords, outlineBy, outlineAnswer}
-use Rattle.theorems.specs.Outlines.{and-left, and-right}
+use Rattle.laws.specs.Bools.{and-left, and-right}
 use Rattle.definition.specs.Pack.{counts}
 use Rattle.bits.specs.Reads.{Reads}
 use Rattle.model.specs.Sections.{Opened, Holds, Walks, start, countsIn, sectionsOf, sectionsBy, noSections}
@@ -31,12 +31,9 @@ use Rattle.outline.specs.Parents.{outline-filled}
 use Rattle.outline.specs.Filled.{parents, Names, Walked}
 use Rattle.outline.specs.Answers.{refusalOf, countOf, Gives}
 
-never : {A : Type 0} → false ≡ true → A
-never e = let z : _≡_ {A = ℕ} 0 1 = cc in absurd (omega arith)
-
 or-right : (a b : Bool) → (a || b) ≡ false → b ≡ false
 or-right false b e = e
-or-right true b e = never (sym e)
+or-right true b e = absurd (false≢true (sym e))
 
 -- ---- the model
 
@@ -50,7 +47,7 @@ found : {s : List ℕ} {r : Sections} → Opened s r → r .ok ≡ true → Foun
 found {s} {r} h ok = by-model (decode s) refl
   where
     by-model : (o : Option Model) → decode s ≡ o → Found s r
-    by-model none d = never (sym (h .ok ∙ ap given d) ∙ ok)
+    by-model none d = absurd (false≢true (sym (h .ok ∙ ap given d) ∙ ok))
     by-model (some m) d = record { model = m; decodes = d; holds = h .decoded m d .activities }
 
 -- ---- the words
@@ -65,7 +62,7 @@ module _ {s : List ℕ} {n : Counts} {w : Places} {work work₁ : List ℕ} (c :
   filled-in ok = by-end (eqb (w .end .bit) 0 && eqb (w .end .byte) (length s)) ok
     where
       by-end : (t : Bool) → (if t then sectionsOf n w else noSections) .ok ≡ true → Filled s ((if t then sectionsOf n w else noSections) .activities) work work₁
-      by-end false z = never z
+      by-end false z = absurd (false≢true z)
       by-end true z = record { long = k .filled .long; names = λ xs next h room. k .filled .names xs next h (activities-at c (k .walks) ok) room }
 
   -- the sections that come of the walk
@@ -92,7 +89,7 @@ module _ (s : List ℕ) (rows work : ℕ) where
       where
         by-model : (o : Option Model) → decode s ≡ o → outlineAnswer s rows work ≡ refused 6
         by-model none d = answer-of d
-        by-model (some m) d = never (sym e ∙ h .ok ∙ ap given d)
+        by-model (some m) d = absurd (false≢true (sym e ∙ h .ok ∙ ap given d))
 
   answer-by : {r : Sections} (f : Found s r) {t : Bool} → isShort (r .activities .count) rows work ≡ t
       → outlineAnswer s rows work ≡ (if t then refused 9 else gives (rowWords (outline (f .model))))

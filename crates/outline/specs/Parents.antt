@@ -11,7 +11,7 @@ use lib.Dec.{ltb, eqb}
 use lib.ListN.{length, getD}
 use Rattle.definition.specs.Base.{keep, count}
 use Rattle.definition.specs.Outline.{parentIn, isTop, isUnder, parentAt, topRows, childRows, under, outlineOf}
-use Rattle.theorems.specs.Outlines.{parent-out}
+use Rattle.laws.specs.Outlines.{parent-out}
 use Rattle.outline.specs.Words.{parentsIn}
 use Rattle.outline.specs.Steps.{wordOf, noRow}
 

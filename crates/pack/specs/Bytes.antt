@@ -8,8 +8,8 @@ use lib.Seq.{take-suc}
 use Rattle.definition.specs.Ascii.{bytes}
 use Rattle.definition.specs.Bits.{Bits, bitsOf}
 use Rattle.definition.specs.Format.{field, count, text}
-use Rattle.bits.specs.Bits.{bits-append, bits-one}
-use Rattle.bits.specs.Steps.{Step, Puts, Pads, put-same, put-text, view, _▷_, _⨾_, said, ▷-▷, view-none, field-step}
+use Rattle.bits.specs.Steps.{Step, Puts, Pads, put-same, put-text, view, _▷_, _⨾_, said, stays, ▷-▷, view-none, field-step}
+use Rattle.laws.specs.Bits.{bits-append, bits-one}
 use Rattle.bits.specs.declared.Place.{Place}
 
 -- the bytes of s were written
@@ -18,7 +18,7 @@ pub record Writes (s : List ℕ) (d : List ℕ) (p : Place) (d' : List ℕ) (q :
 
 pub write-none : (d : List ℕ) (p : Place) → Writes [] d p d p
 unfolding bitsOf
-write-none d p = record { step = record { same = refl; bits = sym (view-none d p) } }
+write-none d p = record { step = stays _ (view-none d p) }
 
 module _ {d : List ℕ} {p : Place} {d' : List ℕ} {q : Place} where
   pub write-one : {x : ℕ} → Puts (field 8) x d p d' q → Writes (x ∷ []) d p d' q

@@ -12,7 +12,6 @@ use Rattle.definition.specs.Base.{if_then_else_, _or_, _>>=_, when, within}
 use Rattle.definition.specs.Date.{Date, dayNumber, fromDays}
 use Rattle.definition.specs.Format.{Format, depending, code, number}
 use Rattle.definition.specs.Task.{constraintFrom}
-use Rattle.text.specs.Bools.{and-left}
 use Rattle.definition.specs.Answer.{dateMeaning, dayNumberOf}
 use Rattle.definition.specs.declared.DateAnswer.{DateAnswer}
 use Rattle.pack.specs.Stub.{constraintMeans}

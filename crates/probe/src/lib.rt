@@ -1,5 +1,10 @@
 // Leaves that the boundary does not export, exported for compare/ alone: each beside the Rust, on the same texts. The answer of a leaf is 0 where
 // there is a value, which `out` then holds, 1 where there is none and 2 where document 01 refuses a number as too long, with 0 in `out`.
+mod days; // rules and their days
+
+pub use days::probe_next;
+pub use days::probe_rule;
+pub use days::probe_week_day;
 ghost use mathlib.Core.Path.{_≡_};
 ghost use lib.ListN.{length};
 ghost use Rattle.definition.specs.Base.{same, given};

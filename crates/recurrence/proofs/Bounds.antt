@@ -7,9 +7,9 @@ use borrow.Author.Tests.{le-leb}
 use Rattle.definition.specs.Base.{_or_, within}
 use Rattle.definition.specs.Date.{yearOf, monthOf, dayOf, dateAt, monthLength, lastDate}
 use Rattle.date.specs.Answer.{dateWithin, isDay}
-use Rattle.theorems.specs.Calendar.{new-year-next, year-length, year-found, last-new-year, IsDay, is-day}
+use Rattle.laws.specs.Calendar.{new-year-next, year-length, year-found, last-new-year, IsDay, is-day}
 use Rattle.recurrence.specs.Months.{monthAt, year-rises, IsMonth, dayIn, month-length}
-use Rattle.recurrence.specs.Tests.{both, within-is}
+use Rattle.laws.specs.Bools.{both, within-is}
 
 end-year : yearOf (lastDate + 1) ≡ 20000
 end-year = year-found (lastDate + 1) 20000 (record { from = omega (arith, last-new-year); to = omega (arith, last-new-year, year-length 20000) })

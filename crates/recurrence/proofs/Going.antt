@@ -3,7 +3,7 @@ use Prim.Native.Nat.{ℕ, zero, suc, _+_, _-_, _≤_, _<_, min, max}
 use native.Mathlib.Omega.{arith}
 use native.Mathlib.Decide.{decLt}
 use mathlib.Core.Path.{_≡_, refl, sym, ap, subst, _∙_}
-use mathlib.Core.Bool.{Bool, true, false, _&&_}
+use mathlib.Core.Bool.{Bool, true, false, _&&_, and-false}
 use mathlib.Core.List.{List, _∷_}
 use mathlib.Core.Option.{Option, some}
 use lib.ListN.{take}
@@ -21,7 +21,7 @@ use Rattle.recurrence.specs.declared.Cursor.{Cursor}
 use Rattle.recurrence.specs.declared.Fit.{Fit}
 use Rattle.recurrence.specs.declared.Fit.the-variants.{At, Unread}
 use Rattle.recurrence.specs.declared.Step.the-variants.{Day, Done, Skipped}
-use Rattle.recurrence.specs.Tests.{and-false, both, within-is}
+use Rattle.laws.specs.Bools.{both, within-is}
 
 pub starts : (r : Rule) → toCome r (record { at = r .from; left = r .most }) ≡ daysBy r
 unfolding toCome daysBy daysOfRule meaning

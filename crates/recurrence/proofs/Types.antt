@@ -3,7 +3,7 @@ use Prim.Native.Nat.{ℕ, zero, suc, _<_}
 use native.Mathlib.Omega.{arith}
 use native.Mathlib.Decide.{decLt}
 use mathlib.Core.Path.{_≡_, refl}
-use mathlib.Core.Bool.{Bool, true, false, _&&_}
+use mathlib.Core.Bool.{Bool, true, false, _&&_, and-false, or-true}
 use mathlib.Core.Option.{none}
 use lib.Dec.{leb}
 use borrow.Author.Tests.{leb-true, lt-leb}
@@ -16,7 +16,6 @@ use Rattle.recurrence.specs.Fits.{month-is, Finds, FindsYearly, yearlyFi
 use Rattle.recurrence.specs.declared.Rule.{Rule}
 use Rattle.recurrence.specs.declared.Fit.{Fit}
 use Rattle.recurrence.specs.declared.Fit.the-variants.{At, Unread}
-use Rattle.recurrence.specs.Tests.{and-false, or-true}
 
 month-none : (m : ℕ) → (IsMonth m → ⊥) → when (within 1 12 m) m ≡ none
 month-none m n = by (leb 1 m) refl (leb m 12) refl

@@ -13,10 +13,11 @@ use Rattle.definition.specs.Base.{_>>=_, when, within}
 use Rattle.definition.specs.Text.{Text, before, after, signedOf, unsignedOf, signOf, digits, trim, trimFront, trimBack, strip}
 use Rattle.definition.specs.Date.{Date, dateAt, newYear, monthLength, epoch, firstDate, lastDate, fromDays, dayNumber, yearAt, fromYmd, dateOf, dateParts, firstTen, dash}
 use Rattle.definition.specs.Answer.{dayNumberOf}
-use Rattle.theorems.specs.Rows.{rising}
-use Rattle.theorems.specs.Calendar.{first-new-year}
+use Rattle.laws.specs.Rows.{rising}
+use Rattle.laws.specs.Calendar.{first-new-year}
 use Rattle.recurrence.specs.Months.{IsMonth, new-year-rises, month-end}
-use Rattle.recurrence.specs.Tests.{both, within-is, when-is, some-is}
+use Rattle.laws.specs.Bools.{both, within-is}
+use Rattle.laws.specs.Options.{when-is, some-is}
 
 pub record InRange (d : Date) : Type 0 where
   pub low : firstDate ≤ d

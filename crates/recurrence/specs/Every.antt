@@ -3,11 +3,10 @@ use Prim.Native.Nat.{ℕ, suc, _+_, _-_, _*_, _/_, _%_, _≤_, _<_}
 use native.Mathlib.Omega.{arith}
 use native.Mathlib.Nat.{mul-le-mul-right, lt-of-mul-lt-mul-right, div-mul-le-self, lt-div-mul-add, div-add-mod', mul-mod-left, mul-div-cancel, le-div-iff-mul-le, suc-mul}
 use mathlib.Core.Path.{_≡_}
-use mathlib.Core.Bool.{true, false}
+use mathlib.Core.Bool.{true, false, and-false}
 use lib.Dec.{eqb}
 use borrow.Author.Tests.{ne-eqb, lt-ltb, le-ltb}
 use Rattle.definition.specs.Recurrence.{everyNth}
-use Rattle.recurrence.specs.Tests.{and-false}
 
 -- q steps are the fewest that reach n
 pub record UpTo (n step q : ℕ) : Type 0 where

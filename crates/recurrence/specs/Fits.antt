@@ -4,7 +4,7 @@ use native.Mathlib.Omega.{arith}
 use native.Mathlib.Decide.{decLt}
 use native.Mathlib.Nat.{mul-le-mul-right, mul-mod-left}
 use mathlib.Core.Path.{_≡_, refl}
-use mathlib.Core.Bool.{Bool, true, false, _&&_}
+use mathlib.Core.Bool.{Bool, true, false, _&&_, and-false}
 use mathlib.Core.Option.{Option, some}
 use lib.Dec.{leb, eqb}
 use borrow.Author.Tests.{eq-eqb, ne-eqb, le-leb, lt-leb}
@@ -12,7 +12,7 @@ use Rattle.definition.specs.Base.{if_then_else_, _or_, when, within}
 use Rattle.definition.specs.Bits.{twos}
 use Rattle.definition.specs.Date.{Date, yearOf, monthOf, dayOf, sundayFirst, firstDate, lastDate}
 use Rattle.definition.specs.Recurrence.{mostDays, century, everyNth, isDate, onWeekday, inNthWeek, monthCount, fits, isRule}
-use Rattle.theorems.specs.Calendar.{IsDay, is-day}
+use Rattle.laws.specs.Calendar.{IsDay, is-day}
 use Rattle.recurrence.specs.Sequence.{FirstFit}
 use Rattle.recurrence.specs.Every.{UpTo, on-step, off-step, past-steps, one-up}
 use Rattle.recurrence.specs.Units.{Units, Passed, pass-none, pass-over, pass-unit, fit-unit, no-unit}
@@ -22,7 +22,6 @@ use Rattle.recurrence.specs.declared.Rule.{Rule}
 use Rattle.recurrence.specs.declared.Cursor.{Cursor}
 use Rattle.recurrence.specs.declared.Fit.{Fit}
 use Rattle.recurrence.specs.declared.Fit.the-variants.{At, Unread}
-use Rattle.recurrence.specs.Tests.{and-false}
 
 -- what the searches may take for granted
 pub record Ready (r : Rule) (at : ℕ) : Type 0 where

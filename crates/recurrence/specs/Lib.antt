@@ -1,4 +1,3 @@
-pub mod Tests
 pub mod Sequence
 pub mod Every
 pub mod Units

@@ -14,10 +14,11 @@ use borrow.Author.Tests.{eqb-true, eqb-false, eq-eqb, ne-eqb, le-leb}
 use Rattle.definition.specs.Base.{if_then_else_, _orElse_, when, within, keep, count, findLast}
 use Rattle.definition.specs.Date.{Date, sundayFirst, leap, yearOf, monthOf, dayOf, dateAt, monthLength, monthsLength, newYear, yearLength, lastDate}
 use Rattle.definition.specs.Recurrence.{itemFits, atPosition, nthInMonth, isDate}
-use Rattle.theorems.specs.Rows.{lower, rising}
-use Rattle.theorems.specs.Calendar.{new-year-next, months-full, last-new-year, InYear, in-year, months-next, InMonth, in-month, IsDay, is-day, date-back, Falls, falls}
+use Rattle.laws.specs.Rows.{lower, rising}
+use Rattle.laws.specs.Calendar.{new-year-next, months-full, last-new-year, InYear, in-year, months-next, InMonth, in-month, IsDay, is-day, date-back, Falls, falls}
 use Rattle.recurrence.specs.Sequence.{keep-yes, keep-no, keep-none}
-use Rattle.recurrence.specs.Tests.{within-is, when-is}
+use Rattle.laws.specs.Bools.{within-is}
+use Rattle.laws.specs.Options.{when-is}
 
 abbrev pub IsMonth : ℕ → Type 0
 IsMonth m = (1 ≤ m) × (m ≤ 12)

@@ -20,7 +20,7 @@ use Rattle.definition.specs.Tree.{Element, child, textOf}
 use Rattle.definition.specs.Text.{Text, signedOf, isYes}
 use Rattle.definition.specs.Field.{textIn, intIn, yesIn, dateIn, held}
 use Rattle.text.specs.Whole.{signed-to, signed-least}
-use Rattle.theorems.specs.Calendar.{is-day}
+use Rattle.laws.specs.Calendar.{is-day}
 use Rattle.definition.specs.Answer.{dateMeaning}
 use Rattle.definition.specs.declared.DateAnswer.{DateAnswer}
 use Rattle.recurrence.specs.Months.{month-length, sunday-less}
@@ -30,7 +30,7 @@ use Rattle.definition.specs.Recurrence.{mostDays, century, monthFrom, typeFrom,
 use Rattle.recurrence.specs.Meaning.{asRule, sound, meaning, daysBy}
 use Rattle.recurrence.specs.declared.Rule.{Rule}
 use Rattle.recurrence.specs.declared.Range.{Range}
-use Rattle.recurrence.specs.Tests.{within-is}
+use Rattle.laws.specs.Bools.{within-is}
 
 -- what an element says in a child: a whole number, a date
 abbrev pub wholeOf : Element → Text → Option ℤ

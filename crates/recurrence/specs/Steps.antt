@@ -11,7 +11,8 @@ use borrow.Author.Tests.{leb-true}
 use Rattle.definition.specs.Base.{when, within}
 use Rattle.definition.specs.Date.{Date, firstDate, lastDate}
 use Rattle.definition.specs.Recurrence.{isRule, fits}
-use Rattle.recurrence.specs.Tests.{both, within-is, when-is, some-is}
+use Rattle.laws.specs.Bools.{both, within-is}
+use Rattle.laws.specs.Options.{when-is, some-is}
 use Rattle.recurrence.specs.Sequence.{fromOn}
 use Rattle.recurrence.specs.Months.{nth-in}
 use Rattle.recurrence.specs.Meaning.{asRule, sound, meaning, toCome, said}

@@ -3,13 +3,12 @@ use Prim.Native.Nat.{ℕ, suc, _≤_, _<_}
 use native.Mathlib.Omega.{arith}
 use native.Mathlib.Decide.{decLt}
 use mathlib.Core.Path.{_≡_, refl, sym, ap, _∙_}
-use mathlib.Core.Bool.{Bool, true, false, _&&_}
+use mathlib.Core.Bool.{Bool, true, false, _&&_, and-false}
 use mathlib.Core.Option.{Option, some, none}
 use borrow.Author.Tests.{eq-eqb, ne-eqb}
 use Rattle.definition.specs.Base.{_or_}
 use Rattle.definition.specs.Recurrence.{isDate}
 use Rattle.recurrence.specs.Sequence.{FirstFit}
-use Rattle.recurrence.specs.Tests.{and-false}
 
 -- each date lies in a unit, later ones in later units; a date fits where its unit counts and it is the unit's candidate
 pub record Units (p : ℕ → Bool) (unit : ℕ → ℕ) (counts : ℕ → Bool) (candidate : ℕ → Option ℕ) : Type 0 where

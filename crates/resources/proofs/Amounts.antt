@@ -8,7 +8,7 @@ use mathlib.Core.Option.{some, none}
 use lib.Dec.{T}
 use lib.IntN.{ℤ, pos, natAbs}
 use lib.Ieee.{Float, nan, inf, fin, binary64, up, down, round, neg, le, lt, mul}
-use lib.Ieee.Fits.{down-pos, and-l, and-r}
+use lib.Ieee.Fits.{down-pos, and-i, and-l, and-r}
 use Rattle.definition.specs.Base.{if_then_else_, _or_, when}
 use Rattle.definition.specs.Number.{float, zeroFloat, between, withSign, halfAway, nearestWhole, hundredths}
 use Rattle.definition.specs.Resource.{sameℤ}
@@ -66,13 +66,9 @@ module _ (p : Float) where
   price-test : priced? ≡ (lt zeroFloat p && lt p (float (10 ^ 13)))
   price-test = λ i. lt zeroFloat p && lt p (sym float-10¹³ i)
 
-  pair : (a b : Bool) → T a → T b → T (a && b)
-  pair true b s t = t
-  pair false b s t = absurd s
-
   both : T (lt zeroFloat p && lt p (float (10 ^ 13))) → T (between 0 (10 ^ 13) p)
   both t =
-      pair (le (float 0) p) (le p (float (10 ^ 13)))
+      and-i (le (float 0) p) (le p (float (10 ^ 13)))
       (subst (λ (y : Float). T (le y p)) (sym float-0) (of-lt zeroFloat p (and-l (lt zeroFloat p) (lt p (float (10 ^ 13))) t)))
       (of-lt p (float (10 ^ 13)) (and-r (lt zeroFloat p) (lt p (float (10 ^ 13))) t))
 

@@ -1,39 +1,46 @@
 // The values of a Task. What is right is said in the crate definition, specs/Task.antt.
 ghost use mathlib.Core.Path.{_≡_};
-ghost use mathlib.Core.Bool.{_&&_};
 ghost use mathlib.Core.Option.{some};
-ghost use lib.Dec.{leb};
-ghost use Rattle.definition.specs.Base.{given};
-ghost use Rattle.definition.specs.Number.{found};
-ghost use Rattle.definition.specs.Field.{yesIn, intIn};
-ghost use Rattle.definition.specs.Task.{levelOf, ownUid, percentFormat, elapsedFormat, isElapsed, constraintOf, durationTypeFrom, remainingOf};
+ghost use lib.IntN.{pos};
+ghost use Rattle.definition.specs.Base.{_or_, given};
+ghost use Rattle.definition.specs.Field.{yesIn};
 ghost use Rattle.definition.specs.Answer.{dateMeaning};
-ghost use Rattle.number.specs.Number.{meaning as numberMeans};
-ghost use Rattle.number.specs.Duration.{meaning as durationMeans};
+ghost use Rattle.definition.specs.Task.{notBelow0, levelOf, isKept, unmarked, percentFormat, elapsedFormat, isElapsed, perDayFrom, perDayOf};
+ghost use Rattle.definition.specs.Task.{constraintFrom, constraintOf, durationTypeFrom, durationTypeOf, durationDays, durationMinutes};
+ghost use Rattle.definition.specs.Task.{underWay, remainingOf, percentOf};
+ghost use Rattle.text.specs.Answers.{i64Of};
 ghost use Rattle.tree.specs.Place.{elementAt};
-ghost use Rattle.tasks.specs.Value.{asNumber};
-ghost use Rattle.tasks.specs.Task.{unmarked, formatSaid, perDayIn, dayBy, typeCode, constraintBy, asConstraint, underWay, minutesBy, partsOf, percentIn, percentBy};
-use crate::value::Number;
-use crate::value::no_number;
-use crate::value::pick;
+ghost use Rattle.fields.specs.Said.{wholeSaid};
+ghost use Rattle.tasks.specs.Task.{constraintMeans, dayNumbered};
 use crate::value::quotient;
 use crate::value::remainder;
-use crate::value::size;
-use crate::value::some_number;
+use definition::Date;
 use definition::DateAnswer;
-use number::DurationAnswer;
-use number::NumberAnswer;
+use fields::FloatAnswer;
+use fields::MinutesAnswer;
+use text::I64Answer;
 
-// A constraint's code, 0 for none, and its day number, 0 for none.
-pub struct Constraint {
-    pub code: u32,
-    pub date: i32,
+// MSPDI's codes 1 to 7.
+pub enum Constraint {
+    AsLateAsPossible,
+    MandatoryStart(Date),
+    MandatoryFinish(Date),
+    StartOnOrAfter(Date),
+    StartOnOrBefore(Date),
+    FinishOnOrAfter(Date),
+    FinishOnOrBefore(Date),
+}
+
+// A constraint that may be missing.
+pub enum ConstraintAnswer {
+    Is(Constraint),
+    Absent,
 }
 
 // Minutes as days, rounded up, and the minutes themselves where they are not whole days.
 pub struct Parts {
     pub days: i64,
-    pub minutes: Number,
+    pub minutes: I64Answer,
 }
 
 // ---- the kept tasks
@@ -42,15 +49,14 @@ pub struct Parts {
 pub fn level_of(s: &[u8], at: usize) -> u64
     ensures { λ r. ⌜ r ≡ levelOf (elementAt (now (s .entry)) at) ⌝ }
 {
-    pick(fields::int_in(s, at, b"OutlineLevel"), 0, 1)
+    fields::unsigned_in(s, at, b"OutlineLevel", 0, 1)
 }
 
 // A UID other than `0`, and a level of at least 1.
 pub fn is_kept(s: &[u8], at: usize) -> bool
-    ensures { λ r. ⌜ r ≡ (ownUid (elementAt (now (s .entry)) at) && leb 1 (levelOf (elementAt (now (s .entry)) at))) ⌝ }
+    ensures { λ r. ⌜ r ≡ isKept (elementAt (now (s .entry)) at) ⌝ }
 {
-    let own = fields::given(s, at, b"UID") & !fields::text_is(s, at, b"UID", b"0");
-    own & (1 <= level_of(s, at))
+    fields::own_uid(s, at) & (1 <= level_of(s, at))
 }
 
 // ---- formats of durations and lags
@@ -65,10 +71,10 @@ fn without_mark(code: u64) -> u64
     code
 }
 
-pub fn format_of(s: &[u8], at: usize, name: &[u8]) -> u64
-    ensures { λ r. ⌜ r ≡ formatSaid (elementAt (now (s .entry)) at) (now (name .entry)) ⌝ }
+pub(crate) fn format_of(s: &[u8], at: usize, name: &[u8]) -> u64
+    ensures { λ r. ⌜ r ≡ unmarked (notBelow0 (wholeSaid (elementAt (now (s .entry)) at) (now (name .entry)) or pos 0)) ⌝ }
 {
-    without_mark(pick(fields::int_in(s, at, name), 0, 0))
+    without_mark(fields::unsigned_in(s, at, name, 0, 0))
 }
 
 pub(crate) fn percent_format(format: u64) -> bool
@@ -93,61 +99,68 @@ pub fn is_elapsed(s: &[u8], at: usize) -> bool
 // ---- the day
 
 fn day_from(m: f64) -> u64
-    ensures { λ r. ⌜ r ≡ dayBy (some m) ⌝ }
+    ensures { λ r. ⌜ r ≡ perDayFrom m or 480 ⌝ }
 {
     if (1.0 <= m) & (m <= 1440.0) {
-        return size(number::nearest_whole(m));
+        return number::nearest_whole(m) as u64;
     }
     480
 }
 
-fn day_by(a: NumberAnswer) -> u64
-    ensures { λ r. ⌜ r ≡ dayBy (found (numberMeans a)) ⌝ }
-{
-    match a {
-        NumberAnswer::Value(m) => day_from(m),
-        NumberAnswer::Long => 480,
-        NumberAnswer::Absent => 480,
-    }
-}
-
 // MinutesPerDay of the root, from 1 to 1440; else 480.
 pub fn per_day(s: &[u8], at: usize) -> u64
-    ensures { λ r. ⌜ r ≡ perDayIn (elementAt (now (s .entry)) at) ⌝ }
+    ensures { λ r. ⌜ r ≡ perDayOf (elementAt (now (s .entry)) at) ⌝ }
 {
-    day_by(fields::number_in(s, at, b"MinutesPerDay"))
+    match fields::number_in(s, at, b"MinutesPerDay") {
+        FloatAnswer::Is(m) => day_from(m),
+        FloatAnswer::Absent => 480,
+    }
 }
 
-// ---- an activity
+// ---- a constraint
 
-fn constraint_by(kind: u64, a: DateAnswer) -> Constraint
-    ensures { λ r. ⌜ r ≡ constraintBy kind (dateMeaning a) ⌝ }
+fn constraint_on(kind: u64, d: Date) -> ConstraintAnswer
+    ensures { λ r. ⌜ constraintMeans r ≡ constraintFrom kind (some (d .0)) ⌝ }
 {
-    if kind == 1 {
-        return Constraint { code: 1, date: 0 };
+    match kind {
+        1 => ConstraintAnswer::Is(Constraint::AsLateAsPossible),
+        2 => ConstraintAnswer::Is(Constraint::MandatoryStart(d)),
+        3 => ConstraintAnswer::Is(Constraint::MandatoryFinish(d)),
+        4 => ConstraintAnswer::Is(Constraint::StartOnOrAfter(d)),
+        5 => ConstraintAnswer::Is(Constraint::StartOnOrBefore(d)),
+        6 => ConstraintAnswer::Is(Constraint::FinishOnOrAfter(d)),
+        7 => ConstraintAnswer::Is(Constraint::FinishOnOrBefore(d)),
+        _ => ConstraintAnswer::Absent,
     }
-    if (kind < 2) | (7 < kind) {
-        return Constraint { code: 0, date: 0 };
-    }
+}
+
+fn constraint_by(kind: u64, a: DateAnswer) -> ConstraintAnswer
+    ensures { λ r. ⌜ constraintMeans r ≡ constraintFrom kind (dateMeaning a) ⌝ }
+{
     match a {
-        DateAnswer::Is(d) => Constraint {
-            code: kind as u32,
-            date: d.0,
-        },
-        DateAnswer::Absent => Constraint { code: 0, date: 0 },
+        DateAnswer::Is(d) => constraint_on(kind, d),
+        DateAnswer::Absent => {
+            if kind == 1 {
+                ConstraintAnswer::Is(Constraint::AsLateAsPossible)
+            } else {
+                ConstraintAnswer::Absent
+            }
+        }
     }
 }
 
 // 1 is as late as possible and has no date; 2 to 7 need theirs.
-pub fn constraint_of(s: &[u8], at: usize) -> Constraint
-    ensures { λ r. ⌜ r ≡ asConstraint (constraintOf (elementAt (now (s .entry)) at)) ⌝ }
+pub fn constraint_of(s: &[u8], at: usize) -> ConstraintAnswer
+    ensures { λ r. ⌜ constraintMeans r ≡ dayNumbered (constraintOf (elementAt (now (s .entry)) at)) ⌝ }
 {
-    let kind = pick(fields::int_in(s, at, b"ConstraintType"), 0, 0);
+    let kind = fields::unsigned_in(s, at, b"ConstraintType", 0, 0);
     constraint_by(kind, fields::date_in(s, at, b"ConstraintDate"))
 }
 
+// ---- the duration
+
 fn type_code(n: u64) -> u32
-    ensures { λ r. ⌜ r ≡ typeCode n ⌝ }
+    ensures { λ r. ⌜ r ≡ durationTypeFrom (some (pos n)) ⌝ }
 {
     match n {
         0 => 2,
@@ -157,27 +170,29 @@ fn type_code(n: u64) -> u32
 }
 
 pub fn duration_type(s: &[u8], at: usize) -> u32
-    ensures { λ r. ⌜ r ≡ durationTypeFrom (intIn (elementAt (now (s .entry)) at) "Type") ⌝ }
+    ensures { λ r. ⌜ r ≡ durationTypeOf (elementAt (now (s .entry)) at) ⌝ }
 {
-    type_code(pick(fields::int_in(s, at, b"Type"), 1, 1))
+    type_code(fields::unsigned_in(s, at, b"Type", 1, 1))
 }
 
 pub fn duration_parts(minutes: u32, day: u64) -> Parts
-    ensures { λ r. ⌜ r ≡ partsOf minutes day ⌝ }
+    ensures { λ r. ⌜ (r .days ≡ durationDays minutes day) × (i64Of (r .minutes) ≡ durationMinutes minutes day) ⌝ }
 {
     let n = minutes as u64;
     let whole = quotient(n, day);
     if remainder(n, day) == 0 {
         return Parts {
             days: whole as i64,
-            minutes: no_number(),
+            minutes: I64Answer::Absent,
         };
     }
     Parts {
         days: (whole + 1) as i64,
-        minutes: some_number(n as i64),
+        minutes: I64Answer::Is(n as i64),
     }
 }
+
+// ---- progress
 
 fn is_date(a: DateAnswer) -> bool
     ensures { λ r. ⌜ r ≡ given (dateMeaning a) ⌝ }
@@ -185,16 +200,6 @@ fn is_date(a: DateAnswer) -> bool
     match a {
         DateAnswer::Is(_) => true,
         DateAnswer::Absent => false,
-    }
-}
-
-fn minutes_by(a: DurationAnswer) -> Number
-    ensures { λ r. ⌜ r ≡ asNumber (minutesBy (found (durationMeans a))) ⌝ }
-{
-    match a {
-        DurationAnswer::Minutes(n) => some_number(n as i64),
-        DurationAnswer::Long => no_number(),
-        DurationAnswer::Absent => no_number(),
     }
 }
 
@@ -207,40 +212,27 @@ fn under_way(s: &[u8], at: usize) -> bool
     begun & !ended
 }
 
-// The minutes left, of a task that has begun and not ended.
-pub fn remaining_of(s: &[u8], at: usize) -> Number
-    ensures { λ r. ⌜ r ≡ asNumber (remainingOf (elementAt (now (s .entry)) at)) ⌝ }
+// The minutes left, of a task that is under way.
+pub fn remaining_of(s: &[u8], at: usize) -> I64Answer
+    ensures { λ r. ⌜ i64Of r ≡ remainingOf (elementAt (now (s .entry)) at) ⌝ }
 {
-    if under_way(s, at) {
-        return minutes_by(fields::minutes_in(s, at, b"RemainingDuration"));
+    if !under_way(s, at) {
+        return I64Answer::Absent;
     }
-    no_number()
-}
-
-fn percent_from(p: f64) -> Number
-    ensures { λ r. ⌜ r ≡ asNumber (percentBy (some p)) ⌝ }
-{
-    if (0.0 < p) & (p <= 100.0) {
-        return some_number(number::hundredths(p));
-    }
-    no_number()
-}
-
-fn percent_by(a: NumberAnswer) -> Number
-    ensures { λ r. ⌜ r ≡ asNumber (percentBy (found (numberMeans a))) ⌝ }
-{
-    match a {
-        NumberAnswer::Value(p) => percent_from(p),
-        NumberAnswer::Long => no_number(),
-        NumberAnswer::Absent => no_number(),
+    match fields::minutes_in(s, at, b"RemainingDuration") {
+        MinutesAnswer::Is(m) => I64Answer::Is(m as i64),
+        MinutesAnswer::Absent => I64Answer::Absent,
     }
 }
 
 // Hundredths of PhysicalPercentComplete, of one above 0 and up to 100.
-pub fn percent_of(s: &[u8], at: usize) -> Number
-    ensures { λ r. ⌜ r ≡ asNumber (percentIn (elementAt (now (s .entry)) at)) ⌝ }
+pub fn percent_of(s: &[u8], at: usize) -> I64Answer
+    ensures { λ r. ⌜ i64Of r ≡ percentOf (elementAt (now (s .entry)) at) ⌝ }
 {
-    percent_by(fields::number_in(s, at, b"PhysicalPercentComplete"))
+    match fields::number_in(s, at, b"PhysicalPercentComplete") {
+        FloatAnswer::Is(p) => fields::hundredths_when((0.0 < p) & (p <= 100.0), p),
+        FloatAnswer::Absent => I64Answer::Absent,
+    }
 }
 
 pub fn milestone(s: &[u8], at: usize) -> bool

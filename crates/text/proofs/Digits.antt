@@ -12,7 +12,7 @@ use lib.ListN.{length, drop, getD}
 use borrow.Author.Tests.{leb-true, le-leb, lt-leb}
 use Rattle.definition.specs.Base.{if_then_else_}
 use Rattle.definition.specs.Text.{Text, isDigit, digits, digitsAfter}
-use Rattle.text.specs.Bools.{and-left, and-right}
+use Rattle.laws.specs.Bools.{and-left, and-right}
 use Rattle.text.specs.Parts.{at-cons, at-end}
 use Rattle.text.specs.Whole.{upTo, numberTo, digitsTo}
 

@@ -1,5 +1,9 @@
-pub mod Strip
+pub mod Bounds
 pub mod Digits
 pub mod Edge
+pub mod Equal
 pub mod Ranges
+pub mod Reversed
+pub mod Signs
+pub mod Strip
 pub mod Wellformed

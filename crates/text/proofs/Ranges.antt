@@ -1,5 +1,5 @@
 -- What an answer of the readers up to a largest number says of a type of any width. Assumes nothing.
-use mathlib.Core.Path.{_≡_, refl, sym, ap, subst, _∙_}
+use mathlib.Core.Path.{_≡_, sym, ap, subst, _∙_}
 use mathlib.Core.Option.{some, none}
 use Prim.Native.Nat.{ℕ, suc, _-_, _^_, _≤_, _<_}
 use native.Mathlib.Omega.{arith}
@@ -8,7 +8,8 @@ use mir.Syntax.{Width}
 use mir.Val.{bits, hbits, toZ, ofZ, Fits, SFits}
 use mir.ValLaws.{bits-suc}
 use Rattle.definition.specs.Text.{Text, unsignedOf, signedOf}
-use Rattle.text.specs.Whole.{unsignedTo, signedTo, unsigned-to, signed-to, unsigned-most, signed-most, signed-least}
+use Rattle.text.specs.Whole.{unsignedTo, signedTo, signed-to, signed-least}
+use Rattle.text.proofs.Bounds.{unsigned-to, unsigned-most, signed-most}
 use Rattle.text.specs.Answers.{u64Of, signedMeans}
 use Rattle.text.specs.declared.U64Answer.{U64Answer}
 use Rattle.text.specs.declared.U64Answer.the-variants as u64

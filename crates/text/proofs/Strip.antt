@@ -1,19 +1,20 @@
 -- One turn of each loop that takes white space away. Assumes nothing.
 use mathlib.Core.Path.{_≡_, refl, sym, ap, _∙_}
-use mathlib.Core.List.{List, [], _∷_, reverse, reverse-reverse}
-use mathlib.Core.Bool.{Bool, true, false, _&&_, _||_}
-use Prim.Native.Nat.{ℕ, zero, suc, _+_, _-_, _≤_, _<_}
+use mathlib.Core.List.{[], _∷_, reverse, reverse-reverse}
+use mathlib.Core.Bool.{Bool, true, false, and-false, false≢true}
+use Prim.Native.Nat.{ℕ, zero, suc, _+_, _-_, _≤_}
 use native.Mathlib.Nat.{add-zero}
 use native.Mathlib.Omega.{arith}
-use lib.Dec.{leb, eqb}
+use lib.Dec.{leb}
 use lib.ListN.{length, take, drop, getD, length-drop, length-take, length-reverse, List·getD-eq-default}
 use lib.Seq.{drop-nil, drop-drop, take-take, getD-drop, getD-take}
 use borrow.Author.Tests.{leb-true, lt-leb, ne-eqb}
-use Rattle.definition.specs.Base.{if_then_else_, within}
+use Rattle.definition.specs.Base.{within}
 use Rattle.definition.specs.Text.{Text, white1, white2, white3, frontWidth, backWidth, strip, trimFront, trimBack}
 use Rattle.text.specs.White.{widthBy, headWidth, frontOf, backOf}
-use Rattle.text.specs.Parts.{at-end, getD-reverse, drop-reverse}
-use Rattle.text.specs.Bools.{and-left, and-right, and-false}
+use Rattle.text.specs.Parts.{at-end}
+use Rattle.text.proofs.Reversed.{getD-reverse, drop-reverse}
+use Rattle.laws.specs.Bools.{and-left, and-right}
 
 -- ---- taking away, whatever a width is
 
@@ -126,21 +127,18 @@ at-most false true r n f g h = g refl
 at-most false false true n f g h = h refl
 at-most false false false n f g h = omega arith
 
-never : {P : Type 0} → _≡_ {A = Bool} false true → P
-never e = let z : _≡_ {A = ℕ} 0 1 = cc in absurd (omega arith)
-
 front-fits : (s : Text) → frontOf s ≤ length s
 unfolding frontWidth
 front-fits [] = omega arith
-front-fits (a ∷ []) = at-most (white1 a) (white2 a 0) (white3 a 0 0) 1 (λ e. omega arith) (λ e. never (simp and-false at e)) (λ e. never (simp and-false at e))
-front-fits (a ∷ b ∷ []) = at-most (white1 a) (white2 a b) (white3 a b 0) 2 (λ e. omega arith) (λ e. omega arith) (λ e. never (simp and-false at e))
+front-fits (a ∷ []) = at-most (white1 a) (white2 a 0) (white3 a 0 0) 1 (λ e. omega arith) (λ e. absurd (false≢true (simp and-false at e))) (λ e. absurd (false≢true (simp and-false at e)))
+front-fits (a ∷ b ∷ []) = at-most (white1 a) (white2 a b) (white3 a b 0) 2 (λ e. omega arith) (λ e. omega arith) (λ e. absurd (false≢true (simp and-false at e)))
 front-fits (a ∷ b ∷ c ∷ s) = at-most (white1 a) (white2 a b) (white3 a b c) (suc (suc (suc (length s)))) (λ e. omega arith) (λ e. omega arith) (λ e. omega arith)
 
 back-fits : (s : Text) → headWidth backWidth s ≤ length s
 unfolding backWidth
 back-fits [] = omega arith
-back-fits (a ∷ []) = at-most (white1 a) false false 1 (λ e. omega arith) (λ e. never e) (λ e. never e)
-back-fits (a ∷ b ∷ []) = at-most (white1 a) (white2 b a) false 2 (λ e. omega arith) (λ e. omega arith) (λ e. never e)
+back-fits (a ∷ []) = at-most (white1 a) false false 1 (λ e. omega arith) (λ e. absurd (false≢true e)) (λ e. absurd (false≢true e))
+back-fits (a ∷ b ∷ []) = at-most (white1 a) (white2 b a) false 2 (λ e. omega arith) (λ e. omega arith) (λ e. absurd (false≢true e))
 back-fits (a ∷ b ∷ c ∷ s) = at-most (white1 a) (white2 b a) (white3 c b a) (suc (suc (suc (length s)))) (λ e. omega arith) (λ e. omega arith) (λ e. omega arith)
 
 -- ---- what the code reads

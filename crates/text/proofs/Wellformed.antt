@@ -2,7 +2,7 @@
 use mathlib.Core.Path.{_≡_, refl, sym, ap, subst, _∙_}
 use mathlib.Core.List.{List, [], _∷_}
 use mathlib.Core.Option.{Option, some, none}
-use mathlib.Core.Bool.{Bool, true, false, _&&_, _||_}
+use mathlib.Core.Bool.{Bool, true, false, _&&_, and-true, and-false}
 use Prim.Native.Nat.{ℕ, zero, suc, _+_, _≤_, _<_}
 use native.Mathlib.Omega.{arith}
 use lib.Dec.{leb, ltb}
@@ -10,9 +10,9 @@ use lib.Bits.{bitOr, or-add-and, and-le-l, and-le-r}
 use lib.ListN.{length, drop, getD, length-drop}
 use lib.Seq.{getD-drop, drop-drop}
 use borrow.Author.Tests.{ltb-true, le-leb, lt-leb}
-use Rattle.definition.specs.Base.{if_then_else_, when, within}
+use Rattle.definition.specs.Base.{when, within}
 use Rattle.definition.specs.Text.{Text, tailByte, following, utf8After, isUtf8}
-use Rattle.text.specs.Bools.{and-left, and-right, and-true, and-false}
+use Rattle.laws.specs.Bools.{and-left, and-right}
 use Rattle.text.specs.Parts.{at-cons, at-end}
 use Rattle.text.specs.Utf8.{rangesBy, fits, Character, Skips}
 

@@ -1,16 +1,14 @@
 -- A text cut at the first byte that passes a test: its place, and what stands before and after as parts of the text. Assumes nothing.
 use mathlib.Core.Path.{_≡_, refl, sym, ap, _∙_}
 use mathlib.Core.Logic.{_⊎_, inl, inr}
-use mathlib.Core.List.{List, [], _∷_}
+use mathlib.Core.List.{[], _∷_}
 use mathlib.Core.Option.{Option, some, none}
 use mathlib.Core.Bool.{Bool, true, false}
-use Prim.Native.Nat.{ℕ, zero, suc, _+_, _-_, _≤_, _<_}
+use Prim.Native.Nat.{ℕ, suc, _+_, _≤_, _<_}
 use native.Mathlib.Nat.{suc-add}
 use native.Mathlib.Omega.{arith}
-use lib.Dec.{ltb}
 use lib.ListN.{length, take, drop, getD}
-use borrow.Author.Tests.{lt-ltb, le-ltb}
-use Rattle.definition.specs.Base.{if_then_else_, _or_, given}
+use Rattle.definition.specs.Base.{if_then_else_, _or_}
 use Rattle.definition.specs.Text.{Text, before, after}
 use Rattle.text.specs.Parts.{le-or-lt, at-cons, at-end}
 
@@ -68,13 +66,6 @@ module _ (p : ℕ → Bool) where
       go : (length s ≤ placeOf p s) ⊎ (placeOf p s < length s) → (after p s or []) ≡ drop (placeOf p s + 1) s
       go (inl h) = ap (λ (o : Option Text). o or []) (after-none s h) ∙ sym (at-end s (placeOf p s + 1) (omega arith))
       go (inr h) = ap (λ (o : Option Text). o or []) (after-some s h)
-
-  pub given-after : (s : Text) → given (after p s) ≡ ltb (placeOf p s) (length s)
-  given-after s = go (le-or-lt (length s) (placeOf p s))
-    where
-      go : (length s ≤ placeOf p s) ⊎ (placeOf p s < length s) → given (after p s) ≡ ltb (placeOf p s) (length s)
-      go (inl h) = ap given (after-none s h) ∙ sym (le-ltb _ _ h)
-      go (inr h) = ap given (after-some s h) ∙ sym (lt-ltb _ _ h)
 
   -- one byte further on
   module _ (s : Text) (i : ℕ) where

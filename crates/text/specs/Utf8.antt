@@ -8,7 +8,7 @@ use lib.Dec.{leb}
 use lib.ListN.{length, drop}
 use Rattle.definition.specs.Base.{within}
 use Rattle.definition.specs.Text.{Text, tailByte, following, isUtf8}
-use Rattle.text.specs.declared.First.{First}
+use Rattle.text.specs.declared.utf8.First.{First}
 
 -- a range and so many tail bytes more
 abbrev pub rangesBy : ℕ → ℕ × ℕ → Option (List (ℕ × ℕ))

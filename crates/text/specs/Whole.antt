@@ -10,9 +10,7 @@ use lib.IntN.{ℤ, pos, negsuc, negℤ}
 use lib.ListN.{drop}
 use borrow.Author.Tests.{leb-true}
 use Rattle.definition.specs.Base.{_>>=_, when}
-use Rattle.definition.specs.Number.{unsigned, withSign}
-use Rattle.text.specs.Signs.{minus?}
-use Rattle.definition.specs.Text.{Text, Sign, plus, minus, bare, signOf, digits, digitsAfter, unsignedBy, signedBy, unsignedOf, signedOf}
+use Rattle.definition.specs.Text.{Text, Sign, plus, minus, bare, signOf, digits, digitsAfter, signedBy, signedOf}
 
 -- the number, where it is at most `most`
 abbrev pub upTo : ℕ → Option ℕ → Option ℕ
@@ -31,7 +29,7 @@ numberTo most s = upTo most (digits s)
 unfoldable pub digitsTo : ℕ → ℕ → Text → Option ℕ
 digitsTo most v s = upTo most (digitsAfter v s)
 
-abbrev unsignedUnder : Sign → ℕ → Text → Option ℕ
+abbrev pub unsignedUnder : Sign → ℕ → Text → Option ℕ
 unsignedUnder plus most s = numberTo most (drop 1 s)
 unsignedUnder minus most s = none
 unsignedUnder bare most s = numberTo most s
@@ -40,7 +38,7 @@ unfoldable pub unsignedTo : ℕ → Text → Option ℕ
 unsignedTo most s = unsignedUnder (signOf s) most s
 
 -- at most `most`, at least -(most + 1)
-abbrev signedUnder : Sign → ℕ → Text → Option ℤ
+abbrev pub signedUnder : Sign → ℕ → Text → Option ℤ
 signedUnder plus most s = signed pos (numberTo most (drop 1 s))
 signedUnder minus most s = signed minusOf (numberTo (most + 1) (drop 1 s))
 signedUnder bare most s = signed pos (numberTo most s)
@@ -55,22 +53,8 @@ signedTo most s = signedUnder (signOf s) most s
 
 -- ---- the range of a type of w bits
 
-module _ (w most : ℕ) (full : 2 ^ w ≡ suc most) where
-  below : (n : ℕ) → ltb n (2 ^ w) ≡ leb n most
-  below n = ap (leb (suc n)) full ∙ leb·suc-suc n most
-
-  in-range : (o : Option ℕ) → (o >>= λ n. when (ltb n (2 ^ w)) n) ≡ upTo most o
-  in-range none = refl
-  in-range (some n) = ap (λ (b : Bool). when b n) (below n)
-
-  pub unsigned-to : (s : Text) → unsignedOf w s ≡ unsignedTo most s
-  unfolding unsignedOf unsignedTo numberTo
-  unsigned-to s = go (signOf s)
-    where
-      go : (x : Sign) → unsignedBy x w s ≡ unsignedUnder x most s
-      go plus = in-range (digits (drop 1 s))
-      go minus = refl
-      go bare = in-range (digits s)
+pub below : (w most : ℕ) → 2 ^ w ≡ suc most → (n : ℕ) → ltb n (2 ^ w) ≡ leb n most
+below w most full n = ap (leb (suc n)) full ∙ leb·suc-suc n most
 
 module _ (w most : ℕ) (half : 2 ^ (w - 1) ≡ suc most) where
   up-range : (o : Option ℕ) → (o >>= λ n. when (ltb n (2 ^ (w - 1))) (pos n)) ≡ signed pos (upTo most o)
@@ -109,41 +93,14 @@ at-most most n (some m) e = go (leb m most) refl e
     go true h k = let q : n ≡ m = cc in let l = leb-true m most h in omega arith
     go false h k = let z : _≡_ {A = ℕ} 0 1 = cc in absurd (omega arith)
 
-pub unsigned-most : (most n : ℕ) (s : Text) → some n ≡ unsignedTo most s → n ≤ most
-unfolding unsignedTo numberTo
-unsigned-most most n s e = go (signOf s) e
-  where
-    go : (x : Sign) → some n ≡ unsignedUnder x most s → n ≤ most
-    go plus h = at-most most n (digits (drop 1 s)) h
-    go minus h = let z : _≡_ {A = ℕ} 0 1 = cc in absurd (omega arith)
-    go bare h = at-most most n (digits s) h
-
 not-down : (n : ℕ) (o : Option ℕ) → some (negsuc n) ≡ signed pos o → ⊥
 not-down n none e = let z : _≡_ {A = ℕ} 0 1 = cc in omega arith
 not-down n (some m) e = let z : _≡_ {A = ℕ} 0 1 = cc in omega arith
-
-up-of : (n : ℕ) (o : Option ℕ) → some (pos n) ≡ signed pos o → some n ≡ o
-up-of n none e = let z : _≡_ {A = ℕ} 0 1 = cc in absurd (omega arith)
-up-of n (some m) e = let z : n ≡ m = cc in ap some z
 
 down-of : (n : ℕ) (o : Option ℕ) → some (negsuc n) ≡ signed minusOf o → some (suc n) ≡ o
 down-of n none e = let z : _≡_ {A = ℕ} 0 1 = cc in absurd (omega arith)
 down-of n (some zero) e = let z : _≡_ {A = ℕ} 0 1 = cc in absurd (omega arith)
 down-of n (some (suc m)) e = let z : n ≡ m = cc in ap (λ (k : ℕ). some (suc k)) z
-
-zero-of : (n : ℕ) (o : Option ℕ) → some (pos n) ≡ signed minusOf o → n ≡ 0
-zero-of n none e = let z : _≡_ {A = ℕ} 0 1 = cc in absurd (omega arith)
-zero-of n (some zero) e = cc
-zero-of n (some (suc m)) e = let z : _≡_ {A = ℕ} 0 1 = cc in absurd (omega arith)
-
-pub signed-most : (most n : ℕ) (s : Text) → some (pos n) ≡ signedTo most s → n ≤ most
-unfolding signedTo numberTo
-signed-most most n s e = go (signOf s) e
-  where
-    go : (x : Sign) → some (pos n) ≡ signedUnder x most s → n ≤ most
-    go plus h = at-most most n (digits (drop 1 s)) (up-of n (upTo most (digits (drop 1 s))) h)
-    go minus h = let z = zero-of n (upTo (most + 1) (digits (drop 1 s))) h in omega arith
-    go bare h = at-most most n (digits s) (up-of n (upTo most (digits s)) h)
 
 pub signed-least : (most n : ℕ) (s : Text) → some (negsuc n) ≡ signedTo most s → n ≤ most
 unfolding signedTo numberTo
@@ -153,33 +110,3 @@ signed-least most n s e = go (signOf s) e
     go plus h = absurd (not-down n (upTo most (digits (drop 1 s))) h)
     go minus h = let z = at-most (most + 1) (suc n) (digits (drop 1 s)) (down-of n (upTo (most + 1) (digits (drop 1 s))) h) in omega arith
     go bare h = absurd (not-down n (upTo most (digits s)) h)
-
--- ---- by whether the sign is `-`
-
-module _ (most : ℕ) (s : Text) where
-  pub signed-by : signedTo most s ≡ signed (withSign (minus? (signOf s))) (numberTo (mostBy (minus? (signOf s)) most) (unsigned (signOf s) s))
-  unfolding signedTo
-  signed-by = go (signOf s)
-    where
-      go : (g : Sign) → signedUnder g most s ≡ signed (withSign (minus? g)) (numberTo (mostBy (minus? g) most) (unsigned g s))
-      go plus = refl
-      go minus = refl
-      go bare = refl
-
-  pub unsigned-minus : minus? (signOf s) ≡ true → none ≡ unsignedTo most s
-  unfolding unsignedTo
-  unsigned-minus e = go (signOf s) e
-    where
-      go : (g : Sign) → minus? g ≡ true → none ≡ unsignedUnder g most s
-      go plus e = let z : _≡_ {A = ℕ} 0 1 = cc in absurd (omega arith)
-      go minus e = refl
-      go bare e = let z : _≡_ {A = ℕ} 0 1 = cc in absurd (omega arith)
-
-  pub unsigned-by : minus? (signOf s) ≡ false → numberTo most (unsigned (signOf s) s) ≡ unsignedTo most s
-  unfolding unsignedTo
-  unsigned-by e = go (signOf s) e
-    where
-      go : (g : Sign) → minus? g ≡ false → numberTo most (unsigned g s) ≡ unsignedUnder g most s
-      go plus e = refl
-      go minus e = let z : _≡_ {A = ℕ} 0 1 = cc in absurd (omega arith)
-      go bare e = refl

@@ -1,6 +1,6 @@
 -- Laws of the definitions of texts, of number texts and of the pieces of a duration. Assumes nothing.
 use mathlib.Core.Path.{_≡_, refl, sym, ap, _∙_}
-use mathlib.Core.Bool.{Bool, true, false, _&&_, _||_}
+use mathlib.Core.Bool.{Bool, true, false, _&&_, _||_, and-false}
 use mathlib.Core.List.{[], _∷_, _++_, append-nil, append-assoc, reverse, reverse-append, reverse-reverse}
 use mathlib.Core.Option.{Option, some, none}
 use Prim.Native.Nat.{ℕ, zero, suc, _+_, _-_, _*_, _/_, _%_, _^_, _≤_, _<_}
@@ -16,6 +16,7 @@ use Rattle.definition.specs.Number.{long, value, isDot, isE, decimalOf, mostDig
 use Rattle.definition.specs.Duration.{isUnit, setUnit, pieceOf, _then_, timeFigures, decimalUp, decimal}
 use Rattle.definition.specs.Time.{twoDigits}
 use Rattle.definition.specs.declared.Figures.{Figures}
+use Rattle.laws.specs.Bools.{and-left, and-right}
 use Rattle.theorems.specs.Whole.{float-whole, le-whole}
 
 -- ---- parts of a text
@@ -51,10 +52,6 @@ after-append b t (next h f) k = rw h (after-append b t f k)
 pub record Plain (b : ℕ) : Type 0 where
   pub ascii : b < 128
   pub black : white1 b ≡ false
-
-and-false : (x : Bool) → x && false ≡ false
-and-false true = refl
-and-false false = refl
 
 pub plain-digit : (b : ℕ) → 48 ≤ b → b ≤ 57 → Plain b
 plain-digit b l u = record { ascii = omega arith; black = simp (lt-leb b 13 (omega arith), ne-eqb b 32 (λ e. omega arith), and-false) }
@@ -100,14 +97,6 @@ pub trim-ends : (a : ℕ) (s : Text) (z : ℕ) → Plain a → Plain z → trim 
 trim-ends a s z h k = trim-plain (a ∷ (s ++ (z ∷ []))) h (rw (reverse-append (a ∷ s) (z ∷ [])) k)
 
 -- ---- digits
-
-and-left : (a b : Bool) → a && b ≡ true → a ≡ true
-and-left true b h = refl
-and-left false b h = h
-
-and-right : (a b : Bool) → a && b ≡ true → b ≡ true
-and-right true b h = h
-and-right false b h = cc
 
 after-digits-free : {p : ℕ → Bool} (q : (b : ℕ) → 48 ≤ b → b ≤ 57 → p b ≡ false) (v : ℕ) (s : Text) (n : ℕ) → digitsAfter v s ≡ some n → Free p s
 unfolding digitsAfter

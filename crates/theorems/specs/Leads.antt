@@ -2,7 +2,7 @@
 -- rows that are there, and each calendar name used is some calendar's. Ids are distinct, and so are expenses by activity and name.
 -- Assumes nothing.
 use mathlib.Core.Path.{_≡_, refl, sym, ap, _∙_}
-use mathlib.Core.Bool.{Bool, true, false, _&&_, _||_, not}
+use mathlib.Core.Bool.{Bool, true, false, _&&_, _||_, not, or-true}
 use mathlib.Core.List.{List, [], _∷_, map}
 use mathlib.Core.Option.{Option, some, none}
 use Prim.Native.Nat.{ℕ, zero, suc, _+_, _<_}
@@ -17,8 +17,9 @@ use Rattle.definition.specs.Resource.{sameExpense}
 use Rattle.definition.specs.Pack.{decode}
 use Rattle.definition.specs.Check.{distinct, ifGiven, isCalendar, activityRight, linkRight, assignmentRight, keepsList}
 use Rattle.definition.specs.Refusal.{checkOf, checkAnswer}
-use Rattle.theorems.specs.Formats.{same-refl, same-true}
-use Rattle.theorems.specs.Outlines.{and-left, and-right, none-some}
+use Rattle.laws.specs.Bools.{and-left, and-right, both}
+use Rattle.laws.specs.Options.{never}
+use Rattle.laws.specs.Same.{same-refl, same-eq}
 
 -- ---- what is said of a model
 
@@ -59,23 +60,23 @@ pub record IsDistinct (m : Model) : Type 0 where
 
 every-at : {A : Type 0} (p : A → Bool) (l : List A) → every? p l ≡ true → (i : ℕ) (x : A) → At l i x → p x ≡ true
 unfolding every?
-every-at p [] h i x e = absurd (none-some {o = none} refl e)
+every-at p [] h i x e = never e
 every-at p (y ∷ l) h zero x e = let z : y ≡ x = cc in ap p (sym z) ∙ and-left (p y) (every? p l) h
 every-at p (y ∷ l) h (suc i) x e = every-at p l (and-right (p y) (every? p l) h) i x e
 
 numbered-at : {A : Type 0} (n : ℕ) (l : List A) (i : ℕ) (x : A) → At l i x → At (numbered n l) i (n + i, x)
 unfolding numbered
-numbered-at n [] i x e = absurd (none-some {o = none} refl e)
+numbered-at n [] i x e = never e
 numbered-at n (y ∷ l) zero x e = let z : y ≡ x = cc in let k : n ≡ n + 0 = omega arith in cc
 numbered-at n (y ∷ l) (suc i) x e = let k : suc n + i ≡ n + suc i = omega arith in rw (← k) (numbered-at (suc n) l i x e)
 
 map-at : {A B : Type 0} (f : A → B) (l : List A) (i : ℕ) (x : A) → At l i x → At (map f l) i (f x)
-map-at f [] i x e = absurd (none-some {o = none} refl e)
+map-at f [] i x e = never e
 map-at f (y ∷ l) zero x e = let z : y ≡ x = cc in ap (λ a. some (f a)) z
 map-at f (y ∷ l) (suc i) x e = map-at f l i x e
 
 at-in : {A : Type 0} (l : List A) (i : ℕ) (x : A) → At l i x → i < length l
-at-in [] i x e = absurd (none-some {o = none} refl e)
+at-in [] i x e = never e
 at-in (y ∷ l) zero x e = omega arith
 at-in (y ∷ l) (suc i) x e = omega (arith, at-in l i x e)
 
@@ -103,18 +104,11 @@ passing p (x ∷ l) h = go (p x) refl (passing p l) h
     go true e f k = record { row = 0; item = x; is = refl; holds = e }
     go false e f k = let t = f k in record { row = suc (t .row); item = t .item; is = t .is; holds = t .holds }
 
-or-true : (a : Bool) → (a || true) ≡ true
-or-true true = refl
-or-true false = refl
-
 some-at : {A : Type 0} (p : A → Bool) (l : List A) (i : ℕ) (x : A) → At l i x → p x ≡ true → some? p l ≡ true
 unfolding some?
-some-at p [] i x e h = absurd (none-some {o = none} refl e)
+some-at p [] i x e h = never e
 some-at p (y ∷ l) zero x e h = let z : y ≡ x = cc in ap (λ (b : Bool). b || some? p l) (ap p z ∙ h)
 some-at p (y ∷ l) (suc i) x e h = ap (λ (b : Bool). p y || b) (some-at p l i x e h) ∙ or-true (p y)
-
-both : {a b : Bool} → (a && b) ≡ true → (a ≡ true) × (b ≡ true)
-both {a} {b} h = (and-left a b h, and-right a b h)
 
 alone : {A : Type 0} (eq : A → A → Bool) (x : A) (l : List A) → (not (some? (eq x) l) && distinct eq l) ≡ true → some? (eq x) l ≡ true → ⊥
 alone eq x l h k =
@@ -125,7 +119,7 @@ alone eq x l h k =
 -- two that are the same stand at one row
 distinct-at : {A : Type 0} (eq : A → A → Bool) (l : List A) → distinct eq l ≡ true → (i j : ℕ) (x y : A) → At l i x → At l j y → eq x y ≡ true → eq y x ≡ true → i ≡ j
 unfolding distinct
-distinct-at eq [] h i j x y e f k k' = absurd (none-some {o = none} refl e)
+distinct-at eq [] h i j x y e f k k' = never e
 distinct-at eq (z ∷ l) h zero zero x y e f k k' = refl
 distinct-at {A} eq (z ∷ l) h zero (suc j) x y e f k k' =
     let u : z ≡ x = cc in absurd (alone eq z l h (some-at (eq z) l j y f (ap (λ (a : A). eq a y) u ∙ k)))
@@ -160,19 +154,19 @@ Kept m =
 
 kept : (m : Model) → keepsList m ≡ true → Kept m
 unfolding keepsList
-kept m h = split (split (split (split (split (split both))))) h
+kept m h = split (split (split (split (split (split (both _ _)))))) h
 
 activity-right : (m : Model) (row : ℕ) (a : Activity) → activityRight m (row, a) ≡ true → (ifGiven (λ p. ltb p row) (a .parent) ≡ true) × (ifGiven (isCalendar m) (a .calendar) ≡ true)
 unfolding activityRight
-activity-right m row a h = both h
+activity-right m row a h = both _ _ h
 
 link-right : (m : Model) (l : Link) → linkRight m l ≡ true → (ltb (l .predecessor) (length (m .activities)) ≡ true) × (ltb (l .successor) (length (m .activities)) ≡ true)
 unfolding linkRight
-link-right m l h = both h
+link-right m l h = both _ _ h
 
 assignment-right : (m : Model) (a : Assignment) → assignmentRight m a ≡ true → (ltb (a .activity) (length (m .activities)) ≡ true) × (ltb (a .resource) (length (m .resources)) ≡ true)
 unfolding assignmentRight
-assignment-right m a h = both h
+assignment-right m a h = both _ _ h
 
 if-given : {A : Type 0} (p : A → Bool) (o : Option A) → ifGiven p o ≡ true → {a : A} → o ≡ some a → p a ≡ true
 if-given p o h e = sym (ap (ifGiven p) e) ∙ h
@@ -181,7 +175,7 @@ calendar-named : (m : Model) (name : Text) → isCalendar m name ≡ true → Na
 unfolding isCalendar
 calendar-named m name h =
     let t = passing (λ (c : Calendar). same (c .name) name) (m .calendars) h in
-    record { row = t .row; calendar = t .item; is = t .is; named = same-true (t .item .name) name (t .holds) }
+    record { row = t .row; calendar = t .item; is = t .is; named = same-eq (t .item .name) name (t .holds) }
 
 -- ---- a model that passes
 

@@ -1,15 +1,6 @@
-pub mod BitLaws
-pub mod Calendar
-pub mod Cases
-pub mod Dates
-pub mod Formats
-pub mod Hand
 pub mod Laws
 pub mod Leads
-pub mod Open
 pub mod Outlines
 pub mod Packing
-pub mod Rows
-pub mod Rules
 pub mod Texts
 pub mod Whole

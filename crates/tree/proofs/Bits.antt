@@ -7,7 +7,7 @@ use lib.ListN.{length, take, drop}
 use lib.Seq.{take-at, drop-at, take-append-le, drop-append-le}
 use lib.Pow.{high}
 use Rattle.definition.specs.Bits.{enc, dec, bitsOf}
-use Rattle.bits.specs.Bits.{length-enc, enc-split, enc-high, dec-enc, take-enc, drop-enc}
+use Rattle.laws.specs.Bits.{length-enc, enc-split, enc-high, dec-enc, take-enc, drop-enc}
 
 -- two bytes side by side
 enc-two : (a b : ℕ) → b < 256 → enc 16 (a * 256 + b) ≡ enc 8 a ++ enc 8 b

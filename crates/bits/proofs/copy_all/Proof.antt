@@ -10,30 +10,30 @@ use Rattle.bits.proofs.copy_all.Statement.{statement}
 use Rattle.bits.proofs.copy_all.Tie as tie
 
 abbrev Inv-loop : tie.InvT-loop
-Inv-loop out₀ to q₀ r₀ n₀ out q r n = (q .bit < 8) × (at q₀ ≤ at q) × (at q + n ≤ at to) × (n ≤ 64) × (n ≡ 0 → at to ≡ at q) × (to .bit < 8) × (at to ≤ at r₀) × (at r₀ ≤ 8 * length out₀) × (length out ≡ length out₀) × Copying out₀ (at q₀) r₀ out q r
+Inv-loop out₀ to q₀ r₀ n₀ out q r n = (q .bit < 8) × (at q₀ ≤ at q) × (at q + n ≤ at to) × (n ≤ 64) × (n ≡ 0 → at to ≡ at q) × (to .bit < 8) × (at to ≤ at r₀) × (at r₀ ≤ 8 * length out₀) × (r₀ .bit < 8) × (length out ≡ length out₀) × Copying out₀ (at q₀) r₀ out q r
 
 abbrev μ-loop : tie.MeasureT-loop
 μ-loop out₀ to q₀ r₀ n₀ out q r n = at to - at q
 
-run-requires : tie.Need-run-requires Inv-loop μ-loop
-run-requires c κs = search needs
+run-length-requires : tie.Need-run-length-requires Inv-loop μ-loop
+run-length-requires c κs = search needs
 
 loop-holds : tie.Need-loop-holds Inv-loop μ-loop
 loop-holds c =
     let a = c .before .before .args in
-    (omega arith, omega arith, omega arith, omega arith, c .run .ensures .2, omega arith, omega arith, omega arith, refl, copy-none (a .out .now) (a .p) (a .from))
+    (omega arith, omega arith, omega arith, omega arith, c .run-length .ensures .2, omega arith, omega arith, omega arith, omega arith, refl, copy-none (a .out .now) (a .p) (a .from))
 
 take-requires : tie.Need-take-requires Inv-loop μ-loop
 take-requires c κs = search needs
 
-poke-requires : tie.Need-poke-requires Inv-loop μ-loop
-poke-requires c κs = search needs
+overwrite-requires : tie.Need-overwrite-requires Inv-loop μ-loop
+overwrite-requires c κs = search needs
 
-forth-requires : tie.Need-forth-requires Inv-loop μ-loop
-forth-requires c κs = search needs
+place-after-requires : tie.Need-place-after-requires Inv-loop μ-loop
+place-after-requires c κs = search needs
 
-run-requires-2 : tie.Need-run-requires-2 Inv-loop μ-loop
-run-requires-2 c κs = search needs
+run-length-requires-2 : tie.Need-run-length-requires-2 Inv-loop μ-loop
+run-length-requires-2 c κs = search needs
 
 loop-less : tie.Need-loop-less Inv-loop μ-loop
 loop-less c = search needs
@@ -49,12 +49,13 @@ loop-again c =
       omega arith,
       omega arith,
       omega arith,
-      c .run2 .ensures .2,
+      c .run-length2 .ensures .2,
       omega arith,
       omega arith,
       omega arith,
-      k .poke .ensures .same ∙ l .inv .8,
-      copy-more (a .out .now) (l .out) (at (a .from)) (a .p) (l .q) (l .n) (w .forth .result) (l .inv .9) (omega arith) (omega arith) (omega arith) (l .inv .0) (t .take .ensures) (k .poke .ensures) (w .forth .ensures .1),
+      omega arith,
+      k .overwrite .ensures .same ∙ l .inv .9,
+      copy-more (a .out .now) (l .out) (at (a .from)) (a .p) (l .q) (l .n) (w .place-after .result) (l .inv .10) (omega arith) (omega arith) (omega arith) (omega arith) (l .inv .0) (t .take .ensures) (k .overwrite .ensures) (w .place-after .ensures .1),
     )
 
 same-length : tie.Need-same-length Inv-loop μ-loop
@@ -66,7 +67,7 @@ returns c =
     let a = c .before .before .before .before .args in
     let z : l .n ≡ 0 = omega arith in
     let e : at (a .to) ≡ at (l .q) = l .inv .4 z in
-    rw e (l .inv .9 .step)
+    rw e (l .inv .10 .step)
 
 pub copy-all-spec : {M : Type 1} → statement M
 copy-all-spec =
@@ -74,12 +75,12 @@ copy-all-spec =
     (tie.spec
     Inv-loop
     μ-loop
-    run-requires
+    run-length-requires
     loop-holds
     take-requires
-    poke-requires
-    forth-requires
-    run-requires-2
+    overwrite-requires
+    place-after-requires
+    run-length-requires-2
     loop-less
     loop-again
     same-length

@@ -17,7 +17,7 @@ copy-all-requires c κs =
     let i = c .before .before in
     let a = i .before .before .args in
     let o = order (length (a .out .now)) (a .from) (a .to) (a .p) (sym (i .in-order .ensures) ∙ not-false _ (c .before .if1 .left)) in
-    (o .first, o .middle, o .from, o .to, o .ends)
+    (o .first, o .middle, o .last, o .from, o .to, o .ends)
 
 same-length : tie.Need-same-length
 same-length c = search needs

@@ -16,28 +16,28 @@ Inv-loop out₀ a k p₀ n₀ out p n = (p .bit < 8) × (at a + n ≤ at p) × (
 abbrev μ-loop : tie.MeasureT-loop
 μ-loop out₀ a k p₀ n₀ out p n = at p - at a
 
-run-requires : tie.Need-run-requires Inv-loop μ-loop
-run-requires c κs = search needs
+run-length-requires : tie.Need-run-length-requires Inv-loop μ-loop
+run-length-requires c κs = search needs
 
 loop-holds : tie.Need-loop-holds Inv-loop μ-loop
 loop-holds c =
     let b = c .before .before in
-    (omega arith, omega arith, omega arith, omega arith, c .run .ensures .2, omega arith, omega arith, omega arith, refl, move-none (at (b .args .e)) _ _)
+    (omega arith, omega arith, omega arith, omega arith, c .run-length .ensures .2, omega arith, omega arith, omega arith, refl, move-none (at (b .args .e)) _ _)
 
-back-requires : tie.Need-back-requires Inv-loop μ-loop
-back-requires c κs = search needs
+place-before-requires : tie.Need-place-before-requires Inv-loop μ-loop
+place-before-requires c κs = search needs
 
 take-requires : tie.Need-take-requires Inv-loop μ-loop
 take-requires c κs = search needs
 
-forth-requires : tie.Need-forth-requires Inv-loop μ-loop
-forth-requires c κs = search needs
+place-after-requires : tie.Need-place-after-requires Inv-loop μ-loop
+place-after-requires c κs = search needs
 
-poke-requires : tie.Need-poke-requires Inv-loop μ-loop
-poke-requires c κs = search needs
+overwrite-requires : tie.Need-overwrite-requires Inv-loop μ-loop
+overwrite-requires c κs = search needs
 
-run-requires-2 : tie.Need-run-requires-2 Inv-loop μ-loop
-run-requires-2 c κs = search needs
+run-length-requires-2 : tie.Need-run-length-requires-2 Inv-loop μ-loop
+run-length-requires-2 c κs = search needs
 
 loop-less : tie.Need-loop-less Inv-loop μ-loop
 loop-less c = search needs
@@ -53,13 +53,13 @@ loop-again c =
       omega arith,
       omega arith,
       omega arith,
-      c .run2 .ensures .2,
+      c .run-length2 .ensures .2,
       omega arith,
       omega arith,
       omega arith,
-      k .poke .ensures .same ∙ l .inv .8,
-      shift-turn (a .out .now) (l .out) _ (at (a .e)) (a .k) (l .p) (b .back .result) (l .n) (l .inv .8) (l .inv .9) (omega arith) (omega arith) (b .back .ensures .0) (b .back .ensures .1) (t .take .ensures)
-          (k .before .forth .ensures .0) (k .before .forth .ensures .1) (k .poke .ensures),
+      k .overwrite .ensures .same ∙ l .inv .8,
+      shift-turn (a .out .now) (l .out) _ (at (a .e)) (a .k) (l .p) (b .place-before .result) (l .n) (l .inv .8) (l .inv .9) (omega arith) (omega arith) (b .place-before .ensures .0) (b .place-before .ensures .1) (t .take .ensures)
+          (k .before .place-after .ensures .0) (k .before .place-after .ensures .1) (k .overwrite .ensures),
     )
 
 same-length : tie.Need-same-length Inv-loop μ-loop
@@ -79,13 +79,13 @@ shift-up-spec =
     (tie.spec
     Inv-loop
     μ-loop
-    run-requires
+    run-length-requires
     loop-holds
-    back-requires
+    place-before-requires
     take-requires
-    forth-requires
-    poke-requires
-    run-requires-2
+    place-after-requires
+    overwrite-requires
+    run-length-requires-2
     loop-less
     loop-again
     same-length

@@ -1,4 +1,4 @@
-use Rattle.theorems.specs.Calendar.{year-length}
+use Rattle.laws.specs.Calendar.{year-length}
 use Rattle.date.proofs.Steps.{civil-late, civil-early, leap-day-le, march-year}
 use native.Mathlib.Omega.{arith}
 use borrow.Author.Needs.{needs}

@@ -1,4 +1,4 @@
-use Rattle.theorems.specs.Calendar.{new-year-next, year-length}
+use Rattle.laws.specs.Calendar.{new-year-next, year-length}
 use Rattle.date.proofs.Steps.{new-year-most, day-early, day-late}
 use native.Mathlib.Omega.{arith}
 use borrow.Author.Needs.{needs}

@@ -6,7 +6,7 @@ use Rattle.definition.specs.Date.{yearAt, fromYmd, dayNumber, epoch}
 use mathlib.Core.Option.{some}
 use Rattle.date.specs.Answer.{isDay}
 use Rattle.definition.specs.Answer.{dateMeaning, dayNumberOf}
-use Rattle.theorems.specs.Calendar.{IsDay}
+use Rattle.laws.specs.Calendar.{IsDay}
 use Rattle.date.proofs.Steps.{tested, month-most, date-most}
 use Rattle.date.proofs.Signs.{back, difference-back, no-year, some-placed, year-counted}
 use native.Mathlib.Omega.{arith}

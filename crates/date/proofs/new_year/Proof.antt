@@ -1,4 +1,4 @@
-use Rattle.theorems.specs.Calendar.{new-year as january}
+use Rattle.laws.specs.Calendar.{new-year as january}
 use Rattle.date.proofs.Steps.{less}
 use borrow.Author.Needs.{needs}
 use Rattle.date.proofs.new_year.Statement.{statement}

@@ -1,58 +1,25 @@
-use Rattle.model.specs.Passes.{pass-like, like-times}
-use Rattle.model.specs.Parts.{strict-calendars, strict-activities, strict-links, strict-resources, strict-assignments, strict-expenses}
+use Rattle.model.specs.Lax.{like-times}
+use Rattle.model.specs.Passes.{pass-like}
+use Rattle.model.specs.Parts.{strict-activities}
+use Rattle.model.specs.Sections.{walks}
 use borrow.Author.Needs.{needs}
 use Rattle.model.proofs.walk.Statement.{statement}
 use Rattle.model.proofs.walk.Tie as tie
 
-skip-project-requires : tie.Need-skip-project-requires
-skip-project-requires c κs = search needs
+walk-head-requires : tie.Need-walk-head-requires
+walk-head-requires c κs = search needs
 
 skip-records-requires : tie.Need-skip-records-requires
 skip-records-requires c κs = search needs
 
-skip-records-requires-2 : tie.Need-skip-records-requires-2
-skip-records-requires-2 c κs = search needs
-
-skip-records-requires-3 : tie.Need-skip-records-requires-3
-skip-records-requires-3 c κs = search needs
-
-skip-records-requires-4 : tie.Need-skip-records-requires-4
-skip-records-requires-4 c κs = search needs
-
-skip-records-requires-5 : tie.Need-skip-records-requires-5
-skip-records-requires-5 c κs = search needs
-
-skip-records-requires-6 : tie.Need-skip-records-requires-6
-skip-records-requires-6 c κs = search needs
+walk-behind-requires : tie.Need-walk-behind-requires
+walk-behind-requires c κs = search needs
 
 returns : tie.Need-returns
 returns c =
-    let k = c .before .before .before .before .before .before .skip-project .ensures .1 in
-    let v = c .before .before .before .before .before .skip-records .ensures .1 k in
-    let l = c .before .before .before .before .skip-records2 .ensures .1 v in
-    let o = c .before .before .before .skip-records3 .ensures .1 l in
-    let a = c .before .before .skip-records4 .ensures .1 o in
-    let x = c .before .skip-records5 .ensures .1 a in
-    record {
-      project = c .before .before .before .before .before .before .skip-project .ensures .0;
-      calendars = pass-like (like-times _ strict-calendars) (c .before .before .before .before .before .skip-records .ensures .0);
-      activities = pass-like (like-times _ strict-activities) (c .before .before .before .before .skip-records2 .ensures .0);
-      links = pass-like (like-times _ strict-links) (c .before .before .before .skip-records3 .ensures .0);
-      resources = pass-like (like-times _ strict-resources) (c .before .before .skip-records4 .ensures .0);
-      assignments = pass-like (like-times _ strict-assignments) (c .before .skip-records5 .ensures .0);
-      expenses = pass-like (like-times _ strict-expenses) (c .skip-records6 .ensures .0);
-      even = (k, v, l, o, a, x);
-    }
+    let h = c .before .before .before .walk-head .ensures in
+    let a = c .before .skip-records .ensures in
+    walks h (pass-like (like-times _ strict-activities) (a .0)) (a .1 (h .even .1)) (c .walk-behind .ensures)
 
 pub walk-spec : {M : Type 1} → statement M
-walk-spec =
-    tie.close
-    (tie.spec
-    skip-project-requires
-    skip-records-requires
-    skip-records-requires-2
-    skip-records-requires-3
-    skip-records-requires-4
-    skip-records-requires-5
-    skip-records-requires-6
-    returns)
+walk-spec = tie.close (tie.spec walk-head-requires skip-records-requires walk-behind-requires returns)

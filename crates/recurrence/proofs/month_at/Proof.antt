@@ -1,7 +1,7 @@
 use mathlib.Core.Path.{ap}
 use Prim.Native.Nat.{_+_, _*_, _-_}
 use Rattle.date.specs.declared.Civil.{Civil}
-use Rattle.theorems.specs.Calendar.{is-day}
+use Rattle.laws.specs.Calendar.{is-day}
 use Rattle.recurrence.proofs.Bounds.{year-bound}
 use native.Mathlib.Omega.{arith}
 use borrow.Author.Needs.{needs}

@@ -3,11 +3,11 @@ use borrow.Author.Needs.{needs}
 use Rattle.model.proofs.fields.skip_date.Statement.{statement}
 use Rattle.model.proofs.fields.skip_date.Tie as tie
 
-take-date-requires : tie.Need-take-date-requires
-take-date-requires c κs = search needs
+take-date-key-requires : tie.Need-take-date-key-requires
+take-date-key-requires c κs = search needs
 
 returns : tie.Need-returns
-returns c = find-pass (c .before .take-date .ensures)
+returns c = find-pass (c .before .take-date-key .ensures)
 
 pub skip-date-spec : {M : Type 1} → statement M
-skip-date-spec = tie.close (tie.spec take-date-requires returns)
+skip-date-spec = tie.close (tie.spec take-date-key-requires returns)

@@ -21,14 +21,14 @@ take-requires c κs = search needs
 loop-holds : tie.Need-loop-holds Inv-loop μ-loop
 loop-holds c = (omega arith, rose-none by-period period (c .before .before .before .args .s .now) (c .before .take .result .next))
 
-take-period-requires : tie.Need-take-period-requires Inv-loop μ-loop
-take-period-requires c κs = search needs
+take-period-key-requires : tie.Need-take-period-key-requires Inv-loop μ-loop
+take-period-key-requires c κs = search needs
 
 returns : tie.Need-returns Inv-loop μ-loop
 unfolding periods
 returns c =
     let a = c .before .before .before .before .before .before .before .before .args in
-    pass-past (rose-stop by-period period (c .before .before .before .before .loop .inv .1) (c .before .before .take-period .ensures) (read-field (a .s .now) (a .p) 32 (c .before .before .before .before .before .before .take .ensures)) (c .before .before .before .loop-test .taken) (c .if1 .taken))
+    pass-past (rose-stop by-period period (c .before .before .before .before .loop .inv .1) (c .before .before .take-period-key .ensures) (read-field (a .s .now) (a .p) 32 (c .before .before .before .before .before .before .take .ensures)) (c .before .before .before .loop-test .taken) (c .if1 .taken))
 
 add-i : tie.Need-add-i Inv-loop μ-loop
 add-i c = search needs
@@ -37,7 +37,7 @@ loop-less : tie.Need-loop-less Inv-loop μ-loop
 loop-less c = search needs
 
 loop-again : tie.Need-loop-again Inv-loop μ-loop
-loop-again c = (omega arith, rose-more by-period period (c .before .before .before .before .before .loop .inv .1) (c .before .before .before .take-period .ensures) (c .before .if1 .left))
+loop-again c = (omega arith, rose-more by-period period (c .before .before .before .before .before .loop .inv .1) (c .before .before .before .take-period-key .ensures) (c .before .if1 .left))
 
 returns-2 : tie.Need-returns-2 Inv-loop μ-loop
 unfolding periods
@@ -54,7 +54,7 @@ skip-periods-spec =
     μ-loop
     take-requires
     loop-holds
-    take-period-requires
+    take-period-key-requires
     returns
     add-i
     loop-less

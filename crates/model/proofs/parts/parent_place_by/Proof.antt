@@ -1,3 +1,4 @@
+use Rattle.model.specs.Passes.{_⨾_}
 use Rattle.model.proofs.Single.{pass-number, pass-optional-number}
 use borrow.Author.Needs.{needs}
 use Rattle.model.proofs.parts.parent_place_by.Statement.{statement}
@@ -20,17 +21,8 @@ skip-optional-requires c κs = search needs
 
 returns : tie.Need-returns
 returns c =
-    record {
-      name = c .before .before .before .before .skip-text .result;
-      kind = c .before .before .before .skip-text2 .result;
-      duration = c .before .before .skip-code .result;
-      minutes = c .before .skip .result;
-      passes-id = c .before .before .before .before .skip-text .ensures;
-      passes-name = c .before .before .before .skip-text2 .ensures;
-      passes-kind = c .before .before .skip-code .ensures;
-      passes-duration = pass-number (c .before .skip .ensures);
-      passes-minutes = pass-optional-number (c .skip-optional .ensures);
-    }
+    c .before .before .before .before .skip-text .ensures ⨾ c .before .before .before .skip-text2 .ensures ⨾ c .before .before .skip-code .ensures
+    ⨾ pass-number (c .before .skip .ensures) ⨾ pass-optional-number (c .skip-optional .ensures)
 
 pub parent-place-by-spec : {M : Type 1} → statement M
 parent-place-by-spec =

@@ -1,5 +1,6 @@
 use Rattle.model.specs.Parts.{textBy}
-use Rattle.model.specs.Passes.{_⨾_, ended, pass-like, like-named}
+use Rattle.model.specs.Lax.{like-named}
+use Rattle.model.specs.Passes.{_⨾_, ended, pass-like}
 use Rattle.definition.specs.Pack.{project}
 use borrow.Author.Needs.{needs}
 use Rattle.model.proofs.records.skip_project.Statement.{statement}

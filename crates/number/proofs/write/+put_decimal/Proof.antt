@@ -27,98 +27,6 @@ abbrev put-decimal-below : ℕ → In 1 put-decimal-kinds.ps
 put-decimal-below t =
     and 1 put-decimal-kinds.ps (falls 1 put-decimal-kinds.ps _<_ μ-put-decimal t) put-decimal.Pre
 
-put-decimal-digit-requires : (t : ℕ) → put-decimal-lts.Need-digit-requires (
-  digit-reads.Asked,
-  digit-reads.Learnt,
-  put-reads.Asked,
-  put-reads.Learnt,
-  put-decimal-below t,
-  put-decimal.Post,
-) (put-decimal-at t) put-decimal.Post
-put-decimal-digit-requires t c κs = tt
-
-put-decimal-put-requires : (t : ℕ) → put-decimal-lts.Need-put-requires (
-  digit-reads.Asked,
-  digit-reads.Learnt,
-  put-reads.Asked,
-  put-reads.Learnt,
-  put-decimal-below t,
-  put-decimal.Post,
-) (put-decimal-at t) put-decimal.Post
-put-decimal-put-requires t c κs = tt
-
-put-decimal-same-length : (t : ℕ) → put-decimal-lts.Need-same-length (
-  digit-reads.Asked,
-  digit-reads.Learnt,
-  put-reads.Asked,
-  put-reads.Learnt,
-  put-decimal-below t,
-  put-decimal.Post,
-) (put-decimal-at t) put-decimal.Post
-put-decimal-same-length t c = c .before .before .put .ensures .same
-
-put-decimal-returns : (t : ℕ) → put-decimal-lts.Need-returns (
-  digit-reads.Asked,
-  digit-reads.Learnt,
-  put-reads.Asked,
-  put-reads.Learnt,
-  put-decimal-below t,
-  put-decimal.Post,
-) (put-decimal-at t) put-decimal.Post
-put-decimal-returns t c = put-as (ap (λ (b : ℕ). b ∷ []) (c .before .before .before .digit .ensures) ∙ decimal-one (c .before .before .before .before .before .before .before .args .n) (search needs)) (c .before .before .put .ensures)
-
-put-decimal-put-decimal-requires : (t : ℕ) → put-decimal-lts.Need-put-decimal-requires (
-  digit-reads.Asked,
-  digit-reads.Learnt,
-  put-reads.Asked,
-  put-reads.Learnt,
-  put-decimal-below t,
-  put-decimal.Post,
-) (put-decimal-at t) put-decimal.Post
-put-decimal-put-decimal-requires t c κs = (omega arith, tt)
-
-put-decimal-digit-requires-2 : (t : ℕ) → put-decimal-lts.Need-digit-requires-2 (
-  digit-reads.Asked,
-  digit-reads.Learnt,
-  put-reads.Asked,
-  put-reads.Learnt,
-  put-decimal-below t,
-  put-decimal.Post,
-) (put-decimal-at t) put-decimal.Post
-put-decimal-digit-requires-2 t c κs = tt
-
-put-decimal-put-requires-2 : (t : ℕ) → put-decimal-lts.Need-put-requires-2 (
-  digit-reads.Asked,
-  digit-reads.Learnt,
-  put-reads.Asked,
-  put-reads.Learnt,
-  put-decimal-below t,
-  put-decimal.Post,
-) (put-decimal-at t) put-decimal.Post
-put-decimal-put-requires-2 t c κs = tt
-
-put-decimal-same-length-2 : (t : ℕ) → put-decimal-lts.Need-same-length-2 (
-  digit-reads.Asked,
-  digit-reads.Learnt,
-  put-reads.Asked,
-  put-reads.Learnt,
-  put-decimal-below t,
-  put-decimal.Post,
-) (put-decimal-at t) put-decimal.Post
-put-decimal-same-length-2 t c = c .before .before .put2 .ensures .same ∙ c .before .before .before .before .before .before .before .put-decimal .ensures .same
-
-put-decimal-returns-2 : (t : ℕ) → put-decimal-lts.Need-returns-2 (
-  digit-reads.Asked,
-  digit-reads.Learnt,
-  put-reads.Asked,
-  put-reads.Learnt,
-  put-decimal-below t,
-  put-decimal.Post,
-) (put-decimal-at t) put-decimal.Post
-put-decimal-returns-2 t c =
-    let n = c .before .before .before .before .before .before .before .before .before .before .before .args .n in
-    put-as (ap (λ (b : ℕ). decimal (n / 10) ++ (b ∷ [])) (c .before .before .before .digit2 .ensures) ∙ decimal-more n (search needs) (c .before .before .before .before .before .before .before .before .before .before .before .fits .n .fits)) (c .before .before .before .before .before .before .before .put-decimal .ensures ⨾ c .before .before .put2 .ensures)
-
 pub +put-decimal-spec : {M : Type 1} → statement M
 +put-decimal-spec = close μ-put-decimal λ t. put-decimal-lts.spec (
   digit-reads.Asked,
@@ -130,12 +38,16 @@ pub +put-decimal-spec : {M : Type 1} → statement M
 )
     (put-decimal-at t)
     put-decimal.Post
-    (put-decimal-digit-requires t)
-    (put-decimal-put-requires t)
-    (put-decimal-same-length t)
-    (put-decimal-returns t)
-    (put-decimal-put-decimal-requires t)
-    (put-decimal-digit-requires-2 t)
-    (put-decimal-put-requires-2 t)
-    (put-decimal-same-length-2 t)
-    (put-decimal-returns-2 t)
+    -- digit and put, where the number has one digit
+    (λ c κs. tt)
+    (λ c κs. tt)
+    (λ c. c .before .before .put .ensures .same)
+    (λ c. put-as (ap (λ (b : ℕ). b ∷ []) (c .before .before .before .digit .ensures) ∙ decimal-one (c .before .before .before .before .before .before .before .args .n) (search needs)) (c .before .before .put .ensures))
+    -- put_decimal, digit and put, where it has more
+    (λ c κs. (omega arith, tt))
+    (λ c κs. tt)
+    (λ c κs. tt)
+    (λ c. c .before .before .put2 .ensures .same ∙ c .before .before .before .before .before .before .before .put-decimal .ensures .same)
+    (λ c.
+    let n = c .before .before .before .before .before .before .before .before .before .before .before .args .n in
+    put-as (ap (λ (b : ℕ). decimal (n / 10) ++ (b ∷ [])) (c .before .before .before .digit2 .ensures) ∙ decimal-more n (search needs) (c .before .before .before .before .before .before .before .before .before .before .before .fits .n .fits)) (c .before .before .before .before .before .before .before .put-decimal .ensures ⨾ c .before .before .put2 .ensures))

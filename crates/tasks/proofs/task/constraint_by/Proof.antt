@@ -1,45 +1,27 @@
-use mathlib.Core.Path.{ap}
-use native.Mathlib.Omega.{arith}
-use mir.Syntax.{w32}
-use mir.Facts.{toZ-ofZ}
+use mathlib.Core.Path.{sym, ap, _∙_}
 use Rattle.definition.specs.Answer.{dateMeaning}
-use Rattle.tasks.proofs.Codes.{late, outside, most, dated, undated}
+use Rattle.definition.specs.declared.DateAnswer.{DateAnswer}
+use Rattle.definition.specs.Task.{constraintFrom}
+use Rattle.tasks.specs.Task.{constraintMeans}
+use Rattle.tasks.proofs.Codes.{constraint-none}
 use borrow.Author.Needs.{needs}
 use Rattle.tasks.proofs.task.constraint_by.Statement.{statement}
 use Rattle.tasks.proofs.task.constraint_by.Tie as tie
 
 returns : tie.Need-returns
-returns c = late (c .before .args .kind) (dateMeaning (c .before .args .a)) (c .if1 .taken)
+unfolding dateMeaning
+returns c =
+    let k = c .before .before in
+    c .constraint-on .ensures ∙ sym (ap (λ (a : DateAnswer). constraintFrom (k .before .before .args .kind) (dateMeaning a)) (k .a .given .1))
 
 returns-2 : tie.Need-returns-2
-returns-2 c = outside (c .before .before .args .kind) (dateMeaning (c .before .before .args .a)) (c .before .if1 .left) (c .if2 .taken)
-
-enum-known-a : tie.Need-enum-known-a
-enum-known-a c = search needs
-
-cast-t8 : tie.Need-cast-t8
-cast-t8 c =
-    let i = c .before .before .before in
-    record { fits = omega (arith, most (i .before .before .args .kind) (i .before .if1 .left) (i .if2 .left)) }
-
-enum-told : tie.Need-enum-told
-enum-told c = search needs
+unfolding dateMeaning constraintMeans
+returns-2 c = rw (c .before .enum-told .given .1, c .if1 .taken)
 
 returns-3 : tie.Need-returns-3
-unfolding dateMeaning
-returns-3 c =
-    let k = c .before .before in
-    let i = k .before .before in
-    dated (i .before .before .args .kind) (i .before .if1 .left) (i .if2 .left) (dateMeaning (i .before .before .args .a)) _ (k .a .given .0 .0 .0)
-    (ap dateMeaning (k .a .given .1))
-    (toZ-ofZ {w = w32} {z = k .a .given .0 .0 .0} (record { sfits = c .struct-told .given .0 .1 }))
-
-returns-4 : tie.Need-returns-4
-unfolding dateMeaning
-returns-4 c =
-    let i = c .before .before in
-    undated (i .before .before .args .kind) (i .before .if1 .left) (i .if2 .left) (dateMeaning (i .before .before .args .a)) (ap dateMeaning (c .enum-told .given .1))
+unfolding dateMeaning constraintMeans
+returns-3 c = rw (c .before .enum-told .given .1) (constraint-none (c .before .before .before .args .kind) (c .if1 .left))
 
 pub constraint-by-spec : {M : Type 1} → statement M
 constraint-by-spec =
-    tie.close (tie.spec returns returns-2 enum-known-a cast-t8 enum-told returns-3 returns-4)
+    tie.close (tie.spec (λ c. search needs) (λ c κs. search needs) (λ c. search needs) returns returns-2 returns-3)

@@ -3,12 +3,6 @@ use borrow.Author.Needs.{needs}
 use Rattle.tasks.proofs.task.is_date.Statement.{statement}
 use Rattle.tasks.proofs.task.is_date.Tie as tie
 
-enum-told : tie.Need-enum-told
-enum-told c = search needs
-
-enum-told-2 : tie.Need-enum-told-2
-enum-told-2 c = search needs
-
 returns : tie.Need-returns
 unfolding dateMeaning
 returns c = rw (c .enum-told .given .1)
@@ -18,4 +12,4 @@ unfolding dateMeaning
 returns-2 c = rw (c .enum-told2 .given .1)
 
 pub is-date-spec : {M : Type 1} → statement M
-is-date-spec = tie.close (tie.spec enum-told enum-told-2 returns returns-2)
+is-date-spec = tie.close (tie.spec (λ c. search needs) (λ c. search needs) returns returns-2)

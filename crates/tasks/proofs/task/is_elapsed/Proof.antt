@@ -6,20 +6,10 @@ use borrow.Author.Needs.{needs}
 use Rattle.tasks.proofs.task.is_elapsed.Statement.{statement}
 use Rattle.tasks.proofs.task.is_elapsed.Tie as tie
 
-slice-aggregate-format-of : tie.Need-slice-aggregate-format-of
-slice-aggregate-format-of c = search needs
-
-format-of-requires : tie.Need-format-of-requires
-format-of-requires c κs = search needs
-
-elapsed-format-requires : tie.Need-elapsed-format-requires
-elapsed-format-requires c κs = search needs
-
 returns : tie.Need-returns
 unfolding isElapsed intIn
 returns c = c .elapsed-format .ensures ∙ ap (λ (n : ℕ). elapsedFormat n) (c .before .format-of .ensures)
 
 pub is-elapsed-spec : {M : Type 1} → statement M
 is-elapsed-spec =
-    tie.close
-    (tie.spec slice-aggregate-format-of format-of-requires elapsed-format-requires returns)
+    tie.close (tie.spec (λ c. search needs) (λ c κs. search needs) (λ c κs. search needs) returns)

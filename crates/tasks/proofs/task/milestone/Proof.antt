@@ -3,15 +3,9 @@ use borrow.Author.Needs.{needs}
 use Rattle.tasks.proofs.task.milestone.Statement.{statement}
 use Rattle.tasks.proofs.task.milestone.Tie as tie
 
-slice-aggregate-yes-in : tie.Need-slice-aggregate-yes-in
-slice-aggregate-yes-in c = search needs
-
-yes-in-requires : tie.Need-yes-in-requires
-yes-in-requires c κs = search needs
-
 returns : tie.Need-returns
 unfolding yesIn
 returns c = c .yes-in .ensures
 
 pub milestone-spec : {M : Type 1} → statement M
-milestone-spec = tie.close (tie.spec slice-aggregate-yes-in yes-in-requires returns)
+milestone-spec = tie.close (tie.spec (λ c. search needs) (λ c κs. search needs) returns)

@@ -1,59 +1,39 @@
-use mathlib.Core.Path.{sym, ap, _∙_}
-use mathlib.Core.Bool.{Bool}
-use mathlib.Core.Option.{Option, none}
+use mathlib.Core.Path.{refl, sym, ap, _∙_}
+use mathlib.Core.Option.{Option, some}
 use Prim.Native.Nat.{ℕ}
-use Rattle.definition.specs.Base.{if_then_else_}
-use Rattle.definition.specs.Number.{Reading, found}
+use lib.IntN.{pos}
+use Rattle.definition.specs.Base.{_>>=_}
 use Rattle.definition.specs.Field.{minutesIn}
-use Rattle.tree.specs.Place.{elementAt}
-use Rattle.fields.specs.Said.{minutes-in}
-use Rattle.tasks.specs.Value.{asNumber}
-use Rattle.tasks.specs.Task.{minutesBy}
+use Rattle.fields.specs.Answers.{minutesMeans, arm}
+use Rattle.tasks.proofs.Sign.{held}
+use Rattle.tasks.proofs.Codes.{unnot}
 use borrow.Author.Needs.{needs}
 use Rattle.tasks.proofs.task.remaining_of.Statement.{statement}
 use Rattle.tasks.proofs.task.remaining_of.Tie as tie
 
-under-way-requires : tie.Need-under-way-requires
-under-way-requires c κs = search needs
-
-slice-aggregate-minutes-in : tie.Need-slice-aggregate-minutes-in
-slice-aggregate-minutes-in c = search needs
-
-minutes-in-requires : tie.Need-minutes-in-requires
-minutes-in-requires c κs = search needs
-
-minutes-by-requires : tie.Need-minutes-by-requires
-minutes-by-requires c κs = search needs
-
 returns : tie.Need-returns
-returns c =
-    let i = c .before .before .before in
-    let s = i .before .before .before in
-    let e = elementAt (s .args .s .now) (s .args .at) in
-    c .minutes-by .ensures
-    ∙ ap (λ (x : Reading ℕ). asNumber (minutesBy (found x))) (c .before .minutes-in .ensures)
-    ∙ ap (λ (o : Option ℕ). asNumber (minutesBy o)) (minutes-in e "RemainingDuration")
-    ∙ sym (ap (λ (t : Bool). asNumber (if t then minutesBy (minutesIn e "RemainingDuration") else none)) (sym (i .before .under-way .ensures) ∙ i .if1 .taken))
+returns c = rw (sym (c .before .under-way .ensures) ∙ unnot _ (c .if1 .taken))
 
-no-number-requires : tie.Need-no-number-requires
-no-number-requires c κs = search needs
+cast-t11 : tie.Need-cast-t11
+cast-t11 c = search needs
 
 returns-2 : tie.Need-returns-2
+unfolding minutesIn
 returns-2 c =
-    let i = c .before in
-    let s = i .before .before .before in
-    let e = elementAt (s .args .s .now) (s .args .at) in
-    c .no-number .ensures
-    ∙ sym (ap (λ (t : Bool). asNumber (if t then minutesBy (minutesIn e "RemainingDuration") else none)) (sym (i .before .under-way .ensures) ∙ i .if1 .left))
+    let m = c .before in
+    let n = m .before .before in
+    let i = n .before .before in
+    rw (sym (i .before .under-way .ensures) ∙ unnot _ (i .if1 .left))
+    (arm minutesMeans (λ (o : Option ℕ). o >>= λ m. some (pos m)) (n .minutes-in .ensures) (m .m .given .1) (ap some (held (m .m .given .0 .0) (cast-t11 c .sfits))))
+
+returns-3 : tie.Need-returns-3
+unfolding minutesIn
+returns-3 c =
+    let n = c .before .before in
+    let i = n .before .before in
+    rw (sym (i .before .under-way .ensures) ∙ unnot _ (i .if1 .left))
+    (arm minutesMeans (λ (o : Option ℕ). o >>= λ m. some (pos m)) (n .minutes-in .ensures) (c .enum-told .given .1) refl)
 
 pub remaining-of-spec : {M : Type 1} → statement M
 remaining-of-spec =
-    tie.close
-    (tie.spec
-    under-way-requires
-    slice-aggregate-minutes-in
-    minutes-in-requires
-    minutes-by-requires
-    returns
-    no-number-requires
-    returns-2)
+    tie.close (tie.spec (λ c κs. search needs) returns (λ c. search needs) (λ c κs. search needs) (λ c. search needs) cast-t11 (λ c. search needs) returns-2 returns-3)

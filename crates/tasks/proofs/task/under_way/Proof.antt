@@ -8,24 +8,6 @@ use borrow.Author.Needs.{needs}
 use Rattle.tasks.proofs.task.under_way.Statement.{statement}
 use Rattle.tasks.proofs.task.under_way.Tie as tie
 
-slice-aggregate-date-in : tie.Need-slice-aggregate-date-in
-slice-aggregate-date-in c = search needs
-
-date-in-requires : tie.Need-date-in-requires
-date-in-requires c κs = search needs
-
-is-date-requires : tie.Need-is-date-requires
-is-date-requires c κs = search needs
-
-slice-aggregate-date-in-2 : tie.Need-slice-aggregate-date-in-2
-slice-aggregate-date-in-2 c = search needs
-
-date-in-requires-2 : tie.Need-date-in-requires-2
-date-in-requires-2 c κs = search needs
-
-is-date-requires-2 : tie.Need-is-date-requires-2
-is-date-requires-2 c κs = search needs
-
 returns : tie.Need-returns
 unfolding dateIn
 returns c =
@@ -38,12 +20,4 @@ returns c =
 
 pub under-way-spec : {M : Type 1} → statement M
 under-way-spec =
-    tie.close
-    (tie.spec
-    slice-aggregate-date-in
-    date-in-requires
-    is-date-requires
-    slice-aggregate-date-in-2
-    date-in-requires-2
-    is-date-requires-2
-    returns)
+    tie.close (tie.spec (λ c. search needs) (λ c κs. search needs) (λ c κs. search needs) (λ c. search needs) (λ c κs. search needs) (λ c κs. search needs) returns)

@@ -1,0 +1,5 @@
+pub mod Cases
+pub mod Dates
+pub mod Hand
+pub mod Open
+pub mod Rules

@@ -1,0 +1,1 @@
+// No code: examples of document 01 that antt computes, in specs/.

@@ -1,0 +1,18 @@
+use Rattle.tree.specs.Place.{elementAt}
+use mathlib.Core.Path.{ap, _∙_}
+use Prim.Native.Nat.{ℕ}
+use Rattle.definition.specs.Number.{Reading, found}
+use Rattle.fields.proofs.Empty.{minutes-or}
+use borrow.Author.Needs.{needs}
+use Rattle.fields.proofs.child.minutes_in.Statement.{statement}
+use Rattle.fields.proofs.child.minutes_in.Tie as tie
+
+returns : tie.Need-returns
+returns c =
+    let s = c .before .before .before .before .before in
+    c .minutes-of .ensures
+    ∙ ap (λ (x : Reading ℕ). found x) (c .before .duration-of .ensures)
+    ∙ minutes-or (elementAt (s .args .s .now) (s .args .at)) (s .args .name .now) _ (c .before .before .text-of .ensures)
+
+pub minutes-in-spec : {M : Type 1} → statement M
+minutes-in-spec = tie.close (tie.spec (λ c κs. search needs) (λ c κs. search needs) (λ c κs. search needs) returns)

@@ -1,0 +1,11 @@
+pub mod Bits
+pub mod Bools
+pub mod Buf
+pub mod Calendar
+pub mod Each
+pub mod Fields
+pub mod Formats
+pub mod Options
+pub mod Outlines
+pub mod Rows
+pub mod Same
