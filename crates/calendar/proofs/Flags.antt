@@ -5,13 +5,17 @@ use native.Mathlib.Omega.{arith}
 use mathlib.Core.Path.{_≡_, refl, sym, ap, _∙_, subst}
 use mathlib.Core.Bool.{Bool, true, false, _&&_, not}
 use mathlib.Core.List.{List, [], _∷_}
+use mathlib.Core.Option.{Option, some, none}
 use lib.Dec.{T, eqb, eqb→eq}
 use lib.ListN.{length, getD, set, List·getD-eq-default}
 use lib.Bits.{bitAnd, bitOr, and-mask, or-shifted}
 use lib.Pow.{pow-lt, pow-pos, pow-mono}
 use lib.Ieee.Fits.{and-l, and-r}
 use borrow.Author.Tests.{eqb-true, eqb-false, eq-eqb, ne-eqb}
+use Rattle.definition.specs.Base.{_>>=_, _or_}
 use Rattle.definition.specs.Bits.{enc, dec}
+use Rattle.definition.specs.Date.{Date, weekday}
+use Rattle.definition.specs.Calendar.{works}
 use Rattle.definition.specs.Format.{bit as bitOf}
 use Rattle.calendar.specs.Week.{flagsIn, wordOf, replaced}
 
@@ -39,6 +43,11 @@ flag-is w k h = by-place (λ (k : ℕ). eqb 1 (w / 2 ^ (6 - k) % 2) ≡ getD (fl
 
 pub no-flag : (w k : ℕ) → 6 < k → false ≡ getD (flagsIn w) k false
 no-flag w k h = sym (List·getD-eq-default (flagsIn w) false (omega (arith, seven w)))
+
+-- a day's flag; none outside the years
+pub works-is : (week : ℕ) (o : Option Date) → getD (flagsIn week) ((o >>= λ d. some (weekday d)) or 7) false ≡ (o >>= λ d. some (works (flagsIn week) d)) or false
+works-is week none = sym (no-flag week 7 (omega arith))
+works-is week (some d) = refl
 
 pub set-past : {A : Type 0} (l : List A) (k : ℕ) (a : A) → length l ≤ k → l ≡ set l k a
 set-past [] k a h = refl

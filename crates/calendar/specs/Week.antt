@@ -1,18 +1,20 @@
 -- A week as a word of seven flags, Monday's the most significant. Assumes nothing.
 use Prim.Native.Nat.{ℕ, _+_, _*_, _/_, _%_, _^_}
 use mathlib.Core.Path.{_≡_, refl}
-use mathlib.Core.Bool.{Bool}
+use mathlib.Core.Bool.{Bool, false}
 use mathlib.Core.List.{List, map}
 use mathlib.Core.Option.{Option, some, none}
 use lib.Dec.{eqb}
+use lib.IntN.{ℤ}
 use lib.ListN.{set}
 use Rattle.definition.specs.Base.{_>>=_, _or_, when, within}
+use Rattle.definition.specs.Date.{fromDays}
 use Rattle.definition.specs.Bits.{enc, dec}
 use Rattle.definition.specs.Format.{bit as bitOf}
 use Rattle.definition.specs.Tree.{Element}
 use Rattle.definition.specs.Field.{yesIn}
 use Rattle.definition.specs.Model.{Calendar}
-use Rattle.definition.specs.Calendar.{placeOf, weekDays, weekBy, calendarOf}
+use Rattle.definition.specs.Calendar.{placeOf, weekDays, weekBy, works, calendarOf}
 use Rattle.calendar.specs.declared.week.PlaceAnswer.{PlaceAnswer}
 
 -- ---- the place in the week by DayType, Monday 0
@@ -45,6 +47,10 @@ weekOn place on week = (place >>= λ k. some (set week k on)) or week
 -- a week with what a WeekDay says
 abbrev pub weekWith : Element → List Bool → List Bool
 weekWith w week = weekOn (placeOf w) (yesIn w "DayWorking") week
+
+-- whether a week works on the day of a number
+abbrev pub worksOn : List Bool → ℤ → Bool
+worksOn week z = (fromDays z >>= λ d. some (works week d)) or false
 
 -- the week of a calendar over its base
 pub calendar-week : (e : Element) (base : Calendar) → weekBy (weekDays e) (base .week) ≡ calendarOf e base .week

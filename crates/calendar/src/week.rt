@@ -11,10 +11,11 @@ ghost use Rattle.definition.specs.Ascii.{bytes};
 ghost use Rattle.definition.specs.Field.{yesIn};
 ghost use Rattle.definition.specs.Format.{bit as bitOf};
 ghost use Rattle.definition.specs.Tree.{all};
-ghost use Rattle.definition.specs.Calendar.{dayType, placeOf, weekDays, weekBy, works as workedOn};
+ghost use Rattle.definition.specs.Calendar.{dayType, placeOf, weekDays, weekBy};
 ghost use Rattle.text.specs.Answers.{u64Of};
 ghost use Rattle.tree.specs.Place.{elementAt, laterAt};
-ghost use Rattle.calendar.specs.Week.{placeMeaning, placeBy, flagsIn, wordOf, replaced, weekOn, weekWith};
+ghost use Rattle.calendar.specs.Week.{placeMeaning, placeBy, flagsIn, wordOf, replaced, weekOn, weekWith, worksOn};
+use definition::Date;
 use text::U64Answer;
 use tree::Found;
 
@@ -180,9 +181,9 @@ pub fn week_of(s: &[u8], at: usize, base: u32) -> u32
     low(week_under(s, at, base), 7)
 }
 
-// Whether a week works on a day, counted from 1 January of the year -10000.
-pub fn works(week: u32, day: u32) -> bool
-    ensures { λ r. ⌜ r ≡ workedOn (flagsIn week) day ⌝ }
+// Whether a week works on a day; on no day outside the years.
+pub fn works(week: u32, day: Date) -> bool
+    ensures { λ r. ⌜ r ≡ worksOn (flagsIn week) (day .0) ⌝ }
 {
-    flag_at(week, date::weekday_of(day))
+    flag_at(week, date::weekday(day))
 }

@@ -3,3 +3,5 @@ pub mod Items
 pub mod Places
 pub mod Inserts
 pub mod Copies
+pub mod Hours
+pub mod Plain

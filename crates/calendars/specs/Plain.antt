@@ -16,23 +16,20 @@ use Rattle.definition.specs.Pack.{calendar}
 use Rattle.definition.specs.Ascii.{bytes}
 use Rattle.bits.specs.Steps.{Puts, view, _▷_, said, field-step, put-same, put-via, put-no, put-more, put-list, put-period}
 use Rattle.bits.specs.declared.Place.{Place}
-
--- the seven low bits of a number as flags, Monday first
-abbrev pub weekBy : ℕ → List Bool
-weekBy n = map (eqb 1) (enc 7 n)
+use Rattle.calendar.specs.Week.{flagsIn}
 
 -- the whole day, or no hours
-abbrev pub hoursBy : Bool → List Period
-hoursBy wholeDay = if wholeDay then (0, 1440) ∷ [] else []
+abbrev pub hoursEach : Bool → List Period
+hoursEach wholeDay = if wholeDay then (0, 1440) ∷ [] else []
 
 -- ---- the default calendar, and the elapsed one
 
-pub default-is : plainCalendar (bytes "Standard") (weekBy 124) (replicate 7 (hoursBy false)) ≡ defaultCalendar
-unfolding defaultCalendar enc
+pub default-is : plainCalendar (bytes "Standard") (flagsIn 124) (replicate 7 (hoursEach false)) ≡ defaultCalendar
+unfolding defaultCalendar flagsIn enc
 default-is = refl
 
-pub elapsed-is : plainCalendar (bytes "Elapsed (24 hours)") (weekBy 127) (replicate 7 (hoursBy true)) ≡ elapsedCalendar
-unfolding elapsedCalendar enc
+pub elapsed-is : plainCalendar (bytes "Elapsed (24 hours)") (flagsIn 127) (replicate 7 (hoursEach true)) ≡ elapsedCalendar
+unfolding elapsedCalendar flagsIn enc
 elapsed-is = refl
 
 -- ---- what is put
@@ -50,8 +47,8 @@ flags-bits zero v n = refl
 flags-bits (suc w) v n = rw (bit-back (v / 2 ^ w % 2) n (mod-lt (v / 2 ^ w) (omega arith)), flags-bits w v (n + 1))
 
 module _ {d : List ℕ} {p : Place} {d' : List ℕ} {q : Place} where
-  pub put-week : (v : ℕ) → Puts (field 7) v d p d' q → Puts (times 7 flag) (weekBy v) d p d' q
-  unfolding times
+  pub put-week : (v : ℕ) → Puts (field 7) v d p d' q → Puts (times 7 flag) (flagsIn v) d p d' q
+  unfolding times flagsIn
   put-week v x = record { step = said (field-step 7 x) _ (ap (λ (l : Bits). view d p ▷ l) (sym (flags-bits 7 v _))) }
 
   -- a list of none
@@ -74,11 +71,11 @@ module _ {d d1 : List ℕ} {p p1 : Place} where
   unfolding dates
   no-dates x = put-empty ltb date x
 
-  pub no-hours : {b : Bool} → b ≡ false → Puts count 0 d p d1 p1 → Puts periods (hoursBy b) d p d1 p1
+  pub no-hours : {b : Bool} → b ≡ false → Puts count 0 d p d1 p1 → Puts periods (hoursEach b) d p d1 p1
   unfolding periods
-  no-hours e x = put-same (ap hoursBy (sym e)) (put-empty earlier period x)
+  no-hours e x = put-same (ap hoursEach (sym e)) (put-empty earlier period x)
 
   pub day-hours : {b : Bool} {d2 d3 : List ℕ} {p2 p3 : Place} → b ≡ true → Puts count 1 d p d1 p1 → Puts (field 11) 0 d1 p1 d2 p2 → Puts (field 11) 1440 d2 p2 d3 p3
-      → Puts periods (hoursBy b) d p d3 p3
+      → Puts periods (hoursEach b) d p d3 p3
   unfolding periods
-  day-hours e x y z = put-same (ap hoursBy (sym e)) (put-list 1 earlier period x (put-more 1 (put-no 1 period d1 p1) (put-period y z)))
+  day-hours e x y z = put-same (ap hoursEach (sym e)) (put-list 1 earlier period x (put-more 1 (put-no 1 period d1 p1) (put-period y z)))

@@ -5,20 +5,21 @@ ghost use Rattle.definition.specs.Format.{flag, periods, times, whole};
 ghost use Rattle.definition.specs.Pack.{calendar};
 ghost use Rattle.definition.specs.Calendar.{plainCalendar, defaultCalendar, elapsedCalendar};
 ghost use Rattle.bits.specs.Steps.{Puts};
-ghost use Rattle.pack.specs.Calendar.{weekBy, hoursBy};
-use crate::value::put_count;
+ghost use Rattle.calendar.specs.Week.{flagsIn};
+ghost use Rattle.calendars.specs.Plain.{hoursEach};
+use pack::put_count;
 use bits::Place;
 
 // The seven low bits of a number, Monday first.
 pub fn put_week(out: &mut [u8], p: Place, week: u32) -> Place
-    ensures { λ r. ⌜ Puts (times 7 flag) (weekBy week) (now (out .entry)) p (now (out .exit)) r ⌝ }
+    ensures { λ r. ⌜ Puts (times 7 flag) (flagsIn week) (now (out .entry)) p (now (out .exit)) r ⌝ }
 {
     bits::put(out, p, 7, week as u64)
 }
 
 // One period of the whole day, or none.
 fn put_day_hours(out: &mut [u8], p: Place, whole_day: bool) -> Place
-    ensures { λ r. ⌜ Puts periods (hoursBy «whole_day») (now (out .entry)) p (now (out .exit)) r ⌝ }
+    ensures { λ r. ⌜ Puts periods (hoursEach «whole_day») (now (out .entry)) p (now (out .exit)) r ⌝ }
 {
     if whole_day {
         let a = put_count(out, p, 1);
@@ -30,7 +31,7 @@ fn put_day_hours(out: &mut [u8], p: Place, whole_day: bool) -> Place
 
 // The same hours on each weekday.
 fn put_hours(out: &mut [u8], p: Place, whole_day: bool) -> Place
-    ensures { λ r. ⌜ Puts (times 7 periods) (replicate 7 (hoursBy «whole_day»)) (now (out .entry)) p (now (out .exit)) r ⌝ }
+    ensures { λ r. ⌜ Puts (times 7 periods) (replicate 7 (hoursEach «whole_day»)) (now (out .entry)) p (now (out .exit)) r ⌝ }
 {
     let a = put_day_hours(out, p, whole_day);
     let b = put_day_hours(out, a, whole_day);
@@ -41,14 +42,14 @@ fn put_hours(out: &mut [u8], p: Place, whole_day: bool) -> Place
     put_day_hours(out, f, whole_day)
 }
 
-pub fn put_plain_calendar(
+fn put_plain_calendar(
     out: &mut [u8],
     p: Place,
     name: &[u8],
     week: u32,
     whole_day: bool,
 ) -> Place
-    ensures { λ r. ⌜ Puts (whole calendar) (plainCalendar (now (name .entry)) (weekBy week) (replicate 7 (hoursBy «whole_day»))) (now (out .entry)) p (now (out .exit)) r ⌝ }
+    ensures { λ r. ⌜ Puts (whole calendar) (plainCalendar (now (name .entry)) (flagsIn week) (replicate 7 (hoursEach «whole_day»))) (now (out .entry)) p (now (out .exit)) r ⌝ }
 {
     let a = bits::put_text(out, p, name);
     let b = put_week(out, a, week);

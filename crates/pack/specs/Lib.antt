@@ -1,4 +1,3 @@
-pub mod Stub
 pub mod Value
 pub mod Bytes
 pub mod Record

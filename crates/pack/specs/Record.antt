@@ -17,8 +17,8 @@ use Rattle.bits.specs.Steps.{Puts, put-via}
 use Rattle.bits.specs.declared.Place.{Place}
 use Rattle.text.specs.Answers.{i64Of}
 use Rattle.text.specs.declared.I64Answer.{I64Answer}
-use Rattle.pack.specs.Stub.{lagKindMeans}
-use Rattle.pack.specs.declared.stub.Lag.{Lag}
+use Rattle.tasks.specs.Link.{lagKindMeans}
+use Rattle.tasks.specs.declared.link.Lag.{Lag}
 use Rattle.pack.specs.Value.{lagKind, dateBy, dateGiven, constraintGiven}
 use Rattle.definition.specs.declared.DateAnswer.{DateAnswer}
 use Rattle.pack.specs.declared.record.Amounts.{Amounts}

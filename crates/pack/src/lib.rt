@@ -2,7 +2,6 @@
 // function answers the place behind what it wrote; what does not fit stays past the end.
 mod record;
 mod stars;
-mod stub;
 mod value;
 
 pub use record::Amounts;

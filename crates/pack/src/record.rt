@@ -6,9 +6,9 @@ ghost use Rattle.definition.specs.Pack.{project, activity, link, resource, assi
 ghost use Rattle.bits.specs.Steps.{Puts};
 ghost use Rattle.pack.specs.Record.{linkBy, assignmentBy, expenseBy, projectBy, resourceBy, activityBy, scheduleFields, scheduleOf, countsBy};
 use crate::stars::put_starred;
-use crate::stub::ConstraintAnswer;
-use crate::stub::Lag;
-use crate::stub::Parts;
+use tasks::ConstraintAnswer;
+use tasks::Lag;
+use tasks::Parts;
 use crate::value::put_code;
 use crate::value::put_constraint;
 use crate::value::put_count;

@@ -10,11 +10,11 @@ ghost use Rattle.definition.specs.Format.{count, row, code, number, date, text,
 ghost use Rattle.definition.specs.Pack.{constraint};
 ghost use Rattle.bits.specs.Steps.{Puts};
 ghost use Rattle.text.specs.Answers.{i64Of};
-ghost use Rattle.pack.specs.Stub.{lagKindMeans};
+ghost use Rattle.tasks.specs.Link.{lagKindMeans};
 ghost use Rattle.pack.specs.Value.{lagKind, dateBy, dateGiven, constraintGiven};
-use crate::stub::Constraint;
-use crate::stub::ConstraintAnswer;
-use crate::stub::LagKind;
+use tasks::Constraint;
+use tasks::ConstraintAnswer;
+use tasks::LagKind;
 use bits::Place;
 use definition::Date;
 use definition::DateAnswer;

@@ -1,7 +1,7 @@
-use Rattle.pack.specs.Calendar.{no-hours, day-hours}
+use Rattle.calendars.specs.Plain.{no-hours, day-hours}
 use borrow.Author.Needs.{needs}
-use Rattle.pack.proofs.calendar.put_day_hours.Statement.{statement}
-use Rattle.pack.proofs.calendar.put_day_hours.Tie as tie
+use Rattle.calendars.proofs.plain.put_day_hours.Statement.{statement}
+use Rattle.calendars.proofs.plain.put_day_hours.Tie as tie
 
 put-count-requires : tie.Need-put-count-requires
 put-count-requires c κs = search needs

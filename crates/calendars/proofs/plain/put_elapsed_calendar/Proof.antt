@@ -1,8 +1,8 @@
 use Rattle.bits.specs.Steps.{put-same}
-use Rattle.pack.specs.Calendar.{elapsed-is}
+use Rattle.calendars.specs.Plain.{elapsed-is}
 use borrow.Author.Needs.{needs}
-use Rattle.pack.proofs.calendar.put_elapsed_calendar.Statement.{statement}
-use Rattle.pack.proofs.calendar.put_elapsed_calendar.Tie as tie
+use Rattle.calendars.proofs.plain.put_elapsed_calendar.Statement.{statement}
+use Rattle.calendars.proofs.plain.put_elapsed_calendar.Tie as tie
 
 slice-aggregate-put-plain-calendar : tie.Need-slice-aggregate-put-plain-calendar
 slice-aggregate-put-plain-calendar c = search needs

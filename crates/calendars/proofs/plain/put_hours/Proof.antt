@@ -1,8 +1,8 @@
 use Rattle.definition.specs.Format.{periods}
-use Rattle.pack.specs.Calendar.{put-seven}
+use Rattle.calendars.specs.Plain.{put-seven}
 use borrow.Author.Needs.{needs}
-use Rattle.pack.proofs.calendar.put_hours.Statement.{statement}
-use Rattle.pack.proofs.calendar.put_hours.Tie as tie
+use Rattle.calendars.proofs.plain.put_hours.Statement.{statement}
+use Rattle.calendars.proofs.plain.put_hours.Tie as tie
 
 put-day-hours-requires : tie.Need-put-day-hours-requires
 put-day-hours-requires c κs = search needs

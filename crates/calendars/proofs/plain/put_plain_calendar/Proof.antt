@@ -1,10 +1,10 @@
 use Rattle.definition.specs.Calendar.{byDate}
 use Rattle.definition.specs.Format.{_⊗_, date, periods}
 use Rattle.bits.specs.Steps.{put-⊗, put-whole}
-use Rattle.pack.specs.Calendar.{put-calendar, put-empty, no-dates}
+use Rattle.calendars.specs.Plain.{put-calendar, put-empty, no-dates}
 use borrow.Author.Needs.{needs}
-use Rattle.pack.proofs.calendar.put_plain_calendar.Statement.{statement}
-use Rattle.pack.proofs.calendar.put_plain_calendar.Tie as tie
+use Rattle.calendars.proofs.plain.put_plain_calendar.Statement.{statement}
+use Rattle.calendars.proofs.plain.put_plain_calendar.Tie as tie
 
 put-text-requires : tie.Need-put-text-requires
 put-text-requires c κs = search needs

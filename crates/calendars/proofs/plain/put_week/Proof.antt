@@ -1,7 +1,7 @@
-use Rattle.pack.specs.Calendar.{put-week}
+use Rattle.calendars.specs.Plain.{put-week}
 use borrow.Author.Needs.{needs}
-use Rattle.pack.proofs.calendar.put_week.Statement.{statement}
-use Rattle.pack.proofs.calendar.put_week.Tie as tie
+use Rattle.calendars.proofs.plain.put_week.Statement.{statement}
+use Rattle.calendars.proofs.plain.put_week.Tie as tie
 
 put-requires : tie.Need-put-requires
 put-requires c κs = search needs

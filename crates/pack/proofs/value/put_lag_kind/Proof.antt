@@ -2,7 +2,6 @@ use mir.Facts.{toZ-ofZ}
 use lib.Dec.{eqb}
 use Rattle.definition.specs.Format.{number}
 use Rattle.bits.specs.Steps.{put-same, put-alone, put-both}
-use Rattle.pack.specs.Stub.{lagKindMeans}
 use native.Mathlib.Omega.{arith}
 use borrow.Author.Needs.{needs}
 use Rattle.pack.proofs.value.put_lag_kind.Statement.{statement}
@@ -46,7 +45,6 @@ same-length c = search needs
 
 -- src/value.rt:151:1
 returns : tie.Need-returns
-unfolding lagKindMeans
 returns c =
     let k = c .before .before in
     rw (k .before .before .enum-told .given .1) (put-alone (eqb 2) number (k .put-code .ensures 0 2))
@@ -57,7 +55,6 @@ same-length-2 c = search needs
 
 -- src/value.rt:151:1
 returns-2 : tie.Need-returns-2
-unfolding lagKindMeans
 returns-2 c =
     let k = c .before .before in
     rw (k .before .before .enum-told2 .given .1) (put-alone (eqb 2) number (k .put-code2 .ensures 0 2))
@@ -68,7 +65,6 @@ same-length-3 c = search needs
 
 -- src/value.rt:151:1
 returns-3 : tie.Need-returns-3
-unfolding lagKindMeans
 returns-3 c =
     let k = c .before .before in
     let l = k .before .before .before .before in
