@@ -31,8 +31,8 @@ use Rattle.bits.specs.Clear.{cleared}
 use Rattle.bits.specs.Steps.{Puts, Step, _▷_, said, sizeOf, view, view-in}
 use Rattle.bits.specs.Round.{put-stood, overran}
 use Rattle.bits.specs.declared.Place.{Place}
-use Rattle.model.specs.Passes.{Passes, stood, pass-read}
 use Rattle.model.specs.Lax.{lax-same}
+use Rattle.model.specs.Passes.{Passes, stood, pass-read}
 use Rattle.model.specs.Parts.{recordOf, lax-calendars}
 use Rattle.model.specs.Splits.{Stands, read-stands}
 use Rattle.model.specs.Lists.{stands-rest, ahead-later, ahead-item}

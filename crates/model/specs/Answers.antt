@@ -18,7 +18,7 @@ use Rattle.definition.specs.Text.{Text}
 use Rattle.definition.specs.Answer.{dayNumberOf}
 use Rattle.definition.specs.Format.{Format, field, via, _⊗_, depending, getGiven, optional, flag, row, time, Period, period, date}
 use Rattle.definition.specs.Pack.{Counts as CountsOf, counts}
-use Rattle.bits.specs.Bits.{length-bits}
+use Rattle.laws.specs.Bits.{length-bits}
 use Rattle.bits.specs.Places.{at, place, past, inside, Fits, room-fits, at-place}
 use Rattle.bits.specs.Reads.{rest, Reads, Refuses, spot, flagAt, spanAt, rest-in, rest-out, rest-past, length-rest, spot-at}
 use Rattle.bits.specs.declared.Place.{Place}

@@ -13,11 +13,12 @@ use Rattle.definition.specs.Text.{Text}
 use Rattle.definition.specs.Format.{field, text}
 use Rattle.definition.specs.Model.{Calendar, Activity, Resource, Expense}
 use Rattle.definition.specs.Pack.{calendar}
-use Rattle.laws.specs.Options.{bind-ext, bind-some}
 use Rattle.bits.specs.Reads.{rest, takeAt, read-field, after-end}
 use Rattle.bits.specs.declared.Place.{Place}
 use Rattle.bits.specs.declared.Field.{Field}
-use Rattle.model.specs.Passes.{Passes, left, pass-read}
+use Rattle.laws.specs.Options.{bind-ext, bind-some}
+use Rattle.model.specs.Lax.{left}
+use Rattle.model.specs.Passes.{Passes, pass-read}
 use Rattle.model.specs.Splits.{Stands, not-refused, stands-is, stands-first, stands-named, stands-whole}
 use Rattle.model.specs.Places.{activity-id, resource-id, expense-activity, expense-name}
 use Rattle.model.specs.declared.records.Kind.{Kind}

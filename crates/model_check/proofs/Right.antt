@@ -2,7 +2,7 @@
 use mathlib.Core.Path.{_≡_, refl, sym, ap, _∙_}
 use mathlib.Core.Bool.{Bool, true, false, _&&_, not}
 use mathlib.Core.List.{List, [], _∷_}
-use mathlib.Core.Option.{Option}
+use mathlib.Core.Option.{Option, none}
 use Prim.Native.Nat.{ℕ}
 use lib.Dec.{ltb, eqb}
 use borrow.Author.Tests.{eqb-true, eqb-false, eq-eqb, ne-eqb}
@@ -12,27 +12,23 @@ use Rattle.definition.specs.Format.{whole, row, text, optional}
 use Rattle.definition.specs.Model.{Model, Calendar, Link, Assignment}
 use Rattle.definition.specs.Pack.{link, assignment}
 use Rattle.definition.specs.Check.{ifGiven, isCalendar, linkRight, assignmentRight}
-use Rattle.bits.specs.Reads.{Reads}
 use Rattle.bits.specs.declared.Place.{Place}
-use Rattle.model.specs.Splits.{Stands, stands-is}
+use Rattle.model.specs.Splits.{Stands, stands-or}
 use Rattle.model.specs.Sections.{Decoded}
-use Rattle.model.specs.Places.{rowIn, NameAt, spanIn, textIn, name-is, link-rows, assignment-rows}
+use Rattle.model.specs.Answers.{rowAt, rowsAt, nameMeaning}
+use Rattle.model.specs.Places.{NameTaken, textIn, link-rows, assignment-rows}
 use Rattle.model.specs.declared.Sections.{Sections}
-use Rattle.model.specs.declared.parts.Row.{Row}
-use Rattle.model.specs.declared.parts.Name.{Name}
+use Rattle.model.specs.declared.parts.NameAnswer.{NameAnswer}
+use Rattle.model.specs.declared.parts.NameField.{NameField}
 use Rattle.model.specs.declared.records.Kind.{Kind}
 use Rattle.model_check.specs.Kinds.{Item}
 use Rattle.model_check.specs.Keys.{sameKey}
-use Rattle.model_check.specs.Rules.{RowsBelow, rightOf}
+use Rattle.model_check.specs.Rules.{rowsBelow, rightOf}
 
 -- ---- a parent's row
 
-module _ {s : List ℕ} {p : Place} (r : Row) {o : Option ℕ} (own : ℕ) (h : Stands (optional row) s p o) (e : Reads (optional row) s p (rowIn r) (r .next)) where
-  pub no-parent : r .given ≡ false → true ≡ ifGiven (λ (n : ℕ). ltb n own) o
-  no-parent g = rw (← stands-is h e, g)
-
-  pub a-parent : r .given ≡ true → ltb (r .row) own ≡ ifGiven (λ (n : ℕ). ltb n own) o
-  a-parent g = rw (← stands-is h e, g)
+pub parent-right : {s : List ℕ} {p : Place} {x : Option ℕ × Place} {o : Option ℕ} → Stands (optional row) s p o → x ≡ rowAt s p → x .0 ≡ o
+parent-right h e = ap (λ (x : Option ℕ × Place). x .0) e ∙ stands-or h none
 
 -- ---- a calendar's name
 
@@ -52,24 +48,25 @@ unfolding some?
 some-ext h [] = refl
 some-ext h (x ∷ l) = rw (h x, some-ext h l)
 
-module _ {s : List ℕ} {p : Place} {r : Name} {o : Option Text} (m : Model) (h : Stands (optional text) s p o) (e : NameAt s p r) where
-  pub no-name : r .given ≡ false → true ≡ ifGiven (isCalendar m) o
-  no-name g = rw (name-is h e, g)
+module _ {s : List ℕ} {p : Place} {r : NameField} {o : Option Text} (m : Model) (h : Stands (optional text) s p o) (e : NameTaken s p r) where
+  pub no-name : r .name ≡ NameAnswer.Absent → true ≡ ifGiven (isCalendar m) o
+  unfolding nameMeaning
+  no-name g = rw (e .text o h, g)
 
-  pub a-name : r .given ≡ true → some? (λ (c : Calendar). sameKey (0, textIn s (spanIn r)) (0, c .name)) (m .calendars) ≡ ifGiven (isCalendar m) o
-  unfolding isCalendar
-  a-name g = some-ext (λ c. same-sym (textIn s (spanIn r)) (c .name)) (m .calendars) ∙ rw (name-is h e, g)
+  pub a-name : (start len : ℕ) → r .name ≡ NameAnswer.At start len → some? (λ (c : Calendar). sameKey (0, textIn s (start, len)) (0, c .name)) (m .calendars) ≡ ifGiven (isCalendar m) o
+  unfolding isCalendar nameMeaning
+  a-name start len g = some-ext (λ c. same-sym (textIn s (start, len)) (c .name)) (m .calendars) ∙ rw (e .text o h, g)
 
 -- ---- rows
 
 module _ {s : List ℕ} {p : Place} {m : Model} {w : Sections} (d : Decoded s m w) {r : Bool} where
-  pub link-right : {a : Link} → Stands (whole link) s p a → RowsBelow s p (w .activities .count) (w .activities .count) r → r ≡ linkRight m a
+  pub link-right : {a : Link} → Stands (whole link) s p a → r ≡ rowsBelow (rowsAt s p .0) (w .activities .count) (w .activities .count) → r ≡ linkRight m a
   unfolding linkRight
-  link-right h b = let u = link-rows h (b .stand) in b .is ∙ rw (u .0, u .1, d .activities .count)
+  link-right h b = let u = link-rows h refl in b ∙ rw (u .0, u .1, d .activities .count)
 
-  pub assignment-right : {a : Assignment} → Stands (whole assignment) s p a → RowsBelow s p (w .activities .count) (w .resources .count) r → r ≡ assignmentRight m a
+  pub assignment-right : {a : Assignment} → Stands (whole assignment) s p a → r ≡ rowsBelow (rowsAt s p .0) (w .activities .count) (w .resources .count) → r ≡ assignmentRight m a
   unfolding assignmentRight
-  assignment-right h b = let u = assignment-rows h (b .stand) in b .is ∙ rw (u .0, u .1, d .activities .count, d .resources .count)
+  assignment-right h b = let u = assignment-rows h refl in b ∙ rw (u .0, u .1, d .activities .count, d .resources .count)
 
 -- the test of a scan for a record that is not right
 abbrev pub wrong : Model → (k : Kind) → ℕ → Item k → List (Item k) → Bool

@@ -14,10 +14,11 @@ use Rattle.definition.specs.Base.{if_then_else_, _>>=_, some?, every?, numbered
 use Rattle.definition.specs.Bits.{Bits}
 use Rattle.definition.specs.Check.{distinct}
 use Rattle.definition.specs.Format.{Format, whole, times, getAll}
-use Rattle.laws.specs.Options.{bind-assoc, bind-ext, never}
 use Rattle.bits.specs.Reads.{rest, Reads}
 use Rattle.bits.specs.declared.Place.{Place}
-use Rattle.model.specs.Passes.{Passes, all-suc}
+use Rattle.laws.specs.Options.{bind-assoc, bind-ext, never}
+use Rattle.model.specs.Lax.{all-suc}
+use Rattle.model.specs.Passes.{Passes}
 use Rattle.model.specs.Parts.{recordOf}
 use Rattle.model.specs.Splits.{Stands, Step, step, read-length}
 use Rattle.model.specs.Sections.{byteAt, byte-rest}

@@ -1,17 +1,15 @@
 -- The check's list from the answers to its lines, and the number from both passes. Assumes nothing.
 use mathlib.Core.Path.{_≡_, refl, sym, ap, _∙_}
-use mathlib.Core.Bool.{Bool, true, false, _&&_, not, false≢true}
+use mathlib.Core.Bool.{Bool, true, false, _&&_, not}
 use mathlib.Core.List.{List, [], _∷_, map}
-use mathlib.Core.Option.{Option, some, none}
 use Prim.Native.Nat.{ℕ, suc}
-use native.Mathlib.Omega.{arith}
-use Rattle.definition.specs.Base.{if_then_else_, given, some?, every?, numbered}
+use Rattle.definition.specs.Base.{if_then_else_, some?, every?, numbered}
 use Rattle.definition.specs.Text.{Text}
 use Rattle.definition.specs.Model.{Model}
-use Rattle.definition.specs.Pack.{decode}
 use Rattle.definition.specs.Check.{distinct, keepsList}
-use Rattle.definition.specs.Refusal.{checkOf, checkAnswer}
-use Rattle.model.specs.Sections.{Decoded, Opened}
+use Rattle.definition.specs.Refusal.{checkAnswer}
+use Rattle.model.specs.Sections.{Decoded, Opens}
+use Rattle.model.specs.declared.Opened.{Opened}
 use Rattle.model.specs.declared.Sections.{Sections}
 
 pub both : {a b c d : Bool} → a ≡ b → c ≡ d → a && c ≡ b && d
@@ -36,19 +34,11 @@ every-plain p i (x ∷ l) = ap (λ (b : Bool). p x && b) (every-plain p (suc i) 
 
 -- ---- the number
 
-module _ {s : Text} {r : Sections} (h : Opened s r) where
-  pub refused : r .ok ≡ false → 6 ≡ checkAnswer s
+module _ {s : Text} {o : Opened} (h : Opens s o) where
+  pub refused : o ≡ Opened.NoModel → 6 ≡ checkAnswer s
   unfolding checkAnswer
-  refused e = by-model (decode s) (sym (h .ok) ∙ e)
-    where
-      by-model : (o : Option Model) → given o ≡ false → 6 ≡ checkOf o
-      by-model none z = refl
-      by-model (some m) z = absurd (false≢true (sym z))
+  refused e = rw (h .refused e)
 
-  pub checked : {b g : Bool} → r .ok ≡ true → ((m : Model) → Decoded s m r → b ≡ keepsList m) → b ≡ g → (if g then 0 else 7) ≡ checkAnswer s
+  pub checked : {r : Sections} {b g : Bool} → o ≡ Opened.Model r → ((m : Model) → Decoded s m r → b ≡ keepsList m) → b ≡ g → (if g then 0 else 7) ≡ checkAnswer s
   unfolding checkAnswer
-  checked {b} {g} e k u = by-model (decode s) refl (sym (h .ok) ∙ e)
-    where
-      by-model : (o : Option Model) → decode s ≡ o → given o ≡ true → (if g then 0 else 7) ≡ checkOf o
-      by-model none z y = absurd (false≢true y)
-      by-model (some m) z y = rw (← u, k m (h .decoded m z))
+  checked {r} e k u = let m = h .model r e in rw (← u, k (m .model) (m .sections), m .decodes)

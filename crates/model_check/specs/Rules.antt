@@ -1,15 +1,10 @@
 -- The rules of each record, by its section; the check's list asks them of all. Assumes nothing.
-use mathlib.Core.Path.{_≡_}
 use mathlib.Core.Bool.{Bool, true, _&&_}
-use mathlib.Core.List.{List}
 use Prim.Native.Nat.{ℕ}
 use lib.Dec.{ltb}
 use lib.ListN.{length}
 use Rattle.definition.specs.Model.{Model}
 use Rattle.definition.specs.Check.{ifGiven, isCalendar, activityRight, linkRight, assignmentRight}
-use Rattle.bits.specs.declared.Place.{Place}
-use Rattle.model.specs.Places.{RowsAt}
-use Rattle.model.specs.declared.parts.Rows.{Rows}
 use Rattle.model.specs.declared.records.Kind.{Kind}
 use Rattle.model.specs.declared.records.Kind.the-variants.{Calendars, Activities, Links, Resources, Assignments, Expenses}
 use Rattle.model_check.specs.Kinds.{Item}
@@ -23,8 +18,6 @@ rightOf m Resources x = ifGiven (isCalendar m) (x .1 .calendar)
 rightOf m Assignments x = assignmentRight m (x .1)
 rightOf m Expenses x = ltb (x .1 .activity) (length (m .activities))
 
--- whether two rows that stand at a place are below two counts
-pub record RowsBelow (s : List ℕ) (p : Place) (first second : ℕ) (r : Bool) : Type 0 where
-  pub rows : Rows
-  pub stand : RowsAt s p rows
-  pub is : r ≡ ltb (rows .first) first && ltb (rows .second) second
+-- whether two rows are below two counts
+abbrev pub rowsBelow : ℕ × ℕ → ℕ → ℕ → Bool
+rowsBelow rows first second = ltb (rows .0) first && ltb (rows .1) second

@@ -10,6 +10,7 @@ ghost use Rattle.definition.specs.Refusal.{checkAnswer};
 ghost use Rattle.model.specs.Sections.{Decoded};
 use crate::keys::distinct;
 use crate::rules::every_right;
+use model::Opened;
 use model::Sections;
 use model::records::Kind;
 
@@ -33,10 +34,10 @@ fn keeps_list(s: &[u8], w: Sections) -> bool
 pub fn check(s: &[u8]) -> u32
     ensures { λ r. ⌜ r ≡ checkAnswer (now (s .entry)) ⌝ }
 {
-    let w = model::open(s);
-    if !w.ok {
+    let opened = model::open(s);
+    let Opened::Model(w) = opened else {
         return 6;
-    }
+    };
     if !keeps_list(s, w) {
         return 7;
     }

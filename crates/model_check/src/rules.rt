@@ -5,6 +5,7 @@ ghost use mathlib.Core.Option.{Option};
 ghost use Prim.Native.Nat.{ℕ};
 ghost use lib.Dec.{ltb};
 ghost use Rattle.definition.specs.Base.{every?, numbered};
+ghost use Rattle.definition.specs.Answer.{rowMeaning};
 ghost use Rattle.definition.specs.Text.{Text};
 ghost use Rattle.definition.specs.Format.{whole, row, text, optional};
 ghost use Rattle.definition.specs.Model.{Model, Activity};
@@ -13,11 +14,14 @@ ghost use Rattle.definition.specs.Check.{ifGiven, isCalendar, activityRight};
 ghost use Rattle.model.specs.Splits.{Stands};
 ghost use Rattle.model.specs.Sections.{Holds, Decoded};
 ghost use Rattle.model_check.specs.Kinds.{Item, formatOf};
-ghost use Rattle.model_check.specs.Rules.{RowsBelow, rightOf};
+ghost use Rattle.model.specs.Answers.{rowsAt};
+ghost use Rattle.model_check.specs.Rules.{rowsBelow, rightOf};
 use crate::keys::some_has_key;
 use bits::Place;
+use definition::RowAnswer;
 use model::Section;
 use model::Sections;
+use model::parts::NameAnswer;
 use model::parts::activity_calendar_place;
 use model::parts::parent_place;
 use model::parts::resource_calendar_place;
@@ -32,15 +36,15 @@ fn calendar_known(s: &[u8], p: Place, w: Sections) -> bool
     ensures { λ r. ⌜ ((m : Model) → Decoded (now (s .entry)) m w → (o : Option Text) → Stands (optional text) (now (s .entry)) p o → r ≡ ifGiven (isCalendar m) o) ⌝ }
 {
     let n = take_name(s, p);
-    if !n.given {
+    let name = n.name;
+    let NameAnswer::At(start, len) = name else {
         return true;
-    }
+    };
     let first = Place {
         byte: w.calendars.at,
         bit: 0,
     };
-    let start = n.start;
-    let end = start + n.len;
+    let end = start + len;
     some_has_key(
         s,
         first,
@@ -51,15 +55,23 @@ fn calendar_known(s: &[u8], p: Place, w: Sections) -> bool
     )
 }
 
+// Whether a row is missing, or below another.
+fn is_below(row: RowAnswer, own: u32) -> bool
+    ensures { λ r. ⌜ r ≡ ifGiven (λ (n : ℕ). ltb n own) (rowMeaning row) ⌝ }
+{
+    match row {
+        RowAnswer::Is(n) => n < own,
+        RowAnswer::Absent => true,
+    }
+}
+
 // Whether the optional row at a place is missing, or below a row.
 fn parent_below(s: &[u8], p: Place, own: u32) -> bool
     ensures { λ r. ⌜ ((o : Option ℕ) → Stands (optional row) (now (s .entry)) p o → r ≡ ifGiven (λ (n : ℕ). ltb n own) o) ⌝ }
 {
     let r = take_row(s, p);
-    if !r.given {
-        return true;
-    }
-    r.row < own
+    let row = r.row;
+    is_below(row, own)
 }
 
 fn activity_right(s: &[u8], p: Place, own: u32, w: Sections) -> bool
@@ -70,7 +82,7 @@ fn activity_right(s: &[u8], p: Place, own: u32, w: Sections) -> bool
 
 // Whether the two rows at a place are below two counts.
 fn rows_below(s: &[u8], p: Place, first: u32, second: u32) -> bool
-    ensures { λ r. ⌜ RowsBelow (now (s .entry)) p first second r ⌝ }
+    ensures { λ r. ⌜ r ≡ rowsBelow (rowsAt (now (s .entry)) p .0) first second ⌝ }
 {
     let r = take_rows(s, p);
     (r.first < first) & (r.second < second)

@@ -14,7 +14,7 @@ use Rattle.definition.specs.Base.{if_then_else_, keep, first, count}
 use Rattle.definition.specs.Outline.{parentAt, topRows, childRows, under, outlineOf}
 use Rattle.definition.specs.Refusal.{rowWords}
 use Rattle.laws.specs.Outlines.{no-levels, parent-in, outline-length}
-use Rattle.outline.specs.declared.Place.{Place}
+use Rattle.outline.specs.declared.Visit.{Visit}
 use Rattle.outline.specs.Steps.{noRow, wordOf, homeOf, fellow, fellows, later, Links, climbOf, stepOf}
 
 -- ---- the rows of one parent
@@ -171,7 +171,7 @@ module _ (ps : List (Option ℕ)) (few : length ps ≤ noRow) where
 
         go : (t : Bool) → eqb (getD w (4 * r + 2) 0) noRow ≡ t
             → Ahead ps (climbOf w d (homeOf (parentAt ps r)) .row) (climbOf w d (homeOf (parentAt ps r)) .depth) (rest ps (suc d) (homeOf (parentAt ps r)))
-            → (let q : Place = if t then climbOf w d (getD w (4 * r + 0) 0) else record { row = getD w (4 * r + 2) 0; depth = suc d } in
+            → (let q : Visit = if t then climbOf w d (getD w (4 * r + 0) 0) else record { row = getD w (4 * r + 2) 0; depth = suc d } in
             Ahead ps (q .row) (q .depth) (all ps (suc d) (later ps r) ++ rest ps (suc d) (homeOf (parentAt ps r))))
         go true t i =
             rw (
@@ -183,7 +183,7 @@ module _ (ps : List (Option ℕ)) (few : length ps ≤ noRow) where
 
     -- a row's children, then what stands behind it
     step-ahead : (r d : ℕ) → r < length ps → d < length ps
-        → (let q : Place = stepOf (length ps) w r d in Ahead ps (q .row) (q .depth) (all ps (suc d) (fellows ps (some r) 0) ++ rest ps (suc d) r))
+        → (let q : Visit = stepOf (length ps) w r d in Ahead ps (q .row) (q .depth) (all ps (suc d) (fellows ps (some r) 0) ++ rest ps (suc d) r))
     unfolding stepOf flatMap
     step-ahead r d h k = go (eqb (getD w (4 * r + 1) 0) noRow) refl (ltb (d + 1) (length ps)) refl
       where
@@ -196,7 +196,7 @@ module _ (ps : List (Option ℕ)) (few : length ps ≤ noRow) where
             ap (λ (m : ℕ). flatMap (under m ps (suc (suc d))) (fellows ps (some r) 0)) z ∙ no-levels ps (suc (suc d)) (fellows ps (some r) 0)
 
         go : (t : Bool) → eqb (getD w (4 * r + 1) 0) noRow ≡ t → (u : Bool) → ltb (d + 1) (length ps) ≡ u
-            → (let q : Place = if t then climbOf w d r else if u then record { row = getD w (4 * r + 1) 0; depth = d + 1 } else climbOf w d r in
+            → (let q : Visit = if t then climbOf w d r else if u then record { row = getD w (4 * r + 1) 0; depth = d + 1 } else climbOf w d r in
             Ahead ps (q .row) (q .depth) (all ps (suc d) (fellows ps (some r) 0) ++ rest ps (suc d) r))
         go true t u v =
             rw (pass (some r) 0 (getD w (4 * r + 1) 0) (omega arith) e (eqb-true (getD w (4 * r + 1) 0) noRow t)) (climb-ahead d r h)
@@ -231,10 +231,10 @@ going-start ps w rows few h links e =
 
 going-more : (ps : List (Option ℕ)) (w done : List ℕ) (row depth : ℕ) → length ps ≤ noRow → Links ps 0 w → Going ps done row depth
     → (row ≡ noRow → ⊥) → depth < length ps
-    → (let q : Place = stepOf (length ps) w row depth in Going ps (done ++ (row ∷ (depth + 1) ∷ [])) (q .row) (q .depth))
+    → (let q : Visit = stepOf (length ps) w row depth in Going ps (done ++ (row ∷ (depth + 1) ∷ [])) (q .row) (q .depth))
 unfolding flatMap
 going-more ps w done row depth few links going is deep =
-    let q : Place = stepOf (length ps) w row depth in
+    let q : Visit = stepOf (length ps) w row depth in
     let a = step-ahead ps few w links row depth (going .high is) deep in
     let e : ahead ps depth (rowIn row) ≡ (row, depth + 1) ∷ ahead ps (q .depth) (rowIn (q .row)) =
     ap (ahead ps depth) (row-some row is)
@@ -297,7 +297,7 @@ pub length-put : (rows : List ℕ) {rows′ : List ℕ} (i j a b : ℕ) → rows
 length-put rows i j a b e = ap length e ∙ length-set (set rows i a) j b ∙ length-set rows i a
 
 -- a turn of the walk
-pub going-on : (ps : List (Option ℕ)) (n : ℕ) (w rows : List ℕ) (k row depth : ℕ) {rows′ : List ℕ} {at : Place} → n ≡ length ps → n ≤ noRow → Links ps 0 w
+pub going-on : (ps : List (Option ℕ)) (n : ℕ) (w rows : List ℕ) (k row depth : ℕ) {rows′ : List ℕ} {at : Visit} → n ≡ length ps → n ≤ noRow → Links ps 0 w
     → Going ps (take (2 * k) rows) row depth → (row ≡ noRow → ⊥) → depth < n → 2 * k + 1 < length rows
     → rows′ ≡ set (set rows (2 * k) row) (2 * k + 1) (depth + 1) → at ≡ stepOf n w row depth → Going ps (take (2 * (k + 1)) rows′) (at .row) (at .depth)
 going-on ps n w rows k row depth {at = at} e few links going is deep room put step =

@@ -8,7 +8,7 @@ use borrow.Author.Tests.{lt-ltb, le-ltb, eq-eqb, ne-eqb}
 use lib.Dec.{eqb}
 use lib.ListN.{length, getD, take, set, replicate, replicate-append-replicate}
 use lib.Seq.{take-suc-set, take-all}
-use Rattle.outline.specs.declared.Place.{Place}
+use Rattle.outline.specs.declared.Visit.{Visit}
 use Rattle.outline.specs.Steps.{noRow, climbOf, stepOf}
 
 pub zeros-more : (w₀ w : List ℕ) (from i : ℕ) → from ≤ i → i < length w → take i w ≡ take from w₀ ++ replicate (i - from) 0
@@ -28,7 +28,7 @@ zeros-done w₀ w from i l h k e =
     let m : i - from ≡ length w₀ - from = omega arith in
     sym (take-all i w l) ∙ e ∙ ap (λ (m : ℕ). take from w₀ ++ replicate m 0) m
 
-pub climb-found : (w : List ℕ) (r d : ℕ) {x : ℕ} → x ≡ getD w (4 * r + 2) 0 → (x ≡ noRow → ⊥) → 0 < d → _≡_ {A = Place} (record { row = x; depth = d }) (climbOf w d r)
+pub climb-found : (w : List ℕ) (r d : ℕ) {x : ℕ} → x ≡ getD w (4 * r + 2) 0 → (x ≡ noRow → ⊥) → 0 < d → _≡_ {A = Visit} (record { row = x; depth = d }) (climbOf w d r)
 unfolding climbOf
 climb-found w r zero e n h = absurd (omega arith)
 climb-found w r (suc d) e n h = rw (← e, ne-eqb _ noRow n)
@@ -41,7 +41,7 @@ climb-up w r (suc d) {y = y} e n f h =
     let t : eqb (getD w (4 * r + 2) 0) noRow ≡ _ = eq-eqb (getD w (4 * r + 2) 0) noRow (sym e ∙ n) in
     rw (z, t, f)
 
-pub climb-last : (w : List ℕ) (r d : ℕ) {x : ℕ} → x ≡ getD w (4 * r + 2) 0 → d ≤ 0 → _≡_ {A = Place} (record { row = x; depth = 0 }) (climbOf w d r)
+pub climb-last : (w : List ℕ) (r d : ℕ) {x : ℕ} → x ≡ getD w (4 * r + 2) 0 → d ≤ 0 → _≡_ {A = Visit} (record { row = x; depth = 0 }) (climbOf w d r)
 unfolding climbOf
 climb-last w r zero e h = rw e
 climb-last w r (suc d) e h = absurd (omega arith)
@@ -51,7 +51,7 @@ unfolding stepOf
 step-none n w r d e h = rw (eq-eqb (getD w (4 * r + 1) 0) noRow (sym e ∙ h))
 
 pub step-child : (n : ℕ) (w : List ℕ) (r d : ℕ) {x : ℕ} → x ≡ getD w (4 * r + 1) 0 → (x ≡ noRow → ⊥) → d + 1 < n
-    → _≡_ {A = Place} (record { row = x; depth = d + 1 }) (stepOf n w r d)
+    → _≡_ {A = Visit} (record { row = x; depth = d + 1 }) (stepOf n w r d)
 unfolding stepOf
 step-child n w r d e h l = rw (← e, ne-eqb _ noRow h, lt-ltb (d + 1) n l)
 

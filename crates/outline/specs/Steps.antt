@@ -10,7 +10,7 @@ use lib.Dec.{eqb, ltb}
 use Rattle.definition.specs.Base.{if_then_else_, keep, first, count}
 use Rattle.definition.specs.Outline.{parentIn, isTop, isUnder, parentAt, outlineOf}
 use Rattle.definition.specs.Refusal.{Answer, refused, gives, rowWords}
-use Rattle.outline.specs.declared.Place.{Place}
+use Rattle.outline.specs.declared.Visit.{Visit}
 use Rattle.outline.specs.Words.{outlineWords}
 
 -- ---- the lists
@@ -76,22 +76,22 @@ pub record Linked (n : ℕ) (w w′ : List ℕ) : Type 0 where
 -- ---- the walk: the row that stands next, and how many rows it is below
 
 -- the next with its parent, or with its parent's parent, and so on up
-unfoldable pub climbOf : List ℕ → ℕ → ℕ → Place
+unfoldable pub climbOf : List ℕ → ℕ → ℕ → Visit
 climbOf w zero r = record { row = getD w (4 * r + 2) 0; depth = 0 }
 climbOf w (suc d) r =
     if eqb (getD w (4 * r + 2) 0) noRow then climbOf w d (getD w (4 * r + 0) 0) else record { row = getD w (4 * r + 2) 0; depth = suc d }
 
 -- its first child, if that is not too deep for n rows
-unfoldable pub stepOf : ℕ → List ℕ → ℕ → ℕ → Place
+unfoldable pub stepOf : ℕ → List ℕ → ℕ → ℕ → Visit
 stepOf n w r d =
     if eqb (getD w (4 * r + 1) 0) noRow then climbOf w d r else
     if ltb (d + 1) n then record { row = getD w (4 * r + 1) 0; depth = d + 1 } else climbOf w d r
 
-pub record Stepped (n : ℕ) (w : List ℕ) (r d : ℕ) (at : Place) : Type 0 where
+pub record Stepped (n : ℕ) (w : List ℕ) (r d : ℕ) (at : Visit) : Type 0 where
   pub place : at ≡ stepOf n w r d
   pub deep : at .depth ≤ d + 1
 
-pub record Climbed (w : List ℕ) (r d : ℕ) (at : Place) : Type 0 where
+pub record Climbed (w : List ℕ) (r d : ℕ) (at : Visit) : Type 0 where
   pub place : at ≡ climbOf w d r
   pub deep : at .depth ≤ d
 

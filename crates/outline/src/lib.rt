@@ -3,15 +3,16 @@
 mod parents; // the parents of a model's activities
 
 ghost use mathlib.Core.Path.{_≡_};
-ghost use mathlib.Core.List.{_++_};
-ghost use Prim.Native.Nat.{_+_, _-_, _*_, _<_, _≤_};
-ghost use lib.ListN.{length, getD, set, take, replicate};
+ghost use Prim.Native.Nat.{_+_, _*_, _<_, _≤_};
+ghost use lib.ListN.{length, getD, set};
 ghost use mathlib.Core.Bool.{_||_};
 ghost use lib.Dec.{ltb};
 ghost use Rattle.outline.specs.Answers.{Gives};
 ghost use Rattle.outline.specs.Words.{Outlined};
 ghost use Rattle.outline.specs.Steps.{Empty, Linked, Stepped, Climbed, Walked, Wrote, pushed, linkOf};
 use crate::parents::walk_model;
+use bits::clear_words_from;
+use model::Opened;
 use model::sections_of;
 use model::take_counts;
 
@@ -26,8 +27,8 @@ const NEXT: usize = 2;
 
 const TOP: usize = 3;
 
-// A row, and how many rows it is below.
-struct Place {
+// A row that is visited, and how many rows it is below.
+struct Visit {
     row: u32,
     depth: u32,
 }
@@ -103,7 +104,7 @@ fn link_rows(n: u32, work: &mut [u32])
 }
 
 // The row that follows a row and all below it.
-fn climb(work: &[u32], row: u32, depth: u32) -> Place
+fn climb(work: &[u32], row: u32, depth: u32) -> Visit
     ensures { λ r. ⌜ Climbed (now (work .entry)) row depth r ⌝ }
 {
     let mut r = row;
@@ -111,7 +112,7 @@ fn climb(work: &[u32], row: u32, depth: u32) -> Place
     while 0 < d {
         let next = field(work, r, NEXT);
         if next != NONE {
-            return Place {
+            return Visit {
                 row: next,
                 depth: d,
             };
@@ -119,14 +120,14 @@ fn climb(work: &[u32], row: u32, depth: u32) -> Place
         r = field(work, r, PARENT);
         d -= 1;
     }
-    Place {
+    Visit {
         row: field(work, r, NEXT),
         depth: 0,
     }
 }
 
 // The row that follows a row.
-fn step(n: u32, work: &[u32], row: u32, depth: u32) -> Place
+fn step(n: u32, work: &[u32], row: u32, depth: u32) -> Visit
     requires { ⌜ depth < n ⌝ }
     ensures { λ r. ⌜ Stepped n (now (work .entry)) row depth r ⌝ }
 {
@@ -135,7 +136,7 @@ fn step(n: u32, work: &[u32], row: u32, depth: u32) -> Place
         return climb(work, row, depth);
     }
     if depth + 1 < n {
-        return Place {
+        return Visit {
             row: child,
             depth: depth + 1,
         };
@@ -191,27 +192,15 @@ fn write_rows(n: u32, rows: &mut [u32], work: &mut [u32]) -> u32
     walk(n, rows, work)
 }
 
-// Zeros from a place on.
-fn clear(words: &mut [u32], from: usize)
-    requires { ⌜ from ≤ length (now words) ⌝ }
-    ensures { λ _. ⌜ now (words .exit) ≡ take from (now (words .entry)) ++ replicate (length (now (words .entry)) - from) 0 ⌝ }
-{
-    let mut i = from;
-    while i < words.len() {
-        words[i] = 0;
-        i += 1;
-    }
-}
-
 // The rows of the outline of n activities: row and level of each, with zeros behind, and zeros in work. Word 4 * i of work names the parent
 // of activity i; 0xFFFFFFFF, or any other row out of range, stands for none. Says how many rows there are; 0, and zeros alone, where rows has
 // less than 2 words an activity or work less than 4.
-pub fn outline_rows(n: u32, rows: &mut [u32], work: &mut [u32]) -> u32
+fn outline_rows(n: u32, rows: &mut [u32], work: &mut [u32]) -> u32
     ensures { λ r. ⌜ Outlined n (now (rows .entry)) (now (work .entry)) (now (rows .exit)) (now (work .exit)) r ⌝ }
 {
     let count = write_rows(n, rows, work);
-    clear(rows, 2 * (count as usize));
-    clear(work, 0);
+    clear_words_from(rows, 2 * (count as usize));
+    clear_words_from(work, 0);
     count
 }
 
@@ -236,16 +225,17 @@ pub fn outline(s: &[u8], rows: &mut [u32], work: &mut [u32]) -> OutlineAnswer
 {
     let counts = take_counts(s);
     let places = walk_model(s, counts, work);
-    let m = sections_of(s.len(), counts, places);
+    let opened = sections_of(s.len(), counts, places);
+    let Opened::Model(m) = opened else {
+        clear_words_from(rows, 0);
+        clear_words_from(work, 0);
+        return OutlineAnswer::NoModel;
+    };
     let n = m.activities.count;
-    let short = is_short(n, rows.len(), work.len());
-    if m.ok & !short {
-        return OutlineAnswer::Rows(outline_rows(n, rows, work));
-    }
-    clear(rows, 0);
-    clear(work, 0);
-    if m.ok {
+    if is_short(n, rows.len(), work.len()) {
+        clear_words_from(rows, 0);
+        clear_words_from(work, 0);
         return OutlineAnswer::Short;
     }
-    OutlineAnswer::NoModel
+    OutlineAnswer::Rows(outline_rows(n, rows, work))
 }

@@ -1,6 +1,6 @@
 // The parents of a model's activities, put where `outline_rows` looks for them while the model is decoded.
 ghost use mathlib.Core.Path.{_≡_};
-ghost use Rattle.model.specs.Places.{rowIn};
+ghost use Rattle.definition.specs.Answer.{rowMeaning};
 ghost use Rattle.outline.specs.Steps.{wordOf};
 ghost use Rattle.outline.specs.Filled.{ParentAt, Filled, Walked};
 use crate::NONE;
@@ -8,21 +8,23 @@ use crate::PARENT;
 use crate::set_field;
 use bits::Place;
 use bits::take_pad;
+use definition::RowAnswer;
 use model::Counts;
 use model::Places;
-use model::parts::Row;
 use model::parts::parent_place_by;
 use model::parts::take_row;
-use model::records::Kind;
 use model::records::skip_from_notes;
-use model::records::skip_project;
-use model::records::skip_records;
+use model::walk_behind;
+use model::walk_head;
 
 // The word for a parent.
-fn word_of(parent: Row) -> u32
-    ensures { λ r. ⌜ r ≡ wordOf (rowIn parent) ⌝ }
+fn word_of(parent: RowAnswer) -> u32
+    ensures { λ r. ⌜ r ≡ wordOf (rowMeaning parent) ⌝ }
 {
-    if parent.given { parent.row } else { NONE }
+    match parent {
+        RowAnswer::Is(row) => row,
+        RowAnswer::Absent => NONE,
+    }
 }
 
 // The word for the parent of the activity at a place, and the place of the next activity.
@@ -36,10 +38,11 @@ fn take_parent(s: &[u8], p: Place) -> Parent
 {
     let at = parent_place_by(s, p, true);
     let parent = take_row(s, at);
+    let row = parent.row;
     let end = skip_from_notes(s, parent.next, true);
     let next = take_pad(s, end);
     Parent {
-        word: word_of(parent),
+        word: word_of(row),
         next,
     }
 }
@@ -67,20 +70,8 @@ fn fill(s: &[u8], p: Place, count: u32, work: &mut [u32]) -> Place
 pub fn walk_model(s: &[u8], n: Counts, work: &mut [u32]) -> Places
     ensures { λ r. ⌜ Walked (now (s .entry)) n (now (work .entry)) (now (work .exit)) r ⌝ }
 {
-    let calendars = skip_project(s, n.next);
-    let activities = skip_records(s, calendars, Kind::Calendars, n.calendars, true);
+    let head = walk_head(s, n);
+    let activities = head.activities;
     let links = fill(s, activities, n.activities, work);
-    let resources = skip_records(s, links, Kind::Links, n.links, true);
-    let assignments = skip_records(s, resources, Kind::Resources, n.resources, true);
-    let expenses = skip_records(s, assignments, Kind::Assignments, n.assignments, true);
-    let end = skip_records(s, expenses, Kind::Expenses, n.expenses, true);
-    Places {
-        calendars,
-        activities,
-        links,
-        resources,
-        assignments,
-        expenses,
-        end,
-    }
+    walk_behind(s, n, head, links)
 }

@@ -7,17 +7,17 @@ use Rattle.outline.proofs.outline_rows.Tie as tie
 write-rows-requires : tie.Need-write-rows-requires
 write-rows-requires c κs = search needs
 
-cast-clear : tie.Need-cast-clear
-cast-clear c = search needs
+cast-clear-words-from : tie.Need-cast-clear-words-from
+cast-clear-words-from c = search needs
 
-mul-clear : tie.Need-mul-clear
-mul-clear c = search needs
+mul-clear-words-from : tie.Need-mul-clear-words-from
+mul-clear-words-from c = search needs
 
-clear-requires : tie.Need-clear-requires
-clear-requires c κs = search needs
+clear-words-from-requires : tie.Need-clear-words-from-requires
+clear-words-from-requires c κs = search needs
 
-clear-requires-2 : tie.Need-clear-requires-2
-clear-requires-2 c κs = search needs
+clear-words-from-requires-2 : tie.Need-clear-words-from-requires-2
+clear-words-from-requires-2 c κs = search needs
 
 same-length : tie.Need-same-length
 same-length c = search needs
@@ -31,17 +31,17 @@ returns c =
     let k1 = k2 .before .before .before .before in
     let w = k1 .before .before .before .before .before .before in
     let a = w .before .before .before .before .before .args in
-    outlined (a .n) (a .rows .now) (a .work .now) (w .write-rows .ensures) (k1 .clear .ensures) (k2 .clear2 .ensures)
+    outlined (a .n) (a .rows .now) (a .work .now) (w .write-rows .ensures) (k1 .clear-words-from .ensures) (k2 .clear-words-from2 .ensures)
 
 pub outline-rows-spec : {M : Type 1} → statement M
 outline-rows-spec =
     tie.close
     (tie.spec
     write-rows-requires
-    cast-clear
-    mul-clear
-    clear-requires
-    clear-requires-2
+    cast-clear-words-from
+    mul-clear-words-from
+    clear-words-from-requires
+    clear-words-from-requires-2
     same-length
     same-length-2
     returns)

@@ -1,5 +1,6 @@
 -- `outline::parents::walk_model` meets its contract: the places as model::open has them, the activities passed over by `fill`. Assumes nothing.
-use Rattle.model.specs.Passes.{pass-like, like-times}
+use Rattle.model.specs.Lax.{like-times}
+use Rattle.model.specs.Passes.{pass-like}
 use Rattle.model.specs.Parts.{strict-calendars, strict-activities, strict-links, strict-resources, strict-assignments, strict-expenses}
 use borrow.Author.Needs.{needs}
 use Rattle.outline.proofs.parents.walk_model.Statement.{statement}
