@@ -7,8 +7,8 @@ ghost use Rattle.definition.specs.Calendar.{plainCalendar, defaultCalendar, ela
 ghost use Rattle.bits.specs.Steps.{Puts};
 ghost use Rattle.calendar.specs.Week.{flagsIn};
 ghost use Rattle.calendars.specs.Plain.{hoursEach};
-use pack::put_count;
 use bits::Place;
+use pack::put_count;
 
 // The seven low bits of a number, Monday first.
 pub fn put_week(out: &mut [u8], p: Place, week: u32) -> Place
@@ -42,13 +42,7 @@ fn put_hours(out: &mut [u8], p: Place, whole_day: bool) -> Place
     put_day_hours(out, f, whole_day)
 }
 
-fn put_plain_calendar(
-    out: &mut [u8],
-    p: Place,
-    name: &[u8],
-    week: u32,
-    whole_day: bool,
-) -> Place
+fn put_plain_calendar(out: &mut [u8], p: Place, name: &[u8], week: u32, whole_day: bool) -> Place
     ensures { λ r. ⌜ Puts (whole calendar) (plainCalendar (now (name .entry)) (flagsIn week) (replicate 7 (hoursEach «whole_day»))) (now (out .entry)) p (now (out .exit)) r ⌝ }
 {
     let a = bits::put_text(out, p, name);

@@ -6,9 +6,6 @@ ghost use Rattle.definition.specs.Pack.{project, activity, link, resource, assi
 ghost use Rattle.bits.specs.Steps.{Puts};
 ghost use Rattle.pack.specs.Record.{linkBy, assignmentBy, expenseBy, projectBy, resourceBy, activityBy, scheduleFields, scheduleOf, countsBy};
 use crate::stars::put_starred;
-use tasks::ConstraintAnswer;
-use tasks::Lag;
-use tasks::Parts;
 use crate::value::put_code;
 use crate::value::put_constraint;
 use crate::value::put_count;
@@ -23,6 +20,9 @@ use bits::Place;
 use definition::Date;
 use definition::DateAnswer;
 use definition::RowAnswer;
+use tasks::ConstraintAnswer;
+use tasks::Lag;
+use tasks::Parts;
 use text::I64Answer;
 
 // What an assignment or an expense costs.

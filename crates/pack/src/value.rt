@@ -12,13 +12,13 @@ ghost use Rattle.bits.specs.Steps.{Puts};
 ghost use Rattle.text.specs.Answers.{i64Of};
 ghost use Rattle.tasks.specs.Link.{lagKindMeans};
 ghost use Rattle.pack.specs.Value.{lagKind, dateBy, dateGiven, constraintGiven};
-use tasks::Constraint;
-use tasks::ConstraintAnswer;
-use tasks::LagKind;
 use bits::Place;
 use definition::Date;
 use definition::DateAnswer;
 use definition::RowAnswer;
+use tasks::Constraint;
+use tasks::ConstraintAnswer;
+use tasks::LagKind;
 use text::I64Answer;
 
 // A count or a row.

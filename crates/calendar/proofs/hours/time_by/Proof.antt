@@ -1,6 +1,6 @@
 use mathlib.Core.Path.{_∙_, sym, ap}
 use Rattle.number.specs.Time.{meaning}
-use Rattle.number.specs.declared.TimeAnswer.{TimeAnswer}
+use Rattle.number.specs.declared.time.TimeAnswer.{TimeAnswer}
 use Rattle.calendar.specs.Hours.{workingMeaning, timeBy}
 use native.Mathlib.Omega.{arith}
 use borrow.Author.Needs.{needs}
@@ -25,14 +25,14 @@ enum-told c = search needs
 -- src/hours.rt:58:1
 returns : tie.Need-returns
 unfolding workingMeaning
-returns c = 
-        let k = c .before .before in
-        c .time-to .ensures ∙ sym (ap (λ (a : TimeAnswer). timeBy (meaning a) (meaning (k .before .before .args .until))) (k .from .given .1))
+returns c =
+    let k = c .before .before in
+    c .time-to .ensures ∙ sym (ap (λ (a : TimeAnswer). timeBy (meaning a) (meaning (k .before .before .args .until))) (k .from .given .1))
 
 -- src/hours.rt:58:1
 returns-2 : tie.Need-returns-2
 unfolding workingMeaning
-returns-2 c =     sym (ap (λ (a : TimeAnswer). timeBy (meaning a) (meaning (c .before .before .args .until))) (c .enum-told .given .1))
+returns-2 c = sym (ap (λ (a : TimeAnswer). timeBy (meaning a) (meaning (c .before .before .args .until))) (c .enum-told .given .1))
 
 pub time-by-spec : {M : Type 1} → statement M
 time-by-spec = tie.close (tie.spec enum-known-from time-to-requires enum-told returns returns-2)

@@ -16,16 +16,16 @@ end-of-requires c κs = search needs
 -- src/hours.rt:44:9
 returns : tie.Need-returns
 unfolding workingMeaning
-returns c = 
-        let e = c .before in
-        rises (e .before .args .from) (e .before .args .until) _ (e .end-of .ensures) (omega (arith, c .if1 .taken))
+returns c =
+    let e = c .before in
+    rises (e .before .args .from) (e .before .args .until) _ (e .end-of .ensures) (omega (arith, c .if1 .taken))
 
 -- src/hours.rt:39:1
 returns-2 : tie.Need-returns-2
 unfolding workingMeaning
-returns-2 c = 
-        let e = c .before in
-        falls (e .before .args .from) (e .before .args .until) _ (e .end-of .ensures) (omega (arith, c .if1 .left))
+returns-2 c =
+    let e = c .before in
+    falls (e .before .args .from) (e .before .args .until) _ (e .end-of .ensures) (omega (arith, c .if1 .left))
 
 pub time-from-spec : {M : Type 1} → statement M
 time-from-spec = tie.close (tie.spec end-of-requires returns returns-2)

@@ -32,12 +32,12 @@ time-by-requires c κs = search needs
 
 -- src/hours.rt:68:1
 returns : tie.Need-returns
-returns c = 
-        let f = c .before .before .before in
-        let s = f .before .before .before in
-        c .time-by .ensures
-        ∙ (λ i. timeBy (f .time-in .ensures i) (c .before .time-in2 .ensures i))
-        ∙ working-time (elementAt (s .args .s .now) (s .args .at))
+returns c =
+    let f = c .before .before .before in
+    let s = f .before .before .before in
+    c .time-by .ensures
+    ∙ (λ i. timeBy (f .time-in .ensures i) (c .before .time-in2 .ensures i))
+    ∙ working-time (elementAt (s .args .s .now) (s .args .at))
 
 pub working-time-spec : {M : Type 1} → statement M
 working-time-spec =

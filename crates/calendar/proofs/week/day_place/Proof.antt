@@ -21,7 +21,7 @@ place-by-requires c κs = search needs
 
 -- src/week.rt:53:1
 returns : tie.Need-returns
-returns c =     c .place-by .ensures ∙ ap (λ (o : Option ℕ). placeBy o) (c .before .day-type .ensures)
+returns c = c .place-by .ensures ∙ ap (λ (o : Option ℕ). placeBy o) (c .before .day-type .ensures)
 
 pub day-place-spec : {M : Type 1} → statement M
 day-place-spec = tie.close (tie.spec day-type-requires place-by-requires returns)

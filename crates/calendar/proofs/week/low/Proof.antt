@@ -17,13 +17,13 @@ shl-result c = search needs
 
 -- src/week.rt:88:10
 sub-result : tie.Need-sub-result
-sub-result c = 
-        let e : (1 * 2 ^ c .args .n) % 2 ^ 32 ≡ 2 ^ c .args .n = rw one-mul (mod-eq-of-lt (pow-lt (c .pre))) in
-        omega (arith, e, pow-pos (c .args .n))
+sub-result c =
+    let e : (1 * 2 ^ c .args .n) % 2 ^ 32 ≡ 2 ^ c .args .n = rw one-mul (mod-eq-of-lt (pow-lt (c .pre))) in
+    omega (arith, e, pow-pos (c .args .n))
 
 -- src/week.rt:84:1
 returns : tie.Need-returns
-returns c =     masked (c .args .w) (c .args .n) (c .pre)
+returns c = masked (c .args .w) (c .args .n) (c .pre)
 
 pub low-spec : {M : Type 1} → statement M
 low-spec = tie.close (tie.spec shl-result sub-result returns)

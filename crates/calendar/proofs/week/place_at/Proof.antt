@@ -14,7 +14,7 @@ use Rattle.calendar.proofs.week.place_at.Lts as lts
 
 -- src/week.rt:38:34
 add-t5 : tie.Need-add-t5
-add-t5 c =     omega (arith, at-most-7 (c .before .args .t) (c .if1 .taken))
+add-t5 c = omega (arith, at-most-7 (c .before .args .t) (c .if1 .taken))
 
 -- src/week.rt:38:32
 cast-t7 : tie.Need-cast-t7
@@ -23,12 +23,12 @@ cast-t7 c = search needs
 -- src/week.rt:38:9
 returns : tie.Need-returns
 unfolding placeMeaning
-returns c =     sym (ap (λ (b : Bool). when b ((c .before .args .t + 5) % 7)) (c .if1 .taken))
+returns c = sym (ap (λ (b : Bool). when b ((c .before .args .t + 5) % 7)) (c .if1 .taken))
 
 -- src/week.rt:34:1
 returns-2 : tie.Need-returns-2
 unfolding placeMeaning
-returns-2 c =     sym (ap (λ (b : Bool). when b ((c .before .args .t + 5) % 7)) (c .if1 .left))
+returns-2 c = sym (ap (λ (b : Bool). when b ((c .before .args .t + 5) % 7)) (c .if1 .left))
 
 pub place-at-spec : {M : Type 1} → statement M
 place-at-spec = tie.close (tie.spec add-t5 cast-t7 returns returns-2)

@@ -25,12 +25,12 @@ enum-told c = search needs
 -- src/week.rt:43:1
 returns : tie.Need-returns
 unfolding placeMeaning
-returns c =     c .place-at .ensures ∙ sym (ap (λ (a : U64Answer). placeBy (u64Of a)) (c .before .before .a .given .1))
+returns c = c .place-at .ensures ∙ sym (ap (λ (a : U64Answer). placeBy (u64Of a)) (c .before .before .a .given .1))
 
 -- src/week.rt:43:1
 returns-2 : tie.Need-returns-2
 unfolding placeMeaning
-returns-2 c =     sym (ap (λ (a : U64Answer). placeBy (u64Of a)) (c .enum-told .given .1))
+returns-2 c = sym (ap (λ (a : U64Answer). placeBy (u64Of a)) (c .enum-told .given .1))
 
 pub place-by-spec : {M : Type 1} → statement M
 place-by-spec = tie.close (tie.spec enum-known-a place-at-requires enum-told returns returns-2)

@@ -19,7 +19,7 @@ low-requires c κs = search needs
 
 -- src/week.rt:177:1
 returns : tie.Need-returns
-returns c =     c .low .ensures ∙ word-back _ _ (c .before .week-under .ensures)
+returns c = c .low .ensures ∙ word-back _ _ (c .before .week-under .ensures)
 
 pub week-of-spec : {M : Type 1} → statement M
 week-of-spec = tie.close (tie.spec week-under-requires low-requires returns)

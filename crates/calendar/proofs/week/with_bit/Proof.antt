@@ -32,10 +32,10 @@ low-requires c κs = search needs
 
 -- src/week.rt:108:1
 returns : tie.Need-returns
-returns c = 
-        let a = c .before .before .args in
-        let p = c .before .before .pre in
-        bits-joined (a .w) (a .n) (a .on) (p .0) (p .1) (c .before .bit .ensures) (c .low .ensures)
+returns c =
+    let a = c .before .before .args in
+    let p = c .before .before .pre in
+    bits-joined (a .w) (a .n) (a .on) (p .0) (p .1) (c .before .bit .ensures) (c .low .ensures)
 
 pub with-bit-spec : {M : Type 1} → statement M
 with-bit-spec = tie.close (tie.spec add-top shr-top bit-requires shl-result low-requires returns)

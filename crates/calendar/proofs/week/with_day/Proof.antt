@@ -24,10 +24,10 @@ with-place-requires c κs = search needs
 
 -- src/week.rt:136:1
 returns : tie.Need-returns
-returns c = 
-        let d = c .before in
-        let s = d .before .before .before in
-        c .with-place .ensures ∙ (λ i. weekOn (d .before .day-place .ensures i) (d .day-working .ensures i) (flagsIn (s .args .week)))
+returns c =
+    let d = c .before in
+    let s = d .before .before .before in
+    c .with-place .ensures ∙ (λ i. weekOn (d .before .day-place .ensures i) (d .day-working .ensures i) (flagsIn (s .args .week)))
 
 pub with-day-spec : {M : Type 1} → statement M
 with-day-spec =

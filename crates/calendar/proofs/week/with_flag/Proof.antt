@@ -12,9 +12,9 @@ use Rattle.calendar.proofs.week.with_bit.Reads as with-bit-reads
 
 -- src/week.rt:121:9
 returns : tie.Need-returns
-returns c = 
-        let s = c .before in
-        set-past (flagsIn (s .args .week)) (s .args .k) (s .args .on) (omega (arith, seven (s .args .week), c .if1 .taken))
+returns c =
+    let s = c .before in
+    set-past (flagsIn (s .args .week)) (s .args .k) (s .args .on) (omega (arith, seven (s .args .week), c .if1 .taken))
 
 -- src/week.rt:123:14
 low-requires : tie.Need-low-requires
@@ -26,9 +26,9 @@ with-bit-requires c κs = search needs
 
 -- src/week.rt:117:1
 returns-2 : tie.Need-returns-2
-returns-2 c = 
-        let i = c .before .before in
-        replaced-is (i .before .args .week) (i .before .args .k) _ _ (i .before .args .on) (omega (arith, i .if1 .left)) (c .before .low .ensures) (c .with-bit .ensures)
+returns-2 c =
+    let i = c .before .before in
+    replaced-is (i .before .args .week) (i .before .args .k) _ _ (i .before .args .on) (omega (arith, i .if1 .left)) (c .before .low .ensures) (c .with-bit .ensures)
 
 pub with-flag-spec : {M : Type 1} → statement M
 with-flag-spec = tie.close (tie.spec returns low-requires with-bit-requires returns-2)

@@ -25,17 +25,17 @@ enum-told c = search needs
 -- src/week.rt:126:1
 returns : tie.Need-returns
 unfolding placeMeaning
-returns c = 
-        let k = c .before .before in
-        let a = k .before .before .args in
-        c .with-flag .ensures ∙ sym (ap (λ p. weekOn (placeMeaning p) (a .on) (flagsIn (a .week))) (k .place .given .1))
+returns c =
+    let k = c .before .before in
+    let a = k .before .before .args in
+    c .with-flag .ensures ∙ sym (ap (λ p. weekOn (placeMeaning p) (a .on) (flagsIn (a .week))) (k .place .given .1))
 
 -- src/week.rt:126:1
 returns-2 : tie.Need-returns-2
 unfolding placeMeaning
-returns-2 c = 
-        let a = c .before .before .args in
-        sym (ap (λ p. weekOn (placeMeaning p) (a .on) (flagsIn (a .week))) (c .enum-told .given .1))
+returns-2 c =
+    let a = c .before .before .args in
+    sym (ap (λ p. weekOn (placeMeaning p) (a .on) (flagsIn (a .week))) (c .enum-told .given .1))
 
 pub with-place-spec : {M : Type 1} → statement M
 with-place-spec =
