@@ -14,7 +14,7 @@ use Rattle.definition.specs.Format.{Format, depending, code, number}
 use Rattle.definition.specs.Task.{constraintFrom}
 use Rattle.definition.specs.Answer.{dateMeaning, dayNumberOf}
 use Rattle.definition.specs.declared.DateAnswer.{DateAnswer}
-use Rattle.tasks.specs.Task.{constraintMeans, codeAndDay}
+use Rattle.tasks.specs.Task.{constraintMeans}
 use Rattle.tasks.specs.declared.task.ConstraintAnswer.{ConstraintAnswer}
 
 -- the date of a day number; 0 outside the years

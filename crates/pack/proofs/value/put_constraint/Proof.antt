@@ -1,5 +1,5 @@
 use Rattle.definition.specs.Pack.{constraint}
-use Rattle.tasks.specs.Task.{constraintMeans, codeAndDay}
+use Rattle.tasks.specs.Task.{constraintMeans}
 use Rattle.pack.specs.Value.{constraintGiven}
 use mathlib.Core.Path.{ap}
 use Rattle.pack.proofs.Puts.{put-missing}
@@ -44,7 +44,7 @@ same-length-2 c = search needs
 
 -- src/value.rt:141:1
 returns-2 : tie.Need-returns-2
-unfolding constraintMeans codeAndDay
+unfolding constraintMeans
 returns-2 c =
     let k = c .before .before in
     put-missing constraint (ap constraintGiven (k .before .before .enum-told .given .1)) (k .put-flag .ensures)

@@ -1,5 +1,5 @@
 use mathlib.Core.Path.{sym}
-use Rattle.tasks.specs.Task.{constraintMeans, codeAndDay}
+use Rattle.tasks.specs.Task.{constraintMeans}
 use native.Mathlib.Omega.{arith}
 use borrow.Author.Needs.{needs}
 use Rattle.pack.proofs.value.put_given_constraint.Statement.{statement}
@@ -71,7 +71,7 @@ same-length c = search needs
 
 -- src/value.rt:127:1
 returns : tie.Need-returns
-unfolding constraintMeans codeAndDay
+unfolding constraintMeans
 returns c = rw (c .before .before .before .before .enum-told .given .1) (c .before .before .put-undated .ensures)
 
 -- src/value.rt:127:1
@@ -80,7 +80,7 @@ same-length-2 c = search needs
 
 -- src/value.rt:127:1
 returns-2 : tie.Need-returns-2
-unfolding constraintMeans codeAndDay
+unfolding constraintMeans
 returns-2 c =
     let k = c .before .before in
     rw (k .before .before .before .c .given .1) (k .put-dated .ensures)
@@ -91,7 +91,7 @@ same-length-3 c = search needs
 
 -- src/value.rt:127:1
 returns-3 : tie.Need-returns-3
-unfolding constraintMeans codeAndDay
+unfolding constraintMeans
 returns-3 c =
     let k = c .before .before in
     rw (k .before .before .before .c2 .given .1) (k .put-dated2 .ensures)
@@ -102,7 +102,7 @@ same-length-4 c = search needs
 
 -- src/value.rt:127:1
 returns-4 : tie.Need-returns-4
-unfolding constraintMeans codeAndDay
+unfolding constraintMeans
 returns-4 c =
     let k = c .before .before in
     rw (k .before .before .before .c3 .given .1) (k .put-dated3 .ensures)
@@ -113,7 +113,7 @@ same-length-5 c = search needs
 
 -- src/value.rt:127:1
 returns-5 : tie.Need-returns-5
-unfolding constraintMeans codeAndDay
+unfolding constraintMeans
 returns-5 c =
     let k = c .before .before in
     rw (k .before .before .before .c4 .given .1) (k .put-dated4 .ensures)
@@ -124,7 +124,7 @@ same-length-6 c = search needs
 
 -- src/value.rt:127:1
 returns-6 : tie.Need-returns-6
-unfolding constraintMeans codeAndDay
+unfolding constraintMeans
 returns-6 c =
     let k = c .before .before in
     rw (k .before .before .before .c5 .given .1) (k .put-dated5 .ensures)
@@ -135,7 +135,7 @@ same-length-7 c = search needs
 
 -- src/value.rt:127:1
 returns-7 : tie.Need-returns-7
-unfolding constraintMeans codeAndDay
+unfolding constraintMeans
 returns-7 c =
     let k = c .before .before in
     rw (k .before .before .before .c6 .given .1) (k .put-dated6 .ensures)
