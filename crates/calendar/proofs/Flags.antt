@@ -1,15 +1,23 @@
 -- The flags of a word: one of them, and a word with one of them replaced, tried at all 128 words and seven places. Assumes nothing.
 use Prim.Native.Nat.{ℕ, zero, suc, _+_, _-_, _*_, _/_, _%_, _^_, _≤_, _<_}
-use native.Mathlib.Nat.{mod-lt, div-one, zero-lt-suc}
+use native.Mathlib.Nat.{mod-lt, mod-eq-of-lt, one-mul, div-le-self, lt-of-le-of-lt, mul-le-mul, div-one, zero-lt-suc}
 use native.Mathlib.Omega.{arith}
 use mathlib.Core.Path.{_≡_, refl, sym, ap, _∙_, subst}
 use mathlib.Core.Bool.{Bool, true, false, _&&_, not}
 use mathlib.Core.List.{List, [], _∷_}
-use lib.Dec.{T, eqb}
+use mathlib.Core.Option.{Option, some, none}
+use lib.Dec.{T, eqb, eqb→eq}
 use lib.ListN.{length, getD, set, List·getD-eq-default}
+use lib.Bits.{bitAnd, bitOr, and-mask, or-shifted}
+use lib.Pow.{pow-lt, pow-pos, pow-mono}
 use lib.Ieee.Fits.{and-l, and-r}
-use borrow.Author.Tests.{eqb-true, eqb-false}
-use Rattle.calendar.specs.Week.{flagIn, flagsIn, replaced}
+use borrow.Author.Tests.{eqb-true, eqb-false, eq-eqb, ne-eqb}
+use Rattle.definition.specs.Base.{_>>=_, _or_}
+use Rattle.definition.specs.Bits.{enc, dec}
+use Rattle.definition.specs.Date.{Date, weekday}
+use Rattle.definition.specs.Calendar.{works}
+use Rattle.definition.specs.Format.{bit as bitOf}
+use Rattle.calendar.specs.Week.{flagsIn, wordOf, replaced}
 
 -- ---- seven places
 
@@ -23,38 +31,23 @@ by-place P a b c d e f g (suc (suc (suc (suc (suc zero))))) h = f
 by-place P a b c d e f g (suc (suc (suc (suc (suc (suc zero)))))) h = g
 by-place P a b c d e f g (suc (suc (suc (suc (suc (suc (suc k))))))) h = absurd (omega arith)
 
-none-left : (k : ℕ) → 6 - suc (suc (suc (suc (suc (suc k))))) ≡ 0
-none-left k = omega arith
-
-pub last-bit : (k : ℕ) → (k ≡ 0 → ⊥) → (k ≡ 1 → ⊥) → (k ≡ 2 → ⊥) → (k ≡ 3 → ⊥) → (k ≡ 4 → ⊥) → (k ≡ 5 → ⊥) → 1 ≡ 2 ^ (6 - k)
-last-bit zero a b c d e f = absurd (a refl)
-last-bit (suc zero) a b c d e f = absurd (b refl)
-last-bit (suc (suc zero)) a b c d e f = absurd (c refl)
-last-bit (suc (suc (suc zero))) a b c d e f = absurd (d refl)
-last-bit (suc (suc (suc (suc zero)))) a b c d e f = absurd (e refl)
-last-bit (suc (suc (suc (suc (suc zero))))) a b c d e f = absurd (f refl)
-last-bit (suc (suc (suc (suc (suc (suc k)))))) a b c d e f = sym (ap (λ (n : ℕ). 2 ^ n) (none-left k))
-
-pub bit-range : (k b : ℕ) → k ≤ 6 → b ≡ 2 ^ (6 - k) → (1 ≤ b) × (b ≤ 64)
-bit-range k b h e =
-    let r = by-place (λ (k : ℕ). (1 ≤ 2 ^ (6 - k)) × (2 ^ (6 - k) ≤ 64)) (omega arith, omega arith) (omega arith, omega arith) (omega arith, omega arith) (omega arith, omega arith) (omega arith, omega arith) (omega arith, omega arith) (omega arith, omega arith) k h in
-    (subst (λ (n : ℕ). 1 ≤ n) (sym e) (r .0), subst (λ (n : ℕ). n ≤ 64) (sym e) (r .1))
-
 -- ---- one flag
 
 pub seven : (w : ℕ) → length (flagsIn w) ≡ 7
-unfolding flagsIn
+unfolding flagsIn enc
 seven w = refl
 
-flags-at : (w k : ℕ) → k ≤ 6 → flagIn (2 ^ (6 - k)) w ≡ getD (flagsIn w) k false
-unfolding flagsIn
-flags-at w k h = by-place (λ (k : ℕ). flagIn (2 ^ (6 - k)) w ≡ getD (flagsIn w) k false) refl refl refl refl refl refl refl k h
-
-pub flag-is : (w k b : ℕ) → k ≤ 6 → b ≡ 2 ^ (6 - k) → flagIn b w ≡ getD (flagsIn w) k false
-flag-is w k b h e = ap (λ (n : ℕ). flagIn n w) e ∙ flags-at w k h
+pub flag-is : (w k : ℕ) → k ≤ 6 → eqb 1 (w / 2 ^ (6 - k) % 2) ≡ getD (flagsIn w) k false
+unfolding flagsIn enc
+flag-is w k h = by-place (λ (k : ℕ). eqb 1 (w / 2 ^ (6 - k) % 2) ≡ getD (flagsIn w) k false) refl refl refl refl refl refl refl k h
 
 pub no-flag : (w k : ℕ) → 6 < k → false ≡ getD (flagsIn w) k false
 no-flag w k h = sym (List·getD-eq-default (flagsIn w) false (omega (arith, seven w)))
+
+-- a day's flag; none outside the years
+pub works-is : (week : ℕ) (o : Option Date) → getD (flagsIn week) ((o >>= λ d. some (weekday d)) or 7) false ≡ (o >>= λ d. some (works (flagsIn week) d)) or false
+works-is week none = sym (no-flag week 7 (omega arith))
+works-is week (some d) = refl
 
 pub set-past : {A : Type 0} (l : List A) (k : ℕ) (a : A) → length l ≤ k → l ≡ set l k a
 set-past [] k a h = refl
@@ -94,20 +87,20 @@ below-at (suc n) f t k h = by (eqb k n) refl (λ i. below-at n f (and-r (f n) (b
     by false e go = go (let z = eqb-false k n e in omega (arith, z))
 
 right : ℕ → ℕ → Bool → Bool
-right w k on = alike (flagsIn (replaced w (2 ^ (6 - k)) on)) (set (flagsIn w) k on)
+right w k on = alike (flagsIn (replaced w (6 - k) on)) (set (flagsIn w) k on)
 
 tried : T (below 128 (λ w. below 7 (λ k. right w k true && right w k false)))
-unfolding below right alike flagsIn
+unfolding below right alike flagsIn enc
 tried = tt
 
-table : (w k : ℕ) (on : Bool) → w < 128 → k ≤ 6 → flagsIn (replaced w (2 ^ (6 - k)) on) ≡ set (flagsIn w) k on
+table : (w k : ℕ) (on : Bool) → w < 128 → k ≤ 6 → flagsIn (replaced w (6 - k) on) ≡ set (flagsIn w) k on
 unfolding right
 table w k on h i = by on
   where
     t : T (right w k true && right w k false)
     t = below-at 7 (λ k. right w k true && right w k false) (below-at 128 (λ w. below 7 (λ k. right w k true && right w k false)) tried w h) k (omega arith)
 
-    by : (on : Bool) → flagsIn (replaced w (2 ^ (6 - k)) on) ≡ set (flagsIn w) k on
+    by : (on : Bool) → flagsIn (replaced w (6 - k) on) ≡ set (flagsIn w) k on
     by true = alike-is _ _ (and-l (right w k true) (right w k false) t)
     by false = alike-is _ _ (and-r (right w k true) (right w k false) t)
 
@@ -117,7 +110,7 @@ last-mod w =
     ap (λ (n : ℕ). n % 2) (div-one (w % 128)) ∙ h ∙ sym (ap (λ (n : ℕ). n % 2) (div-one w))
 
 flags-mod : (w : ℕ) → flagsIn (w % 128) ≡ flagsIn w
-unfolding flagsIn
+unfolding flagsIn enc
 flags-mod w =
     let a : w % 128 / 64 % 2 ≡ w / 64 % 2 = omega arith in
     let b : w % 128 / 32 % 2 ≡ w / 32 % 2 = omega arith in
@@ -126,10 +119,59 @@ flags-mod w =
     let e : w % 128 / 4 % 2 ≡ w / 4 % 2 = omega arith in
     let f : w % 128 / 2 % 2 ≡ w / 2 % 2 = omega arith in
     let g = last-mod w in
-    λ i. eqb (a i) 1 ∷ eqb (b i) 1 ∷ eqb (c i) 1 ∷ eqb (d i) 1 ∷ eqb (e i) 1 ∷ eqb (f i) 1 ∷ eqb (g i) 1 ∷ []
+    λ i. eqb 1 (a i) ∷ eqb 1 (b i) ∷ eqb 1 (c i) ∷ eqb 1 (d i) ∷ eqb 1 (e i) ∷ eqb 1 (f i) ∷ eqb 1 (g i) ∷ []
 
-pub replaced-is : (w k b r : ℕ) (on : Bool) → k ≤ 6 → b ≡ 2 ^ (6 - k) → r ≡ replaced (w % 128) b on → flagsIn r ≡ set (flagsIn w) k on
-replaced-is w k b r on h e f =
-    ap flagsIn (f ∙ ap (λ (n : ℕ). replaced (w % 128) n on) e)
+pub replaced-is : (w k v r : ℕ) (on : Bool) → k ≤ 6 → v ≡ w % 2 ^ 7 → r ≡ replaced v (6 - k) on → flagsIn r ≡ set (flagsIn w) k on
+replaced-is w k v r on h e f =
+    ap flagsIn (f ∙ ap (λ (n : ℕ). replaced n (6 - k) on) e)
     ∙ table (w % 128) k on (mod-lt w (zero-lt-suc 127)) h
     ∙ ap (λ (l : List Bool). set l k on) (flags-mod w)
+
+-- ---- the word of flags
+
+backs : T (below 128 (λ w. eqb (wordOf (flagsIn w)) w))
+unfolding below wordOf flagsIn enc dec
+backs = tt
+
+-- the seven low bits of a word are its flags'
+pub word-back : (w : ℕ) (week : List Bool) → flagsIn w ≡ week → w % 2 ^ 7 ≡ wordOf week
+word-back w week e =
+    sym (eqb→eq (wordOf (flagsIn (w % 128))) (w % 128) (below-at 128 (λ w. eqb (wordOf (flagsIn w)) w) backs (w % 128) (mod-lt w (zero-lt-suc 127))))
+    ∙ ap wordOf (flags-mod w ∙ e)
+
+-- ---- shifts and masks
+
+pub masked : (w n : ℕ) → n < 32 → bitAnd w ((1 * 2 ^ n) % 2 ^ 32 - 1) ≡ w % 2 ^ n
+masked w n h =
+    let e : (1 * 2 ^ n) % 2 ^ 32 ≡ 2 ^ n = rw one-mul (mod-eq-of-lt (pow-lt h)) in
+    rw e (and-mask w n)
+
+pub low-bit : (w : ℕ) → bitAnd w 1 ≡ w % 2
+low-bit w = and-mask w 1
+
+pub bit-small : (on : Bool) → bitOf on < 2 ^ 1
+bit-small true = omega arith
+bit-small false = omega arith
+
+pub eqb-turn : (n : ℕ) → eqb n 1 ≡ eqb 1 n
+eqb-turn n = by (eqb n 1) refl
+  where
+    by : (t : Bool) → eqb n 1 ≡ t → t ≡ eqb 1 n
+    by true e = sym (eq-eqb 1 n (sym (eqb-true n 1 e)))
+    by false e = sym (ne-eqb 1 n (λ z. eqb-false n 1 e (sym z)))
+
+-- a bit between those above it and the n low ones
+pub bits-joined : (w n : ℕ) (on : Bool) {b l : ℕ} → w < 128 → n ≤ 6 → b ≡ bitOf on → l ≡ w % 2 ^ n
+    → bitOr ((bitOr ((w / 2 ^ (n + 1) * 2 ^ 1) % 2 ^ 32) b * 2 ^ n) % 2 ^ 32) l ≡ replaced w n on
+bits-joined w n on {b} {l} hw hn eb el =
+    let q = w / 2 ^ (n + 1) in
+    let hq : q ≤ w = div-le-self w (2 ^ (n + 1)) in
+    let hb : b < 2 ^ 1 = rw eb (bit-small on) in
+    let e1 : (q * 2 ^ 1) % 2 ^ 32 ≡ q * 2 ^ 1 = mod-eq-of-lt (omega arith) in
+    let e2 : bitOr ((q * 2 ^ 1) % 2 ^ 32) b ≡ q * 2 + b = rw e1 (or-shifted q 1 b hb) in
+    let hp : 2 ^ n ≤ 64 = pow-mono {i = n} {j = 6} hn in
+    let hl : l < 2 ^ n = rw el (mod-lt w (pow-pos n)) in
+    let hqb : q * 2 + b ≤ 257 = omega arith in
+    let small : (q * 2 + b) * 2 ^ n < 2 ^ 32 = lt-of-le-of-lt (mul-le-mul hqb hp) (omega arith) in
+    let e3 : ((q * 2 + b) * 2 ^ n) % 2 ^ 32 ≡ (q * 2 + b) * 2 ^ n = mod-eq-of-lt small in
+    rw (e2, e3) (or-shifted (q * 2 + b) n l hl ∙ rw (eb, el))

@@ -11,15 +11,7 @@ use Rattle.definition.specs.Ascii.{bytes}
 use Rattle.definition.specs.Tree.{Element, child, all, allIn}
 use Rattle.definition.specs.Field.{yesIn}
 use Rattle.definition.specs.Calendar.{placeOf, weekDays, weekBy}
-use Rattle.calendar.specs.Week.{flagsIn, weekWith}
-use Rattle.calendar.proofs.Flags.{seven, set-past}
-
-pub placed : (w : Element) (week k : ℕ) (on : Bool) → k ≡ (placeOf w or 7) → on ≡ yesIn w "DayWorking" → set (flagsIn week) k on ≡ weekWith w (flagsIn week)
-placed w week k on e f = (λ i. set (flagsIn week) (e i) (f i)) ∙ by (placeOf w)
-  where
-    by : (o : Option ℕ) → set (flagsIn week) (o or 7) (yesIn w "DayWorking") ≡ (o >>= λ k. some (set (flagsIn week) k (yesIn w "DayWorking"))) or flagsIn week
-    by none = sym (set-past (flagsIn week) 7 (yesIn w "DayWorking") (omega (arith, seven week)))
-    by (some k) = refl
+use Rattle.calendar.specs.Week.{weekWith}
 
 module _ (whole : List Bool) (e : Element) (l : List Element) (week after : List Bool) (h : whole ≡ weekBy (e ∷ l) week) (f : after ≡ weekWith e week) where
   pub day-next : (k : List Element) → l ≡ k → whole ≡ weekBy k after

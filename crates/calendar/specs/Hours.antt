@@ -1,7 +1,6 @@
--- A working time, as the code holds it. Assumes nothing.
+-- What a working time means. Assumes nothing.
 use Prim.Native.Nat.{ℕ}
 use mathlib.Core.Path.{_≡_, refl}
-use mathlib.Core.Bool.{true, false}
 use mathlib.Core.Option.{Option, some, none}
 use lib.Dec.{ltb, eqb}
 use Rattle.definition.specs.Base.{if_then_else_, _>>=_, when}
@@ -11,19 +10,11 @@ use Rattle.definition.specs.Time.{timeOf}
 use Rattle.definition.specs.Text.{Text}
 use Rattle.definition.specs.Tree.{Element, textOf}
 use Rattle.definition.specs.Calendar.{workingTime}
-use Rattle.calendar.specs.declared.hours.WorkingTime.{WorkingTime}
+use Rattle.calendar.specs.declared.hours.WorkingTimeAnswer.{WorkingTimeAnswer}
 
--- as it is held, and what it means
-abbrev pub asTime : Option Period → WorkingTime
-asTime none = record { given = false; from = 0; to = 0 }
-asTime (some (from, to)) = record { given = true; from = from; to = to }
-
-abbrev pub timeMeans : WorkingTime → Option Period
-timeMeans t = when (t .given) (t .from, t .to)
-
-pub time-back : (o : Option Period) → timeMeans (asTime o) ≡ o
-time-back none = refl
-time-back (some (from, to)) = refl
+unfoldable pub workingMeaning : WorkingTimeAnswer → Option Period
+workingMeaning (WorkingTimeAnswer.Is t) = some (t .from, t .to)
+workingMeaning WorkingTimeAnswer.Absent = none
 
 -- the time in a child whose name is given by its bytes
 abbrev pub timeSaid : Element → Text → Option ℕ

@@ -6,14 +6,18 @@ ghost use Rattle.definition.specs.Base.{if_then_else_};
 ghost use Rattle.definition.specs.Calendar.{workingTime};
 ghost use Rattle.number.specs.Time.{meaning as timeMeans};
 ghost use Rattle.tree.specs.Place.{elementAt};
-ghost use Rattle.calendar.specs.Hours.{asTime, timeSaid, timeBy};
+ghost use Rattle.calendar.specs.Hours.{workingMeaning, timeSaid, timeBy};
 use number::TimeAnswer;
 
-// Minutes of a day, from below to; 0 and 0 where they are not given.
+// Minutes of a day, from below to.
 pub struct WorkingTime {
-    pub given: bool,
     pub from: u16,
     pub to: u16,
+}
+
+pub enum WorkingTimeAnswer {
+    Is(WorkingTime),
+    Absent,
 }
 
 fn time_in(s: &[u8], at: usize, name: &[u8]) -> TimeAnswer
@@ -32,51 +36,37 @@ fn end_of(t: u16) -> u16
     t
 }
 
-fn no_time() -> WorkingTime
-    ensures { λ r. ⌜ r ≡ asTime none ⌝ }
-{
-    WorkingTime {
-        given: false,
-        from: 0,
-        to: 0,
-    }
-}
-
-fn time_from(from: u16, until: u16) -> WorkingTime
-    ensures { λ r. ⌜ r ≡ asTime (timeBy (some from) (some until)) ⌝ }
+fn time_from(from: u16, until: u16) -> WorkingTimeAnswer
+    ensures { λ r. ⌜ workingMeaning r ≡ (timeBy (some from) (some until)) ⌝ }
 {
     let to = end_of(until);
     if from < to {
-        return WorkingTime {
-            given: true,
-            from,
-            to,
-        };
+        return WorkingTimeAnswer::Is(WorkingTime { from, to });
     }
-    no_time()
+    WorkingTimeAnswer::Absent
 }
 
-fn time_to(from: u16, until: TimeAnswer) -> WorkingTime
-    ensures { λ r. ⌜ r ≡ asTime (timeBy (some from) (timeMeans until)) ⌝ }
+fn time_to(from: u16, until: TimeAnswer) -> WorkingTimeAnswer
+    ensures { λ r. ⌜ workingMeaning r ≡ (timeBy (some from) (timeMeans until)) ⌝ }
 {
     match until {
         TimeAnswer::Time(t) => time_from(from, t),
-        TimeAnswer::Absent => no_time(),
+        TimeAnswer::Absent => WorkingTimeAnswer::Absent,
     }
 }
 
-fn time_by(from: TimeAnswer, until: TimeAnswer) -> WorkingTime
-    ensures { λ r. ⌜ r ≡ asTime (timeBy (timeMeans from) (timeMeans until)) ⌝ }
+fn time_by(from: TimeAnswer, until: TimeAnswer) -> WorkingTimeAnswer
+    ensures { λ r. ⌜ workingMeaning r ≡ (timeBy (timeMeans from) (timeMeans until)) ⌝ }
 {
     match from {
         TimeAnswer::Time(t) => time_to(t, until),
-        TimeAnswer::Absent => no_time(),
+        TimeAnswer::Absent => WorkingTimeAnswer::Absent,
     }
 }
 
 // FromTime to ToTime.
-pub fn working_time(s: &[u8], at: usize) -> WorkingTime
-    ensures { λ r. ⌜ r ≡ asTime (workingTime (elementAt (now (s .entry)) at)) ⌝ }
+pub fn working_time(s: &[u8], at: usize) -> WorkingTimeAnswer
+    ensures { λ r. ⌜ workingMeaning r ≡ (workingTime (elementAt (now (s .entry)) at)) ⌝ }
 {
     let from = time_in(s, at, b"FromTime");
     time_by(from, time_in(s, at, b"ToTime"))

@@ -9,13 +9,21 @@ ghost use lib.ListN.{getD, set};
 ghost use Rattle.definition.specs.Base.{_or_};
 ghost use Rattle.definition.specs.Ascii.{bytes};
 ghost use Rattle.definition.specs.Field.{yesIn};
+ghost use Rattle.definition.specs.Format.{bit as bitOf};
 ghost use Rattle.definition.specs.Tree.{all};
-ghost use Rattle.definition.specs.Calendar.{dayType, placeOf, weekDays, weekBy, works as workedOn};
+ghost use Rattle.definition.specs.Calendar.{dayType, placeOf, weekDays, weekBy};
 ghost use Rattle.text.specs.Answers.{u64Of};
 ghost use Rattle.tree.specs.Place.{elementAt, laterAt};
-ghost use Rattle.calendar.specs.Week.{placeBy, flagsIn, replaced, weekWith};
+ghost use Rattle.calendar.specs.Week.{placeMeaning, placeBy, flagsIn, wordOf, replaced, weekOn, weekWith, worksOn};
+use definition::Date;
 use text::U64Answer;
 use tree::Found;
+
+// A place in the week, Monday 0, or none.
+pub enum PlaceAnswer {
+    Is(u32),
+    Absent,
+}
 
 fn day_type(s: &[u8], at: usize) -> U64Answer
     ensures { λ r. ⌜ u64Of r ≡ dayType (elementAt (now (s .entry)) at) ⌝ }
@@ -24,27 +32,27 @@ fn day_type(s: &[u8], at: usize) -> U64Answer
 }
 
 // Sunday is 1, and the week begins on Monday.
-fn place_at(t: u64) -> u32
-    ensures { λ r. ⌜ r ≡ (placeBy (some t) or 7) ⌝ }
+fn place_at(t: u64) -> PlaceAnswer
+    ensures { λ r. ⌜ placeMeaning r ≡ placeBy (some t) ⌝ }
 {
     if (1 <= t) & (t <= 7) {
-        return ((t + 5) % 7) as u32;
+        return PlaceAnswer::Is(((t + 5) % 7) as u32);
     }
-    7
+    PlaceAnswer::Absent
 }
 
-fn place_by(a: U64Answer) -> u32
-    ensures { λ r. ⌜ r ≡ (placeBy (u64Of a) or 7) ⌝ }
+fn place_by(a: U64Answer) -> PlaceAnswer
+    ensures { λ r. ⌜ placeMeaning r ≡ placeBy (u64Of a) ⌝ }
 {
     match a {
         U64Answer::Is(t) => place_at(t),
-        U64Answer::Absent => 7,
+        U64Answer::Absent => PlaceAnswer::Absent,
     }
 }
 
-// The place in the week of a WeekDay, Monday 0; 7 where it has none.
-pub fn day_place(s: &[u8], at: usize) -> u32
-    ensures { λ r. ⌜ r ≡ (placeOf (elementAt (now (s .entry)) at) or 7) ⌝ }
+// The place of a WeekDay in the week, Monday 0.
+pub fn day_place(s: &[u8], at: usize) -> PlaceAnswer
+    ensures { λ r. ⌜ placeMeaning r ≡ placeOf (elementAt (now (s .entry)) at) ⌝ }
 {
     place_by(day_type(s, at))
 }
@@ -73,56 +81,64 @@ pub fn day_working(s: &[u8], at: usize) -> bool
 
 // ---- the flags of a week
 
-// The bit of a place in the week.
-fn bit_of(k: u32) -> u32
-    ensures { λ r. ⌜ r ≡ 2 ^ (6 - k) ⌝ }
+// The n low bits of a word.
+fn low(w: u32, n: u32) -> u32
+    requires { ⌜ n < 32 ⌝ }
+    ensures { λ r. ⌜ r ≡ w % 2 ^ n ⌝ }
 {
-    match k {
-        0 => 64,
-        1 => 32,
-        2 => 16,
-        3 => 8,
-        4 => 4,
-        5 => 2,
-        _ => 1,
-    }
+    w & ((1 << n) - 1)
 }
 
+// The flag of a place in the week; none is set past Sunday's.
 fn flag_at(week: u32, k: u32) -> bool
     ensures { λ r. ⌜ r ≡ getD (flagsIn week) k false ⌝ }
 {
     if 6 < k {
         return false;
     }
-    week / bit_of(k) % 2 == 1
+    (week >> (6 - k)) & 1 == 1
 }
 
-// The bit set or cleared.
-fn replace(week: u32, bit: u32, on: bool) -> u32
-    requires { ⌜ week < 128 ⌝ ∗ ⌜ 1 ≤ bit ⌝ ∗ ⌜ bit ≤ 64 ⌝ }
-    ensures { λ r. ⌜ r ≡ replaced week bit «on» ⌝ }
+fn bit(on: bool) -> u32
+    ensures { λ r. ⌜ r ≡ bitOf «on» ⌝ }
 {
-    let others = week / (bit * 2) * (bit * 2) + week % bit;
-    if on {
-        return others + bit;
-    }
-    others
+    if on { 1 } else { 0 }
 }
 
+// The bit above the n low ones replaced.
+fn with_bit(w: u32, n: u32, on: bool) -> u32
+    requires { ⌜ w < 128 ⌝ ∗ ⌜ n ≤ 6 ⌝ }
+    ensures { λ r. ⌜ r ≡ replaced w n «on» ⌝ }
+{
+    let top = ((w >> (n + 1)) << 1) | bit(on);
+    (top << n) | low(w, n)
+}
+
+// A week with the flag of a place replaced.
 fn with_flag(week: u32, k: u32, on: bool) -> u32
     ensures { λ r. ⌜ flagsIn r ≡ set (flagsIn week) k «on» ⌝ }
 {
     if 6 < k {
         return week;
     }
-    replace(week % 128, bit_of(k), on)
+    with_bit(low(week, 7), 6 - k, on)
+}
+
+fn with_place(week: u32, place: PlaceAnswer, on: bool) -> u32
+    ensures { λ r. ⌜ flagsIn r ≡ weekOn (placeMeaning place) «on» (flagsIn week) ⌝ }
+{
+    match place {
+        PlaceAnswer::Is(k) => with_flag(week, k, on),
+        PlaceAnswer::Absent => week,
+    }
 }
 
 // A week with what a WeekDay says.
 fn with_day(s: &[u8], at: usize, week: u32) -> u32
     ensures { λ r. ⌜ flagsIn r ≡ weekWith (elementAt (now (s .entry)) at) (flagsIn week) ⌝ }
 {
-    with_flag(week, day_place(s, at), day_working(s, at))
+    let place = day_place(s, at);
+    with_place(week, place, day_working(s, at))
 }
 
 // A WeekDay and its later siblings, one after another.
@@ -149,8 +165,7 @@ fn week_in(s: &[u8], at: usize, base: u32) -> u32
     }
 }
 
-// The week of a Calendar over its base's.
-pub fn week_of(s: &[u8], at: usize, base: u32) -> u32
+fn week_under(s: &[u8], at: usize, base: u32) -> u32
     ensures { λ r. ⌜ flagsIn r ≡ weekBy (weekDays (elementAt (now (s .entry)) at)) (flagsIn base) ⌝ }
 {
     match tree::child(s, at, b"WeekDays") {
@@ -159,9 +174,16 @@ pub fn week_of(s: &[u8], at: usize, base: u32) -> u32
     }
 }
 
-// Whether a week works on a day, counted from 1 January of the year -10000.
-pub fn works(week: u32, day: u32) -> bool
-    ensures { λ r. ⌜ r ≡ workedOn (flagsIn week) day ⌝ }
+// The week of a Calendar over its base's.
+pub fn week_of(s: &[u8], at: usize, base: u32) -> u32
+    ensures { λ r. ⌜ r ≡ wordOf (weekBy (weekDays (elementAt (now (s .entry)) at)) (flagsIn base)) ⌝ }
 {
-    flag_at(week, date::weekday_of(day))
+    low(week_under(s, at, base), 7)
+}
+
+// Whether a week works on a day; on no day outside the years.
+pub fn works(week: u32, day: Date) -> bool
+    ensures { λ r. ⌜ r ≡ worksOn (flagsIn week) (day .0) ⌝ }
+{
+    flag_at(week, date::weekday(day))
 }

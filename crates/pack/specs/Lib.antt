@@ -1,5 +1,3 @@
 pub mod Value
-pub mod Puts
 pub mod Bytes
 pub mod Record
-pub mod Calendar

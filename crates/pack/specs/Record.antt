@@ -5,7 +5,8 @@ use mathlib.Core.List.{List, _++_}
 use mathlib.Core.Option.{Option}
 use lib.ListN.{replicate}
 use lib.IntN.{ℤ}
-use Rattle.definition.specs.Base.{when}
+use Rattle.definition.specs.Answer.{rowMeaning}
+use Rattle.definition.specs.Tree.{nonEmpty}
 use Rattle.definition.specs.Date.{Date}
 use Rattle.definition.specs.Text.{Text}
 use Rattle.definition.specs.Model.{Project, Activity, Link, Resource, Assignment, Expense}
@@ -14,13 +15,12 @@ use Rattle.definition.specs.Pack.{project, activity, link, resource, assignment
 use Rattle.definition.specs.Pack as P
 use Rattle.bits.specs.Steps.{Puts, put-via}
 use Rattle.bits.specs.declared.Place.{Place}
-use Rattle.tasks.specs.Value.{numberMeans}
-use Rattle.tasks.specs.Link.{lagMeans}
-use Rattle.tasks.specs.declared.value.Number.{Number}
+use Rattle.text.specs.Answers.{i64Of}
+use Rattle.text.specs.declared.I64Answer.{I64Answer}
+use Rattle.tasks.specs.Link.{lagKindMeans}
 use Rattle.tasks.specs.declared.link.Lag.{Lag}
-use Rattle.pack.specs.Value.{lagKind, rowMeans, dateMeans, constraintBy}
-use Rattle.pack.specs.declared.value.OptionalRow.{OptionalRow}
-use Rattle.pack.specs.declared.value.OptionalDate.{OptionalDate}
+use Rattle.pack.specs.Value.{lagKind, dateBy, dateGiven, constraintGiven}
+use Rattle.definition.specs.declared.DateAnswer.{DateAnswer}
 use Rattle.pack.specs.declared.record.Amounts.{Amounts}
 use Rattle.pack.specs.declared.record.Skips.{Skips}
 use Rattle.pack.specs.declared.record.Counts.{Counts}
@@ -30,17 +30,16 @@ use Rattle.pack.specs.declared.record.Progress.{Progress}
 
 abbrev pub linkBy : ℕ → ℕ → ℕ → Lag → Link
 linkBy predecessor successor kind lag =
-    let l = lagMeans lag in
-    record { predecessor = predecessor; successor = successor; kind = kind; lag = l .days; minutes = l .minutes; lagKind = l .kind }
+    record { predecessor = predecessor; successor = successor; kind = kind; lag = lag .days; minutes = i64Of (lag .minutes); lagKind = lagKindMeans (lag .kind) }
 
-abbrev pub assignmentBy : ℕ → ℕ → Amounts → Number → Assignment
+abbrev pub assignmentBy : ℕ → ℕ → Amounts → I64Answer → Assignment
 assignmentBy activity resource work rate = record {
   activity = activity;
   resource = resource;
   planned = work .planned;
   actual = work .actual;
-  remaining = numberMeans (work .remaining);
-  rate = numberMeans rate;
+  remaining = i64Of (work .remaining);
+  rate = i64Of rate;
 }
 
 abbrev pub expenseBy : ℕ → Text → Amounts → ℕ → Expense
@@ -49,19 +48,19 @@ expenseBy activity name cost accrual = record {
   name = name;
   planned = cost .planned;
   actual = cost .actual;
-  remaining = numberMeans (cost .remaining);
+  remaining = i64Of (cost .remaining);
   accrual = accrual;
 }
 
-abbrev pub projectBy : Text → Date → Text → Skips → OptionalDate → Project
+abbrev pub projectBy : Text → ℤ → Text → Skips → DateAnswer → Project
 projectBy name start currency skips dataDate = record {
   name = name;
-  start = start;
+  start = dateBy start;
   currency = currency;
   skipped = skips .skipped;
   dangling = skips .dangling;
   across = skips .across;
-  dataDate = dateMeans dataDate;
+  dataDate = dateGiven dataDate;
 }
 
 abbrev pub countsBy : Counts → P.Counts
@@ -71,65 +70,47 @@ countsBy n = (n .calendars, (n .activities, (n .links, (n .resources, (n .assign
 abbrev pub starredBy : Text → ℕ → Text
 starredBy s stars = s ++ replicate stars 42
 
-abbrev pub resourceBy : Text → ℕ → Text → ℕ → Text → ℤ → Bool → Text → Number → Resource
-resourceBy id stars name kind unit maxUnits named calendar price = record {
+abbrev pub resourceBy : Text → ℕ → Text → ℕ → Text → ℤ → Text → I64Answer → Resource
+resourceBy id stars name kind unit maxUnits calendar price = record {
   id = starredBy id stars;
   name = name;
   kind = kind;
   unit = unit;
   maxUnits = maxUnits;
-  calendar = when named calendar;
-  price = numberMeans price;
+  calendar = nonEmpty calendar;
+  price = i64Of price;
 }
 
-abbrev pub activityBy : Text → ℕ → Text → Plan → Text → Bool → Text → Dates → Progress → Text → Activity
-activityBy id stars name plan notes named calendar dates progress uid = record {
+abbrev pub activityBy : Text → ℕ → Text → Plan → Text → Text → Dates → Progress → Text → Activity
+activityBy id stars name plan notes calendar dates progress uid = record {
   id = starredBy id stars;
   name = name;
   kind = plan .kind;
   duration = plan .duration .days;
-  minutes = numberMeans (plan .duration .minutes);
-  parent = rowMeans (plan .parent);
+  minutes = i64Of (plan .duration .minutes);
+  parent = rowMeaning (plan .parent);
   notes = notes;
-  calendar = when named calendar;
-  constraint = constraintBy (dates .constraint);
-  deadline = dateMeans (dates .deadline);
-  start = dateMeans (dates .start);
-  finish = dateMeans (dates .finish);
-  percent = numberMeans (progress .percent);
+  calendar = nonEmpty calendar;
+  constraint = constraintGiven (dates .constraint);
+  deadline = dateGiven (dates .deadline);
+  start = dateGiven (dates .start);
+  finish = dateGiven (dates .finish);
+  percent = i64Of (progress .percent);
   durationType = progress .«duration_type»;
-  remaining = numberMeans (progress .remaining);
+  remaining = i64Of (progress .remaining);
   uid = uid;
 }
 
--- ---- an activity's last fields, and those from its notes on
-
-abbrev pub ProgressFields : Type 0
-ProgressFields = Option ℤ × (ℕ × (Option ℤ × Text))
-
-abbrev pub progressFields : Format ProgressFields
-progressFields = optional number ⊗ code 0 3 ⊗ optional number ⊗ text
-
-abbrev pub progressBy : Progress → Text → ProgressFields
-progressBy progress uid = (numberMeans (progress .percent), (progress .«duration_type», (numberMeans (progress .remaining), uid)))
+-- ---- an activity's fields from its notes on
 
 abbrev pub ScheduleFields : Type 0
-ScheduleFields = Text × (Option Text × (Option (ℕ × Option Date) × (Option Date × (Option Date × (Option Date × ProgressFields)))))
+ScheduleFields = Text × (Option Text × (Option (ℕ × Option Date) × (Option Date × (Option Date × (Option Date × (Option ℤ × (ℕ × (Option ℤ × Text))))))))
 
 abbrev pub scheduleFields : Format ScheduleFields
-scheduleFields = text ⊗ optional text ⊗ optional constraint ⊗ optional date ⊗ optional date ⊗ optional date ⊗ progressFields
+scheduleFields = text ⊗ optional text ⊗ optional constraint ⊗ optional date ⊗ optional date ⊗ optional date ⊗ optional number ⊗ code 0 3 ⊗ optional number ⊗ text
 
-abbrev pub scheduleBy : Text → Bool → Text → Dates → Progress → Text → ScheduleFields
-scheduleBy notes named calendar dates progress uid = (
-  notes,
-  (
-    when named calendar,
-    (
-      constraintBy (dates .constraint),
-      (dateMeans (dates .deadline), (dateMeans (dates .start), (dateMeans (dates .finish), progressBy progress uid))),
-    ),
-  ),
-)
+abbrev pub scheduleOf : Activity → ScheduleFields
+scheduleOf a = (a .notes, (a .calendar, (a .constraint, (a .deadline, (a .start, (a .finish, (a .percent, (a .durationType, (a .remaining, a .uid)))))))))
 
 -- ---- a record is its fields
 
@@ -159,25 +140,7 @@ module _ {d : List ℕ} {p : Place} {d' : List ℕ} {q : Place} where
   unfolding expense
   put-expense x h = put-via _ _ h
 
-  pub put-activity : (x : Activity) → Puts (text ⊗ text ⊗ code 0 2 ⊗ number ⊗ optional number ⊗ optional row ⊗ scheduleFields) (
-    x .id,
-    (
-      x .name,
-      (
-        x .kind,
-        (
-          x .duration,
-          (
-            x .minutes,
-            (
-              x .parent,
-              (x .notes, (x .calendar, (x .constraint, (x .deadline, (x .start, (x .finish, (x .percent, (x .durationType, (x .remaining, x .uid))))))))),
-            ),
-          ),
-        ),
-      ),
-    ),
-  ) d p d' q
+  pub put-activity : (x : Activity) → Puts (text ⊗ text ⊗ code 0 2 ⊗ number ⊗ optional number ⊗ optional row ⊗ scheduleFields) (x .id, (x .name, (x .kind, (x .duration, (x .minutes, (x .parent, scheduleOf x)))))) d p d' q
       → Puts activity x d p d' q
   unfolding activity
   put-activity x h = put-via _ _ h

@@ -1,14 +1,9 @@
 // The model's fields and records written at a place of a buffer, each by its format: crate definition, specs/Format.antt and specs/Pack.antt. A
 // function answers the place behind what it wrote; what does not fit stays past the end.
-mod calendar;
 mod record;
 mod stars;
 mod value;
 
-pub use calendar::put_default_calendar;
-pub use calendar::put_elapsed_calendar;
-pub use calendar::put_plain_calendar;
-pub use calendar::put_week;
 pub use record::Amounts;
 pub use record::Counts;
 pub use record::Dates;
@@ -23,15 +18,5 @@ pub use record::put_link;
 pub use record::put_project;
 pub use record::put_resource;
 pub use stars::put_starred;
-pub use value::OptionalDate;
-pub use value::OptionalRow;
-pub use value::put_code;
-pub use value::put_constraint;
 pub use value::put_count;
 pub use value::put_date;
-pub use value::put_lag_kind;
-pub use value::put_number;
-pub use value::put_optional_date;
-pub use value::put_optional_number;
-pub use value::put_optional_row;
-pub use value::put_optional_text;

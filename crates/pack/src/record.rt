@@ -1,11 +1,11 @@
 // The records, each from the values in it, with zero bits up to a whole byte.
+ghost use Prim.Native.Nat.{ℕ};
 ghost use Rattle.definition.specs.Format.{whole};
+ghost use Rattle.definition.specs.Text.{Text};
 ghost use Rattle.definition.specs.Pack.{project, activity, link, resource, assignment, expense, counts};
 ghost use Rattle.bits.specs.Steps.{Puts};
-ghost use Rattle.pack.specs.Record.{linkBy, assignmentBy, expenseBy, projectBy, resourceBy, activityBy, progressFields, progressBy, scheduleFields, scheduleBy, countsBy};
+ghost use Rattle.pack.specs.Record.{linkBy, assignmentBy, expenseBy, projectBy, resourceBy, activityBy, scheduleFields, scheduleOf, countsBy};
 use crate::stars::put_starred;
-use crate::value::OptionalDate;
-use crate::value::OptionalRow;
 use crate::value::put_code;
 use crate::value::put_constraint;
 use crate::value::put_count;
@@ -17,16 +17,19 @@ use crate::value::put_optional_number;
 use crate::value::put_optional_row;
 use crate::value::put_optional_text;
 use bits::Place;
-use tasks::Constraint;
+use definition::Date;
+use definition::DateAnswer;
+use definition::RowAnswer;
+use tasks::ConstraintAnswer;
 use tasks::Lag;
-use tasks::Number;
 use tasks::Parts;
+use text::I64Answer;
 
 // What an assignment or an expense costs.
 pub struct Amounts {
     pub planned: i64,
     pub actual: i64,
-    pub remaining: Number,
+    pub remaining: I64Answer,
 }
 
 // How many exceptions were skipped, and how many links dangle or go across.
@@ -40,20 +43,20 @@ pub struct Skips {
 pub struct Plan {
     pub kind: u32,
     pub duration: Parts,
-    pub parent: OptionalRow,
+    pub parent: RowAnswer,
 }
 
 pub struct Dates {
-    pub constraint: Constraint,
-    pub deadline: OptionalDate,
-    pub start: OptionalDate,
-    pub finish: OptionalDate,
+    pub constraint: ConstraintAnswer,
+    pub deadline: DateAnswer,
+    pub start: DateAnswer,
+    pub finish: DateAnswer,
 }
 
 pub struct Progress {
-    pub percent: Number,
+    pub percent: I64Answer,
     pub duration_type: u32,
-    pub remaining: Number,
+    pub remaining: I64Answer,
 }
 
 // How many records of each kind there are.
@@ -77,13 +80,13 @@ pub fn put_link(
     ensures { λ r. ⌜ Puts (whole link) (linkBy predecessor successor kind lag) (now (out .entry)) p (now (out .exit)) r ⌝ }
 {
     let minutes = lag.minutes;
-    let share = lag.share;
+    let kind_of_lag = lag.kind;
     let a = put_count(out, p, predecessor);
     let b = put_count(out, a, successor);
     let c = put_code(out, b, kind);
     let d = put_number(out, c, lag.days);
     let e = put_optional_number(out, d, minutes);
-    let f = put_lag_kind(out, e, lag.kind, share);
+    let f = put_lag_kind(out, e, kind_of_lag);
     bits::pad(out, f)
 }
 
@@ -93,7 +96,7 @@ pub fn put_assignment(
     activity: u32,
     resource: u32,
     work: Amounts,
-    rate: Number,
+    rate: I64Answer,
 ) -> Place
     ensures { λ r. ⌜ Puts (whole assignment) (assignmentBy activity resource work rate) (now (out .entry)) p (now (out .exit)) r ⌝ }
 {
@@ -131,12 +134,12 @@ pub fn put_project(
     out: &mut [u8],
     p: Place,
     name: &[u8],
-    start: u32,
+    start: Date,
     currency: &[u8],
     skips: Skips,
-    status: OptionalDate,
+    status: DateAnswer,
 ) -> Place
-    ensures { λ r. ⌜ Puts (whole project) (projectBy (now (name .entry)) start (now (currency .entry)) skips status) (now (out .entry)) p (now (out .exit)) r ⌝ }
+    ensures { λ r. ⌜ Puts (whole project) (projectBy (now (name .entry)) (start .0) (now (currency .entry)) skips status) (now (out .entry)) p (now (out .exit)) r ⌝ }
 {
     let a = bits::put_text(out, p, name);
     let b = put_date(out, a, start);
@@ -169,32 +172,19 @@ pub fn put_resource(
     kind: u32,
     unit: &[u8],
     units: i64,
-    named: bool,
     calendar: &[u8],
-    price: Number,
+    price: I64Answer,
 ) -> Place
-    ensures { λ r. ⌜ Puts (whole resource) (resourceBy (now (id .entry)) stars (now (name .entry)) kind (now (unit .entry)) units named (now (calendar .entry)) price) (now (out .entry)) p (now (out .exit)) r ⌝ }
+    ensures { λ r. ⌜ Puts (whole resource) (resourceBy (now (id .entry)) stars (now (name .entry)) kind (now (unit .entry)) units (now (calendar .entry)) price) (now (out .entry)) p (now (out .exit)) r ⌝ }
 {
     let a = put_starred(out, p, id, stars);
     let b = bits::put_text(out, a, name);
     let c = put_code(out, b, kind);
     let d = bits::put_text(out, c, unit);
     let e = put_number(out, d, units);
-    let f = put_optional_text(out, e, named, calendar);
+    let f = put_optional_text(out, e, calendar);
     let g = put_optional_number(out, f, price);
     bits::pad(out, g)
-}
-
-// The last fields of an activity, from its percentage on.
-fn put_progress(out: &mut [u8], p: Place, progress: Progress, uid: &[u8]) -> Place
-    ensures { λ r. ⌜ Puts progressFields (progressBy progress (now (uid .entry))) (now (out .entry)) p (now (out .exit)) r ⌝ }
-{
-    let percent = progress.percent;
-    let remaining = progress.remaining;
-    let a = put_optional_number(out, p, percent);
-    let b = put_code(out, a, progress.duration_type);
-    let c = put_optional_number(out, b, remaining);
-    bits::put_text(out, c, uid)
 }
 
 // The fields of an activity from its notes on.
@@ -202,25 +192,29 @@ fn put_schedule(
     out: &mut [u8],
     p: Place,
     notes: &[u8],
-    named: bool,
     calendar: &[u8],
     dates: Dates,
     progress: Progress,
     uid: &[u8],
 ) -> Place
-    ensures { λ r. ⌜ Puts scheduleFields (scheduleBy (now (notes .entry)) named (now (calendar .entry)) dates progress (now (uid .entry))) (now (out .entry)) p (now (out .exit)) r ⌝ }
+    ensures { λ r. ⌜ ((id : Text) (stars : ℕ) (name : Text) (plan : Plan) → Puts scheduleFields (scheduleOf (activityBy id stars name plan (now (notes .entry)) (now (calendar .entry)) dates progress (now (uid .entry)))) (now (out .entry)) p (now (out .exit)) r) ⌝ }
 {
     let constraint = dates.constraint;
     let deadline = dates.deadline;
     let start = dates.start;
     let finish = dates.finish;
+    let percent = progress.percent;
+    let remaining = progress.remaining;
     let a = bits::put_text(out, p, notes);
-    let b = put_optional_text(out, a, named, calendar);
+    let b = put_optional_text(out, a, calendar);
     let c = put_constraint(out, b, constraint);
     let d = put_optional_date(out, c, deadline);
     let e = put_optional_date(out, d, start);
     let f = put_optional_date(out, e, finish);
-    put_progress(out, f, progress, uid)
+    let g = put_optional_number(out, f, percent);
+    let h = put_code(out, g, progress.duration_type);
+    let i = put_optional_number(out, h, remaining);
+    bits::put_text(out, i, uid)
 }
 
 // The id with so many `*` behind it.
@@ -232,13 +226,12 @@ pub fn put_activity(
     name: &[u8],
     plan: Plan,
     notes: &[u8],
-    named: bool,
     calendar: &[u8],
     dates: Dates,
     progress: Progress,
     uid: &[u8],
 ) -> Place
-    ensures { λ r. ⌜ Puts (whole activity) (activityBy (now (id .entry)) stars (now (name .entry)) plan (now (notes .entry)) named (now (calendar .entry)) dates progress (now (uid .entry))) (now (out .entry)) p (now (out .exit)) r ⌝ }
+    ensures { λ r. ⌜ Puts (whole activity) (activityBy (now (id .entry)) stars (now (name .entry)) plan (now (notes .entry)) (now (calendar .entry)) dates progress (now (uid .entry))) (now (out .entry)) p (now (out .exit)) r ⌝ }
 {
     let duration = plan.duration;
     let minutes = duration.minutes;
@@ -249,6 +242,6 @@ pub fn put_activity(
     let d = put_number(out, c, duration.days);
     let e = put_optional_number(out, d, minutes);
     let f = put_optional_row(out, e, parent);
-    let g = put_schedule(out, f, notes, named, calendar, dates, progress, uid);
+    let g = put_schedule(out, f, notes, calendar, dates, progress, uid);
     bits::pad(out, g)
 }

@@ -1,27 +1,25 @@
 // The fields of a record, and values that may be missing.
 ghost use Prim.Native.Nat.{ℕ};
+ghost use mathlib.Core.Path.{_≡_};
 ghost use mathlib.Core.List.{List};
-ghost use Rattle.definition.specs.Base.{when};
+ghost use mathlib.Core.Option.{some, none};
+ghost use Rattle.definition.specs.Answer.{rowMeaning};
+ghost use Rattle.definition.specs.Date.{dayNumber};
+ghost use Rattle.definition.specs.Tree.{nonEmpty};
 ghost use Rattle.definition.specs.Format.{count, row, code, number, date, text, optional};
 ghost use Rattle.definition.specs.Pack.{constraint};
 ghost use Rattle.bits.specs.Steps.{Puts};
-ghost use Rattle.tasks.specs.Value.{numberMeans};
-ghost use Rattle.pack.specs.Value.{lagKind, rowMeans, dateMeans, constraintBy};
+ghost use Rattle.text.specs.Answers.{i64Of};
+ghost use Rattle.tasks.specs.Link.{lagKindMeans};
+ghost use Rattle.pack.specs.Value.{lagKind, dateBy, dateGiven, constraintGiven};
 use bits::Place;
+use definition::Date;
+use definition::DateAnswer;
+use definition::RowAnswer;
 use tasks::Constraint;
-use tasks::Number;
-
-// A row that may be missing.
-pub struct OptionalRow {
-    pub given: bool,
-    pub row: u32,
-}
-
-// A date that may be missing, in days from 1 January of the year -10000.
-pub struct OptionalDate {
-    pub given: bool,
-    pub day: u32,
-}
+use tasks::ConstraintAnswer;
+use tasks::LagKind;
+use text::I64Answer;
 
 // A count or a row.
 pub fn put_count(out: &mut [u8], p: Place, n: u32) -> Place
@@ -43,76 +41,122 @@ pub fn put_number(out: &mut [u8], p: Place, v: i64) -> Place
     bits::put_i64(out, p, v)
 }
 
-// In days from 1 January of the year -10000. Written is the number from 1 January 1970, day 4371953; below that 2^32 more.
-pub fn put_date(out: &mut [u8], p: Place, day: u32) -> Place
-    ensures { λ r. ⌜ Puts date day (now (out .entry)) p (now (out .exit)) r ⌝ }
+// The number of a day in the years; day 0 of the year -10000 for any other.
+fn day_number(d: Date) -> i32
+    ensures { λ r. ⌜ r ≡ dayNumber (dateBy (d .0)) ⌝ }
 {
-    bits::put(out, p, 32, day as u64 + 4290595343)
+    match date::from_days(d.0) {
+        DateAnswer::Is(n) => n.0,
+        DateAnswer::Absent => -4371953,
+    }
 }
 
-pub fn put_optional_number(out: &mut [u8], p: Place, n: Number) -> Place
-    ensures { λ r. ⌜ Puts (optional number) (numberMeans n) (now (out .entry)) p (now (out .exit)) r ⌝ }
+pub fn put_date(out: &mut [u8], p: Place, d: Date) -> Place
+    ensures { λ r. ⌜ Puts date (dateBy (d .0)) (now (out .entry)) p (now (out .exit)) r ⌝ }
 {
-    let q = bits::put_flag(out, p, n.given);
-    if n.given {
-        return put_number(out, q, n.value);
-    }
-    q
+    bits::put_i32(out, p, day_number(d))
 }
 
-pub fn put_optional_row(out: &mut [u8], p: Place, n: OptionalRow) -> Place
-    ensures { λ r. ⌜ Puts (optional row) (rowMeans n) (now (out .entry)) p (now (out .exit)) r ⌝ }
+// ---- values that may be missing
+
+pub fn put_optional_number(out: &mut [u8], p: Place, n: I64Answer) -> Place
+    ensures { λ r. ⌜ Puts (optional number) (i64Of n) (now (out .entry)) p (now (out .exit)) r ⌝ }
 {
-    let q = bits::put_flag(out, p, n.given);
-    if n.given {
-        return put_count(out, q, n.row);
+    match n {
+        I64Answer::Is(n) => {
+            let q = bits::put_flag(out, p, true);
+            put_number(out, q, n)
+        }
+        I64Answer::Absent => bits::put_flag(out, p, false),
     }
-    q
 }
 
-pub fn put_optional_date(out: &mut [u8], p: Place, d: OptionalDate) -> Place
-    ensures { λ r. ⌜ Puts (optional date) (dateMeans d) (now (out .entry)) p (now (out .exit)) r ⌝ }
+pub fn put_optional_row(out: &mut [u8], p: Place, n: RowAnswer) -> Place
+    ensures { λ r. ⌜ Puts (optional row) (rowMeaning n) (now (out .entry)) p (now (out .exit)) r ⌝ }
 {
-    let q = bits::put_flag(out, p, d.given);
-    if d.given {
-        return put_date(out, q, d.day);
+    match n {
+        RowAnswer::Is(n) => {
+            let q = bits::put_flag(out, p, true);
+            put_count(out, q, n)
+        }
+        RowAnswer::Absent => bits::put_flag(out, p, false),
     }
-    q
 }
 
-pub fn put_optional_text(out: &mut [u8], p: Place, given: bool, s: &[u8]) -> Place
-    ensures { λ r. ⌜ Puts (optional text) (when «given» (now (s .entry))) (now (out .entry)) p (now (out .exit)) r ⌝ }
+pub fn put_optional_date(out: &mut [u8], p: Place, d: DateAnswer) -> Place
+    ensures { λ r. ⌜ Puts (optional date) (dateGiven d) (now (out .entry)) p (now (out .exit)) r ⌝ }
 {
-    let q = bits::put_flag(out, p, given);
-    if given {
-        return bits::put_text(out, q, s);
+    match d {
+        DateAnswer::Is(d) => {
+            let q = bits::put_flag(out, p, true);
+            put_date(out, q, d)
+        }
+        DateAnswer::Absent => bits::put_flag(out, p, false),
     }
-    q
 }
 
-// A constraint, code 0 for none; its date unless the code is 1.
-pub fn put_constraint(out: &mut [u8], p: Place, c: Constraint) -> Place
-    ensures { λ r. ⌜ Puts (optional constraint) (constraintBy c) (now (out .entry)) p (now (out .exit)) r ⌝ }
+// An empty text is none.
+pub fn put_optional_text(out: &mut [u8], p: Place, s: &[u8]) -> Place
+    ensures { λ r. ⌜ Puts (optional text) (nonEmpty (now (s .entry))) (now (out .entry)) p (now (out .exit)) r ⌝ }
 {
-    let code = c.code;
-    let q = bits::put_flag(out, p, code != 0);
-    if code == 0 {
-        return q;
+    if s.len() == 0 {
+        return bits::put_flag(out, p, false);
     }
+    let q = bits::put_flag(out, p, true);
+    bits::put_text(out, q, s)
+}
+
+// ---- constraints and kinds of lag
+
+// A constraint of a code, and its date.
+fn put_dated(out: &mut [u8], p: Place, code: u32, d: Date) -> Place
+    ensures { λ r. ⌜ Puts (optional constraint) (some (code, some (dateBy (d .0)))) (now (out .entry)) p (now (out .exit)) r ⌝ }
+{
+    let q = bits::put_flag(out, p, true);
     let r = put_code(out, q, code);
-    if code == 1 {
-        return r;
-    }
-    put_date(out, r, date::date_of_number(c.date))
+    put_date(out, r, d)
 }
 
-// A lag's kind, and its share where one is given.
-pub fn put_lag_kind(out: &mut [u8], p: Place, kind: u32, share: Number) -> Place
-    ensures { λ r. ⌜ Puts lagKind (kind, numberMeans share) (now (out .entry)) p (now (out .exit)) r ⌝ }
+fn put_undated(out: &mut [u8], p: Place) -> Place
+    ensures { λ r. ⌜ Puts (optional constraint) (some (1, none)) (now (out .entry)) p (now (out .exit)) r ⌝ }
 {
-    let q = put_code(out, p, kind);
-    if share.given {
-        return put_number(out, q, share.value);
+    let q = bits::put_flag(out, p, true);
+    put_code(out, q, 1)
+}
+
+fn put_given_constraint(out: &mut [u8], p: Place, c: Constraint) -> Place
+    ensures { λ r. ⌜ Puts (optional constraint) (constraintGiven (ConstraintAnswer.Is c)) (now (out .entry)) p (now (out .exit)) r ⌝ }
+{
+    match c {
+        Constraint::AsLateAsPossible => put_undated(out, p),
+        Constraint::MandatoryStart(d) => put_dated(out, p, 2, d),
+        Constraint::MandatoryFinish(d) => put_dated(out, p, 3, d),
+        Constraint::StartOnOrAfter(d) => put_dated(out, p, 4, d),
+        Constraint::StartOnOrBefore(d) => put_dated(out, p, 5, d),
+        Constraint::FinishOnOrAfter(d) => put_dated(out, p, 6, d),
+        Constraint::FinishOnOrBefore(d) => put_dated(out, p, 7, d),
     }
-    q
+}
+
+pub fn put_constraint(out: &mut [u8], p: Place, c: ConstraintAnswer) -> Place
+    ensures { λ r. ⌜ Puts (optional constraint) (constraintGiven c) (now (out .entry)) p (now (out .exit)) r ⌝ }
+{
+    match c {
+        ConstraintAnswer::Is(c) => put_given_constraint(out, p, c),
+        ConstraintAnswer::Absent => bits::put_flag(out, p, false),
+    }
+}
+
+// A lag's kind, and its share of the predecessor's duration.
+pub fn put_lag_kind(out: &mut [u8], p: Place, kind: LagKind) -> Place
+    ensures { λ r. ⌜ Puts lagKind (lagKindMeans kind) (now (out .entry)) p (now (out .exit)) r ⌝ }
+{
+    match kind {
+        LagKind::Working => put_code(out, p, 0),
+        LagKind::Elapsed => put_code(out, p, 1),
+        LagKind::Percent(n) => {
+            let q = put_code(out, p, 2);
+            put_number(out, q, n)
+        }
+    }
 }

@@ -1,32 +1,38 @@
-use mathlib.Core.Path.{sym, ap, _∙_}
+use mathlib.Core.Path.{_∙_, sym, ap}
 use Rattle.number.specs.Time.{meaning}
 use Rattle.number.specs.declared.time.TimeAnswer.{TimeAnswer}
-use Rattle.calendar.specs.Hours.{asTime, timeBy}
+use Rattle.calendar.specs.Hours.{workingMeaning, timeBy}
+use native.Mathlib.Omega.{arith}
 use borrow.Author.Needs.{needs}
 use Rattle.calendar.proofs.hours.time_by.Statement.{statement}
 use Rattle.calendar.proofs.hours.time_by.Tie as tie
+use Rattle.calendar.proofs.hours.time_by.Reads as reads
+use Rattle.calendar.proofs.hours.time_by.Lts as lts
+use Rattle.calendar.proofs.hours.time_to.Reads as time-to-reads
 
+-- src/hours.rt:62:26
 enum-known-from : tie.Need-enum-known-from
 enum-known-from c = search needs
 
+-- src/hours.rt:62:32
 time-to-requires : tie.Need-time-to-requires
 time-to-requires c κs = search needs
 
+-- src/hours.rt:63:31
 enum-told : tie.Need-enum-told
 enum-told c = search needs
 
-no-time-requires : tie.Need-no-time-requires
-no-time-requires c κs = search needs
-
+-- src/hours.rt:58:1
 returns : tie.Need-returns
+unfolding workingMeaning
 returns c =
     let k = c .before .before in
-    c .time-to .ensures ∙ sym (ap (λ (a : TimeAnswer). asTime (timeBy (meaning a) (meaning (k .before .before .args .until)))) (k .from .given .1))
+    c .time-to .ensures ∙ sym (ap (λ (a : TimeAnswer). timeBy (meaning a) (meaning (k .before .before .args .until))) (k .from .given .1))
 
+-- src/hours.rt:58:1
 returns-2 : tie.Need-returns-2
-returns-2 c = search needs
+unfolding workingMeaning
+returns-2 c = sym (ap (λ (a : TimeAnswer). timeBy (meaning a) (meaning (c .before .before .args .until))) (c .enum-told .given .1))
 
 pub time-by-spec : {M : Type 1} → statement M
-time-by-spec =
-    tie.close
-    (tie.spec enum-known-from time-to-requires enum-told no-time-requires returns returns-2)
+time-by-spec = tie.close (tie.spec enum-known-from time-to-requires enum-told returns returns-2)

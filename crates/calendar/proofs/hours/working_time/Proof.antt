@@ -1,34 +1,43 @@
-use mathlib.Core.Path.{ap, _∙_}
-use mathlib.Core.Option.{Option}
-use Rattle.definition.specs.Format.{Period}
+use mathlib.Core.Path.{_∙_}
 use Rattle.tree.specs.Place.{elementAt}
-use Rattle.calendar.specs.Hours.{asTime, timeBy, working-time}
+use Rattle.calendar.specs.Hours.{timeBy, working-time}
+use native.Mathlib.Omega.{arith}
 use borrow.Author.Needs.{needs}
 use Rattle.calendar.proofs.hours.working_time.Statement.{statement}
 use Rattle.calendar.proofs.hours.working_time.Tie as tie
+use Rattle.calendar.proofs.hours.working_time.Reads as reads
+use Rattle.calendar.proofs.hours.working_time.Lts as lts
+use Rattle.calendar.proofs.hours.time_by.Reads as time-by-reads
+use Rattle.calendar.proofs.hours.time_in.Reads as time-in-reads
 
+-- src/hours.rt:71:31
 slice-aggregate-time-in : tie.Need-slice-aggregate-time-in
 slice-aggregate-time-in c = search needs
 
+-- src/hours.rt:71:9
 time-in-requires : tie.Need-time-in-requires
 time-in-requires c κs = search needs
 
+-- src/hours.rt:72:34
 slice-aggregate-time-in-2 : tie.Need-slice-aggregate-time-in-2
 slice-aggregate-time-in-2 c = search needs
 
+-- src/hours.rt:72:19
 time-in-requires-2 : tie.Need-time-in-requires-2
 time-in-requires-2 c κs = search needs
 
+-- src/hours.rt:72:5
 time-by-requires : tie.Need-time-by-requires
 time-by-requires c κs = search needs
 
+-- src/hours.rt:68:1
 returns : tie.Need-returns
 returns c =
     let f = c .before .before .before in
     let s = f .before .before .before in
     c .time-by .ensures
-    ∙ (λ i. asTime (timeBy (f .time-in .ensures i) (c .before .time-in2 .ensures i)))
-    ∙ ap (λ (o : Option Period). asTime o) (working-time (elementAt (s .args .s .now) (s .args .at)))
+    ∙ (λ i. timeBy (f .time-in .ensures i) (c .before .time-in2 .ensures i))
+    ∙ working-time (elementAt (s .args .s .now) (s .args .at))
 
 pub working-time-spec : {M : Type 1} → statement M
 working-time-spec =

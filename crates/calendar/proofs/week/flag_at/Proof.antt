@@ -1,24 +1,28 @@
-use Rattle.calendar.proofs.Flags.{no-flag, flag-is, bit-range}
+use native.Mathlib.Omega.{arith}
+use mathlib.Core.Path.{_∙_, ap}
+use Prim.Native.Nat.{ℕ, _/_, _%_, _-_, _^_}
+use lib.Dec.{eqb}
+use Rattle.calendar.proofs.Flags.{no-flag, flag-is, low-bit, eqb-turn}
 use native.Mathlib.Omega.{arith}
 use borrow.Author.Needs.{needs}
 use Rattle.calendar.proofs.week.flag_at.Statement.{statement}
 use Rattle.calendar.proofs.week.flag_at.Tie as tie
+use Rattle.calendar.proofs.week.flag_at.Reads as reads
+use Rattle.calendar.proofs.week.flag_at.Lts as lts
 
+-- src/week.rt:96:9
 returns : tie.Need-returns
 returns c = no-flag (c .before .args .week) (c .before .args .k) (omega (arith, c .if1 .taken))
 
-bit-of-requires : tie.Need-bit-of-requires
-bit-of-requires c κs = search needs
+-- src/week.rt:98:6
+shr-result : tie.Need-shr-result
+shr-result c = search needs
 
-div-result : tie.Need-div-result
-div-result c =
-    let i = c .before in
-    omega (arith, bit-range (i .before .args .k) _ (omega (arith, i .if1 .left)) (c .bit-of .ensures))
-
+-- src/week.rt:92:1
 returns-2 : tie.Need-returns-2
 returns-2 c =
-    let i = c .before in
-    flag-is (i .before .args .week) (i .before .args .k) _ (omega (arith, i .if1 .left)) (c .bit-of .ensures)
+    let a = c .before .args in
+    ap (λ (n : ℕ). eqb n 1) (low-bit (a .week / 2 ^ (6 - a .k))) ∙ eqb-turn (a .week / 2 ^ (6 - a .k) % 2) ∙ flag-is (a .week) (a .k) (omega (arith, c .if1 .left))
 
 pub flag-at-spec : {M : Type 1} → statement M
-flag-at-spec = tie.close (tie.spec returns bit-of-requires div-result returns-2)
+flag-at-spec = tie.close (tie.spec returns shr-result returns-2)

@@ -1,24 +1,34 @@
-use Prim.Native.Nat.{_+_, _%_}
+use native.Mathlib.Omega.{arith}
 use mathlib.Core.Path.{sym, ap}
 use mathlib.Core.Bool.{Bool}
-use Rattle.definition.specs.Base.{_or_, when}
+use Prim.Native.Nat.{_+_, _%_}
+use Rattle.definition.specs.Base.{when}
+use Rattle.calendar.specs.Week.{placeMeaning}
 use Rattle.calendar.proofs.Times.{at-most-7}
 use native.Mathlib.Omega.{arith}
 use borrow.Author.Needs.{needs}
 use Rattle.calendar.proofs.week.place_at.Statement.{statement}
 use Rattle.calendar.proofs.week.place_at.Tie as tie
+use Rattle.calendar.proofs.week.place_at.Reads as reads
+use Rattle.calendar.proofs.week.place_at.Lts as lts
 
-add-result : tie.Need-add-result
-add-result c = omega (arith, at-most-7 (c .before .args .t) (c .if1 .taken))
+-- src/week.rt:38:34
+add-t5 : tie.Need-add-t5
+add-t5 c = omega (arith, at-most-7 (c .before .args .t) (c .if1 .taken))
 
-cast-result : tie.Need-cast-result
-cast-result c = search needs
+-- src/week.rt:38:32
+cast-t7 : tie.Need-cast-t7
+cast-t7 c = search needs
 
+-- src/week.rt:38:9
 returns : tie.Need-returns
-returns c = sym (ap (λ (b : Bool). when b ((c .before .args .t + 5) % 7) or 7) (c .if1 .taken))
+unfolding placeMeaning
+returns c = sym (ap (λ (b : Bool). when b ((c .before .args .t + 5) % 7)) (c .if1 .taken))
 
+-- src/week.rt:34:1
 returns-2 : tie.Need-returns-2
-returns-2 c = sym (ap (λ (b : Bool). when b ((c .before .args .t + 5) % 7) or 7) (c .if1 .left))
+unfolding placeMeaning
+returns-2 c = sym (ap (λ (b : Bool). when b ((c .before .args .t + 5) % 7)) (c .if1 .left))
 
 pub place-at-spec : {M : Type 1} → statement M
-place-at-spec = tie.close (tie.spec add-result cast-result returns returns-2)
+place-at-spec = tie.close (tie.spec add-t5 cast-t7 returns returns-2)

@@ -1,26 +1,36 @@
-use mathlib.Core.Path.{sym, ap, _∙_}
-use Rattle.definition.specs.Base.{_or_}
+use mathlib.Core.Path.{_∙_, sym, ap}
 use Rattle.text.specs.Answers.{u64Of}
 use Rattle.text.specs.declared.U64Answer.{U64Answer}
-use Rattle.calendar.specs.Week.{placeBy}
+use Rattle.calendar.specs.Week.{placeMeaning, placeBy}
+use native.Mathlib.Omega.{arith}
 use borrow.Author.Needs.{needs}
 use Rattle.calendar.proofs.week.place_by.Statement.{statement}
 use Rattle.calendar.proofs.week.place_by.Tie as tie
+use Rattle.calendar.proofs.week.place_by.Reads as reads
+use Rattle.calendar.proofs.week.place_by.Lts as lts
+use Rattle.calendar.proofs.week.place_at.Reads as place-at-reads
 
+-- src/week.rt:47:23
 enum-known-a : tie.Need-enum-known-a
 enum-known-a c = search needs
 
+-- src/week.rt:47:29
 place-at-requires : tie.Need-place-at-requires
 place-at-requires c κs = search needs
 
+-- src/week.rt:48:30
 enum-told : tie.Need-enum-told
 enum-told c = search needs
 
+-- src/week.rt:43:1
 returns : tie.Need-returns
-returns c = c .place-at .ensures ∙ sym (ap (λ (a : U64Answer). placeBy (u64Of a) or 7) (c .before .before .a .given .1))
+unfolding placeMeaning
+returns c = c .place-at .ensures ∙ sym (ap (λ (a : U64Answer). placeBy (u64Of a)) (c .before .before .a .given .1))
 
+-- src/week.rt:43:1
 returns-2 : tie.Need-returns-2
-returns-2 c = search needs
+unfolding placeMeaning
+returns-2 c = sym (ap (λ (a : U64Answer). placeBy (u64Of a)) (c .enum-told .given .1))
 
 pub place-by-spec : {M : Type 1} → statement M
 place-by-spec = tie.close (tie.spec enum-known-a place-at-requires enum-told returns returns-2)

@@ -1,25 +1,34 @@
 use mathlib.Core.Path.{_∙_}
-use Rattle.tree.specs.Place.{elementAt}
-use Rattle.calendar.proofs.Weeks.{placed}
+use Rattle.calendar.specs.Week.{flagsIn, weekOn}
+use native.Mathlib.Omega.{arith}
 use borrow.Author.Needs.{needs}
 use Rattle.calendar.proofs.week.with_day.Statement.{statement}
 use Rattle.calendar.proofs.week.with_day.Tie as tie
+use Rattle.calendar.proofs.week.with_day.Reads as reads
+use Rattle.calendar.proofs.week.with_day.Lts as lts
+use Rattle.calendar.proofs.week.day_place.Reads as day-place-reads
+use Rattle.calendar.proofs.week.day_working.Reads as day-working-reads
+use Rattle.calendar.proofs.week.with_place.Reads as with-place-reads
 
+-- src/week.rt:139:9
 day-place-requires : tie.Need-day-place-requires
 day-place-requires c κs = search needs
 
+-- src/week.rt:140:29
 day-working-requires : tie.Need-day-working-requires
 day-working-requires c κs = search needs
 
-with-flag-requires : tie.Need-with-flag-requires
-with-flag-requires c κs = search needs
+-- src/week.rt:140:5
+with-place-requires : tie.Need-with-place-requires
+with-place-requires c κs = search needs
 
+-- src/week.rt:136:1
 returns : tie.Need-returns
 returns c =
     let d = c .before in
     let s = d .before .before .before in
-    c .with-flag .ensures ∙ placed (elementAt (s .args .s .now) (s .args .at)) (s .args .week) _ _ (d .before .day-place .ensures) (d .day-working .ensures)
+    c .with-place .ensures ∙ (λ i. weekOn (d .before .day-place .ensures i) (d .day-working .ensures i) (flagsIn (s .args .week)))
 
 pub with-day-spec : {M : Type 1} → statement M
 with-day-spec =
-    tie.close (tie.spec day-place-requires day-working-requires with-flag-requires returns)
+    tie.close (tie.spec day-place-requires day-working-requires with-place-requires returns)

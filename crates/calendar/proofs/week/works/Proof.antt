@@ -1,20 +1,26 @@
 use Prim.Native.Nat.{ℕ}
-use mathlib.Core.Path.{ap, _∙_}
+use mathlib.Core.Path.{_∙_, ap}
 use mathlib.Core.Bool.{false}
 use lib.ListN.{getD}
+use Rattle.definition.specs.Date.{fromDays}
+use Rattle.date.specs.Answer.{weekdayAt}
 use Rattle.calendar.specs.Week.{flagsIn}
+use Rattle.calendar.proofs.Flags.{works-is}
 use borrow.Author.Needs.{needs}
 use Rattle.calendar.proofs.week.works.Statement.{statement}
 use Rattle.calendar.proofs.week.works.Tie as tie
 
-weekday-of-requires : tie.Need-weekday-of-requires
-weekday-of-requires c κs = search needs
+weekday-requires : tie.Need-weekday-requires
+weekday-requires c κs = search needs
 
 flag-at-requires : tie.Need-flag-at-requires
 flag-at-requires c κs = search needs
 
 returns : tie.Need-returns
-returns c = c .flag-at .ensures ∙ ap (λ (k : ℕ). getD (flagsIn (c .before .before .args .week)) k false) (c .before .weekday-of .ensures)
+unfolding weekdayAt
+returns c =
+    let a = c .before .before .args in
+    c .flag-at .ensures ∙ ap (λ (k : ℕ). getD (flagsIn (a .week)) k false) (c .before .weekday .ensures) ∙ works-is (a .week) (fromDays (a .day .0))
 
 pub works-spec : {M : Type 1} → statement M
-works-spec = tie.close (tie.spec weekday-of-requires flag-at-requires returns)
+works-spec = tie.close (tie.spec weekday-requires flag-at-requires returns)

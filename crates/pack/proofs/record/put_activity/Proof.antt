@@ -1,6 +1,7 @@
 use mir.Facts.{toZ-ofZ}
 use Rattle.bits.specs.Steps.{put-⊗, put-whole, put-same}
 use Rattle.pack.specs.Record.{put-activity}
+use denote.Ref.{now}
 use borrow.Author.Needs.{needs}
 use Rattle.pack.proofs.record.put_activity.Statement.{statement}
 use Rattle.pack.proofs.record.put_activity.Tie as tie
@@ -40,7 +41,8 @@ returns c =
     let q = p .before .before .before .before in
     let r = q .before .before .before .before in
     let s = r .before .before .before .before in
-    put-whole (put-activity _ (put-⊗ (s .put-starred .ensures) (put-⊗ (r .put-text .ensures) (put-⊗ (q .put-code .ensures 0 2) (put-⊗ (put-same (toZ-ofZ (record { sfits = p .struct-told .given .0 .1 })) (o .put-number .ensures)) (put-⊗ (n .put-optional-number .ensures) (put-⊗ (m .put-optional-row .ensures) (l .put-schedule .ensures)))))))) (k .pad .ensures)
+    let a = s .before .before .before .before .before .before .before .before .before .args in
+    put-whole (put-activity _ (put-⊗ (s .put-starred .ensures) (put-⊗ (r .put-text .ensures) (put-⊗ (q .put-code .ensures 0 2) (put-⊗ (put-same (toZ-ofZ (record { sfits = p .struct-told .given .0 .1 })) (o .put-number .ensures)) (put-⊗ (n .put-optional-number .ensures) (put-⊗ (m .put-optional-row .ensures) (l .put-schedule .ensures (now (a .id)) (a .stars) (now (a .name)) (a .plan))))))))) (k .pad .ensures)
 
 same-length : tie.Need-same-length
 same-length c = returns c .step .same

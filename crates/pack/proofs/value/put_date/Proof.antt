@@ -1,22 +1,33 @@
-use Rattle.pack.specs.Puts.{put-day}
+use mathlib.Core.Path.{ap, _∙_}
+use mir.Facts.{toZ-ofZ}
+use Rattle.definition.specs.Bits.{twos}
+use Rattle.bits.specs.Steps.{put-date, put-same}
+use native.Mathlib.Omega.{arith}
 use borrow.Author.Needs.{needs}
 use Rattle.pack.proofs.value.put_date.Statement.{statement}
 use Rattle.pack.proofs.value.put_date.Tie as tie
+use Rattle.pack.proofs.value.put_date.Reads as reads
+use Rattle.pack.proofs.value.put_date.Lts as lts
+use Rattle.bits.proofs.put_i32.Reads as put-i32-reads
+use Rattle.pack.proofs.value.day_number.Reads as day-number-reads
 
-add-put : tie.Need-add-put
-add-put c = search needs
+-- src/value.rt:53:27
+day-number-requires : tie.Need-day-number-requires
+day-number-requires c κs = search needs
 
-put-requires : tie.Need-put-requires
-put-requires c κs = search needs
+-- src/value.rt:53:5
+put-i32-requires : tie.Need-put-i32-requires
+put-i32-requires c κs = search needs
 
+-- src/value.rt:50:1
 same-length : tie.Need-same-length
 same-length c = search needs
 
+-- src/value.rt:50:1
 returns : tie.Need-returns
 returns c =
     let k = c .before .before in
-    let l = k .before .before .before in
-    put-day (l .args .day) (k .put .ensures)
+    put-date (put-same (ap (twos 32) (toZ-ofZ (record { sfits = k .before .day-number .ok }) ∙ k .before .day-number .ensures)) (k .put-i32 .ensures))
 
 pub put-date-spec : {M : Type 1} → statement M
-put-date-spec = tie.close (tie.spec add-put put-requires same-length returns)
+put-date-spec = tie.close (tie.spec day-number-requires put-i32-requires same-length returns)

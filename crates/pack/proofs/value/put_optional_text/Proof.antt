@@ -1,35 +1,57 @@
 use Rattle.definition.specs.Format.{text}
-use Rattle.pack.specs.Puts.{put-given, put-missing}
+use Rattle.pack.proofs.Puts.{put-given, put-missing, no-text, a-text}
+use native.Mathlib.Omega.{arith}
+use denote.Ref.{now}
 use borrow.Author.Needs.{needs}
 use Rattle.pack.proofs.value.put_optional_text.Statement.{statement}
 use Rattle.pack.proofs.value.put_optional_text.Tie as tie
+use Rattle.pack.proofs.value.put_optional_text.Reads as reads
+use Rattle.pack.proofs.value.put_optional_text.Lts as lts
+use Rattle.bits.proofs.put_flag.Reads as put-flag-reads
+use Rattle.bits.proofs.put_text.Reads as put-text-reads
 
+-- src/value.rt:97:9
 put-flag-requires : tie.Need-put-flag-requires
 put-flag-requires c κs = search needs
 
-put-text-requires : tie.Need-put-text-requires
-put-text-requires c κs = search needs
-
+-- src/value.rt:97:9
 same-length : tie.Need-same-length
 same-length c = search needs
 
+-- src/value.rt:97:9
 returns : tie.Need-returns
 returns c =
     let k = c .before .before in
     let l = k .before .before in
-    let m = l .before .before .before in
-    put-given (l .if1 .taken) (m .put-flag .ensures) (k .put-text .ensures)
+    put-missing text (no-text (now (l .before .before .before .args .s)) (l .if1 .taken)) (k .put-flag .ensures)
 
+-- src/value.rt:99:9
+put-flag-requires-2 : tie.Need-put-flag-requires-2
+put-flag-requires-2 c κs = search needs
+
+-- src/value.rt:100:5
+put-text-requires : tie.Need-put-text-requires
+put-text-requires c κs = search needs
+
+-- src/value.rt:93:1
 same-length-2 : tie.Need-same-length-2
 same-length-2 c = search needs
 
+-- src/value.rt:93:1
 returns-2 : tie.Need-returns-2
 returns-2 c =
-    let l = c .before .before .before in
-    let m = l .before .before .before .before in
-    put-missing text (m .args .s .now) (c .if1 .left) (l .put-flag .ensures)
+    let k = c .before .before in
+    let l = k .before .before .before .before in
+    put-given (a-text _ (l .before .before .if1 .left)) (l .put-flag2 .ensures) (k .put-text .ensures)
 
 pub put-optional-text-spec : {M : Type 1} → statement M
 put-optional-text-spec =
     tie.close
-    (tie.spec put-flag-requires put-text-requires same-length returns same-length-2 returns-2)
+    (tie.spec
+    put-flag-requires
+    same-length
+    returns
+    put-flag-requires-2
+    put-text-requires
+    same-length-2
+    returns-2)

@@ -1,0 +1,9 @@
+// Calendars written: their lists, kept rising while they are the last thing written, their hours, and the two calendars that no file gives.
+mod hours;
+mod list;
+mod plain;
+
+pub use hours::put_periods;
+pub use plain::put_default_calendar;
+pub use plain::put_elapsed_calendar;
+pub use plain::put_week;

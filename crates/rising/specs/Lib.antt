@@ -1,5 +1,0 @@
-pub mod New
-pub mod Items
-pub mod Places
-pub mod Inserts
-pub mod Copies
