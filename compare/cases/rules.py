@@ -7,6 +7,7 @@ import sys
 from .oracle import SEED, element, hexed, oracle, short, unhex
 
 MADE, KEPT, LONGEST = "1200", 400, 700
+FIRST_DAY = -4371587
 
 FRIDAYS = "2026-01-30 2026-02-27 2026-03-27 2026-04-24 2026-05-29 2026-06-26"
 MID_WEEK = "2026-01-07 2026-01-09 2026-01-19 2026-01-21 2026-01-23 2026-02-02 2026-02-04 2026-02-06"
@@ -62,7 +63,7 @@ def count_and_check(days):
     numbers = [] if days == "-" else [int(day) for day in days.split()]
     check = 0
     for number in numbers:
-        check = (check * 31 + number % 2**32) % 4294967291
+        check = (check * 31 + number - FIRST_DAY) % 4294967291
     return len(numbers), check
 
 

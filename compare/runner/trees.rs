@@ -28,7 +28,7 @@ fn made(seed: u64, k: u64, count: u64) -> Vec<u8> {
     if k < count / 2 { tree } else { damaged(&mut rng, &tree) }
 }
 
-/// The packed trees that compare/samples made, if it was run.
+/// The packed trees that compare/taskjuggler made, if it was run.
 fn samples() -> Vec<Vec<u8>> {
     let folder = std::env::current_exe().ok().and_then(|exe| Some(exe.parent()?.join("samples")));
     let files = folder.and_then(|folder| std::fs::read_dir(folder).ok()).into_iter().flatten().flatten().map(|entry| entry.path());

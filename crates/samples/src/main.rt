@@ -103,26 +103,12 @@ fn replay(room: &mut [u8], agreed: &mut [u64], all: &mut [u64]) {
 
 // ---- the tally
 
+// The name of a kind, in nine bytes.
 fn put_name(kind: usize) {
-    match kind {
-        0 => io::write_all(STDOUT_FILENO, b"date"),
-        1 => io::write_all(STDOUT_FILENO, b"time"),
-        2 => io::write_all(STDOUT_FILENO, b"duration"),
-        3 => io::write_all(STDOUT_FILENO, b"number"),
-        4 => io::write_all(STDOUT_FILENO, b"i64"),
-        5 => io::write_all(STDOUT_FILENO, b"u64"),
-        6 => io::write_all(STDOUT_FILENO, b"u32"),
-        7 => io::write_all(STDOUT_FILENO, b"u16"),
-        8 => io::write_all(STDOUT_FILENO, b"i32"),
-        9 => io::write_all(STDOUT_FILENO, b"trim"),
-        10 => io::write_all(STDOUT_FILENO, b"utf8"),
-        11 => io::write_all(STDOUT_FILENO, b"tree"),
-        12 => io::write_all(STDOUT_FILENO, b"rule"),
-        13 => io::write_all(STDOUT_FILENO, b"model"),
-        14 => io::write_all(STDOUT_FILENO, b"field"),
-        _ => io::write_all(STDOUT_FILENO, b"no kind"),
-    }
-    ;
+    let names =
+        b"date     time     duration number   i64      u64      u32      u16      i32      trim     utf8     tree     rule     model    field    no kind  ";
+    let from = 9 * parts::least(kind, 15);
+    io::write_all(STDOUT_FILENO, parts::first(parts::behind(names, from), 9));
 }
 
 fn put_tally(kind: usize, agreed: u64, all: u64) {
@@ -130,7 +116,6 @@ fn put_tally(kind: usize, agreed: u64, all: u64) {
         return;
     }
     put_name(kind);
-    io::write_all(STDOUT_FILENO, b": ");
     io::print_decimal(STDOUT_FILENO, agreed);
     io::write_all(STDOUT_FILENO, b" of ");
     io::print_decimal(STDOUT_FILENO, all);

@@ -1,5 +1,5 @@
 // A rule and its days: how many there are, FFFFFFFF where it is skipped (four bytes), a checksum of them (four bytes), and the tree, whose
-// root is an Exception. The checksum goes on by check * 31 + day modulo 4294967291, a day being the 32 bits of its number.
+// root is an Exception. The checksum goes on by check * 31 + day modulo 4294967291, a day being counted from 1 January of the year -9999.
 use crate::parts;
 use recurrence::Cursor;
 use recurrence::Rule;
@@ -13,13 +13,16 @@ struct Sum {
     done: bool,
 }
 
-// The 32 bits of the number of a day that is counted from the year -10000.
-fn day_bits(d: u32) -> u64 {
-    (d as u64 + 4290595343) % 4294967296
+// A day, given as counted from the year -10000.
+fn from_first(d: u32) -> u64 {
+    if d < 366 {
+        return 0;
+    }
+    (d - 366) as u64
 }
 
-fn with_day(check: u64, bits: u64) -> u64 {
-    (check % 4294967296 * 31 + bits % 4294967296) % 4294967291
+fn with_day(check: u64, day: u64) -> u64 {
+    (check % 4294967296 * 31 + day % 4294967296) % 4294967291
 }
 
 // One day more, if there is one.
@@ -29,7 +32,7 @@ fn next_sum(r: Rule, t: Sum) -> Sum {
         Step::Day(d, c) => Sum {
             cursor: c,
             days: t.days % 65536 + 1,
-            check: with_day(t.check, day_bits(d)),
+            check: with_day(t.check, from_first(d)),
             done: false,
         },
         Step::Done => Sum {
@@ -66,9 +69,14 @@ fn sum_of(r: Rule) -> Sum {
     t
 }
 
+fn rule_agrees(r: Rule, days: u64, check: u64) -> bool {
+    let t = sum_of(r);
+    (t.days == days) & (t.check == check)
+}
+
 pub fn agrees(body: &[u8]) -> bool {
     let days = parts::number(body) as u64;
     let check = parts::number(parts::behind(body, 4)) as u64;
-    let t = sum_of(recurrence::rule_of(parts::behind(body, 8), 0));
-    (t.days == days) & (t.check == check)
+    let r = recurrence::rule_of(parts::behind(body, 8), 0);
+    rule_agrees(r, days, check)
 }
