@@ -9,7 +9,8 @@ use lib.Seq.{paste-suc, take-length, paste, length-paste, take-suc}
 use Rattle.bits.specs.declared.Place.{Place}
 use Rattle.bits.specs.Over.{over}
 use Rattle.bits.proofs.Overwriting.{over-is, laid-short}
-use Rattle.bits.specs.Steps.{refuses, view-out, ▷-full, Laid, Step, _⨾_, stays, ▷-▷, view-none, view, _▷_, said, Puts, field-step}
+use Rattle.bits.specs.Steps.{refuses, view-out, Laid, Step, _⨾_, stays, view-none, view, said, Puts, field-step}
+use Rattle.laws.specs.Buf.{▷-full, ▷-▷, _▷_}
 use Rattle.bits.specs.Places.{past, place-at, at, Fits, fits-room, room-short}
 use Rattle.definition.specs.Bits.{enc, bitsOf}
 use Rattle.laws.specs.Bits.{bits-append, bits-take, bits-drop, length-bits, bits-one}

@@ -9,7 +9,8 @@ use Rattle.bits.specs.declared.Place.{Place}
 use Rattle.bits.specs.declared.Field.{Field}
 use Rattle.bits.specs.Over.{part-before}
 use Rattle.bits.specs.Moves.{bitsFrom}
-use Rattle.bits.specs.Steps.{Laid, Step, _⨾_, stays, before-in, ▷-▷, view-none, view, _▷_, laid-step, said}
+use Rattle.bits.specs.Steps.{Laid, Step, _⨾_, stays, before-in, view-none, view, laid-step, said}
+use Rattle.laws.specs.Buf.{▷-▷, _▷_}
 use Rattle.bits.specs.Reads.{takeAt, take-whole}
 use Rattle.bits.specs.Places.{at, Fits}
 use Rattle.definition.specs.Bits.{enc, dec, bitsOf}

@@ -10,7 +10,8 @@ use lib.Seq.{drop-drop, length-take-le, set-split}
 use lib.Pow.{pow-pos, pow-mono, shr-shr, shr-lt, high}
 use Rattle.bits.specs.declared.Place.{Place}
 use Rattle.bits.specs.Over.{over, over-mid, over-before, take-drop}
-use Rattle.bits.specs.Steps.{Laid, Pads, view, _▷_, ▷-full, padded, laid-step, said, view-in, view-out, length-before}
+use Rattle.bits.specs.Steps.{Laid, Pads, view, padded, laid-step, said, view-in, view-out, length-before}
+use Rattle.laws.specs.Buf.{_▷_, ▷-full}
 use Rattle.bits.specs.Places.{past, place-at, at, place, room, inside, room-fits}
 use Rattle.definition.specs.Base.{if_then_else_}
 use Rattle.definition.specs.Bits.{enc, bitsOf, gap}

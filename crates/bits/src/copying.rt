@@ -2,7 +2,8 @@
 ghost use Prim.Native.Nat.{_*_, _<_, _≤_};
 ghost use lib.ListN.{length};
 ghost use Rattle.bits.specs.Places.{at};
-ghost use Rattle.bits.specs.Steps.{Step, _▷_};
+ghost use Rattle.bits.specs.Steps.{Step};
+ghost use Rattle.laws.specs.Buf.{_▷_};
 ghost use Rattle.bits.specs.Moves.{bitsFrom, Copies};
 use crate::PAST;
 use crate::Place;

@@ -8,9 +8,9 @@ use lib.Seq.{take-suc}
 use Rattle.definition.specs.Ascii.{bytes}
 use Rattle.definition.specs.Bits.{Bits, bitsOf}
 use Rattle.definition.specs.Format.{field, count, text}
-use Rattle.bits.specs.Steps.{Step, Puts, Pads, put-same, put-text, view, _▷_, _⨾_, said, stays, ▷-▷, view-none, field-step}
-use Rattle.laws.specs.Bits.{bits-append, bits-one}
+use Rattle.bits.specs.Steps.{Step, Puts, Pads, put-same, put-text, view, _⨾_, said, stays, view-none, field-step}
 use Rattle.laws.specs.Buf.{_▷_, ▷-▷}
+use Rattle.laws.specs.Bits.{bits-append, bits-one}
 use Rattle.bits.specs.declared.Place.{Place}
 
 -- the bytes of s were written

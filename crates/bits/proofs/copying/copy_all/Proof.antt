@@ -4,7 +4,8 @@ use Prim.Native.Nat.{_+_, _-_, _*_, _<_, _≤_}
 use lib.ListN.{length}
 use Rattle.bits.specs.Places.{at}
 use Rattle.bits.specs.Moves.{bitsFrom}
-use Rattle.bits.specs.Steps.{Step, _▷_}
+use Rattle.bits.specs.Steps.{Step}
+use Rattle.laws.specs.Buf.{_▷_}
 use Rattle.bits.proofs.Copied.{copy-none, copy-more}
 use borrow.Author.Needs.{needs}
 use native.Mathlib.Omega.{arith}

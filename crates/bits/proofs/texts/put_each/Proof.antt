@@ -4,7 +4,8 @@ use lib.ListN.{length, take}
 use lib.Seq.{take-all}
 use borrow.Author.Needs.{needs}
 use Rattle.definition.specs.Bits.{bitsOf}
-use Rattle.bits.specs.Steps.{Step, _▷_}
+use Rattle.bits.specs.Steps.{Step}
+use Rattle.laws.specs.Buf.{_▷_}
 use Rattle.bits.proofs.Bytes.{each-none, each-more}
 use Rattle.bits.proofs.texts.put_each.Statement.{statement}
 use Rattle.bits.proofs.texts.put_each.Tie as tie
