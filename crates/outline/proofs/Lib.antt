@@ -1,3 +1,4 @@
+pub mod ParentLaws
 pub mod Ahead
 pub mod Lists
 pub mod Turns

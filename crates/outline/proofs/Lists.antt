@@ -13,7 +13,7 @@ use Rattle.definition.specs.Base.{keep, first, count}
 use Rattle.definition.specs.Outline.{parentIn, parentAt}
 use Rattle.laws.specs.Outlines.{parent-in}
 use Rattle.outline.specs.Words.{noRow, parentsIn}
-use Rattle.outline.specs.Parents.{length-parents, parents-at}
+use Rattle.outline.proofs.ParentLaws.{length-parents, parents-at}
 use Rattle.outline.specs.Steps.{wordOf, homeOf, slotOf, fellow, siblings, later, Links, pushed, linkOf, Empty}
 use Rattle.outline.proofs.Ahead.{fellow-same}
 

@@ -25,7 +25,7 @@ use Rattle.model.specs.declared.Sections.{Sections}
 use Rattle.outline.specs.declared.OutlineAnswer.{OutlineAnswer}
 use Rattle.outline.specs.declared.OutlineAnswer.the-variants as answer
 use Rattle.outline.specs.Words.{noRow, parentsIn, outlineWords, Outlined}
-use Rattle.outline.specs.Parents.{outline-filled}
+use Rattle.outline.proofs.ParentLaws.{outline-filled}
 use Rattle.outline.specs.Filled.{parents, Names, Walked}
 use Rattle.outline.specs.Answers.{refusalOf, countOf, Gives}
 

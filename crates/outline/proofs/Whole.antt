@@ -10,7 +10,7 @@ use Rattle.definition.specs.Outline.{outlineOf}
 use Rattle.definition.specs.Refusal.{Answer, refused, gives, left, written, rowWords}
 use Rattle.outline.specs.Words.{noRow, parentsIn, outlineWords, Outlined}
 use Rattle.outline.specs.Steps.{Empty, Linked, Walked, Wrote, wordsOf}
-use Rattle.outline.specs.Parents.{length-parents}
+use Rattle.outline.proofs.ParentLaws.{length-parents}
 use Rattle.outline.proofs.Lists.{links-none}
 
 module _ (n room : ℕ) (work : List ℕ) where

@@ -1,5 +1,4 @@
 pub mod Words
 pub mod Steps
-pub mod Parents
 pub mod Filled
 pub mod Answers

@@ -6,6 +6,7 @@ pub use days::probe_next;
 pub use days::probe_rule;
 pub use days::probe_week_day;
 ghost use mathlib.Core.Path.{_≡_};
+ghost use lib.Dec.{eqb};
 ghost use lib.ListN.{length};
 ghost use Rattle.definition.specs.Base.{same, given};
 ghost use Rattle.definition.specs.Text.{trim, isUtf8, unsignedOf, signedOf};
@@ -20,8 +21,10 @@ ghost use Rattle.definition.specs.Answer.{dateMeaning, dayNumberOf};
 ghost use Rattle.number.specs.Number.{meaning as numberMeaning};
 ghost use Rattle.number.specs.Duration.{meaning as durationMeaning};
 ghost use Rattle.number.specs.Time.{meaning as timeMeaning};
+ghost use Rattle.model.specs.Sections.{openedNumber};
 ghost use Rattle.probe.specs.Answer.{Whole, Signed, Minutes, Number, one};
 use definition::DateAnswer;
+use model::Opened;
 use number::DurationAnswer;
 use number::NumberAnswer;
 use number::TimeAnswer;
@@ -287,11 +290,21 @@ pub extern "C" fn probe_tree(s: &[u8]) -> u32
 
 // ---- models
 
+// Whether a model was opened.
+fn is_open(m: Opened) -> bool
+    ensures { λ r. ⌜ r ≡ eqb (openedNumber m) 0 ⌝ }
+{
+    match m {
+        Opened::Model(_) => true,
+        Opened::NoModel => false,
+    }
+}
+
 // Whether a model decodes.
 #[no_mangle]
 pub extern "C" fn probe_model(s: &[u8]) -> u32
     ensures { λ r. ⌜ r ≡ one (given (decode (now (s .entry)))) ⌝ }
 {
     let m = model::open(s);
-    as_number(m.ok)
+    as_number(is_open(m))
 }

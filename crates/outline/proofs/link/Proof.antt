@@ -1,6 +1,6 @@
 -- `outline::link` meets its contract. One return for each kind of parent. Assumes nothing.
 use mathlib.Core.Option.{some, none}
-use Rattle.outline.specs.Parents.{parent-far, parent-self, parent-is}
+use Rattle.outline.proofs.ParentLaws.{parent-far, parent-self, parent-is}
 use Rattle.outline.proofs.Lists.{link-by}
 use borrow.Author.Needs.{needs}
 use Rattle.outline.proofs.link.Statement.{statement}
