@@ -14,7 +14,7 @@ use mir.ValLaws.{toZ-ofZ, toZ-pos}
 use borrow.Author.Tests.{le-leb, lt-leb, leb-true, leb-false, lt-ltb, le-ltb, ltb-true, ltb-false}
 use Rattle.definition.specs.Base.{if_then_else_, _or_, when, within}
 use Rattle.definition.specs.Date.{fromDays, yearAt, epoch, firstDate, lastDate}
-use Rattle.date.specs.Answer.{raisedOf, placed}
+use Rattle.date.specs.Answer.{raisedOf, placed, upward, daysBetween}
 
 -- ---- the sum with the least number's size
 
@@ -215,3 +215,27 @@ no-day z n e g = none-placed (fromDays z) n e g (λ s. omega (arith, days-counte
 
 pub no-year : (z : ℤ) (n : ℕ) → n ≡ yearAt z or 0 → n ≡ 0 → yearAt z ≡ none
 no-year z n e g = none-placed (yearAt z) n e g (λ s. omega (arith, year-counted z 0 s .low))
+
+-- ---- from one number to another
+
+cond-up : (b a : ℕ) (t : Bool) → ltb b a ≡ t → upward (cond t (negsuc (a - suc b)) (pos (b - a))) ≡ b - a
+cond-up b a true e = omega (arith, ltb-true b a e)
+cond-up b a false e = refl
+
+apart : (a b : ℤ) → mag a < 2 ^ 31 → mag b < 2 ^ 31 → upward (b -ℤ a) ≡ raisedOf b - raisedOf a
+unfolding raisedOf
+apart (pos zero) (pos b) h l = omega arith
+apart (pos (suc a)) (pos b) h l = cond-up b (suc a) (ltb b (suc a)) refl ∙ omega arith
+apart (negsuc a) (pos b) h l = omega arith
+apart (pos zero) (negsuc b) h l = cond-up 0 (suc b) (ltb 0 (suc b)) refl ∙ omega arith
+apart (pos (suc a)) (negsuc b) h l = omega arith
+apart (negsuc a) (negsuc b) h l = cond-up (suc a) (suc b) (ltb (suc a) (suc b)) refl ∙ omega arith
+
+module _ (a b : ℤ) (h : mag a < 2 ^ 31) (l : mag b < 2 ^ 31) (from to : ℕ) (e : from ≡ raisedOf a) (g : to ≡ raisedOf b) where
+  pub between-none : to < from → 0 ≡ daysBetween a b
+  unfolding daysBetween
+  between-none k = sym (apart a b h l ∙ omega arith)
+
+  pub between-some : to - from ≡ daysBetween a b
+  unfolding daysBetween
+  between-some = sym (apart a b h l ∙ omega arith)
