@@ -18,7 +18,7 @@ use Rattle.date.specs.Answer.{raisedOf, placed, upward, daysBetween}
 
 -- ---- the sum with the least number's size
 
-raise : (z : ℤ) → mag z < 2 ^ 31 → z +ℤ pos (2 ^ 31) ≡ pos (raisedOf z)
+pub raise : (z : ℤ) → mag z < 2 ^ 31 → z +ℤ pos (2 ^ 31) ≡ pos (raisedOf z)
 unfolding raisedOf
 raise (pos n) h = refl
 raise (negsuc n) h = simp (le-ltb (2 ^ 31) (suc n) (omega arith))
@@ -42,20 +42,22 @@ module _ (z : ℤ) (h : SFits w32 z) where
   held-is : held ≡ z
   held-is = ap (λ (x : ℤ). toZ w64 (ofZ w64 x)) back ∙ toZ-ofZ w64 z wide
 
-  sum : held +ℤ pos (2 ^ 31) ≡ pos (raisedOf z)
-  sum = ap (λ (x : ℤ). x +ℤ pos (2 ^ 31)) held-is ∙ raise z (h .sfits)
-
-  sum-fits : SFits w64 (pos (raisedOf z))
-  sum-fits = record { sfits = omega (arith, raised-most z (h .sfits)) }
-
   pub first-cast : SFits w64 (toZ w32 (ofZ w32 z))
   first-cast = subst (λ (x : ℤ). SFits w64 x) (sym back) wide
 
-  pub sum-cast : SFits w64 (held +ℤ pos (2 ^ 31))
-  sum-cast = subst (λ (x : ℤ). SFits w64 x) (sym sum) sum-fits
+  -- a sum that is a natural
+  module _ (by n : ℕ) (e : z +ℤ pos by ≡ pos n) (l : n < 2 ^ 63) where
+    sum : held +ℤ pos by ≡ pos n
+    sum = ap (λ (x : ℤ). x +ℤ pos by) held-is ∙ e
 
-  pub sum-back : toZ w64 (ofZ w64 (held +ℤ pos (2 ^ 31))) ≡ pos (raisedOf z)
-  sum-back = ap (λ (x : ℤ). toZ w64 (ofZ w64 x)) sum ∙ toZ-ofZ w64 (pos (raisedOf z)) sum-fits
+    sum-fits : SFits w64 (pos n)
+    sum-fits = record { sfits = omega arith }
+
+    pub sum-cast : SFits w64 (held +ℤ pos by)
+    sum-cast = subst (λ (x : ℤ). SFits w64 x) (sym sum) sum-fits
+
+    pub sum-back : toZ w64 (ofZ w64 (held +ℤ pos by)) ≡ pos n
+    sum-back = ap (λ (x : ℤ). toZ w64 (ofZ w64 x)) sum ∙ toZ-ofZ w64 (pos n) sum-fits
 
 -- ---- differences
 
