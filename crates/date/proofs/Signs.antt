@@ -14,11 +14,11 @@ use mir.ValLaws.{toZ-ofZ, toZ-pos}
 use borrow.Author.Tests.{le-leb, lt-leb, leb-true, leb-false, lt-ltb, le-ltb, ltb-true, ltb-false}
 use Rattle.definition.specs.Base.{if_then_else_, _or_, when, within}
 use Rattle.definition.specs.Date.{fromDays, yearAt, epoch, firstDate, lastDate}
-use Rattle.date.specs.Answer.{raisedOf, placed}
+use Rattle.date.specs.Answer.{raisedOf, placed, upward, daysBetween}
 
 -- ---- the sum with the least number's size
 
-raise : (z : ℤ) → mag z < 2 ^ 31 → z +ℤ pos (2 ^ 31) ≡ pos (raisedOf z)
+pub raise : (z : ℤ) → mag z < 2 ^ 31 → z +ℤ pos (2 ^ 31) ≡ pos (raisedOf z)
 unfolding raisedOf
 raise (pos n) h = refl
 raise (negsuc n) h = simp (le-ltb (2 ^ 31) (suc n) (omega arith))
@@ -42,20 +42,22 @@ module _ (z : ℤ) (h : SFits w32 z) where
   held-is : held ≡ z
   held-is = ap (λ (x : ℤ). toZ w64 (ofZ w64 x)) back ∙ toZ-ofZ w64 z wide
 
-  sum : held +ℤ pos (2 ^ 31) ≡ pos (raisedOf z)
-  sum = ap (λ (x : ℤ). x +ℤ pos (2 ^ 31)) held-is ∙ raise z (h .sfits)
-
-  sum-fits : SFits w64 (pos (raisedOf z))
-  sum-fits = record { sfits = omega (arith, raised-most z (h .sfits)) }
-
   pub first-cast : SFits w64 (toZ w32 (ofZ w32 z))
   first-cast = subst (λ (x : ℤ). SFits w64 x) (sym back) wide
 
-  pub sum-cast : SFits w64 (held +ℤ pos (2 ^ 31))
-  sum-cast = subst (λ (x : ℤ). SFits w64 x) (sym sum) sum-fits
+  -- a sum that is a natural
+  module _ (by n : ℕ) (e : z +ℤ pos by ≡ pos n) (l : n < 2 ^ 63) where
+    sum : held +ℤ pos by ≡ pos n
+    sum = ap (λ (x : ℤ). x +ℤ pos by) held-is ∙ e
 
-  pub sum-back : toZ w64 (ofZ w64 (held +ℤ pos (2 ^ 31))) ≡ pos (raisedOf z)
-  sum-back = ap (λ (x : ℤ). toZ w64 (ofZ w64 x)) sum ∙ toZ-ofZ w64 (pos (raisedOf z)) sum-fits
+    sum-fits : SFits w64 (pos n)
+    sum-fits = record { sfits = omega arith }
+
+    pub sum-cast : SFits w64 (held +ℤ pos by)
+    sum-cast = subst (λ (x : ℤ). SFits w64 x) (sym sum) sum-fits
+
+    pub sum-back : toZ w64 (ofZ w64 (held +ℤ pos by)) ≡ pos n
+    sum-back = ap (λ (x : ℤ). toZ w64 (ofZ w64 x)) sum ∙ toZ-ofZ w64 (pos n) sum-fits
 
 -- ---- differences
 
@@ -215,3 +217,27 @@ no-day z n e g = none-placed (fromDays z) n e g (λ s. omega (arith, days-counte
 
 pub no-year : (z : ℤ) (n : ℕ) → n ≡ yearAt z or 0 → n ≡ 0 → yearAt z ≡ none
 no-year z n e g = none-placed (yearAt z) n e g (λ s. omega (arith, year-counted z 0 s .low))
+
+-- ---- from one number to another
+
+cond-up : (b a : ℕ) (t : Bool) → ltb b a ≡ t → upward (cond t (negsuc (a - suc b)) (pos (b - a))) ≡ b - a
+cond-up b a true e = omega (arith, ltb-true b a e)
+cond-up b a false e = refl
+
+apart : (a b : ℤ) → mag a < 2 ^ 31 → mag b < 2 ^ 31 → upward (b -ℤ a) ≡ raisedOf b - raisedOf a
+unfolding raisedOf
+apart (pos zero) (pos b) h l = omega arith
+apart (pos (suc a)) (pos b) h l = cond-up b (suc a) (ltb b (suc a)) refl ∙ omega arith
+apart (negsuc a) (pos b) h l = omega arith
+apart (pos zero) (negsuc b) h l = cond-up 0 (suc b) (ltb 0 (suc b)) refl ∙ omega arith
+apart (pos (suc a)) (negsuc b) h l = omega arith
+apart (negsuc a) (negsuc b) h l = cond-up (suc a) (suc b) (ltb (suc a) (suc b)) refl ∙ omega arith
+
+module _ (a b : ℤ) (h : mag a < 2 ^ 31) (l : mag b < 2 ^ 31) (from to : ℕ) (e : from ≡ raisedOf a) (g : to ≡ raisedOf b) where
+  pub between-none : to < from → 0 ≡ daysBetween a b
+  unfolding daysBetween
+  between-none k = sym (apart a b h l ∙ omega arith)
+
+  pub between-some : to - from ≡ daysBetween a b
+  unfolding daysBetween
+  between-some = sym (apart a b h l ∙ omega arith)

@@ -1,33 +1,46 @@
-// Dates of the Gregorian calendar, in whole numbers. What is right is said in the crate definition, specs/Date.antt. Inside, a date is counted
-// in days from 1 January of the year -10000 and a year from that year, so that nothing is negative; a `Date` is document 01's day number.
+// Dates of the Gregorian calendar, in whole numbers. What is right is said in the crate definition, specs/Date.antt. A `Date` is document
+// 01's day number. Inside, a day is counted from 1 January of the year -10000 and a year from that year, so that nothing is negative.
 ghost use mathlib.Core.Path.{_≡_};
 ghost use Prim.Native.Nat.{_≤_, _<_, _^_};
 ghost use lib.IntN.{pos, _-ℤ_};
 ghost use Rattle.definition.specs.Base.{_or_};
 ghost use Rattle.definition.specs.Date.{leap, monthLength, newYear, dateAt, weekday, yearAt, fromDays, fromYmd, firstTen, dateParts, dateOf};
 ghost use Rattle.laws.specs.Calendar.{MarchDay};
-ghost use Rattle.date.specs.Answer.{ymdMeaning, civilOf, dateWithin, daysInMonth, weekdayAt, ymdAt};
 ghost use Rattle.definition.specs.Answer.{dateMeaning, dayNumberOf};
-ghost use Rattle.date.specs.Answer.{isDay, raisedOf, placed, dayPart, monthPart};
+ghost use Rattle.date.specs.Answer.{ymdMeaning, ymdAt, weekdayMeaning, weekdayAt, lengthMeaning, lengthAt, daysBetween};
+ghost use Rattle.date.specs.Answer.{civilOf, isDay, raisedOf, placed, dayPart, monthPart};
 use definition::Date;
 use definition::DateAnswer;
 use definition::Ymd;
 use text::I32Answer;
 use text::U32Answer;
 
+// The day of the calendar of a date.
 pub enum YmdAnswer {
     Is(Ymd),
     Absent,
 }
 
-// A day of the calendar, its year counted from the year -10000.
-pub struct Civil {
-    pub year: u32,
-    pub month: u32,
-    pub day: u32,
+// A day of the week, Monday 0.
+pub enum WeekdayAnswer {
+    Is(u32),
+    Absent,
 }
 
-pub fn is_leap(y: u32) -> bool
+// How many days a month has.
+pub enum LengthAnswer {
+    Is(u32),
+    Absent,
+}
+
+// A day of the calendar, its year counted from the year -10000.
+struct Civil {
+    year: u32,
+    month: u32,
+    day: u32,
+}
+
+fn is_leap(y: u32) -> bool
     ensures { λ r. ⌜ r ≡ leap y ⌝ }
 {
     if y % 4 != 0 {
@@ -40,7 +53,7 @@ pub fn is_leap(y: u32) -> bool
 }
 
 // The days of a month, from 1 for January.
-pub fn month_length(y: u32, m: u32) -> u32
+fn month_length(y: u32, m: u32) -> u32
     ensures { λ r. ⌜ r ≡ monthLength y m ⌝ }
 {
     match m {
@@ -51,7 +64,7 @@ pub fn month_length(y: u32, m: u32) -> u32
 }
 
 // Monday is 0.
-pub fn weekday_of(d: u32) -> u32
+fn weekday_of(d: u32) -> u32
     ensures { λ r. ⌜ r ≡ weekday d ⌝ }
 {
     ((d as u64 + 5) % 7) as u32
@@ -76,28 +89,6 @@ fn day_at(y: u32, m: u32, d: u32) -> u32
     new_year(y + 1) - 306 + (153 * m - 457) / 5 + (d - 1)
 }
 
-// The date of a day of the calendar; 0 past the year 10000 and for a month or a day that no year has.
-pub fn date_at(y: u32, m: u32, d: u32) -> u32
-    ensures { λ r. ⌜ r ≡ dateWithin y m d ⌝ }
-{
-    if y > 20000 {
-        return 0;
-    }
-    if m < 1 {
-        return 0;
-    }
-    if m > 12 {
-        return 0;
-    }
-    if d < 1 {
-        return 0;
-    }
-    if d > 31 {
-        return 0;
-    }
-    day_at(y, m, d)
-}
-
 // A year that begins in March, by the January in it, and the day of it, counted from 0.
 struct March {
     year: u32,
@@ -119,7 +110,7 @@ fn march_of(d: u32) -> March
 }
 
 // Year, month and day of a date.
-pub fn civil_of(d: u32) -> Civil
+fn civil_of(d: u32) -> Civil
     ensures { λ r. ⌜ r ≡ civilOf d ⌝ }
 {
     let m = march_of(d);
@@ -178,7 +169,8 @@ fn year_at(year: i32) -> u32
     place(year, 10000, 1, 19999)
 }
 
-pub fn date_of_number(n: i32) -> u32
+// A day number on the scale inside; 0 outside the years -9999 to 9999.
+fn date_of_number(n: i32) -> u32
     ensures { λ r. ⌜ r ≡ fromDays n or 0 ⌝ }
 {
     place(n, 4371953, 366, 7304849)
@@ -186,19 +178,22 @@ pub fn date_of_number(n: i32) -> u32
 
 // ---- dates as they are written
 
-// The days of a month of the years -9999 to 9999; 0 in any other year.
-pub fn days_in_month(year: i32, month: u32) -> u32
-    ensures { λ r. ⌜ r ≡ daysInMonth year month ⌝ }
+// The days of a month of the years -9999 to 9999.
+pub fn days_in_month(year: i32, month: u32) -> LengthAnswer
+    ensures { λ r. ⌜ lengthMeaning r ≡ lengthAt year month ⌝ }
 {
     let y = year_at(year);
     if y == 0 {
-        return 0;
+        return LengthAnswer::Absent;
     }
-    month_length(y, month)
+    if (1 <= month) & (month <= 12) {
+        return LengthAnswer::Is(month_length(y, month));
+    }
+    LengthAnswer::Absent
 }
 
 // Whether a year has such a month and day.
-pub fn is_day(y: u32, m: u32, d: u32) -> bool
+fn is_day(y: u32, m: u32, d: u32) -> bool
     ensures { λ r. ⌜ r ≡ isDay y m d ⌝ }
 {
     if m < 1 {
@@ -254,15 +249,27 @@ pub fn ymd(d: Date) -> YmdAnswer
     })
 }
 
-// Monday is 0; 7 outside the range of dates.
-pub fn weekday(d: Date) -> u32
-    ensures { λ r. ⌜ r ≡ weekdayAt (d .0) ⌝ }
+// The day of the week; none outside the years -9999 to 9999.
+pub fn weekday(d: Date) -> WeekdayAnswer
+    ensures { λ r. ⌜ weekdayMeaning r ≡ weekdayAt (d .0) ⌝ }
 {
     let n = date_of_number(d.0);
     if n == 0 {
-        return 7;
+        return WeekdayAnswer::Absent;
     }
-    weekday_of(n)
+    WeekdayAnswer::Is(weekday_of(n))
+}
+
+// How many days b lies after a; 0 where it lies before.
+pub fn days_between(a: Date, b: Date) -> u32
+    ensures { λ r. ⌜ r ≡ daysBetween (a .0) (b .0) ⌝ }
+{
+    let from = raised(a.0);
+    let to = raised(b.0);
+    if to < from {
+        return 0;
+    }
+    (to - from) as u32
 }
 
 // ---- date texts

@@ -2,14 +2,15 @@
 use Prim.Native.Nat.{ℕ, _+_, _≤_, _<_}
 use native.Mathlib.Omega.{arith}
 use mathlib.Core.Path.{_≡_, sym, _∙_}
-use mathlib.Core.Bool.{true, false, _&&_}
+use mathlib.Core.Bool.{Bool, true, false, _&&_, _||_}
+use lib.Dec.{eqb}
+use Rattle.recurrence.specs.Scale.{dayIn}
 use borrow.Author.Tests.{le-leb}
-use Rattle.definition.specs.Base.{_or_, within}
-use Rattle.definition.specs.Date.{yearOf, monthOf, dayOf, dateAt, monthLength, lastDate}
-use Rattle.date.specs.Answer.{dateWithin, isDay}
-use Rattle.laws.specs.Calendar.{new-year-next, year-length, year-found, last-new-year, IsDay, is-day}
-use Rattle.recurrence.specs.Months.{monthAt, year-rises, IsMonth, dayIn, month-length}
-use Rattle.laws.specs.Bools.{both, within-is}
+use Rattle.definition.specs.Base.{if_then_else_, _or_, when, within}
+use Rattle.definition.specs.Date.{yearOf, monthOf, dayOf, dateAt, leap, monthLength, firstDate, lastDate}
+use Rattle.laws.specs.Calendar.{new-year-next, year-length, year-found, first-new-year, last-new-year, IsDay, is-day}
+use Rattle.recurrence.specs.Scale.{monthAt}
+use Rattle.recurrence.proofs.Months.{year-rises}
 
 end-year : yearOf (lastDate + 1) ≡ 20000
 end-year = year-found (lastDate + 1) 20000 (record { from = omega (arith, last-new-year); to = omega (arith, last-new-year, year-length 20000) })
@@ -29,27 +30,27 @@ month-bound d h = let i : IsDay (yearOf d) (monthOf d) (dayOf d) = is-day d in o
 pub month-last : (d : ℕ) → d ≤ lastDate → monthAt d < 240000
 month-last d h = let i : IsDay (yearOf d) (monthOf d) (dayOf d) = is-day d in omega (arith, year-last d h, i .high)
 
-pub date-within : (y m d : ℕ) → y ≤ 19999 → IsMonth m → 1 ≤ d → d ≤ 31 → dateWithin y m d ≡ dateAt y m d
-unfolding dateWithin
-date-within y m d h i a b = rw (le-leb y 20000 (omega arith), le-leb 1 m (i .0), le-leb m 12 (i .1), le-leb 1 d a, le-leb d 31 b)
+-- ---- from the first date on
 
-module _ (y m d : ℕ) (i : IsMonth m) where
-  day-is : isDay y m d ≡ within 1 (monthLength y m) d
-  unfolding isDay
-  day-is = rw (le-leb 1 m (i .0), le-leb m 12 (i .1))
+first-year : yearOf firstDate ≡ 1
+first-year = year-found firstDate 1 (record { from = omega (arith, first-new-year); to = omega (arith, first-new-year, year-length 1) })
 
-  pub day-yes : y ≤ 19999 → isDay y m d ≡ true → dateWithin y m d ≡ (dayIn y m d or 0)
-  unfolding dayIn
-  day-yes h e =
-      let w : within 1 (monthLength y m) d ≡ true = sym day-is ∙ e in
-      let b = within-is 1 (monthLength y m) d w in
-      rw w (date-within y m d h i (b .0) (omega (arith, month-length y m)))
+pub year-first : (d : ℕ) → firstDate ≤ d → 1 ≤ yearOf d
+year-first d h = omega (arith, year-rises firstDate d h, first-year)
 
-  pub day-no : isDay y m d ≡ false → 0 ≡ (dayIn y m d or 0)
-  unfolding dayIn
-  day-no e = let w : within 1 (monthLength y m) d ≡ false = sym day-is ∙ e in rw w
+pub month-first : (d : ℕ) → firstDate ≤ d → 12 ≤ monthAt d
+month-first d h = omega (arith, year-first d h)
 
-pub years-within : (y m : ℕ) → (within 1 19999 y && within 1 12 m) ≡ true → (y ≤ 19999) × IsMonth m
-years-within y m e =
-    let w = both (within 1 19999 y) (within 1 12 m) e in
-    (within-is 1 19999 y (w .0) .1, within-is 1 12 m (w .1))
+length-least : (y m : ℕ) → 1 ≤ monthLength y m
+unfolding monthLength
+length-least y m = by (eqb m 2) (leap y) (eqb m 4 || (eqb m 6 || (eqb m 9 || eqb m 11)))
+  where
+    by : (a b c : Bool) → 1 ≤ (if a then (if b then 29 else 28) else if c then 30 else 31)
+    by true true c = omega arith
+    by true false c = omega arith
+    by false b true = omega arith
+    by false b false = omega arith
+
+pub first-day : (y m : ℕ) → (dayIn y m 1 or 0) ≡ dateAt y m 1
+unfolding dayIn
+first-day y m = rw (le-leb 1 (monthLength y m) (length-least y m))

@@ -1,24 +1,17 @@
 -- What the fields of an element come to. Assumes nothing.
-use Prim.Native.Nat.{ℕ, _+_, _-_, _%_, _≤_, _<_}
+use Prim.Native.Nat.{ℕ, _+_, _-_, _%_, _^_, _≤_, _<_}
 use native.Mathlib.Omega.{arith}
-use mathlib.Core.Path.{_≡_, refl, _∙_}
+use mathlib.Core.Path.{_≡_}
 use mathlib.Core.Bool.{Bool, true, false}
-use mathlib.Core.List.{[]}
-use mathlib.Core.Option.{Option, some, none}
-use lib.IntN.{ℤ, pos, negsuc}
 use borrow.Author.Tests.{le-leb, lt-leb}
-use Rattle.definition.specs.Base.{_>>=_, _or_}
-use Rattle.definition.specs.Text.{Text, signedOf, signOf, digits}
-use Rattle.definition.specs.Date.{Date, firstDate, lastDate, dateOf, fromDays}
+use Rattle.definition.specs.Base.{_or_}
+use Rattle.definition.specs.Bits.{twos}
+use Rattle.definition.specs.Date.{Date, firstDate, lastDate}
 use Rattle.definition.specs.Recurrence.{century}
-use Rattle.definition.specs.Tree.{Element, textOf}
 use Rattle.text.specs.Answers.{signedMeans}
 use Rattle.text.specs.declared.Signed.{Signed}
 use Rattle.text.specs.declared.Signed.the-variants as signed
-use Rattle.definition.specs.Answer.{dayNumberOf, dateMeaning}
-use Rattle.definition.specs.declared.DateAnswer.{DateAnswer}
-use Rattle.recurrence.specs.Dates.{back, no-date}
-use Rattle.recurrence.specs.Reading.{wholeOf, dayOfText, dateBack, pickOf, maskOf, lastBy}
+use Rattle.recurrence.specs.Element.{pickOf, maskOf, lastBy}
 
 -- ---- numbers
 
@@ -39,44 +32,18 @@ module _ (a : Signed) (most below absent : ℕ) where
   unfolding pickOf
   pick-absent e = rw e
 
-pub pick-held : (o : Option ℤ) (most below absent n : ℕ) → n ≡ pickOf most below absent o → below ≤ most → absent ≤ most → n ≤ most
-unfolding pickOf
-pick-held none most below absent n e h k = omega arith
-pick-held (some (pos m)) most below absent n e h k = omega arith
-pick-held (some (negsuc m)) most below absent n e h k = omega arith
-
 module _ (a : Signed) where
   pub mask-up : (n : ℕ) → a ≡ signed.Up n → n % 128 ≡ maskOf (signedMeans a)
-  unfolding maskOf
+  unfolding maskOf twos
   mask-up n e = rw e
 
-  pub mask-down : (n : ℕ) → a ≡ signed.Down n → 127 - n % 128 ≡ maskOf (signedMeans a)
-  unfolding maskOf
-  mask-down n e = rw e
+  pub mask-down : (n : ℕ) → n < 2 ^ 64 → a ≡ signed.Down n → 127 - n % 128 ≡ maskOf (signedMeans a)
+  unfolding maskOf twos
+  mask-down n h e = rw e (omega arith)
 
   pub mask-absent : a ≡ signed.Absent → 0 ≡ maskOf (signedMeans a)
-  unfolding maskOf
+  unfolding maskOf twos
   mask-absent e = rw e
-
-no-whole : signedOf 64 [] ≡ none
-unfolding signedOf signOf digits
-no-whole = refl
-
-pub whole-text : (x : Element) (name : Text) → signedOf 64 (textOf x name or []) ≡ wholeOf x name
-whole-text x name = by (textOf x name)
-  where
-    by : (o : Option Text) → signedOf 64 (o or []) ≡ (o >>= signedOf 64)
-    by none = no-whole
-    by (some t) = refl
-
--- ---- dates
-
-pub date-text : (x : Element) (name : Text) (t : Text) (a : DateAnswer) → t ≡ (textOf x name or []) → dateMeaning a ≡ dayNumberOf (dateOf t) → dateBack a ≡ dayOfText x name
-date-text x name t a e m = rw (m, e) (by (textOf x name))
-  where
-    by : (o : Option Text) → (dayNumberOf (dateOf (o or [])) >>= fromDays) ≡ (o >>= dateOf)
-    by none = back [] ∙ no-date
-    by (some t) = back t
 
 -- ---- by occurrences
 

@@ -13,8 +13,9 @@ use borrow.Author.Tests.{ne-eqb, lt-ltb, le-ltb}
 use Rattle.definition.specs.Base.{if_then_else_, _or_, _orElse_, within, keep, count}
 use Rattle.definition.specs.Date.{weekday, sundayFirst, dateAt, monthLength}
 use Rattle.definition.specs.Recurrence.{itemFits, nthInMonth}
-use Rattle.recurrence.specs.Sequence.{keep-yes, keep-no, keep-none}
-use Rattle.recurrence.specs.Months.{lastOf, last-cons, last-none}
+use Rattle.recurrence.specs.Kind.{lastOf}
+use Rattle.recurrence.proofs.Months.{last-cons, last-none}
+use Rattle.recurrence.proofs.Runs.{keep-yes, keep-no, keep-none}
 
 -- ---- one day
 

@@ -1,5 +1,14 @@
-pub mod Items
+pub mod Runs
+pub mod Every
+pub mod Units
+pub mod Months
+pub mod Fits
+pub mod Dates
 pub mod Bounds
-pub mod Going
+pub mod Counts
+pub mod Items
 pub mod Types
+pub mod Going
+pub mod Rules
+pub mod Ranges
 pub mod Fields

@@ -1,9 +1,5 @@
+pub mod Scale
 pub mod Sequence
-pub mod Every
-pub mod Units
-pub mod Months
 pub mod Meaning
-pub mod Fits
-pub mod Dates
-pub mod Reading
-pub mod Steps
+pub mod Kind
+pub mod Element
