@@ -8,58 +8,32 @@ use mathlib.Core.List.{List, [], _∷_, _++_, flatMap}
 use mathlib.Core.Option.{Option, some, none}
 use lib.ListN.{length}
 use Rattle.definition.specs.Base.{if_then_else_, _>>=_, given, keep}
-use Rattle.definition.specs.Date.{Date}
 use Rattle.definition.specs.Tree.{Element}
 use Rattle.definition.specs.Recurrence as D
-use Rattle.definition.specs.Recurrence.{recurrenceDays}
+use Rattle.definition.specs.Recurrence.{recurrenceDays, ruleOf, daysOfRule}
 use Rattle.definition.specs.Calendar.{recurring, calendarElements, skipped}
-use Rattle.recurrence.specs.Meaning.{daysBy, toCome, said, meaning}
+use Rattle.recurrence.specs.Element.{ruleBy}
 use Rattle.recurrence.specs.declared.Rule.{Rule}
-use Rattle.recurrence.specs.declared.Cursor.{Cursor}
-use Rattle.recurrence.specs.declared.Step.{Step}
-use Rattle.recurrence.specs.declared.Step.the-variants.{Day, Done, Skipped}
+use Rattle.recurrence.specs.declared.RuleAnswer.{RuleAnswer}
 use Rattle.calendar.specs.Skipped.{oneIf, withoutRule, inAll}
 
--- ---- one exception: the step of a rule with no day left to come
+-- ---- one exception: whether it has a rule
 
--- where all days to come are none
-module _ (o : Option D.Rule) (g h : D.Rule → List Date) (z : (m : D.Rule) → g m ≡ []) where
-  none-day : (f : D.Rule → List Date) (x : Date) → ((o >>= λ m. some (f m)) >>= λ l. some (x ∷ l)) ≡ (o >>= λ m. some (g m)) → true ≡ not (given (o >>= λ m. some (h m)))
-  none-day f x e = by o e
-    where
-      by : (o : Option D.Rule) → ((o >>= λ m. some (f m)) >>= λ l. some (x ∷ l)) ≡ (o >>= λ m. some (g m)) → true ≡ not (given (o >>= λ m. some (h m)))
-      by none e = refl
-      by (some m) e = let k : some (x ∷ f m) ≡ some [] = e ∙ ap some (z m) in let i : _≡_ {A = ℕ} 0 1 = cc in absurd (omega arith)
+pub one-rule : (x : Element) (r : RuleAnswer) → r ≡ ruleBy (ruleOf x) → (m : Rule) → r ≡ RuleAnswer.Is m → 0 ≡ oneIf x
+unfolding recurrenceDays
+one-rule x r e m k = by (ruleOf x) (sym k ∙ e)
+  where
+    by : (o : Option D.Rule) → RuleAnswer.Is m ≡ ruleBy o → _≡_ {A = ℕ} 0 (if not (given (o >>= λ r. some (daysOfRule r))) then 1 else 0)
+    by none e = let i : _≡_ {A = ℕ} 0 1 = cc in absurd (omega arith)
+    by (some r) e = refl
 
-  none-done : some [] ≡ (o >>= λ m. some (g m)) → false ≡ not (given (o >>= λ m. some (h m)))
-  none-done e = by o e
-    where
-      by : (o : Option D.Rule) → some [] ≡ (o >>= λ m. some (g m)) → false ≡ not (given (o >>= λ m. some (h m)))
-      by none e = let i : _≡_ {A = ℕ} 0 1 = cc in absurd (omega arith)
-      by (some m) e = refl
-
-  none-skipped : none ≡ (o >>= λ m. some (g m)) → true ≡ not (given (o >>= λ m. some (h m)))
-  none-skipped e = by o e
-    where
-      by : (o : Option D.Rule) → none ≡ (o >>= λ m. some (g m)) → true ≡ not (given (o >>= λ m. some (h m)))
-      by none e = refl
-      by (some m) e = let i : _≡_ {A = ℕ} 0 1 = cc in absurd (omega arith)
-
-abbrev spent : Cursor
-spent = record { at = 0; left = 0 }
-
-module _ (r : Rule) (t : Step) (h : said r t ≡ toCome r spent) where
-  pub by-day : (x : ℕ) (c : Cursor) → t ≡ Day x c → true ≡ not (given (daysBy r))
-  unfolding said toCome daysBy
-  by-day x c e = none-day (meaning r) _ _ (λ m. refl) _ x (ap (said r) (sym e) ∙ h)
-
-  pub by-done : t ≡ Done → false ≡ not (given (daysBy r))
-  unfolding said toCome daysBy
-  by-done e = none-done (meaning r) _ _ (λ m. refl) (ap (said r) (sym e) ∙ h)
-
-  pub by-skipped : t ≡ Skipped → true ≡ not (given (daysBy r))
-  unfolding said toCome daysBy
-  by-skipped e = none-skipped (meaning r) _ _ (λ m. refl) (ap (said r) (sym e) ∙ h)
+pub no-rule : (x : Element) (r : RuleAnswer) → r ≡ ruleBy (ruleOf x) → r ≡ RuleAnswer.Absent → 1 ≡ oneIf x
+unfolding recurrenceDays
+no-rule x r e k = by (ruleOf x) (sym k ∙ e)
+  where
+    by : (o : Option D.Rule) → RuleAnswer.Absent ≡ ruleBy o → _≡_ {A = ℕ} 1 (if not (given (o >>= λ r. some (daysOfRule r))) then 1 else 0)
+    by none e = refl
+    by (some r) e = let i : _≡_ {A = ℕ} 0 1 = cc in absurd (omega arith)
 
 -- ---- sums, as so many bits hold them
 

@@ -17,7 +17,7 @@ use Rattle.definition.specs.Bits.{enc, dec}
 use Rattle.definition.specs.Date.{Date, weekday}
 use Rattle.definition.specs.Calendar.{works}
 use Rattle.definition.specs.Format.{bit as bitOf}
-use Rattle.calendar.specs.Week.{flagsIn, wordOf, replaced}
+use Rattle.calendar.specs.Week.{flagsIn, flagOn, wordOf, replaced}
 
 -- ---- seven places
 
@@ -45,8 +45,8 @@ pub no-flag : (w k : ℕ) → 6 < k → false ≡ getD (flagsIn w) k false
 no-flag w k h = sym (List·getD-eq-default (flagsIn w) false (omega (arith, seven w)))
 
 -- a day's flag; none outside the years
-pub works-is : (week : ℕ) (o : Option Date) → getD (flagsIn week) ((o >>= λ d. some (weekday d)) or 7) false ≡ (o >>= λ d. some (works (flagsIn week) d)) or false
-works-is week none = sym (no-flag week 7 (omega arith))
+pub works-is : (week : List Bool) (o : Option Date) → flagOn week (o >>= λ d. some (weekday d)) ≡ (o >>= λ d. some (works week d)) or false
+works-is week none = refl
 works-is week (some d) = refl
 
 pub set-past : {A : Type 0} (l : List A) (k : ℕ) (a : A) → length l ≤ k → l ≡ set l k a

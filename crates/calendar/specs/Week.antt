@@ -6,7 +6,7 @@ use mathlib.Core.List.{List, map}
 use mathlib.Core.Option.{Option, some, none}
 use lib.Dec.{eqb}
 use lib.IntN.{ℤ}
-use lib.ListN.{set}
+use lib.ListN.{getD, set}
 use Rattle.definition.specs.Base.{_>>=_, _or_, when, within}
 use Rattle.definition.specs.Date.{fromDays}
 use Rattle.definition.specs.Bits.{enc, dec}
@@ -47,6 +47,10 @@ weekOn place on week = (place >>= λ k. some (set week k on)) or week
 -- a week with what a WeekDay says
 abbrev pub weekWith : Element → List Bool → List Bool
 weekWith w week = weekOn (placeOf w) (yesIn w "DayWorking") week
+
+-- the flag of a weekday that may be missing
+abbrev pub flagOn : List Bool → Option ℕ → Bool
+flagOn week o = (o >>= λ k. some (getD week k false)) or false
 
 -- whether a week works on the day of a number
 abbrev pub worksOn : List Bool → ℤ → Bool

@@ -8,33 +8,19 @@ ghost use Rattle.definition.specs.Ascii.{bytes};
 ghost use Rattle.definition.specs.Tree.{all};
 ghost use Rattle.definition.specs.Recurrence.{recurrenceDays};
 ghost use Rattle.definition.specs.Calendar.{recurring, skipped as skippedIn};
-ghost use Rattle.recurrence.specs.Meaning.{daysBy};
 ghost use Rattle.tree.specs.Place.{elementAt, laterAt};
 ghost use Rattle.calendar.specs.Skipped.{withoutRule, inAll, oneIf};
-use recurrence::Cursor;
-use recurrence::Rule;
-use recurrence::Step;
+use recurrence::RuleAnswer;
 use tree::Found;
-
-// With no day left to come a rule is done at once.
-fn is_none(r: Rule) -> bool
-    ensures { λ b. ⌜ b ≡ not (given (daysBy r)) ⌝ }
-{
-    match recurrence::next(r, Cursor { at: 0, left: 0 }) {
-        Step::Day(_, _) => true,
-        Step::Done => false,
-        Step::Skipped => true,
-    }
-}
 
 // 1 for an Exception that gives no rule.
 fn one_if(s: &[u8], at: usize) -> u32
     ensures { λ r. ⌜ r ≡ oneIf (elementAt (now (s .entry)) at) ⌝ }
 {
-    if is_none(recurrence::rule_of(s, at)) {
-        return 1;
+    match recurrence::rule_of(s, at) {
+        RuleAnswer::Is(_) => 0,
+        RuleAnswer::Absent => 1,
     }
-    0
 }
 
 // How many of an Exception and its later siblings.

@@ -13,8 +13,10 @@ ghost use Rattle.definition.specs.Format.{bit as bitOf};
 ghost use Rattle.definition.specs.Tree.{all};
 ghost use Rattle.definition.specs.Calendar.{dayType, placeOf, weekDays, weekBy};
 ghost use Rattle.text.specs.Answers.{u64Of};
+ghost use Rattle.date.specs.Answer.{weekdayMeaning};
 ghost use Rattle.tree.specs.Place.{elementAt, laterAt};
-ghost use Rattle.calendar.specs.Week.{placeMeaning, placeBy, flagsIn, wordOf, replaced, weekOn, weekWith, worksOn};
+ghost use Rattle.calendar.specs.Week.{placeMeaning, placeBy, flagsIn, wordOf, replaced, weekOn, weekWith, flagOn, worksOn};
+use date::WeekdayAnswer;
 use definition::Date;
 use text::U64Answer;
 use tree::Found;
@@ -181,9 +183,18 @@ pub fn week_of(s: &[u8], at: usize, base: u32) -> u32
     low(week_under(s, at, base), 7)
 }
 
+fn works_at(week: u32, weekday: WeekdayAnswer) -> bool
+    ensures { λ r. ⌜ r ≡ flagOn (flagsIn week) (weekdayMeaning weekday) ⌝ }
+{
+    match weekday {
+        WeekdayAnswer::Is(k) => flag_at(week, k),
+        WeekdayAnswer::Absent => false,
+    }
+}
+
 // Whether a week works on a day; on no day outside the years.
 pub fn works(week: u32, day: Date) -> bool
     ensures { λ r. ⌜ r ≡ worksOn (flagsIn week) (day .0) ⌝ }
 {
-    flag_at(week, date::weekday(day))
+    works_at(week, date::weekday(day))
 }

@@ -21,6 +21,7 @@ ghost use Rattle.day_sheet.specs.Days.{exceptions, weekdayOn, isOn, List
 ghost use Rattle.day_sheet.specs.Answer.{start, Finished, leaves, leftBy};
 use bits::PAST;
 use bits::Place;
+use date::WeekdayAnswer;
 use definition::Date;
 use definition::DateAnswer;
 use model::Opened;
@@ -47,7 +48,10 @@ pub enum SheetAnswer {
 fn weekday_of(day: Date) -> u32
     ensures { λ r. ⌜ r ≡ weekdayOn (day .0) ⌝ }
 {
-    date::weekday(day)
+    match date::weekday(day) {
+        WeekdayAnswer::Is(w) => w,
+        WeekdayAnswer::Absent => 7,
+    }
 }
 
 // Whether a date that was taken is a day.

@@ -1,9 +1,4 @@
-use mathlib.Core.Path.{_≡_, sym, ap, _∙_}
-use mathlib.Core.Bool.{Bool, not}
-use mathlib.Core.List.{List}
-use mathlib.Core.Option.{Option}
-use Rattle.definition.specs.Base.{if_then_else_, given}
-use Rattle.definition.specs.Date.{Date}
+use Rattle.calendar.proofs.Counts.{one-rule, no-rule}
 use borrow.Author.Needs.{needs}
 use Rattle.calendar.proofs.exception.one_if.Statement.{statement}
 use Rattle.calendar.proofs.exception.one_if.Tie as tie
@@ -11,18 +6,17 @@ use Rattle.calendar.proofs.exception.one_if.Tie as tie
 rule-of-requires : tie.Need-rule-of-requires
 rule-of-requires c κs = search needs
 
-is-none-requires : tie.Need-is-none-requires
-is-none-requires c κs = search needs
+enum-told : tie.Need-enum-told
+enum-told c = search needs
+
+enum-told-2 : tie.Need-enum-told-2
+enum-told-2 c = search needs
 
 returns : tie.Need-returns
-returns c =
-    let r = c .before .before in
-    sym (ap (λ (b : Bool). if b then 1 else 0) (sym (ap (λ (o : Option (List Date)). not (given o)) (r .rule-of .ensures)) ∙ sym (c .before .is-none .ensures) ∙ c .if1 .taken))
+returns c = one-rule _ _ (c .before .before .rule-of .ensures .is) _ (c .enum-told .given .1)
 
 returns-2 : tie.Need-returns-2
-returns-2 c =
-    let r = c .before .before in
-    sym (ap (λ (b : Bool). if b then 1 else 0) (sym (ap (λ (o : Option (List Date)). not (given o)) (r .rule-of .ensures)) ∙ sym (c .before .is-none .ensures) ∙ c .if1 .left))
+returns-2 c = no-rule _ _ (c .before .before .rule-of .ensures .is) (c .enum-told2 .given .1)
 
 pub one-if-spec : {M : Type 1} → statement M
-one-if-spec = tie.close (tie.spec rule-of-requires is-none-requires returns returns-2)
+one-if-spec = tie.close (tie.spec rule-of-requires enum-told enum-told-2 returns returns-2)
