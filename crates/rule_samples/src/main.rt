@@ -4,8 +4,10 @@
 ghost use mathlib.Core.Path.{_≡_};
 ghost use Prim.Native.Nat.{_+_, _*_, _<_, _≤_};
 ghost use lib.ListN.{length};
+use definition::Date;
 use recurrence::Cursor;
 use recurrence::Rule;
+use recurrence::RuleAnswer;
 use recurrence::Step;
 
 fn join(n: usize, b: u8) -> usize
@@ -34,51 +36,56 @@ fn record_length(s: &[u8]) -> usize
 
 // The days so far: how many, and their checksum.
 struct Sum {
-    at: u32,
+    at: Date,
     left: u32,
     days: usize,
     check: usize,
 }
 
-fn with_day(check: usize, d: u32) -> usize {
-    (check % 4294967296 * 31 + d as usize) % 4294967291
+// Days are counted from 1 January of the year -10000.
+fn with_day(check: usize, d: Date) -> usize {
+    let n = date::days_between(Date(-4371953), d);
+    (check % 4294967296 * 31 + n as usize) % 4294967291
+}
+
+fn skipped() -> Sum {
+    Sum {
+        at: Date(0),
+        left: 0,
+        days: 4294967295,
+        check: 0,
+    }
 }
 
 // One day more, if there is one.
 fn next_sum(r: Rule, t: Sum) -> Sum {
-    match recurrence::next(
-        r,
-        Cursor {
-            at: t.at,
-            left: t.left,
-        },
-    ) {
-        Step::Day(d, c) => Sum {
-            at: c.at,
-            left: c.left,
-            days: t.days % 65536 + 1,
-            check: with_day(t.check, d),
-        },
+    let at = t.at;
+    match recurrence::next(r, Cursor { at, left: t.left }) {
+        Step::Day(d, c) => {
+            let to = c.at;
+            Sum {
+                at: to,
+                left: c.left,
+                days: t.days % 65536 + 1,
+                check: with_day(t.check, d),
+            }
+        }
         Step::Done => Sum {
-            at: t.at,
+            at,
             left: 0,
             days: t.days,
             check: t.check,
         },
-        Step::Skipped => Sum {
-            at: 0,
-            left: 0,
-            days: 4294967295,
-            check: 0,
-        },
+        Step::Skipped => skipped(),
     }
 }
 
 // No rule has more than 5,000 days.
 fn sum_of(r: Rule) -> Sum {
     let c = recurrence::start(r);
+    let at = c.at;
     let mut t = Sum {
-        at: c.at,
+        at,
         left: c.left,
         days: 0,
         check: 0,
@@ -91,11 +98,18 @@ fn sum_of(r: Rule) -> Sum {
     t
 }
 
+fn sum_by(a: RuleAnswer) -> Sum {
+    match a {
+        RuleAnswer::Is(r) => sum_of(r),
+        RuleAnswer::Absent => skipped(),
+    }
+}
+
 // Whether the days of the record's rule are as it says.
 fn record_agrees(s: &[u8]) -> bool {
     let to = 4 + number(s);
     if to + 8 <= s.len() {
-        let t = sum_of(recurrence::rule_of(&s[4..to], 0));
+        let t = sum_by(recurrence::rule_of(&s[4..to], 0));
         return (t.days == number(&s[to..])) & (t.check == number(&s[to + 4..]));
     }
     false
