@@ -1,8 +1,6 @@
 -- A date as ISO 8601 writes it, in bytes. Assumes nothing: these are definitions.
-use Prim.Native.Nat.{ℕ, _+_, _-_, _/_, _%_}
+use Prim.Native.Nat.{ℕ, _+_, _/_, _%_}
 use mathlib.Core.List.{List, [], _∷_}
-use lib.Dec.{ltb}
-use Rattle.definition.specs.Base.{if_then_else_}
 
 -- the last decimal digit
 abbrev pub digitOf : ℕ → ℕ
@@ -12,7 +10,3 @@ abbrev pub isoOf : ℕ → ℕ → ℕ → List ℕ
 isoOf y m d =
     digitOf (y / 1000) ∷ digitOf (y / 100) ∷ digitOf (y / 10) ∷ digitOf y ∷ 45 ∷ digitOf (m / 10) ∷ digitOf m ∷ 45 ∷ digitOf (d / 10) ∷
     digitOf d ∷ []
-
--- a year without its sign, where it is counted from the year -10000
-abbrev pub magnitude : ℕ → ℕ
-magnitude y = if ltb y 10000 then 10000 - y else y - 10000

@@ -1,11 +1,17 @@
 // What a rule means: a packed tree whose root is an Exception on standard input, its days on standard output, an ISO date and its weekday
 // a line, or the line `skipped`. On a tree that breaks the layout, is not UTF-8, has another root or more than 65,536 bytes: nothing.
 ghost use mathlib.Core.Path.{_≡_};
-ghost use Rattle.exception_days.specs.Line.{digitOf, isoOf, magnitude};
+ghost use lib.IntN.{natAbs};
+ghost use Rattle.exception_days.specs.Line.{digitOf, isoOf};
+use date::WeekdayAnswer;
+use date::YmdAnswer;
+use definition::Date;
+use definition::Ymd;
 use libc::STDIN_FILENO;
 use libc::STDOUT_FILENO;
 use recurrence::Cursor;
 use recurrence::Rule;
+use recurrence::RuleAnswer;
 use recurrence::Step;
 
 fn digit(n: u32) -> u8
@@ -34,15 +40,18 @@ fn iso(y: u32, m: u32, d: u32) -> [u8; 10]
     ]
 }
 
-// A year without its sign; years are counted from the year -10000.
-fn unsigned_year(y: u32) -> u32
-    ensures { λ r. ⌜ r ≡ magnitude y ⌝ }
+// A year without its sign.
+fn unsigned_year(y: i32) -> u32
+    ensures { λ r. ⌜ r ≡ natAbs y ⌝ }
 {
-    if y < 10000 { 10000 - y } else { y - 10000 }
+    if y < 0 {
+        return (!y as u32) + 1;
+    }
+    y as u32
 }
 
-fn put_sign(y: u32) {
-    if y < 10000 {
+fn put_sign(y: i32) {
+    if y < 0 {
         io::write_all(STDOUT_FILENO, b"-");
     }
 }
@@ -60,26 +69,40 @@ fn put_weekday(w: u32) {
     ;
 }
 
-fn put_day(d: u32) {
-    let c = date::civil_of(d);
+fn put_ymd(c: Ymd) {
     put_sign(c.year);
     let text = iso(unsigned_year(c.year), c.month, c.day);
     io::write_all(STDOUT_FILENO, &text);
-    put_weekday(date::weekday_of(d));
 }
 
-// Writes the next day, or `skipped`; none is left after the last.
+fn put_day(d: Date) {
+    if let YmdAnswer::Is(c) = date::ymd(d) {
+        put_ymd(c);
+    }
+    if let WeekdayAnswer::Is(w) = date::weekday(d) {
+        put_weekday(w);
+    }
+}
+
+fn put_skipped() {
+    io::write_all(STDOUT_FILENO, b"skipped\n");
+}
+
+// Writes the next day; none is left after the last.
 fn put_next(r: Rule, c: Cursor) -> Cursor {
     match recurrence::next(r, c) {
         Step::Day(d, after) => {
             put_day(d);
             after
         }
-        Step::Done => Cursor { at: 0, left: 0 },
-        Step::Skipped => {
-            io::write_all(STDOUT_FILENO, b"skipped\n");
-            Cursor { at: 0, left: 0 }
-        }
+        Step::Done => Cursor {
+            at: Date(0),
+            left: 0,
+        },
+        Step::Skipped => Cursor {
+            at: Date(0),
+            left: 0,
+        },
     }
 }
 
@@ -105,7 +128,10 @@ fn put_tree(s: &[u8]) {
         return;
     }
     if tree::name_is(s, 0, b"Exception") {
-        put_days(recurrence::rule_of(s, 0));
+        match recurrence::rule_of(s, 0) {
+            RuleAnswer::Is(r) => put_days(r),
+            RuleAnswer::Absent => put_skipped(),
+        }
     }
 }
 

@@ -1,0 +1,23 @@
+use native.Mathlib.Omega.{arith}
+use Rattle.date.proofs.Signs.{minus-fits, minus-cast, minus-back}
+use borrow.Author.Needs.{needs}
+use Rattle.probe.proofs.days.lowered.Statement.{statement}
+use Rattle.probe.proofs.days.lowered.Tie as tie
+
+cast-result : tie.Need-cast-result
+cast-result c = search needs
+
+cast-result-2 : tie.Need-cast-result-2
+cast-result-2 c = search needs
+
+sub-result : tie.Need-sub-result
+sub-result c = minus-fits (c .args .n) (c .args .by) (omega arith) (omega arith)
+
+cast-result-3 : tie.Need-cast-result-3
+cast-result-3 c = minus-cast (c .args .n) (c .args .by) (omega arith) (omega arith)
+
+returns : tie.Need-returns
+returns c = minus-back (c .args .n) (c .args .by) (omega arith) (omega arith)
+
+pub lowered-spec : {M : Type 1} → statement M
+lowered-spec = tie.close (tie.spec cast-result cast-result-2 sub-result cast-result-3 returns)
