@@ -1,8 +1,10 @@
 // A rule and its days: how many there are, FFFFFFFF where it is skipped (four bytes), a checksum of them (four bytes), and the tree, whose
 // root is an Exception. The checksum goes on by check * 31 + day modulo 4294967291, a day being counted from 1 January of the year -9999.
 use crate::parts;
+use definition::Date;
 use recurrence::Cursor;
 use recurrence::Rule;
+use recurrence::RuleAnswer;
 use recurrence::Step;
 
 // The days so far.
@@ -13,12 +15,9 @@ struct Sum {
     done: bool,
 }
 
-// A day, given as counted from the year -10000.
-fn from_first(d: u32) -> u64 {
-    if d < 366 {
-        return 0;
-    }
-    (d - 366) as u64
+// 1 January of the year -9999 is 0.
+fn from_first(d: Date) -> u64 {
+    date::days_between(Date(-4371587), d) as u64
 }
 
 fn with_day(check: u64, day: u64) -> u64 {
@@ -77,6 +76,8 @@ fn rule_agrees(r: Rule, days: u64, check: u64) -> bool {
 pub fn agrees(body: &[u8]) -> bool {
     let days = parts::number(body) as u64;
     let check = parts::number(parts::behind(body, 4)) as u64;
-    let r = recurrence::rule_of(parts::behind(body, 8), 0);
-    rule_agrees(r, days, check)
+    match recurrence::rule_of(parts::behind(body, 8), 0) {
+        RuleAnswer::Is(r) => rule_agrees(r, days, check),
+        RuleAnswer::Absent => (days == 4294967295) & (check == 0),
+    }
 }
