@@ -1,4 +1,5 @@
-// The parts of records of a model that was opened: where they stand, and what they are. No text is tested again.
+// The parts of records: where they stand, and what they are. In a model that was opened no text is tested again; a function with `check` tests
+// where that says so.
 ghost use mathlib.Core.Path.{_≡_};
 ghost use mathlib.Core.Bool.{false};
 ghost use Rattle.definition.specs.Base.{given};
@@ -235,7 +236,7 @@ pub fn activity_calendar_place(s: &[u8], p: Place) -> Place
 }
 
 // The name of a resource's calendar. The texts before it are tested where `check` says so.
-pub fn resource_calendar_place_by(s: &[u8], p: Place, check: bool) -> Place
+pub(crate) fn resource_calendar_place_by(s: &[u8], p: Place, check: bool) -> Place
     ensures { λ r. ⌜ Passes (resourceHead (textBy check)) (now (s .entry)) p r ⌝ }
 {
     let a = skip_text(s, p, check);
@@ -249,13 +250,6 @@ pub fn resource_calendar_place(s: &[u8], p: Place) -> Place
     ensures { λ r. ⌜ Passes (resourceHead (textBy false)) (now (s .entry)) p r ⌝ }
 {
     resource_calendar_place_by(s, p, false)
-}
-
-// An expense's name, behind its activity's row.
-pub fn expense_name_place(s: &[u8], p: Place) -> Place
-    ensures { λ r. ⌜ Passes row (now (s .entry)) p r ⌝ }
-{
-    skip(s, p, 32)
 }
 
 // A calendar's parts.

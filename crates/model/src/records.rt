@@ -20,7 +20,7 @@ use crate::parts::parent_place_by;
 use crate::parts::resource_calendar_place_by;
 use bits::Place;
 
-pub fn skip_project(s: &[u8], p: Place) -> Place
+pub(crate) fn skip_project(s: &[u8], p: Place) -> Place
     ensures { λ r. ⌜ Passes (whole project) (now (s .entry)) p r × (r .bit % 8 ≡ 0) ⌝ }
 {
     let a = skip_text(s, p, true);

@@ -51,7 +51,14 @@ fn has_key(s: &[u8], p: Place, kind: Kind, row: u64, name: &[u8]) -> bool
 }
 
 // Whether one of so many records from a place on has a key.
-pub fn some_has_key(s: &[u8], p: Place, kind: Kind, count: u32, row: u64, name: &[u8]) -> bool
+pub(crate) fn some_has_key(
+    s: &[u8],
+    p: Place,
+    kind: Kind,
+    count: u32,
+    row: u64,
+    name: &[u8],
+) -> bool
     ensures { λ r. ⌜ ((key : Item kind → Key) → Keyed kind (now (s .entry)) key → (xs : List (Item kind)) (end : ℕ) → Run kind (now (s .entry)) p count xs end → r ≡ some? (λ (x : Item kind). sameKey (row, now (name .entry)) (key x)) xs) ⌝ }
 {
     let mut q = p;
@@ -75,7 +82,7 @@ fn is_repeated(s: &[u8], p: Place, kind: Kind, next: Place, count: u32) -> bool
 }
 
 // Whether no two records of a section have the same key.
-pub fn distinct(s: &[u8], kind: Kind, x: Section) -> bool
+pub(crate) fn distinct(s: &[u8], kind: Kind, x: Section) -> bool
     ensures { λ r. ⌜ ((key : Item kind → Key) → Keyed kind (now (s .entry)) key → (xs : List (Item kind)) (end : ℕ) → Holds (formatOf kind) (now (s .entry)) x xs end → r ≡ distinct (λ (x y : Item kind). sameKey (key x) (key y)) xs) ⌝ }
 {
     let count = x.count;

@@ -110,7 +110,7 @@ fn is_right(s: &[u8], p: Place, kind: Kind, own: u32, w: Sections) -> bool
 }
 
 // Whether each record of a section keeps its rules.
-pub fn every_right(s: &[u8], kind: Kind, x: Section, w: Sections) -> bool
+pub(crate) fn every_right(s: &[u8], kind: Kind, x: Section, w: Sections) -> bool
     ensures { λ r. ⌜ ((m : Model) → Decoded (now (s .entry)) m w → (xs : List (Item kind)) (end : ℕ) → Holds (formatOf kind) (now (s .entry)) x xs end → r ≡ every? (rightOf m kind) (numbered 0 xs)) ⌝ }
 {
     let count = x.count;

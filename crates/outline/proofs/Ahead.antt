@@ -16,7 +16,7 @@ use Rattle.definition.specs.Refusal.{rowWords}
 use Rattle.laws.specs.Outlines.{no-levels, parent-in, outline-length}
 use Rattle.outline.specs.Words.{noRow}
 use Rattle.outline.specs.declared.Visit.{Visit}
-use Rattle.outline.specs.Steps.{wordOf, homeOf, fellow, siblings, later, Links, climbOf, stepOf}
+use Rattle.outline.specs.Steps.{wordOf, homeOf, sameParent, siblings, later, Links, climbOf, stepOf}
 
 -- ---- the rows of one parent
 
@@ -45,11 +45,11 @@ unfolding first
 first-none [] h = refl
 first-none (x ∷ l) h = let z : _≡_ {A = ℕ} 0 1 = cc in absurd (omega arith)
 
-pub fellow-same : (o u : Option ℕ) → fellow o u ≡ true → u ≡ o
-fellow-same none none h = refl
-fellow-same none (some q) h = let z : _≡_ {A = ℕ} 0 1 = cc in absurd (omega arith)
-fellow-same (some p) none h = let z : _≡_ {A = ℕ} 0 1 = cc in absurd (omega arith)
-fellow-same (some p) (some q) h = ap some (eqb-true q p h)
+pub same-parent : (o u : Option ℕ) → sameParent o u ≡ true → u ≡ o
+same-parent none none h = refl
+same-parent none (some q) h = let z : _≡_ {A = ℕ} 0 1 = cc in absurd (omega arith)
+same-parent (some p) none h = let z : _≡_ {A = ℕ} 0 1 = cc in absurd (omega arith)
+same-parent (some p) (some q) h = ap some (eqb-true q p h)
 
 module _ (ps : List (Option ℕ)) where
   record Head (o : Option ℕ) (a c : ℕ) : Type 0 where
@@ -60,9 +60,9 @@ module _ (ps : List (Option ℕ)) where
   headed : (o : Option ℕ) (a c : ℕ) → a ≤ length ps → first (siblings ps o a) ≡ some c → Head o a c
   unfolding siblings
   headed o a c l h =
-      let f : Found (λ c. fellow o (parentAt ps c)) (length ps) a c (siblings ps o a) =
-      found (λ c. fellow o (parentAt ps c)) (length ps) c (length ps - a) a (omega arith) h in
-      let q : parentAt ps c ≡ o = fellow-same o (parentAt ps c) (f .passes) in
+      let f : Found (λ c. sameParent o (parentAt ps c)) (length ps) a c (siblings ps o a) =
+      found (λ c. sameParent o (parentAt ps c)) (length ps) c (length ps - a) a (omega arith) h in
+      let q : parentAt ps c ≡ o = same-parent o (parentAt ps c) (f .passes) in
       record { parent = q; high = f .high; cut = f .cut ∙ ap (λ (u : Option ℕ). c ∷ siblings ps u (suc c)) (sym q) }
 
   -- ---- what stands ahead
@@ -95,13 +95,13 @@ module _ (ps : List (Option ℕ)) where
       let e : length ps - d ≡ suc (length ps - suc d) = omega arith in
       let z : length ps ≡ length ps - 0 = omega arith in
       ap (λ (k : ℕ). under k ps (suc d) r ++ rest (suc d) r) e
-      ∙ ap (λ (m : ℕ). (r, suc d) ∷ (all (suc d) (keep (λ c. fellow (some r) (parentAt ps c)) (count 0 m)) ++ rest (suc d) r)) z
+      ∙ ap (λ (m : ℕ). (r, suc d) ∷ (all (suc d) (keep (λ c. sameParent (some r) (parentAt ps c)) (count 0 m)) ++ rest (suc d) r)) z
 
   open-top : outlineOf ps ≡ all 0 (siblings ps none 0) ++ rest 0 0
   unfolding outlineOf topRows siblings rest
   open-top =
       let z : length ps ≡ length ps - 0 = omega arith in
-      ap (λ (m : ℕ). flatMap (under m ps 1) (keep (λ c. fellow none (parentAt ps c)) (count 0 m))) z
+      ap (λ (m : ℕ). flatMap (under m ps 1) (keep (λ c. sameParent none (parentAt ps c)) (count 0 m))) z
       ∙ sym (append-nil (all 0 (siblings ps none 0)))
 
 -- ---- the walk's words

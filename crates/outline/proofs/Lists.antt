@@ -14,8 +14,8 @@ use Rattle.definition.specs.Outline.{parentIn, parentAt}
 use Rattle.laws.specs.Outlines.{parent-in}
 use Rattle.outline.specs.Words.{noRow, parentsIn}
 use Rattle.outline.proofs.ParentLaws.{length-parents, parents-at}
-use Rattle.outline.specs.Steps.{wordOf, homeOf, slotOf, fellow, siblings, later, Links, pushed, linkOf, Empty}
-use Rattle.outline.proofs.Ahead.{fellow-same}
+use Rattle.outline.specs.Steps.{wordOf, homeOf, slotOf, sameParent, siblings, later, Links, pushed, linkOf, Empty}
+use Rattle.outline.proofs.Ahead.{same-parent}
 
 -- ---- one row put into its list
 
@@ -89,22 +89,22 @@ unfolding keep
 keep-false p x l h = rw h
 
 module _ (ps : List (Option ℕ)) (o : Option ℕ) (i : ℕ) (h : i < length ps) where
-  siblings-open : siblings ps o i ≡ keep (λ c. fellow o (parentAt ps c)) (i ∷ count (suc i) (length ps - suc i))
+  siblings-open : siblings ps o i ≡ keep (λ c. sameParent o (parentAt ps c)) (i ∷ count (suc i) (length ps - suc i))
   unfolding siblings count
   siblings-open =
       let e : length ps - i ≡ suc (length ps - suc i) = omega arith in
-      ap (λ (m : ℕ). keep (λ c. fellow o (parentAt ps c)) (count i m)) e
+      ap (λ (m : ℕ). keep (λ c. sameParent o (parentAt ps c)) (count i m)) e
 
-  siblings-more : fellow o (parentAt ps i) ≡ true → siblings ps o i ≡ i ∷ siblings ps o (suc i)
+  siblings-more : sameParent o (parentAt ps i) ≡ true → siblings ps o i ≡ i ∷ siblings ps o (suc i)
   unfolding siblings
-  siblings-more t = siblings-open ∙ keep-true (λ c. fellow o (parentAt ps c)) i (count (suc i) (length ps - suc i)) t
+  siblings-more t = siblings-open ∙ keep-true (λ c. sameParent o (parentAt ps c)) i (count (suc i) (length ps - suc i)) t
 
-  siblings-skip : fellow o (parentAt ps i) ≡ false → siblings ps o i ≡ siblings ps o (suc i)
+  siblings-skip : sameParent o (parentAt ps i) ≡ false → siblings ps o i ≡ siblings ps o (suc i)
   unfolding siblings
-  siblings-skip t = siblings-open ∙ keep-false (λ c. fellow o (parentAt ps c)) i (count (suc i) (length ps - suc i)) t
+  siblings-skip t = siblings-open ∙ keep-false (λ c. sameParent o (parentAt ps c)) i (count (suc i) (length ps - suc i)) t
 
 -- two lists begin at one word only where they are one
-slot-same : (o u : Option ℕ) → 4 * homeOf o + slotOf o ≡ 4 * homeOf u + slotOf u → fellow o u ≡ true
+slot-same : (o u : Option ℕ) → 4 * homeOf o + slotOf o ≡ 4 * homeOf u + slotOf u → sameParent o u ≡ true
 slot-same none none h = refl
 slot-same none (some q) h = absurd (omega arith)
 slot-same (some p) none h = absurd (omega arith)
@@ -145,10 +145,10 @@ module _ (ps : List (Option ℕ)) (i : ℕ) (w : List ℕ) (h : i < length ps) (
       (λ q. d (omega arith))
       (λ q. omega (arith, isOdd))
 
-  head-at : (o : Option ℕ) (t : Bool) → fellow o (parentAt ps i) ≡ t → homeOf o < length ps → getD linked (4 * homeOf o + slotOf o) 0 ≡ wordOf (first (siblings ps o i))
+  head-at : (o : Option ℕ) (t : Bool) → sameParent o (parentAt ps i) ≡ t → homeOf o < length ps → getD linked (4 * homeOf o + slotOf o) 0 ≡ wordOf (first (siblings ps o i))
   unfolding first
   head-at o true t l =
-      let e : parentAt ps i ≡ o = fellow-same o (parentAt ps i) t in
+      let e : parentAt ps i ≡ o = same-parent o (parentAt ps i) t in
       ap (λ (u : Option ℕ). getD linked (4 * homeOf u + slotOf u) 0) (sym e)
       ∙ its-list w i (homeOf (parentAt ps i)) (slotOf (parentAt ps i)) half isOdd (omega (arith, home-in, slot-in (parentAt ps i)))
       ∙ ap (λ (l : List ℕ). wordOf (first l)) (sym (siblings-more ps o i h t))
@@ -185,7 +185,7 @@ module _ (ps : List (Option ℕ)) (i : ℕ) (w : List ℕ) (h : i < length ps) (
             ap (λ (x : ℕ). parentIn (length ps) r (some x)) (same r 0 (λ e. omega arith) 0 (refl, omega arith)) ∙ links .named r (omega arith);
         home = λ r l m. home-at r (eqb r i) refl l m;
         next = λ r l m. next-at r (eqb r i) refl l m;
-        head = λ o l. head-at o (fellow o (parentAt ps i)) refl l;
+        head = λ o l. head-at o (sameParent o (parentAt ps i)) refl l;
       }
 
   pub link-more : Links ps i (linkOf (length ps) i w)
@@ -257,7 +257,7 @@ links-none n w u e =
     none-left : (o : Option ℕ) → siblings (parentsIn n w) o n ≡ []
     none-left o =
         let z : length (parentsIn n w) - n ≡ 0 = omega (arith, length-parents n w) in
-        ap (λ (m : ℕ). keep (λ c. fellow o (parentAt (parentsIn n w) c)) (count n m)) z
+        ap (λ (m : ℕ). keep (λ c. sameParent o (parentAt (parentsIn n w) c)) (count n m)) z
 
     begins : (o : Option ℕ) → homeOf o < length (parentsIn n w) → getD u (4 * homeOf o + slotOf o) 0 ≡ wordOf (first [])
     begins none h = e .top (omega (arith, length-parents n w))

@@ -26,7 +26,7 @@ use Rattle.outline.specs.declared.OutlineAnswer.{OutlineAnswer}
 use Rattle.outline.specs.declared.OutlineAnswer.the-variants as answer
 use Rattle.outline.specs.Words.{noRow, parentsIn, outlineWords, Outlined}
 use Rattle.outline.proofs.ParentLaws.{outline-filled}
-use Rattle.outline.specs.Filled.{parents, Names, Walked}
+use Rattle.outline.specs.Filled.{parents, Names, ModelWalked}
 use Rattle.outline.specs.Answers.{refusalOf, countOf, Gives}
 
 or-right : (a b : Bool) → (a || b) ≡ false → b ≡ false
@@ -41,7 +41,7 @@ record Filled (s : List ℕ) (x : Section) (w w′ : List ℕ) : Type 0 where
   names : (xs : List Activity) (next : ℕ) → Holds activity s x xs next → 4 * x .count ≤ length w → Names xs (x .count) w′
 
 -- the sections that come of the walk
-module _ {s : List ℕ} {n : Counts} {w : Places} {work work₁ : List ℕ} (c : (countsIn n, n .next) ≡ countsAt s start) (k : Walked s n work work₁ w) {o : Opened} (e : o ≡ sectionsBy (length s) n w) where
+module _ {s : List ℕ} {n : Counts} {w : Places} {work work₁ : List ℕ} (c : (countsIn n, n .next) ≡ countsAt s start) (k : ModelWalked s n work work₁ w) {o : Opened} (e : o ≡ sectionsBy (length s) n w) where
   opened-by : Opens s o
   opened-by = rw e (opened c (k .walks))
 
@@ -97,7 +97,7 @@ zeros work₁ l g = g ∙ cleared-all work₁ ∙ ap (λ (n : ℕ). replicate n 
 same-short : (n rows : ℕ) {a b : ℕ} {short t : Bool} → a ≡ b → short ≡ isShort n rows a → short ≡ t → isShort n rows b ≡ t
 same-short n rows l e u = sym (e ∙ ap (isShort n rows) l) ∙ u
 
-module _ {s rows work work₁ : List ℕ} {n : Counts} {w : Places} (c : (countsIn n, n .next) ≡ countsAt s start) (k : Walked s n work work₁ w) {o : Opened} (b : o ≡ sectionsBy (length s) n w) where
+module _ {s rows work work₁ : List ℕ} {n : Counts} {w : Places} (c : (countsIn n, n .next) ≡ countsAt s start) (k : ModelWalked s n work work₁ w) {o : Opened} (b : o ≡ sectionsBy (length s) n w) where
   module _ {m : Sections} (ok : o ≡ Opened.Model m) {short : Bool} (e : short ≡ isShort (m .activities .count) (length rows) (length work₁)) where
     pub gives-rows : short ≡ false → {rows′ work′ : List ℕ} {r : ℕ}
         → Outlined (m .activities .count) rows work₁ rows′ work′ r → Gives s rows work rows′ work′ (answer.Rows r)

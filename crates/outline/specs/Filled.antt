@@ -40,6 +40,6 @@ pub record Filled (s : List ℕ) (p : Place) (n : ℕ) (w w′ : List ℕ) (r : 
   pub names : (xs : List Activity) (next : ℕ) → Holds activity s (record { count = n; at = p .byte }) xs next → p ≡ byteAt (p .byte) → 4 * n ≤ length w → Names xs n w′
 
 -- the walk over the sections, with the activities' parents in the words
-pub record Walked (s : List ℕ) (n : Counts) (w w′ : List ℕ) (r : Places) : Type 0 where
+pub record ModelWalked (s : List ℕ) (n : Counts) (w w′ : List ℕ) (r : Places) : Type 0 where
   pub walks : Walks s n r
   pub filled : Filled s (r .activities) (n .activities) w w′ (r .links)

@@ -29,13 +29,13 @@ slotOf none = 3
 slotOf (some p) = 1
 
 -- whether a parent is the given one
-abbrev pub fellow : Option ℕ → Option ℕ → Bool
-fellow none o = isTop o
-fellow (some p) o = isUnder p o
+abbrev pub sameParent : Option ℕ → Option ℕ → Bool
+sameParent none o = isTop o
+sameParent (some p) o = isUnder p o
 
 -- the rows from a row on that have a given parent, or none
 unfoldable pub siblings : List (Option ℕ) → Option ℕ → ℕ → List ℕ
-siblings ps o a = keep (λ c. fellow o (parentAt ps c)) (count a (length ps - a))
+siblings ps o a = keep (λ c. sameParent o (parentAt ps c)) (count a (length ps - a))
 
 -- the rows after a row that have its parent
 abbrev pub later : List (Option ℕ) → ℕ → List ℕ

@@ -2,7 +2,7 @@
 ghost use mathlib.Core.Path.{_≡_};
 ghost use Rattle.definition.specs.Answer.{rowMeaning};
 ghost use Rattle.outline.specs.Steps.{wordOf};
-ghost use Rattle.outline.specs.Filled.{ParentAt, Filled, Walked};
+ghost use Rattle.outline.specs.Filled.{ParentAt, Filled, ModelWalked};
 use crate::NONE;
 use crate::PARENT;
 use crate::set_field;
@@ -68,7 +68,7 @@ fn fill(s: &[u8], p: Place, count: u32, work: &mut [u32]) -> Place
 
 // The places between the sections, as model::open finds them, with the parents in the words.
 pub fn walk_model(s: &[u8], n: Counts, work: &mut [u32]) -> Places
-    ensures { λ r. ⌜ Walked (now (s .entry)) n (now (work .entry)) (now (work .exit)) r ⌝ }
+    ensures { λ r. ⌜ ModelWalked (now (s .entry)) n (now (work .entry)) (now (work .exit)) r ⌝ }
 {
     let head = walk_head(s, n);
     let activities = head.activities;

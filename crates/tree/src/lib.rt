@@ -15,7 +15,7 @@ pub use refusal::judge;
 const HEAD: usize = 4;
 
 // Where the parts of a record begin.
-pub enum Head {
+enum Head {
     Whole {
         depth: usize,
         name_at: usize,
@@ -26,7 +26,7 @@ pub enum Head {
 }
 
 // Whether the layout is right, and how many records there are.
-pub enum Verdict {
+enum Verdict {
     Fine(usize),
     Broken,
 }
@@ -52,7 +52,7 @@ fn word_at(s: &[u8], i: usize) -> usize
 }
 
 // The head at a position: 7 bits of depth, 9 of the name's length, 16 of the text's.
-pub fn read_head(s: &[u8], at: usize) -> Head
+fn read_head(s: &[u8], at: usize) -> Head
     ensures { λ r. ⌜ r ≡ headAt (now (s .entry)) at ⌝ }
 {
     if s.len() < HEAD {
@@ -98,7 +98,7 @@ fn right_at(p: usize, d: usize, t: usize) -> bool
 }
 
 // Walks all records once.
-pub fn layout(s: &[u8]) -> Verdict
+fn layout(s: &[u8]) -> Verdict
     ensures { λ r. ⌜ r ≡ verdict (now (s .entry)) ⌝ }
 {
     let mut at: usize = 0;
@@ -145,7 +145,7 @@ fn deeper(s: &[u8], at: usize, d: usize) -> bool
 }
 
 // The position after the element at `at` and all below it: its children are skipped one after the other.
-pub fn skip(s: &[u8], at: usize) -> usize
+fn skip(s: &[u8], at: usize) -> usize
     ensures { λ r. ⌜ r ≡ at + size (whole (recordsAt (now (s .entry)) at)) ⌝ }
 {
     match read_head(s, at) {
@@ -239,7 +239,7 @@ pub fn next_child(s: &[u8], at: usize, name: &[u8]) -> Found
 }
 
 // The text of the element at `at`.
-pub fn text(s: &[u8], at: usize) -> &[u8]
+fn text(s: &[u8], at: usize) -> &[u8]
     ensures { λ r. ⌜ now r ≡ elementAt (now (s .entry)) at .text ⌝ }
 {
     match read_head(s, at) {
