@@ -2,14 +2,14 @@
 use Prim.Native.Nat.{ℕ, zero, suc, _+_, _/_, _%_, _^_, _<_}
 use native.Mathlib.Nat.{mod-lt}
 use native.Mathlib.Omega.{arith}
-use mathlib.Core.Path.{_≡_, refl, sym, ap, _∙_}
+use mathlib.Core.Path.{_≡_, refl, sym, ap}
 use mathlib.Core.Bool.{Bool, true, false}
-use mathlib.Core.List.{List, [], _∷_, _++_, map}
+use mathlib.Core.List.{List, [], _∷_, map}
 use lib.Dec.{eqb, ltb}
 use lib.ListN.{replicate}
 use Rattle.definition.specs.Base.{if_then_else_}
-use Rattle.definition.specs.Bits.{Bits, enc, bitsOf}
-use Rattle.definition.specs.Format.{Format, _⊗_, field, via, times, putAll, listOf, bit, count, flag, date, text, Period, period, periods, dates, earlier}
+use Rattle.definition.specs.Bits.{Bits, enc}
+use Rattle.definition.specs.Format.{Format, _⊗_, field, via, times, putAll, listOf, count, flag, date, text, Period, period, periods, dates, earlier}
 use Rattle.definition.specs.Model.{Calendar}
 use Rattle.definition.specs.Calendar.{byDate, plainCalendar, defaultCalendar, elapsedCalendar}
 use Rattle.definition.specs.Pack.{calendar}
