@@ -1,7 +1,5 @@
-pub mod New
 pub mod Items
 pub mod Places
 pub mod Inserts
-pub mod Copies
 pub mod Hours
 pub mod Plain

@@ -97,7 +97,7 @@ fn date_of(v: u64) -> u64
 }
 
 // A date by its number, counted from the year -10000; 0, and a place past every end, where it is outside the years.
-pub fn take_date_key(s: &[u8], p: Place) -> Field
+pub(crate) fn take_date_key(s: &[u8], p: Place) -> Field
     ensures { λ r. ⌜ Finds date (DayKey false) (now (s .entry)) p r ⌝ }
 {
     let f = bits::take(s, p, 32);
@@ -116,7 +116,7 @@ pub fn skip_date(s: &[u8], p: Place) -> Place
 }
 
 // A period by one number: 2048 times from, and to; 0, and a place past every end, where none is.
-pub fn take_period_key(s: &[u8], p: Place) -> Field
+pub(crate) fn take_period_key(s: &[u8], p: Place) -> Field
     ensures { λ r. ⌜ Finds period PeriodKey (now (s .entry)) p r ⌝ }
 {
     let from = bits::take(s, p, 11);

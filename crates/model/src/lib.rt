@@ -4,9 +4,6 @@ mod lists; // lists of periods and days
 pub mod records; // records, one and many
 pub mod parts; // the parts of records
 
-// Dates and periods by the numbers by which they rise, for the writer of such lists.
-pub use fields::take_date_key;
-pub use fields::take_period_key;
 ghost use mathlib.Core.Path.{_≡_};
 ghost use Prim.Native.Nat.{_%_};
 ghost use Rattle.model.specs.Answers.{countsAt};

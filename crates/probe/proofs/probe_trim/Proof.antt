@@ -3,9 +3,6 @@ use lib.ListN.{length}
 use borrow.Author.Needs.{needs}
 use Rattle.probe.proofs.probe_trim.Statement.{statement}
 use Rattle.probe.proofs.probe_trim.Tie as tie
-use Rattle.probe.proofs.probe_trim.Reads as reads
-use Rattle.probe.proofs.probe_trim.Lts as lts
-use Rattle.text.proofs.trim.Reads as trim-reads
 
 trim-requires : tie.Need-trim-requires
 trim-requires c κs = search needs

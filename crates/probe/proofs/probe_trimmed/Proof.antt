@@ -3,11 +3,6 @@ use Rattle.probe.specs.Answer.{one}
 use borrow.Author.Needs.{needs}
 use Rattle.probe.proofs.probe_trimmed.Statement.{statement}
 use Rattle.probe.proofs.probe_trimmed.Tie as tie
-use Rattle.probe.proofs.probe_trimmed.Reads as reads
-use Rattle.probe.proofs.probe_trimmed.Lts as lts
-use Rattle.probe.proofs.as_number.Reads as as-number-reads
-use Rattle.text.proofs.same.Reads as same-reads
-use Rattle.text.proofs.trim.Reads as trim-reads
 
 trim-requires : tie.Need-trim-requires
 trim-requires c κs = search needs

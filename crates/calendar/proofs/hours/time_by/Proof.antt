@@ -6,30 +6,22 @@ use native.Mathlib.Omega.{arith}
 use borrow.Author.Needs.{needs}
 use Rattle.calendar.proofs.hours.time_by.Statement.{statement}
 use Rattle.calendar.proofs.hours.time_by.Tie as tie
-use Rattle.calendar.proofs.hours.time_by.Reads as reads
-use Rattle.calendar.proofs.hours.time_by.Lts as lts
-use Rattle.calendar.proofs.hours.time_to.Reads as time-to-reads
 
--- src/hours.rt:62:26
 enum-known-from : tie.Need-enum-known-from
 enum-known-from c = search needs
 
--- src/hours.rt:62:32
 time-to-requires : tie.Need-time-to-requires
 time-to-requires c κs = search needs
 
--- src/hours.rt:63:31
 enum-told : tie.Need-enum-told
 enum-told c = search needs
 
--- src/hours.rt:58:1
 returns : tie.Need-returns
 unfolding workingMeaning
 returns c =
     let k = c .before .before in
     c .time-to .ensures ∙ sym (ap (λ (a : TimeAnswer). timeBy (meaning a) (meaning (k .before .before .args .until))) (k .from .given .1))
 
--- src/hours.rt:58:1
 returns-2 : tie.Need-returns-2
 unfolding workingMeaning
 returns-2 c = sym (ap (λ (a : TimeAnswer). timeBy (meaning a) (meaning (c .before .before .args .until))) (c .enum-told .given .1))

@@ -7,30 +7,22 @@ use native.Mathlib.Omega.{arith}
 use borrow.Author.Needs.{needs}
 use Rattle.calendar.proofs.hours.time_to.Statement.{statement}
 use Rattle.calendar.proofs.hours.time_to.Tie as tie
-use Rattle.calendar.proofs.hours.time_to.Reads as reads
-use Rattle.calendar.proofs.hours.time_to.Lts as lts
-use Rattle.calendar.proofs.hours.time_from.Reads as time-from-reads
 
--- src/hours.rt:53:26
 enum-known-until : tie.Need-enum-known-until
 enum-known-until c = search needs
 
--- src/hours.rt:53:32
 time-from-requires : tie.Need-time-from-requires
 time-from-requires c κs = search needs
 
--- src/hours.rt:54:31
 enum-told : tie.Need-enum-told
 enum-told c = search needs
 
--- src/hours.rt:49:1
 returns : tie.Need-returns
 unfolding workingMeaning
 returns c =
     let k = c .before .before in
     c .time-from .ensures ∙ sym (ap (λ (a : TimeAnswer). timeBy (some (k .before .before .args .from)) (meaning a)) (k .until .given .1))
 
--- src/hours.rt:49:1
 returns-2 : tie.Need-returns-2
 unfolding workingMeaning
 returns-2 c = sym (ap (λ (a : TimeAnswer). timeBy (some (c .before .before .args .from)) (meaning a)) (c .enum-told .given .1))

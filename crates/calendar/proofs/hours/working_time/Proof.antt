@@ -5,32 +5,22 @@ use native.Mathlib.Omega.{arith}
 use borrow.Author.Needs.{needs}
 use Rattle.calendar.proofs.hours.working_time.Statement.{statement}
 use Rattle.calendar.proofs.hours.working_time.Tie as tie
-use Rattle.calendar.proofs.hours.working_time.Reads as reads
-use Rattle.calendar.proofs.hours.working_time.Lts as lts
-use Rattle.calendar.proofs.hours.time_by.Reads as time-by-reads
-use Rattle.calendar.proofs.hours.time_in.Reads as time-in-reads
 
--- src/hours.rt:71:31
 slice-aggregate-time-in : tie.Need-slice-aggregate-time-in
 slice-aggregate-time-in c = search needs
 
--- src/hours.rt:71:9
 time-in-requires : tie.Need-time-in-requires
 time-in-requires c κs = search needs
 
--- src/hours.rt:72:34
 slice-aggregate-time-in-2 : tie.Need-slice-aggregate-time-in-2
 slice-aggregate-time-in-2 c = search needs
 
--- src/hours.rt:72:19
 time-in-requires-2 : tie.Need-time-in-requires-2
 time-in-requires-2 c κs = search needs
 
--- src/hours.rt:72:5
 time-by-requires : tie.Need-time-by-requires
 time-by-requires c κs = search needs
 
--- src/hours.rt:68:1
 returns : tie.Need-returns
 returns c =
     let f = c .before .before .before in

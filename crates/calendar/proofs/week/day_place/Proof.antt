@@ -6,20 +6,13 @@ use native.Mathlib.Omega.{arith}
 use borrow.Author.Needs.{needs}
 use Rattle.calendar.proofs.week.day_place.Statement.{statement}
 use Rattle.calendar.proofs.week.day_place.Tie as tie
-use Rattle.calendar.proofs.week.day_place.Reads as reads
-use Rattle.calendar.proofs.week.day_place.Lts as lts
-use Rattle.calendar.proofs.week.day_type.Reads as day-type-reads
-use Rattle.calendar.proofs.week.place_by.Reads as place-by-reads
 
--- src/week.rt:56:14
 day-type-requires : tie.Need-day-type-requires
 day-type-requires c κs = search needs
 
--- src/week.rt:56:5
 place-by-requires : tie.Need-place-by-requires
 place-by-requires c κs = search needs
 
--- src/week.rt:53:1
 returns : tie.Need-returns
 returns c = c .place-by .ensures ∙ ap (λ (o : Option ℕ). placeBy o) (c .before .day-type .ensures)
 

@@ -3,22 +3,16 @@ use mathlib.Core.Path.{_∙_, ap}
 use Prim.Native.Nat.{ℕ, _/_, _%_, _-_, _^_}
 use lib.Dec.{eqb}
 use Rattle.calendar.proofs.Flags.{no-flag, flag-is, low-bit, eqb-turn}
-use native.Mathlib.Omega.{arith}
 use borrow.Author.Needs.{needs}
 use Rattle.calendar.proofs.week.flag_at.Statement.{statement}
 use Rattle.calendar.proofs.week.flag_at.Tie as tie
-use Rattle.calendar.proofs.week.flag_at.Reads as reads
-use Rattle.calendar.proofs.week.flag_at.Lts as lts
 
--- src/week.rt:96:9
 returns : tie.Need-returns
 returns c = no-flag (c .before .args .week) (c .before .args .k) (omega (arith, c .if1 .taken))
 
--- src/week.rt:98:6
 shr-result : tie.Need-shr-result
 shr-result c = search needs
 
--- src/week.rt:92:1
 returns-2 : tie.Need-returns-2
 returns-2 c =
     let a = c .before .args in

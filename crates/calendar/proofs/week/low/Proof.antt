@@ -4,24 +4,18 @@ use Prim.Native.Nat.{_*_, _%_, _^_}
 use mathlib.Core.Path.{_≡_}
 use lib.Pow.{pow-lt, pow-pos}
 use Rattle.calendar.proofs.Flags.{masked}
-use native.Mathlib.Omega.{arith}
 use borrow.Author.Needs.{needs}
 use Rattle.calendar.proofs.week.low.Statement.{statement}
 use Rattle.calendar.proofs.week.low.Tie as tie
-use Rattle.calendar.proofs.week.low.Reads as reads
-use Rattle.calendar.proofs.week.low.Lts as lts
 
--- src/week.rt:88:11
 shl-result : tie.Need-shl-result
 shl-result c = search needs
 
--- src/week.rt:88:10
 sub-result : tie.Need-sub-result
 sub-result c =
     let e : (1 * 2 ^ c .args .n) % 2 ^ 32 ≡ 2 ^ c .args .n = rw one-mul (mod-eq-of-lt (pow-lt (c .pre))) in
     omega (arith, e, pow-pos (c .args .n))
 
--- src/week.rt:84:1
 returns : tie.Need-returns
 returns c = masked (c .args .w) (c .args .n) (c .pre)
 

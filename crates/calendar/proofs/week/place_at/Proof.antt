@@ -5,27 +5,20 @@ use Prim.Native.Nat.{_+_, _%_}
 use Rattle.definition.specs.Base.{when}
 use Rattle.calendar.specs.Week.{placeMeaning}
 use Rattle.calendar.proofs.Times.{at-most-7}
-use native.Mathlib.Omega.{arith}
 use borrow.Author.Needs.{needs}
 use Rattle.calendar.proofs.week.place_at.Statement.{statement}
 use Rattle.calendar.proofs.week.place_at.Tie as tie
-use Rattle.calendar.proofs.week.place_at.Reads as reads
-use Rattle.calendar.proofs.week.place_at.Lts as lts
 
--- src/week.rt:38:34
 add-t5 : tie.Need-add-t5
 add-t5 c = omega (arith, at-most-7 (c .before .args .t) (c .if1 .taken))
 
--- src/week.rt:38:32
 cast-t7 : tie.Need-cast-t7
 cast-t7 c = search needs
 
--- src/week.rt:38:9
 returns : tie.Need-returns
 unfolding placeMeaning
 returns c = sym (ap (λ (b : Bool). when b ((c .before .args .t + 5) % 7)) (c .if1 .taken))
 
--- src/week.rt:34:1
 returns-2 : tie.Need-returns-2
 unfolding placeMeaning
 returns-2 c = sym (ap (λ (b : Bool). when b ((c .before .args .t + 5) % 7)) (c .if1 .left))

@@ -6,28 +6,20 @@ use native.Mathlib.Omega.{arith}
 use borrow.Author.Needs.{needs}
 use Rattle.calendar.proofs.week.place_by.Statement.{statement}
 use Rattle.calendar.proofs.week.place_by.Tie as tie
-use Rattle.calendar.proofs.week.place_by.Reads as reads
-use Rattle.calendar.proofs.week.place_by.Lts as lts
-use Rattle.calendar.proofs.week.place_at.Reads as place-at-reads
 
--- src/week.rt:47:23
 enum-known-a : tie.Need-enum-known-a
 enum-known-a c = search needs
 
--- src/week.rt:47:29
 place-at-requires : tie.Need-place-at-requires
 place-at-requires c κs = search needs
 
--- src/week.rt:48:30
 enum-told : tie.Need-enum-told
 enum-told c = search needs
 
--- src/week.rt:43:1
 returns : tie.Need-returns
 unfolding placeMeaning
 returns c = c .place-at .ensures ∙ sym (ap (λ (a : U64Answer). placeBy (u64Of a)) (c .before .before .a .given .1))
 
--- src/week.rt:43:1
 returns-2 : tie.Need-returns-2
 unfolding placeMeaning
 returns-2 c = sym (ap (λ (a : U64Answer). placeBy (u64Of a)) (c .enum-told .given .1))

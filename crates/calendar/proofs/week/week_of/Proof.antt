@@ -4,20 +4,13 @@ use native.Mathlib.Omega.{arith}
 use borrow.Author.Needs.{needs}
 use Rattle.calendar.proofs.week.week_of.Statement.{statement}
 use Rattle.calendar.proofs.week.week_of.Tie as tie
-use Rattle.calendar.proofs.week.week_of.Reads as reads
-use Rattle.calendar.proofs.week.week_of.Lts as lts
-use Rattle.calendar.proofs.week.low.Reads as low-reads
-use Rattle.calendar.proofs.week.week_under.Reads as week-under-reads
 
--- src/week.rt:180:9
 week-under-requires : tie.Need-week-under-requires
 week-under-requires c κs = search needs
 
--- src/week.rt:180:5
 low-requires : tie.Need-low-requires
 low-requires c κs = search needs
 
--- src/week.rt:177:1
 returns : tie.Need-returns
 returns c = c .low .ensures ∙ word-back _ _ (c .before .week-under .ensures)
 

@@ -1,36 +1,25 @@
 use native.Mathlib.Omega.{arith}
 use Prim.Native.Nat.{_+_, _*_, _/_, _%_, _^_}
 use Rattle.calendar.proofs.Flags.{bits-joined}
-use native.Mathlib.Omega.{arith}
 use borrow.Author.Needs.{needs}
 use Rattle.calendar.proofs.week.with_bit.Statement.{statement}
 use Rattle.calendar.proofs.week.with_bit.Tie as tie
-use Rattle.calendar.proofs.week.with_bit.Reads as reads
-use Rattle.calendar.proofs.week.with_bit.Lts as lts
-use Rattle.calendar.proofs.week.bit.Reads as bit-reads
-use Rattle.calendar.proofs.week.low.Reads as low-reads
 
--- src/week.rt:112:23
 add-top : tie.Need-add-top
 add-top c = search needs
 
--- src/week.rt:112:17
 shr-top : tie.Need-shr-top
 shr-top c = search needs
 
--- src/week.rt:112:39
 bit-requires : tie.Need-bit-requires
 bit-requires c κs = search needs
 
--- src/week.rt:113:6
 shl-result : tie.Need-shl-result
 shl-result c = search needs
 
--- src/week.rt:113:18
 low-requires : tie.Need-low-requires
 low-requires c κs = search needs
 
--- src/week.rt:108:1
 returns : tie.Need-returns
 returns c =
     let a = c .before .before .args in

@@ -4,25 +4,16 @@ use native.Mathlib.Omega.{arith}
 use borrow.Author.Needs.{needs}
 use Rattle.calendar.proofs.week.with_day.Statement.{statement}
 use Rattle.calendar.proofs.week.with_day.Tie as tie
-use Rattle.calendar.proofs.week.with_day.Reads as reads
-use Rattle.calendar.proofs.week.with_day.Lts as lts
-use Rattle.calendar.proofs.week.day_place.Reads as day-place-reads
-use Rattle.calendar.proofs.week.day_working.Reads as day-working-reads
-use Rattle.calendar.proofs.week.with_place.Reads as with-place-reads
 
--- src/week.rt:139:9
 day-place-requires : tie.Need-day-place-requires
 day-place-requires c κs = search needs
 
--- src/week.rt:140:29
 day-working-requires : tie.Need-day-working-requires
 day-working-requires c κs = search needs
 
--- src/week.rt:140:5
 with-place-requires : tie.Need-with-place-requires
 with-place-requires c κs = search needs
 
--- src/week.rt:136:1
 returns : tie.Need-returns
 returns c =
     let d = c .before in

@@ -1,30 +1,21 @@
 use native.Mathlib.Omega.{arith}
 use Rattle.calendar.specs.Week.{flagsIn}
 use Rattle.calendar.proofs.Flags.{seven, set-past, replaced-is}
-use native.Mathlib.Omega.{arith}
 use borrow.Author.Needs.{needs}
 use Rattle.calendar.proofs.week.with_flag.Statement.{statement}
 use Rattle.calendar.proofs.week.with_flag.Tie as tie
-use Rattle.calendar.proofs.week.with_flag.Reads as reads
-use Rattle.calendar.proofs.week.with_flag.Lts as lts
-use Rattle.calendar.proofs.week.low.Reads as low-reads
-use Rattle.calendar.proofs.week.with_bit.Reads as with-bit-reads
 
--- src/week.rt:121:9
 returns : tie.Need-returns
 returns c =
     let s = c .before in
     set-past (flagsIn (s .args .week)) (s .args .k) (s .args .on) (omega (arith, seven (s .args .week), c .if1 .taken))
 
--- src/week.rt:123:14
 low-requires : tie.Need-low-requires
 low-requires c κs = search needs
 
--- src/week.rt:123:5
 with-bit-requires : tie.Need-with-bit-requires
 with-bit-requires c κs = search needs
 
--- src/week.rt:117:1
 returns-2 : tie.Need-returns-2
 returns-2 c =
     let i = c .before .before in

@@ -6,23 +6,16 @@ use native.Mathlib.Omega.{arith}
 use borrow.Author.Needs.{needs}
 use Rattle.calendar.proofs.week.with_place.Statement.{statement}
 use Rattle.calendar.proofs.week.with_place.Tie as tie
-use Rattle.calendar.proofs.week.with_place.Reads as reads
-use Rattle.calendar.proofs.week.with_place.Lts as lts
-use Rattle.calendar.proofs.week.with_flag.Reads as with-flag-reads
 
--- src/week.rt:130:25
 enum-known-place : tie.Need-enum-known-place
 enum-known-place c = search needs
 
--- src/week.rt:130:31
 with-flag-requires : tie.Need-with-flag-requires
 with-flag-requires c κs = search needs
 
--- src/week.rt:131:32
 enum-told : tie.Need-enum-told
 enum-told c = search needs
 
--- src/week.rt:126:1
 returns : tie.Need-returns
 unfolding placeMeaning
 returns c =
@@ -30,7 +23,6 @@ returns c =
     let a = k .before .before .args in
     c .with-flag .ensures ∙ sym (ap (λ p. weekOn (placeMeaning p) (a .on) (flagsIn (a .week))) (k .place .given .1))
 
--- src/week.rt:126:1
 returns-2 : tie.Need-returns-2
 unfolding placeMeaning
 returns-2 c =

@@ -1,4 +1,4 @@
-use Rattle.calendars.specs.Plain.{no-hours, day-hours}
+use Rattle.calendars.proofs.PlainCalendars.{no-hours, day-hours}
 use borrow.Author.Needs.{needs}
 use Rattle.calendars.proofs.plain.put_day_hours.Statement.{statement}
 use Rattle.calendars.proofs.plain.put_day_hours.Tie as tie

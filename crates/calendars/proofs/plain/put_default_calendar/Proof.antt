@@ -1,5 +1,5 @@
 use Rattle.bits.specs.Steps.{put-same}
-use Rattle.calendars.specs.Plain.{default-is}
+use Rattle.calendars.proofs.PlainCalendars.{default-is}
 use borrow.Author.Needs.{needs}
 use Rattle.calendars.proofs.plain.put_default_calendar.Statement.{statement}
 use Rattle.calendars.proofs.plain.put_default_calendar.Tie as tie

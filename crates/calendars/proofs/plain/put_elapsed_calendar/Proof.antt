@@ -1,5 +1,5 @@
 use Rattle.bits.specs.Steps.{put-same}
-use Rattle.calendars.specs.Plain.{elapsed-is}
+use Rattle.calendars.proofs.PlainCalendars.{elapsed-is}
 use borrow.Author.Needs.{needs}
 use Rattle.calendars.proofs.plain.put_elapsed_calendar.Statement.{statement}
 use Rattle.calendars.proofs.plain.put_elapsed_calendar.Tie as tie

@@ -1,5 +1,5 @@
 use Rattle.definition.specs.Format.{periods}
-use Rattle.calendars.specs.Plain.{put-seven}
+use Rattle.calendars.proofs.PlainCalendars.{put-seven}
 use borrow.Author.Needs.{needs}
 use Rattle.calendars.proofs.plain.put_hours.Statement.{statement}
 use Rattle.calendars.proofs.plain.put_hours.Tie as tie

@@ -1,4 +1,4 @@
-use Rattle.calendars.specs.Plain.{put-week}
+use Rattle.calendars.proofs.PlainCalendars.{put-week}
 use borrow.Author.Needs.{needs}
 use Rattle.calendars.proofs.plain.put_week.Statement.{statement}
 use Rattle.calendars.proofs.plain.put_week.Tie as tie

@@ -7,56 +7,37 @@ use native.Mathlib.Omega.{arith}
 use borrow.Author.Needs.{needs}
 use Rattle.pack.proofs.record.put_schedule.Statement.{statement}
 use Rattle.pack.proofs.record.put_schedule.Tie as tie
-use Rattle.pack.proofs.record.put_schedule.Reads as reads
-use Rattle.pack.proofs.record.put_schedule.Lts as lts
-use Rattle.bits.proofs.put_text.Reads as put-text-reads
-use Rattle.pack.proofs.value.put_code.Reads as put-code-reads
-use Rattle.pack.proofs.value.put_constraint.Reads as put-constraint-reads
-use Rattle.pack.proofs.value.put_optional_date.Reads as put-optional-date-reads
-use Rattle.pack.proofs.value.put_optional_number.Reads as put-optional-number-reads
-use Rattle.pack.proofs.value.put_optional_text.Reads as put-optional-text-reads
 
--- src/record.rt:208:9
 put-text-requires : tie.Need-put-text-requires
 put-text-requires c κs = search needs
 
--- src/record.rt:209:9
 put-optional-text-requires : tie.Need-put-optional-text-requires
 put-optional-text-requires c κs = search needs
 
--- src/record.rt:210:9
 put-constraint-requires : tie.Need-put-constraint-requires
 put-constraint-requires c κs = search needs
 
--- src/record.rt:211:9
 put-optional-date-requires : tie.Need-put-optional-date-requires
 put-optional-date-requires c κs = search needs
 
--- src/record.rt:212:9
 put-optional-date-requires-2 : tie.Need-put-optional-date-requires-2
 put-optional-date-requires-2 c κs = search needs
 
--- src/record.rt:213:9
 put-optional-date-requires-3 : tie.Need-put-optional-date-requires-3
 put-optional-date-requires-3 c κs = search needs
 
--- src/record.rt:214:9
 put-optional-number-requires : tie.Need-put-optional-number-requires
 put-optional-number-requires c κs = search needs
 
--- src/record.rt:215:9
 put-code-requires : tie.Need-put-code-requires
 put-code-requires c κs = search needs
 
--- src/record.rt:216:9
 put-optional-number-requires-2 : tie.Need-put-optional-number-requires-2
 put-optional-number-requires-2 c κs = search needs
 
--- src/record.rt:217:5
 put-text-requires-2 : tie.Need-put-text-requires-2
 put-text-requires-2 c κs = search needs
 
--- src/record.rt:191:1
 returns : tie.Need-returns
 returns c =
     let k = c .before .before in
@@ -71,7 +52,6 @@ returns c =
     let t = s .before .before .before .before in
     λ id stars name plan. put-⊗ (t .put-text .ensures) (put-⊗ (s .put-optional-text .ensures) (put-⊗ (r .put-constraint .ensures) (put-⊗ (q .put-optional-date .ensures) (put-⊗ (p .put-optional-date2 .ensures) (put-⊗ (o .put-optional-date3 .ensures) (put-⊗ (n .put-optional-number .ensures) (put-⊗ (m .put-code .ensures 0 3) (put-⊗ (l .put-optional-number2 .ensures) (k .put-text2 .ensures)))))))))
 
--- src/record.rt:191:1
 same-length : tie.Need-same-length
 same-length c = returns c [] 0 [] (record { kind = 0; duration = record { days = pos 0; minutes = I64Answer.Absent }; parent = RowAnswer.Absent }) .step .same
 

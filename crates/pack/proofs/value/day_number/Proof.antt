@@ -8,23 +8,16 @@ use native.Mathlib.Omega.{arith}
 use borrow.Author.Needs.{needs}
 use Rattle.pack.proofs.value.day_number.Statement.{statement}
 use Rattle.pack.proofs.value.day_number.Tie as tie
-use Rattle.pack.proofs.value.day_number.Reads as reads
-use Rattle.pack.proofs.value.day_number.Lts as lts
-use Rattle.date.proofs.from_days.Reads as from-days-reads
 
--- src/value.rt:44:11
 from-days-requires : tie.Need-from-days-requires
 from-days-requires c κs = search needs
 
--- src/value.rt:45:24
 enum-known-n : tie.Need-enum-known-n
 enum-known-n c = search needs
 
--- src/value.rt:46:31
 enum-told : tie.Need-enum-told
 enum-told c = search needs
 
--- src/value.rt:41:1
 returns : tie.Need-returns
 returns c =
     let k = c .before .before in
@@ -33,7 +26,6 @@ returns c =
     let e = l .from-days .ensures ∙ ap (λ (z : ℤ). dayNumberOf (fromDays z)) (toZ-ofZ (record { sfits = m .struct-told .given .0 .1 })) in
     toZ-ofZ (record { sfits = c .struct-told2 .given .0 .1 }) ∙ day-is _ e (k .n .given .1)
 
--- src/value.rt:41:1
 returns-2 : tie.Need-returns-2
 returns-2 c =
     let l = c .before .before in

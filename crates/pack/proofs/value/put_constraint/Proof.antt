@@ -7,42 +7,30 @@ use native.Mathlib.Omega.{arith}
 use borrow.Author.Needs.{needs}
 use Rattle.pack.proofs.value.put_constraint.Statement.{statement}
 use Rattle.pack.proofs.value.put_constraint.Tie as tie
-use Rattle.pack.proofs.value.put_constraint.Reads as reads
-use Rattle.pack.proofs.value.put_constraint.Lts as lts
-use Rattle.bits.proofs.put_flag.Reads as put-flag-reads
-use Rattle.pack.proofs.value.put_given_constraint.Reads as put-given-constraint-reads
 
--- src/value.rt:145:30
 enum-known-c : tie.Need-enum-known-c
 enum-known-c c = search needs
 
--- src/value.rt:145:36
 put-given-constraint-requires : tie.Need-put-given-constraint-requires
 put-given-constraint-requires c κs = search needs
 
--- src/value.rt:146:52
 enum-told : tie.Need-enum-told
 enum-told c = search needs
 
--- src/value.rt:146:37
 put-flag-requires : tie.Need-put-flag-requires
 put-flag-requires c κs = search needs
 
--- src/value.rt:141:1
 same-length : tie.Need-same-length
 same-length c = search needs
 
--- src/value.rt:141:1
 returns : tie.Need-returns
 returns c =
     let k = c .before .before in
     rw (k .before .before .before .c .given .1) (k .put-given-constraint .ensures)
 
--- src/value.rt:141:1
 same-length-2 : tie.Need-same-length-2
 same-length-2 c = search needs
 
--- src/value.rt:141:1
 returns-2 : tie.Need-returns-2
 unfolding constraintMeans
 returns-2 c =

@@ -6,24 +6,16 @@ use native.Mathlib.Omega.{arith}
 use borrow.Author.Needs.{needs}
 use Rattle.pack.proofs.value.put_date.Statement.{statement}
 use Rattle.pack.proofs.value.put_date.Tie as tie
-use Rattle.pack.proofs.value.put_date.Reads as reads
-use Rattle.pack.proofs.value.put_date.Lts as lts
-use Rattle.bits.proofs.put_i32.Reads as put-i32-reads
-use Rattle.pack.proofs.value.day_number.Reads as day-number-reads
 
--- src/value.rt:53:27
 day-number-requires : tie.Need-day-number-requires
 day-number-requires c κs = search needs
 
--- src/value.rt:53:5
 put-i32-requires : tie.Need-put-i32-requires
 put-i32-requires c κs = search needs
 
--- src/value.rt:50:1
 same-length : tie.Need-same-length
 same-length c = search needs
 
--- src/value.rt:50:1
 returns : tie.Need-returns
 returns c =
     let k = c .before .before in

@@ -3,29 +3,19 @@ use native.Mathlib.Omega.{arith}
 use borrow.Author.Needs.{needs}
 use Rattle.pack.proofs.value.put_dated.Statement.{statement}
 use Rattle.pack.proofs.value.put_dated.Tie as tie
-use Rattle.pack.proofs.value.put_dated.Reads as reads
-use Rattle.pack.proofs.value.put_dated.Lts as lts
-use Rattle.bits.proofs.put_flag.Reads as put-flag-reads
-use Rattle.pack.proofs.value.put_code.Reads as put-code-reads
-use Rattle.pack.proofs.value.put_date.Reads as put-date-reads
 
--- src/value.rt:115:9
 put-flag-requires : tie.Need-put-flag-requires
 put-flag-requires c κs = search needs
 
--- src/value.rt:116:9
 put-code-requires : tie.Need-put-code-requires
 put-code-requires c κs = search needs
 
--- src/value.rt:117:5
 put-date-requires : tie.Need-put-date-requires
 put-date-requires c κs = search needs
 
--- src/value.rt:112:1
 same-length : tie.Need-same-length
 same-length c = search needs
 
--- src/value.rt:112:1
 returns : tie.Need-returns
 returns c =
     let k = c .before .before in

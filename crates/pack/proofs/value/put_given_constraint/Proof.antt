@@ -4,136 +4,104 @@ use native.Mathlib.Omega.{arith}
 use borrow.Author.Needs.{needs}
 use Rattle.pack.proofs.value.put_given_constraint.Statement.{statement}
 use Rattle.pack.proofs.value.put_given_constraint.Tie as tie
-use Rattle.pack.proofs.value.put_given_constraint.Reads as reads
-use Rattle.pack.proofs.value.put_given_constraint.Lts as lts
-use Rattle.pack.proofs.value.put_dated.Reads as put-dated-reads
-use Rattle.pack.proofs.value.put_undated.Reads as put-undated-reads
 
--- src/value.rt:131:53
 enum-told : tie.Need-enum-told
 enum-told c = search needs
 
--- src/value.rt:131:41
 put-undated-requires : tie.Need-put-undated-requires
 put-undated-requires c κs = search needs
 
--- src/value.rt:132:36
 enum-known-c : tie.Need-enum-known-c
 enum-known-c c = search needs
 
--- src/value.rt:132:42
 put-dated-requires : tie.Need-put-dated-requires
 put-dated-requires c κs = search needs
 
--- src/value.rt:133:37
 enum-known-c-2 : tie.Need-enum-known-c-2
 enum-known-c-2 c = search needs
 
--- src/value.rt:133:43
 put-dated-requires-2 : tie.Need-put-dated-requires-2
 put-dated-requires-2 c κs = search needs
 
--- src/value.rt:134:36
 enum-known-c-3 : tie.Need-enum-known-c-3
 enum-known-c-3 c = search needs
 
--- src/value.rt:134:42
 put-dated-requires-3 : tie.Need-put-dated-requires-3
 put-dated-requires-3 c κs = search needs
 
--- src/value.rt:135:37
 enum-known-c-4 : tie.Need-enum-known-c-4
 enum-known-c-4 c = search needs
 
--- src/value.rt:135:43
 put-dated-requires-4 : tie.Need-put-dated-requires-4
 put-dated-requires-4 c κs = search needs
 
--- src/value.rt:136:37
 enum-known-c-5 : tie.Need-enum-known-c-5
 enum-known-c-5 c = search needs
 
--- src/value.rt:136:43
 put-dated-requires-5 : tie.Need-put-dated-requires-5
 put-dated-requires-5 c κs = search needs
 
--- src/value.rt:137:38
 enum-known-c-6 : tie.Need-enum-known-c-6
 enum-known-c-6 c = search needs
 
--- src/value.rt:137:44
 put-dated-requires-6 : tie.Need-put-dated-requires-6
 put-dated-requires-6 c κs = search needs
 
--- src/value.rt:127:1
 same-length : tie.Need-same-length
 same-length c = search needs
 
--- src/value.rt:127:1
 returns : tie.Need-returns
 unfolding constraintMeans
 returns c = rw (c .before .before .before .before .enum-told .given .1) (c .before .before .put-undated .ensures)
 
--- src/value.rt:127:1
 same-length-2 : tie.Need-same-length-2
 same-length-2 c = search needs
 
--- src/value.rt:127:1
 returns-2 : tie.Need-returns-2
 unfolding constraintMeans
 returns-2 c =
     let k = c .before .before in
     rw (k .before .before .before .c .given .1) (k .put-dated .ensures)
 
--- src/value.rt:127:1
 same-length-3 : tie.Need-same-length-3
 same-length-3 c = search needs
 
--- src/value.rt:127:1
 returns-3 : tie.Need-returns-3
 unfolding constraintMeans
 returns-3 c =
     let k = c .before .before in
     rw (k .before .before .before .c2 .given .1) (k .put-dated2 .ensures)
 
--- src/value.rt:127:1
 same-length-4 : tie.Need-same-length-4
 same-length-4 c = search needs
 
--- src/value.rt:127:1
 returns-4 : tie.Need-returns-4
 unfolding constraintMeans
 returns-4 c =
     let k = c .before .before in
     rw (k .before .before .before .c3 .given .1) (k .put-dated3 .ensures)
 
--- src/value.rt:127:1
 same-length-5 : tie.Need-same-length-5
 same-length-5 c = search needs
 
--- src/value.rt:127:1
 returns-5 : tie.Need-returns-5
 unfolding constraintMeans
 returns-5 c =
     let k = c .before .before in
     rw (k .before .before .before .c4 .given .1) (k .put-dated4 .ensures)
 
--- src/value.rt:127:1
 same-length-6 : tie.Need-same-length-6
 same-length-6 c = search needs
 
--- src/value.rt:127:1
 returns-6 : tie.Need-returns-6
 unfolding constraintMeans
 returns-6 c =
     let k = c .before .before in
     rw (k .before .before .before .c5 .given .1) (k .put-dated5 .ensures)
 
--- src/value.rt:127:1
 same-length-7 : tie.Need-same-length-7
 same-length-7 c = search needs
 
--- src/value.rt:127:1
 returns-7 : tie.Need-returns-7
 unfolding constraintMeans
 returns-7 c =

@@ -6,64 +6,47 @@ use native.Mathlib.Omega.{arith}
 use borrow.Author.Needs.{needs}
 use Rattle.pack.proofs.value.put_lag_kind.Statement.{statement}
 use Rattle.pack.proofs.value.put_lag_kind.Tie as tie
-use Rattle.pack.proofs.value.put_lag_kind.Reads as reads
-use Rattle.pack.proofs.value.put_lag_kind.Lts as lts
-use Rattle.pack.proofs.value.put_code.Reads as put-code-reads
-use Rattle.pack.proofs.value.put_number.Reads as put-number-reads
 
--- src/value.rt:155:38
 enum-told : tie.Need-enum-told
 enum-told c = search needs
 
--- src/value.rt:155:29
 put-code-requires : tie.Need-put-code-requires
 put-code-requires c κs = search needs
 
--- src/value.rt:156:38
 enum-told-2 : tie.Need-enum-told-2
 enum-told-2 c = search needs
 
--- src/value.rt:156:29
 put-code-requires-2 : tie.Need-put-code-requires-2
 put-code-requires-2 c κs = search needs
 
--- src/value.rt:157:26
 enum-known-kind : tie.Need-enum-known-kind
 enum-known-kind c = search needs
 
--- src/value.rt:158:17
 put-code-requires-3 : tie.Need-put-code-requires-3
 put-code-requires-3 c κs = search needs
 
--- src/value.rt:159:13
 put-number-requires : tie.Need-put-number-requires
 put-number-requires c κs = search needs
 
--- src/value.rt:151:1
 same-length : tie.Need-same-length
 same-length c = search needs
 
--- src/value.rt:151:1
 returns : tie.Need-returns
 returns c =
     let k = c .before .before in
     rw (k .before .before .enum-told .given .1) (put-alone (eqb 2) number (k .put-code .ensures 0 2))
 
--- src/value.rt:151:1
 same-length-2 : tie.Need-same-length-2
 same-length-2 c = search needs
 
--- src/value.rt:151:1
 returns-2 : tie.Need-returns-2
 returns-2 c =
     let k = c .before .before in
     rw (k .before .before .enum-told2 .given .1) (put-alone (eqb 2) number (k .put-code2 .ensures 0 2))
 
--- src/value.rt:151:1
 same-length-3 : tie.Need-same-length-3
 same-length-3 c = search needs
 
--- src/value.rt:151:1
 returns-3 : tie.Need-returns-3
 returns-3 c =
     let k = c .before .before in

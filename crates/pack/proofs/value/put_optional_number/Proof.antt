@@ -8,36 +8,25 @@ use native.Mathlib.Omega.{arith}
 use borrow.Author.Needs.{needs}
 use Rattle.pack.proofs.value.put_optional_number.Statement.{statement}
 use Rattle.pack.proofs.value.put_optional_number.Tie as tie
-use Rattle.pack.proofs.value.put_optional_number.Reads as reads
-use Rattle.pack.proofs.value.put_optional_number.Lts as lts
-use Rattle.bits.proofs.put_flag.Reads as put-flag-reads
-use Rattle.pack.proofs.value.put_number.Reads as put-number-reads
 
--- src/value.rt:66:23
 enum-known-n : tie.Need-enum-known-n
 enum-known-n c = search needs
 
--- src/value.rt:67:17
 put-flag-requires : tie.Need-put-flag-requires
 put-flag-requires c κs = search needs
 
--- src/value.rt:68:13
 put-number-requires : tie.Need-put-number-requires
 put-number-requires c κs = search needs
 
--- src/value.rt:70:45
 enum-told : tie.Need-enum-told
 enum-told c = search needs
 
--- src/value.rt:70:30
 put-flag-requires-2 : tie.Need-put-flag-requires-2
 put-flag-requires-2 c κs = search needs
 
--- src/value.rt:62:1
 same-length : tie.Need-same-length
 same-length c = search needs
 
--- src/value.rt:62:1
 returns : tie.Need-returns
 returns c =
     let k = c .before .before in
@@ -45,11 +34,9 @@ returns c =
     let m = l .before .before .before in
     put-given (ap i64Of (m .n .given .1)) (l .put-flag .ensures) (put-same (toZ-ofZ (record { sfits = l .before .before .known-told .given .0 .1 })) (k .put-number .ensures))
 
--- src/value.rt:62:1
 same-length-2 : tie.Need-same-length-2
 same-length-2 c = search needs
 
--- src/value.rt:62:1
 returns-2 : tie.Need-returns-2
 returns-2 c =
     let k = c .before .before in

@@ -5,39 +5,28 @@ use denote.Ref.{now}
 use borrow.Author.Needs.{needs}
 use Rattle.pack.proofs.value.put_optional_text.Statement.{statement}
 use Rattle.pack.proofs.value.put_optional_text.Tie as tie
-use Rattle.pack.proofs.value.put_optional_text.Reads as reads
-use Rattle.pack.proofs.value.put_optional_text.Lts as lts
-use Rattle.bits.proofs.put_flag.Reads as put-flag-reads
-use Rattle.bits.proofs.put_text.Reads as put-text-reads
 
--- src/value.rt:97:9
 put-flag-requires : tie.Need-put-flag-requires
 put-flag-requires c κs = search needs
 
--- src/value.rt:97:9
 same-length : tie.Need-same-length
 same-length c = search needs
 
--- src/value.rt:97:9
 returns : tie.Need-returns
 returns c =
     let k = c .before .before in
     let l = k .before .before in
     put-missing text (no-text (now (l .before .before .before .args .s)) (l .if1 .taken)) (k .put-flag .ensures)
 
--- src/value.rt:99:9
 put-flag-requires-2 : tie.Need-put-flag-requires-2
 put-flag-requires-2 c κs = search needs
 
--- src/value.rt:100:5
 put-text-requires : tie.Need-put-text-requires
 put-text-requires c κs = search needs
 
--- src/value.rt:93:1
 same-length-2 : tie.Need-same-length-2
 same-length-2 c = search needs
 
--- src/value.rt:93:1
 returns-2 : tie.Need-returns-2
 returns-2 c =
     let k = c .before .before in

@@ -3,24 +3,16 @@ use native.Mathlib.Omega.{arith}
 use borrow.Author.Needs.{needs}
 use Rattle.pack.proofs.value.put_undated.Statement.{statement}
 use Rattle.pack.proofs.value.put_undated.Tie as tie
-use Rattle.pack.proofs.value.put_undated.Reads as reads
-use Rattle.pack.proofs.value.put_undated.Lts as lts
-use Rattle.bits.proofs.put_flag.Reads as put-flag-reads
-use Rattle.pack.proofs.value.put_code.Reads as put-code-reads
 
--- src/value.rt:123:9
 put-flag-requires : tie.Need-put-flag-requires
 put-flag-requires c κs = search needs
 
--- src/value.rt:124:5
 put-code-requires : tie.Need-put-code-requires
 put-code-requires c κs = search needs
 
--- src/value.rt:120:1
 same-length : tie.Need-same-length
 same-length c = search needs
 
--- src/value.rt:120:1
 returns : tie.Need-returns
 returns c =
     let k = c .before .before in

@@ -3,28 +3,20 @@ use Rattle.recurrence.specs.Scale.{countBy}
 use borrow.Author.Needs.{needs}
 use Rattle.recurrence.proofs.scale.count_or.Statement.{statement}
 use Rattle.recurrence.proofs.scale.count_or.Tie as tie
-use Rattle.recurrence.proofs.scale.count_or.Reads as reads
-use Rattle.recurrence.proofs.scale.count_or.Lts as lts
-use Rattle.recurrence.proofs.scale.count_of.Reads as count-of-reads
 
--- src/scale.rt:77:24
 enum-known-a : tie.Need-enum-known-a
 enum-known-a c = search needs
 
--- src/scale.rt:77:30
 count-of-requires : tie.Need-count-of-requires
 count-of-requires c κs = search needs
 
--- src/scale.rt:78:31
 enum-told : tie.Need-enum-told
 enum-told c = search needs
 
--- src/scale.rt:73:1
 returns : tie.Need-returns
 unfolding countBy
 returns c = c .count-of .ensures ∙ sym (ap countBy (c .before .before .a .given .1))
 
--- src/scale.rt:73:1
 returns-2 : tie.Need-returns-2
 unfolding countBy
 returns-2 c = sym (ap countBy (c .enum-told .given .1))

@@ -4,15 +4,10 @@ use Rattle.date.proofs.Signs.{difference-back}
 use borrow.Author.Needs.{needs}
 use Rattle.recurrence.proofs.scale.date_at.Statement.{statement}
 use Rattle.recurrence.proofs.scale.date_at.Tie as tie
-use Rattle.recurrence.proofs.scale.date_at.Reads as reads
-use Rattle.recurrence.proofs.scale.date_at.Lts as lts
-use Rattle.recurrence.proofs.scale.lowered.Reads as lowered-reads
 
--- src/scale.rt:64:10
 lowered-requires : tie.Need-lowered-requires
 lowered-requires c κs = search needs
 
--- src/scale.rt:60:1
 returns : tie.Need-returns
 unfolding dayNumber
 returns c =

@@ -6,25 +6,16 @@ use Rattle.recurrence.proofs.Counts.{count-said, day-by}
 use borrow.Author.Needs.{needs}
 use Rattle.recurrence.proofs.scale.day_in.Statement.{statement}
 use Rattle.recurrence.proofs.scale.day_in.Tie as tie
-use Rattle.recurrence.proofs.scale.day_in.Reads as reads
-use Rattle.recurrence.proofs.scale.day_in.Lts as lts
-use Rattle.date.proofs.from_ymd.Reads as from-ymd-reads
-use Rattle.recurrence.proofs.scale.count_or.Reads as count-or-reads
-use Rattle.recurrence.proofs.scale.lowered.Reads as lowered-reads
 
--- src/scale.rt:117:29
 lowered-requires : tie.Need-lowered-requires
 lowered-requires c κs = search needs
 
--- src/scale.rt:117:14
 from-ymd-requires : tie.Need-from-ymd-requires
 from-ymd-requires c κs = search needs
 
--- src/scale.rt:117:5
 count-or-requires : tie.Need-count-or-requires
 count-or-requires c κs = search needs
 
--- src/scale.rt:113:1
 returns : tie.Need-returns
 returns c =
     let k = c .before in

@@ -4,28 +4,19 @@ use Rattle.recurrence.proofs.Counts.{length-is, length-there}
 use borrow.Author.Needs.{needs}
 use Rattle.recurrence.proofs.scale.length_in.Statement.{statement}
 use Rattle.recurrence.proofs.scale.length_in.Tie as tie
-use Rattle.recurrence.proofs.scale.length_in.Reads as reads
-use Rattle.recurrence.proofs.scale.length_in.Lts as lts
-use Rattle.date.proofs.days_in_month.Reads as days-in-month-reads
-use Rattle.recurrence.proofs.scale.lowered.Reads as lowered-reads
 
--- src/scale.rt:124:31
 lowered-requires : tie.Need-lowered-requires
 lowered-requires c κs = search needs
 
--- src/scale.rt:124:11
 days-in-month-requires : tie.Need-days-in-month-requires
 days-in-month-requires c κs = search needs
 
--- src/scale.rt:125:26
 enum-known-n : tie.Need-enum-known-n
 enum-known-n c = search needs
 
--- src/scale.rt:126:33
 enum-told : tie.Need-enum-told
 enum-told c = search needs
 
--- src/scale.rt:120:1
 returns : tie.Need-returns
 returns c =
     let k = c .before .before .before in
@@ -34,7 +25,6 @@ returns c =
     let e = difference-back (s .args .y) 10000 (omega (arith, s .pre .0 .1)) (omega arith) (l .lowered .result) (l .lowered .ensures) in
     length-is (s .args .y) (s .args .m) (s .pre .0) (s .pre .1) _ e (k .days-in-month .result) (k .days-in-month .ensures) _ (c .before .n .given .1)
 
--- src/scale.rt:120:1
 returns-2 : tie.Need-returns-2
 returns-2 c =
     let k = c .before .before in

@@ -1,19 +1,13 @@
 use borrow.Author.Needs.{needs}
 use Rattle.recurrence.proofs.scale.to_scale.Statement.{statement}
 use Rattle.recurrence.proofs.scale.to_scale.Tie as tie
-use Rattle.recurrence.proofs.scale.to_scale.Reads as reads
-use Rattle.recurrence.proofs.scale.to_scale.Lts as lts
-use Rattle.recurrence.proofs.scale.count_of.Reads as count-of-reads
 
--- src/scale.rt:95:9
 count-of-requires : tie.Need-count-of-requires
 count-of-requires c κs = search needs
 
--- src/scale.rt:99:15
 count-of-requires-2 : tie.Need-count-of-requires-2
 count-of-requires-2 c κs = search needs
 
--- src/scale.rt:92:1
 returns : tie.Need-returns
 returns c =
     let r = c .before .before .args .r in

@@ -8,8 +8,6 @@ use mir.Val.{Fits, toZ, ofZ}
 use Rattle.date.proofs.Signs.{first-cast, sum-cast, sum-back}
 use Rattle.recurrence.proofs.scale.year_count.Statement.{statement}
 use Rattle.recurrence.proofs.scale.year_count.Tie as tie
-use Rattle.recurrence.proofs.scale.year_count.Reads as reads
-use Rattle.recurrence.proofs.scale.year_count.Lts as lts
 
 cast-result : tie.Need-cast-result
 cast-result c = first-cast (c .args .year) (c .fits .year)
