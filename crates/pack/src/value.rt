@@ -129,8 +129,8 @@ fn put_given_constraint(out: &mut [u8], p: Place, c: Constraint) -> Place
 {
     match c {
         Constraint::AsLateAsPossible => put_undated(out, p),
-        Constraint::MandatoryStart(d) => put_dated(out, p, 2, d),
-        Constraint::MandatoryFinish(d) => put_dated(out, p, 3, d),
+        Constraint::StartOn(d) => put_dated(out, p, 2, d),
+        Constraint::FinishOn(d) => put_dated(out, p, 3, d),
         Constraint::StartOnOrAfter(d) => put_dated(out, p, 4, d),
         Constraint::StartOnOrBefore(d) => put_dated(out, p, 5, d),
         Constraint::FinishOnOrAfter(d) => put_dated(out, p, 6, d),
