@@ -33,14 +33,6 @@ module _ {d : List ℕ} {p : Place} {d' : List ℕ} {q : Place} where
   unfolding optional
   put-given {f = f} e x y = put-same {f = optional f} (sym e) (put-via _ _ (put-both _ x y))
 
-pub no-text : (s : Text) → length s ≡ 0 → nonEmpty s ≡ none
-no-text [] h = refl
-no-text (b ∷ s) h = absurd (omega arith)
-
-pub a-text : (s : Text) → (length s ≡ 0 → ⊥) → nonEmpty s ≡ some s
-a-text [] h = absurd (h refl)
-a-text (b ∷ s) h = refl
-
 -- ---- dates
 
 module _ {a : DateAnswer} (o : Option D.Date) (h : dateMeaning a ≡ dayNumberOf o) where

@@ -6,7 +6,6 @@ use mathlib.Core.Option.{Option}
 use lib.ListN.{replicate}
 use lib.IntN.{ℤ}
 use Rattle.definition.specs.Answer.{rowMeaning}
-use Rattle.definition.specs.Tree.{nonEmpty}
 use Rattle.definition.specs.Date.{Date}
 use Rattle.definition.specs.Text.{Text}
 use Rattle.definition.specs.Model.{Project, Activity, Link, Resource, Assignment, Expense}
@@ -19,8 +18,9 @@ use Rattle.text.specs.Answers.{i64Of}
 use Rattle.text.specs.declared.I64Answer.{I64Answer}
 use Rattle.tasks.specs.Link.{lagKindMeans}
 use Rattle.tasks.specs.declared.link.Lag.{Lag}
-use Rattle.pack.specs.Value.{lagKind, dateBy, dateGiven, constraintGiven}
+use Rattle.pack.specs.Value.{lagKind, dateBy, dateGiven, constraintGiven, starredBy, nameMeaning}
 use Rattle.definition.specs.declared.DateAnswer.{DateAnswer}
+use Rattle.pack.specs.declared.stars.NameAnswer.{NameAnswer}
 use Rattle.pack.specs.declared.record.Amounts.{Amounts}
 use Rattle.pack.specs.declared.record.Skips.{Skips}
 use Rattle.pack.specs.declared.record.Counts.{Counts}
@@ -66,23 +66,19 @@ projectBy name start currency skips dataDate = record {
 abbrev pub countsBy : Counts → P.Counts
 countsBy n = (n .calendars, (n .activities, (n .links, (n .resources, (n .assignments, n .expenses)))))
 
--- a text with so many `*` behind it
-abbrev pub starredBy : Text → ℕ → Text
-starredBy s stars = s ++ replicate stars 42
-
-abbrev pub resourceBy : Text → ℕ → Text → ℕ → Text → ℤ → Text → I64Answer → Resource
-resourceBy id stars name kind unit maxUnits calendar price = record {
+abbrev pub resourceBy : Text → ℕ → Text → ℕ → Text → ℤ → Text → NameAnswer → I64Answer → Resource
+resourceBy id stars name kind unit maxUnits calendar named price = record {
   id = starredBy id stars;
   name = name;
   kind = kind;
   unit = unit;
   maxUnits = maxUnits;
-  calendar = nonEmpty calendar;
+  calendar = nameMeaning calendar named;
   price = i64Of price;
 }
 
-abbrev pub activityBy : Text → ℕ → Text → Plan → Text → Text → Dates → Progress → Text → Activity
-activityBy id stars name plan notes calendar dates progress uid = record {
+abbrev pub activityBy : Text → ℕ → Text → Plan → Text → Text → NameAnswer → Dates → Progress → Text → Activity
+activityBy id stars name plan notes calendar named dates progress uid = record {
   id = starredBy id stars;
   name = name;
   kind = plan .kind;
@@ -90,7 +86,7 @@ activityBy id stars name plan notes calendar dates progress uid = record {
   minutes = i64Of (plan .duration .minutes);
   parent = rowMeaning (plan .parent);
   notes = notes;
-  calendar = nonEmpty calendar;
+  calendar = nameMeaning calendar named;
   constraint = constraintGiven (dates .constraint);
   deadline = dateGiven (dates .deadline);
   start = dateGiven (dates .start);

@@ -17,6 +17,7 @@ pub use record::put_expense;
 pub use record::put_link;
 pub use record::put_project;
 pub use record::put_resource;
+pub use stars::NameAnswer;
 pub use stars::put_starred;
 pub use value::put_count;
 pub use value::put_date;

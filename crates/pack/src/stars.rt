@@ -1,11 +1,18 @@
-// Texts with `*` behind them.
+// Texts with `*` behind them, and names of them that may be missing.
 ghost use mathlib.Core.List.{List, _++_};
 ghost use lib.ListN.{replicate};
 ghost use mathlib.Core.Path.{_≡_};
-ghost use Rattle.definition.specs.Format.{text};
+ghost use Rattle.definition.specs.Format.{text, optional};
 ghost use Rattle.bits.specs.Steps.{Puts};
 ghost use Rattle.pack.specs.Bytes.{Writes};
+ghost use Rattle.pack.specs.Value.{nameMeaning};
 use bits::Place;
+
+// The text beside it with so many `*` behind it, or no name.
+pub enum NameAnswer {
+    Starred(u32),
+    Absent,
+}
 
 fn wide(x: u8) -> u64
     ensures { λ r. ⌜ r ≡ x ⌝ }
@@ -47,4 +54,16 @@ pub fn put_starred(out: &mut [u8], p: Place, s: &[u8], stars: u32) -> Place
     let b = bits::pad(out, a);
     let c = put_bytes(out, b, s);
     put_stars(out, c, stars)
+}
+
+pub(crate) fn put_optional_name(out: &mut [u8], p: Place, s: &[u8], name: NameAnswer) -> Place
+    ensures { λ r. ⌜ Puts (optional text) (nameMeaning (now (s .entry)) name) (now (out .entry)) p (now (out .exit)) r ⌝ }
+{
+    match name {
+        NameAnswer::Starred(stars) => {
+            let q = bits::put_flag(out, p, true);
+            put_starred(out, q, s, stars)
+        }
+        NameAnswer::Absent => bits::put_flag(out, p, false),
+    }
 }

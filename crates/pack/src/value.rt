@@ -5,8 +5,7 @@ ghost use mathlib.Core.List.{List};
 ghost use mathlib.Core.Option.{some, none};
 ghost use Rattle.definition.specs.Answer.{rowMeaning};
 ghost use Rattle.definition.specs.Date.{dayNumber};
-ghost use Rattle.definition.specs.Tree.{nonEmpty};
-ghost use Rattle.definition.specs.Format.{count, row, code, number, date, text, optional};
+ghost use Rattle.definition.specs.Format.{count, row, code, number, date, optional};
 ghost use Rattle.definition.specs.Pack.{constraint};
 ghost use Rattle.bits.specs.Steps.{Puts};
 ghost use Rattle.text.specs.Answers.{i64Of};
@@ -93,17 +92,6 @@ pub fn put_optional_date(out: &mut [u8], p: Place, d: DateAnswer) -> Place
         }
         DateAnswer::Absent => bits::put_flag(out, p, false),
     }
-}
-
-// An empty text is none.
-pub fn put_optional_text(out: &mut [u8], p: Place, s: &[u8]) -> Place
-    ensures { λ r. ⌜ Puts (optional text) (nonEmpty (now (s .entry))) (now (out .entry)) p (now (out .exit)) r ⌝ }
-{
-    if s.len() == 0 {
-        return bits::put_flag(out, p, false);
-    }
-    let q = bits::put_flag(out, p, true);
-    bits::put_text(out, q, s)
 }
 
 // ---- constraints and kinds of lag

@@ -14,15 +14,15 @@ use Rattle.pack.proofs.value.put_code.Reads as put-code-reads
 use Rattle.pack.proofs.value.put_constraint.Reads as put-constraint-reads
 use Rattle.pack.proofs.value.put_optional_date.Reads as put-optional-date-reads
 use Rattle.pack.proofs.value.put_optional_number.Reads as put-optional-number-reads
-use Rattle.pack.proofs.value.put_optional_text.Reads as put-optional-text-reads
+use Rattle.pack.proofs.stars.put_optional_name.Reads as put-optional-name-reads
 
 -- src/record.rt:208:9
 put-text-requires : tie.Need-put-text-requires
 put-text-requires c κs = search needs
 
 -- src/record.rt:209:9
-put-optional-text-requires : tie.Need-put-optional-text-requires
-put-optional-text-requires c κs = search needs
+put-optional-name-requires : tie.Need-put-optional-name-requires
+put-optional-name-requires c κs = search needs
 
 -- src/record.rt:210:9
 put-constraint-requires : tie.Need-put-constraint-requires
@@ -69,7 +69,7 @@ returns c =
     let r = q .before .before .before .before in
     let s = r .before .before .before .before in
     let t = s .before .before .before .before in
-    λ id stars name plan. put-⊗ (t .put-text .ensures) (put-⊗ (s .put-optional-text .ensures) (put-⊗ (r .put-constraint .ensures) (put-⊗ (q .put-optional-date .ensures) (put-⊗ (p .put-optional-date2 .ensures) (put-⊗ (o .put-optional-date3 .ensures) (put-⊗ (n .put-optional-number .ensures) (put-⊗ (m .put-code .ensures 0 3) (put-⊗ (l .put-optional-number2 .ensures) (k .put-text2 .ensures)))))))))
+    λ id stars name plan. put-⊗ (t .put-text .ensures) (put-⊗ (s .put-optional-name .ensures) (put-⊗ (r .put-constraint .ensures) (put-⊗ (q .put-optional-date .ensures) (put-⊗ (p .put-optional-date2 .ensures) (put-⊗ (o .put-optional-date3 .ensures) (put-⊗ (n .put-optional-number .ensures) (put-⊗ (m .put-code .ensures 0 3) (put-⊗ (l .put-optional-number2 .ensures) (k .put-text2 .ensures)))))))))
 
 -- src/record.rt:191:1
 same-length : tie.Need-same-length
@@ -80,7 +80,7 @@ put-schedule-spec =
     tie.close
     (tie.spec
     put-text-requires
-    put-optional-text-requires
+    put-optional-name-requires
     put-constraint-requires
     put-optional-date-requires
     put-optional-date-requires-2
