@@ -18,10 +18,10 @@ use Rattle.text.specs.Answers.{i64Of}
 use Rattle.text.specs.declared.I64Answer.{I64Answer}
 use Rattle.tasks.specs.Link.{lagKindMeans}
 use Rattle.tasks.specs.declared.link.Lag.{Lag}
+use Rattle.resources.specs.declared.assignment.Amounts.{Amounts}
 use Rattle.pack.specs.Value.{lagKind, dateBy, dateGiven, constraintGiven, starredBy, nameMeaning}
 use Rattle.definition.specs.declared.DateAnswer.{DateAnswer}
 use Rattle.pack.specs.declared.stars.NameAnswer.{NameAnswer}
-use Rattle.pack.specs.declared.record.Amounts.{Amounts}
 use Rattle.pack.specs.declared.record.Skips.{Skips}
 use Rattle.pack.specs.declared.record.Counts.{Counts}
 use Rattle.pack.specs.declared.record.Plan.{Plan}

@@ -4,7 +4,6 @@ mod record;
 mod stars;
 mod value;
 
-pub use record::Amounts;
 pub use record::Counts;
 pub use record::Dates;
 pub use record::Plan;

@@ -21,17 +21,11 @@ use bits::Place;
 use definition::Date;
 use definition::DateAnswer;
 use definition::RowAnswer;
+use resources::Amounts;
 use tasks::ConstraintAnswer;
 use tasks::Lag;
 use tasks::Parts;
 use text::I64Answer;
-
-// What an assignment or an expense costs.
-pub struct Amounts {
-    pub planned: i64,
-    pub actual: i64,
-    pub remaining: I64Answer,
-}
 
 // How many exceptions were skipped, and how many links dangle or go across.
 pub struct Skips {
