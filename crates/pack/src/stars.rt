@@ -1,10 +1,10 @@
 // Texts with `*` behind them, and names of them that may be missing.
 ghost use mathlib.Core.List.{List, _++_};
 ghost use lib.ListN.{replicate};
-ghost use mathlib.Core.Path.{_≡_};
+ghost use Rattle.definition.specs.Bits.{bitsOf};
 ghost use Rattle.definition.specs.Format.{text, optional};
-ghost use Rattle.bits.specs.Steps.{Puts};
-ghost use Rattle.pack.specs.Bytes.{Writes};
+ghost use Rattle.laws.specs.Buf.{_▷_};
+ghost use Rattle.bits.specs.Steps.{Step, Puts};
 ghost use Rattle.pack.specs.Value.{nameMeaning};
 use bits::Place;
 
@@ -14,28 +14,9 @@ pub enum NameAnswer {
     Absent,
 }
 
-fn wide(x: u8) -> u64
-    ensures { λ r. ⌜ r ≡ x ⌝ }
-{
-    x as u64
-}
-
-// The bytes of s, one after another.
-fn put_bytes(out: &mut [u8], p: Place, s: &[u8]) -> Place
-    ensures { λ r. ⌜ Writes (now (s .entry)) (now (out .entry)) p (now (out .exit)) r ⌝ }
-{
-    let mut q = p;
-    let mut i = 0;
-    while i < s.len() {
-        q = bits::put(out, q, 8, wide(s[i]));
-        i += 1;
-    }
-    q
-}
-
 // So many `*`.
 fn put_stars(out: &mut [u8], p: Place, stars: u32) -> Place
-    ensures { λ r. ⌜ Writes (replicate stars 42) (now (out .entry)) p (now (out .exit)) r ⌝ }
+    ensures { λ r. ⌜ Step (now (out .entry)) p (λ b. b ▷ bitsOf (replicate stars 42)) (now (out .exit)) r ⌝ }
 {
     let mut q = p;
     let mut i: u32 = 0;
@@ -52,7 +33,7 @@ pub fn put_starred(out: &mut [u8], p: Place, s: &[u8], stars: u32) -> Place
 {
     let a = bits::put(out, p, 32, s.len() as u64 + stars as u64);
     let b = bits::pad(out, a);
-    let c = put_bytes(out, b, s);
+    let c = bits::put_bytes(out, b, s);
     put_stars(out, c, stars)
 }
 
