@@ -1,11 +1,10 @@
 // Texts with `*` behind them, and names of them that may be missing.
-ghost use mathlib.Core.List.{List, _++_};
 ghost use lib.ListN.{replicate};
 ghost use Rattle.definition.specs.Bits.{bitsOf};
 ghost use Rattle.definition.specs.Format.{text, optional};
 ghost use Rattle.laws.specs.Buf.{_▷_};
 ghost use Rattle.bits.specs.Steps.{Step, Puts};
-ghost use Rattle.pack.specs.Value.{nameMeaning};
+ghost use Rattle.pack.specs.Value.{starredBy, nameMeaning};
 use bits::Place;
 
 // The text beside it with so many `*` behind it, or no name.
@@ -29,7 +28,7 @@ fn put_stars(out: &mut [u8], p: Place, stars: u32) -> Place
 
 // A text with so many `*` behind it.
 pub fn put_starred(out: &mut [u8], p: Place, s: &[u8], stars: u32) -> Place
-    ensures { λ r. ⌜ Puts text (now (s .entry) ++ replicate stars 42) (now (out .entry)) p (now (out .exit)) r ⌝ }
+    ensures { λ r. ⌜ Puts text (starredBy (now (s .entry)) stars) (now (out .entry)) p (now (out .exit)) r ⌝ }
 {
     let a = bits::put(out, p, 32, s.len() as u64 + stars as u64);
     let b = bits::pad(out, a);

@@ -1,7 +1,6 @@
 // The fields of a record, and values that may be missing.
 ghost use Prim.Native.Nat.{ℕ};
 ghost use mathlib.Core.Path.{_≡_};
-ghost use mathlib.Core.List.{List};
 ghost use mathlib.Core.Option.{some, none};
 ghost use Rattle.definition.specs.Answer.{rowMeaning};
 ghost use Rattle.definition.specs.Date.{dayNumber};
@@ -28,13 +27,13 @@ pub fn put_count(out: &mut [u8], p: Place, n: u32) -> Place
 }
 
 // A code, whatever its range.
-pub fn put_code(out: &mut [u8], p: Place, v: u32) -> Place
+pub(crate) fn put_code(out: &mut [u8], p: Place, v: u32) -> Place
     ensures { λ r. ⌜ ((lo hi : ℕ) → Puts (code lo hi) v (now (out .entry)) p (now (out .exit)) r) ⌝ }
 {
     bits::put(out, p, 4, v as u64)
 }
 
-pub fn put_number(out: &mut [u8], p: Place, v: i64) -> Place
+pub(crate) fn put_number(out: &mut [u8], p: Place, v: i64) -> Place
     ensures { λ r. ⌜ Puts number v (now (out .entry)) p (now (out .exit)) r ⌝ }
 {
     bits::put_i64(out, p, v)
@@ -58,7 +57,7 @@ pub fn put_date(out: &mut [u8], p: Place, d: Date) -> Place
 
 // ---- values that may be missing
 
-pub fn put_optional_number(out: &mut [u8], p: Place, n: I64Answer) -> Place
+pub(crate) fn put_optional_number(out: &mut [u8], p: Place, n: I64Answer) -> Place
     ensures { λ r. ⌜ Puts (optional number) (i64Of n) (now (out .entry)) p (now (out .exit)) r ⌝ }
 {
     match n {
@@ -70,7 +69,7 @@ pub fn put_optional_number(out: &mut [u8], p: Place, n: I64Answer) -> Place
     }
 }
 
-pub fn put_optional_row(out: &mut [u8], p: Place, n: RowAnswer) -> Place
+pub(crate) fn put_optional_row(out: &mut [u8], p: Place, n: RowAnswer) -> Place
     ensures { λ r. ⌜ Puts (optional row) (rowMeaning n) (now (out .entry)) p (now (out .exit)) r ⌝ }
 {
     match n {
@@ -82,7 +81,7 @@ pub fn put_optional_row(out: &mut [u8], p: Place, n: RowAnswer) -> Place
     }
 }
 
-pub fn put_optional_date(out: &mut [u8], p: Place, d: DateAnswer) -> Place
+pub(crate) fn put_optional_date(out: &mut [u8], p: Place, d: DateAnswer) -> Place
     ensures { λ r. ⌜ Puts (optional date) (dateGiven d) (now (out .entry)) p (now (out .exit)) r ⌝ }
 {
     match d {
@@ -126,7 +125,7 @@ fn put_given_constraint(out: &mut [u8], p: Place, c: Constraint) -> Place
     }
 }
 
-pub fn put_constraint(out: &mut [u8], p: Place, c: ConstraintAnswer) -> Place
+pub(crate) fn put_constraint(out: &mut [u8], p: Place, c: ConstraintAnswer) -> Place
     ensures { λ r. ⌜ Puts (optional constraint) (constraintGiven c) (now (out .entry)) p (now (out .exit)) r ⌝ }
 {
     match c {
@@ -136,7 +135,7 @@ pub fn put_constraint(out: &mut [u8], p: Place, c: ConstraintAnswer) -> Place
 }
 
 // A lag's kind, and its share of the predecessor's duration.
-pub fn put_lag_kind(out: &mut [u8], p: Place, kind: LagKind) -> Place
+pub(crate) fn put_lag_kind(out: &mut [u8], p: Place, kind: LagKind) -> Place
     ensures { λ r. ⌜ Puts lagKind (lagKindMeans kind) (now (out .entry)) p (now (out .exit)) r ⌝ }
 {
     match kind {

@@ -1,6 +1,6 @@
 use mir.Facts.{toZ-ofZ}
 use Rattle.bits.specs.Steps.{put-⊗, put-whole, put-same}
-use Rattle.pack.specs.Record.{put-resource}
+use Rattle.pack.proofs.Records.{put-resource}
 use borrow.Author.Needs.{needs}
 use Rattle.pack.proofs.record.put_resource.Statement.{statement}
 use Rattle.pack.proofs.record.put_resource.Tie as tie
