@@ -1,21 +1,15 @@
 -- Laws of what is put: values that may be missing, dates, constraints. Assumes nothing.
 use Prim.Native.Nat.{ℕ}
-use native.Mathlib.Omega.{arith}
 use mathlib.Core.Path.{_≡_, refl, sym, ap, _∙_}
-use mathlib.Core.Bool.{Bool, true, false, not}
-use mathlib.Core.List.{List, [], _∷_}
+use mathlib.Core.Bool.{true, false}
+use mathlib.Core.List.{List}
 use mathlib.Core.Option.{Option, some, none}
-use lib.Dec.{eqb}
-use lib.IntN.{ℤ, negsuc}
-use lib.ListN.{length}
-use borrow.Author.Tests.{ne-eqb}
-use Rattle.definition.specs.Base.{_>>=_, _or_, when}
+use lib.IntN.{negsuc}
+use Rattle.definition.specs.Base.{_>>=_, _or_}
 use Rattle.definition.specs.Answer.{dateMeaning, dayNumberOf}
-use Rattle.definition.specs.Text.{Text}
-use Rattle.definition.specs.Tree.{nonEmpty}
 use Rattle.definition.specs.Date as D
 use Rattle.definition.specs.Date.{dayNumber}
-use Rattle.definition.specs.Format.{Format, depending, optional, flag, code, date}
+use Rattle.definition.specs.Format.{Format, optional, flag, code, date}
 use Rattle.definition.specs.Pack.{constraint}
 use Rattle.definition.specs.declared.Date.{Date}
 use Rattle.definition.specs.declared.DateAnswer.{DateAnswer}
@@ -32,14 +26,6 @@ module _ {d : List ℕ} {p : Place} {d' : List ℕ} {q : Place} where
   pub put-given : {A : Type 0} {f : Format A} {a : A} {o : Option A} {d'' : List ℕ} {r : Place} → o ≡ some a → Puts flag true d p d' q → Puts f a d' q d'' r → Puts (optional f) o d p d'' r
   unfolding optional
   put-given {f = f} e x y = put-same {f = optional f} (sym e) (put-via _ _ (put-both _ x y))
-
-pub no-text : (s : Text) → length s ≡ 0 → nonEmpty s ≡ none
-no-text [] h = refl
-no-text (b ∷ s) h = absurd (omega arith)
-
-pub a-text : (s : Text) → (length s ≡ 0 → ⊥) → nonEmpty s ≡ some s
-a-text [] h = absurd (h refl)
-a-text (b ∷ s) h = refl
 
 -- ---- dates
 

@@ -1,3 +1,2 @@
 pub mod Value
-pub mod Bytes
 pub mod Record

@@ -1,21 +1,21 @@
 -- What the values that are written mean. Assumes nothing.
-use Prim.Native.Nat.{ℕ, _≤_}
-use native.Mathlib.Omega.{arith}
+use Prim.Native.Nat.{ℕ}
 use mathlib.Core.Path.{_≡_, refl, ap, _∙_}
-use mathlib.Core.Bool.{Bool, true, false, not, _&&_}
-use mathlib.Core.List.{List, []}
+use mathlib.Core.List.{_++_}
 use mathlib.Core.Option.{Option, some, none}
-use lib.Dec.{eqb, leb}
-use borrow.Author.Tests.{leb-true, ne-eqb}
+use lib.Dec.{eqb}
 use lib.IntN.{ℤ}
-use Rattle.definition.specs.Base.{if_then_else_, _or_, _>>=_, when, within}
-use Rattle.definition.specs.Date.{Date, dayNumber, fromDays}
+use lib.ListN.{replicate}
+use Rattle.definition.specs.Base.{_or_, _>>=_}
+use Rattle.definition.specs.Date.{Date, fromDays}
+use Rattle.definition.specs.Text.{Text}
 use Rattle.definition.specs.Format.{Format, depending, code, number}
-use Rattle.definition.specs.Task.{constraintFrom}
 use Rattle.definition.specs.Answer.{dateMeaning, dayNumberOf}
 use Rattle.definition.specs.declared.DateAnswer.{DateAnswer}
 use Rattle.tasks.specs.Task.{constraintMeans}
 use Rattle.tasks.specs.declared.task.ConstraintAnswer.{ConstraintAnswer}
+use Rattle.pack.specs.declared.stars.NameAnswer.{NameAnswer}
+use Rattle.pack.specs.declared.stars.NameAnswer.the-variants as name
 
 -- the date of a day number; 0 outside the years
 abbrev pub dateBy : ℤ → Date
@@ -32,6 +32,15 @@ constraintGiven c = constraintMeans c >>= λ x. some (x .0, x .1 >>= λ z. some 
 -- a link's lag kind
 abbrev pub lagKind : Format (ℕ × Option ℤ)
 lagKind = depending (code 0 2) (eqb 2) number
+
+-- a text with so many `*` behind it
+abbrev pub starredBy : Text → ℕ → Text
+starredBy s stars = s ++ replicate stars 42
+
+-- a name that may be missing: the text with so many `*` behind it
+unfoldable pub nameMeaning : Text → NameAnswer → Option Text
+nameMeaning s (name.Starred stars) = some (starredBy s stars)
+nameMeaning s name.Absent = none
 
 -- ---- what was read is written as it is meant: its dates stand in the years
 

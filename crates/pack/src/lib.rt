@@ -4,7 +4,6 @@ mod record;
 mod stars;
 mod value;
 
-pub use record::Amounts;
 pub use record::Counts;
 pub use record::Dates;
 pub use record::Plan;
@@ -17,6 +16,7 @@ pub use record::put_expense;
 pub use record::put_link;
 pub use record::put_project;
 pub use record::put_resource;
+pub use stars::NameAnswer;
 pub use stars::put_starred;
 pub use value::put_count;
 pub use value::put_date;

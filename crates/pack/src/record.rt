@@ -5,6 +5,8 @@ ghost use Rattle.definition.specs.Text.{Text};
 ghost use Rattle.definition.specs.Pack.{project, activity, link, resource, assignment, expense, counts};
 ghost use Rattle.bits.specs.Steps.{Puts};
 ghost use Rattle.pack.specs.Record.{linkBy, assignmentBy, expenseBy, projectBy, resourceBy, activityBy, scheduleFields, scheduleOf, countsBy};
+use crate::stars::NameAnswer;
+use crate::stars::put_optional_name;
 use crate::stars::put_starred;
 use crate::value::put_code;
 use crate::value::put_constraint;
@@ -15,22 +17,15 @@ use crate::value::put_number;
 use crate::value::put_optional_date;
 use crate::value::put_optional_number;
 use crate::value::put_optional_row;
-use crate::value::put_optional_text;
 use bits::Place;
 use definition::Date;
 use definition::DateAnswer;
 use definition::RowAnswer;
+use resources::Amounts;
 use tasks::ConstraintAnswer;
 use tasks::Lag;
 use tasks::Parts;
 use text::I64Answer;
-
-// What an assignment or an expense costs.
-pub struct Amounts {
-    pub planned: i64,
-    pub actual: i64,
-    pub remaining: I64Answer,
-}
 
 // How many exceptions were skipped, and how many links dangle or go across.
 pub struct Skips {
@@ -162,7 +157,7 @@ pub fn put_counts(out: &mut [u8], p: Place, n: Counts) -> Place
     put_count(out, e, n.expenses)
 }
 
-// The id with so many `*` behind it.
+// The id with so many `*` behind it; the calendar's name by the answer beside it.
 pub fn put_resource(
     out: &mut [u8],
     p: Place,
@@ -173,16 +168,17 @@ pub fn put_resource(
     unit: &[u8],
     units: i64,
     calendar: &[u8],
+    named: NameAnswer,
     price: I64Answer,
 ) -> Place
-    ensures { λ r. ⌜ Puts (whole resource) (resourceBy (now (id .entry)) stars (now (name .entry)) kind (now (unit .entry)) units (now (calendar .entry)) price) (now (out .entry)) p (now (out .exit)) r ⌝ }
+    ensures { λ r. ⌜ Puts (whole resource) (resourceBy (now (id .entry)) stars (now (name .entry)) kind (now (unit .entry)) units (now (calendar .entry)) named price) (now (out .entry)) p (now (out .exit)) r ⌝ }
 {
     let a = put_starred(out, p, id, stars);
     let b = bits::put_text(out, a, name);
     let c = put_code(out, b, kind);
     let d = bits::put_text(out, c, unit);
     let e = put_number(out, d, units);
-    let f = put_optional_text(out, e, calendar);
+    let f = put_optional_name(out, e, calendar, named);
     let g = put_optional_number(out, f, price);
     bits::pad(out, g)
 }
@@ -193,11 +189,12 @@ fn put_schedule(
     p: Place,
     notes: &[u8],
     calendar: &[u8],
+    named: NameAnswer,
     dates: Dates,
     progress: Progress,
     uid: &[u8],
 ) -> Place
-    ensures { λ r. ⌜ ((id : Text) (stars : ℕ) (name : Text) (plan : Plan) → Puts scheduleFields (scheduleOf (activityBy id stars name plan (now (notes .entry)) (now (calendar .entry)) dates progress (now (uid .entry)))) (now (out .entry)) p (now (out .exit)) r) ⌝ }
+    ensures { λ r. ⌜ ((id : Text) (stars : ℕ) (name : Text) (plan : Plan) → Puts scheduleFields (scheduleOf (activityBy id stars name plan (now (notes .entry)) (now (calendar .entry)) named dates progress (now (uid .entry)))) (now (out .entry)) p (now (out .exit)) r) ⌝ }
 {
     let constraint = dates.constraint;
     let deadline = dates.deadline;
@@ -206,7 +203,7 @@ fn put_schedule(
     let percent = progress.percent;
     let remaining = progress.remaining;
     let a = bits::put_text(out, p, notes);
-    let b = put_optional_text(out, a, calendar);
+    let b = put_optional_name(out, a, calendar, named);
     let c = put_constraint(out, b, constraint);
     let d = put_optional_date(out, c, deadline);
     let e = put_optional_date(out, d, start);
@@ -217,7 +214,7 @@ fn put_schedule(
     bits::put_text(out, i, uid)
 }
 
-// The id with so many `*` behind it.
+// The id with so many `*` behind it; the calendar's name by the answer beside it.
 pub fn put_activity(
     out: &mut [u8],
     p: Place,
@@ -227,11 +224,12 @@ pub fn put_activity(
     plan: Plan,
     notes: &[u8],
     calendar: &[u8],
+    named: NameAnswer,
     dates: Dates,
     progress: Progress,
     uid: &[u8],
 ) -> Place
-    ensures { λ r. ⌜ Puts (whole activity) (activityBy (now (id .entry)) stars (now (name .entry)) plan (now (notes .entry)) (now (calendar .entry)) dates progress (now (uid .entry))) (now (out .entry)) p (now (out .exit)) r ⌝ }
+    ensures { λ r. ⌜ Puts (whole activity) (activityBy (now (id .entry)) stars (now (name .entry)) plan (now (notes .entry)) (now (calendar .entry)) named dates progress (now (uid .entry))) (now (out .entry)) p (now (out .exit)) r ⌝ }
 {
     let duration = plan.duration;
     let minutes = duration.minutes;
@@ -242,6 +240,6 @@ pub fn put_activity(
     let d = put_number(out, c, duration.days);
     let e = put_optional_number(out, d, minutes);
     let f = put_optional_row(out, e, parent);
-    let g = put_schedule(out, f, notes, calendar, dates, progress, uid);
+    let g = put_schedule(out, f, notes, calendar, named, dates, progress, uid);
     bits::pad(out, g)
 }

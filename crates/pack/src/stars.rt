@@ -1,34 +1,21 @@
-// Texts with `*` behind them.
-ghost use mathlib.Core.List.{List, _++_};
+// Texts with `*` behind them, and names of them that may be missing.
 ghost use lib.ListN.{replicate};
-ghost use mathlib.Core.Path.{_≡_};
-ghost use Rattle.definition.specs.Format.{text};
-ghost use Rattle.bits.specs.Steps.{Puts};
-ghost use Rattle.pack.specs.Bytes.{Writes};
+ghost use Rattle.definition.specs.Bits.{bitsOf};
+ghost use Rattle.definition.specs.Format.{text, optional};
+ghost use Rattle.laws.specs.Buf.{_▷_};
+ghost use Rattle.bits.specs.Steps.{Step, Puts};
+ghost use Rattle.pack.specs.Value.{starredBy, nameMeaning};
 use bits::Place;
 
-fn wide(x: u8) -> u64
-    ensures { λ r. ⌜ r ≡ x ⌝ }
-{
-    x as u64
-}
-
-// The bytes of s, one after another.
-fn put_bytes(out: &mut [u8], p: Place, s: &[u8]) -> Place
-    ensures { λ r. ⌜ Writes (now (s .entry)) (now (out .entry)) p (now (out .exit)) r ⌝ }
-{
-    let mut q = p;
-    let mut i = 0;
-    while i < s.len() {
-        q = bits::put(out, q, 8, wide(s[i]));
-        i += 1;
-    }
-    q
+// The text beside it with so many `*` behind it, or no name.
+pub enum NameAnswer {
+    Starred(u32),
+    Absent,
 }
 
 // So many `*`.
 fn put_stars(out: &mut [u8], p: Place, stars: u32) -> Place
-    ensures { λ r. ⌜ Writes (replicate stars 42) (now (out .entry)) p (now (out .exit)) r ⌝ }
+    ensures { λ r. ⌜ Step (now (out .entry)) p (λ b. b ▷ bitsOf (replicate stars 42)) (now (out .exit)) r ⌝ }
 {
     let mut q = p;
     let mut i: u32 = 0;
@@ -41,10 +28,22 @@ fn put_stars(out: &mut [u8], p: Place, stars: u32) -> Place
 
 // A text with so many `*` behind it.
 pub fn put_starred(out: &mut [u8], p: Place, s: &[u8], stars: u32) -> Place
-    ensures { λ r. ⌜ Puts text (now (s .entry) ++ replicate stars 42) (now (out .entry)) p (now (out .exit)) r ⌝ }
+    ensures { λ r. ⌜ Puts text (starredBy (now (s .entry)) stars) (now (out .entry)) p (now (out .exit)) r ⌝ }
 {
     let a = bits::put(out, p, 32, s.len() as u64 + stars as u64);
     let b = bits::pad(out, a);
-    let c = put_bytes(out, b, s);
+    let c = bits::put_bytes(out, b, s);
     put_stars(out, c, stars)
+}
+
+pub(crate) fn put_optional_name(out: &mut [u8], p: Place, s: &[u8], name: NameAnswer) -> Place
+    ensures { λ r. ⌜ Puts (optional text) (nameMeaning (now (s .entry)) name) (now (out .entry)) p (now (out .exit)) r ⌝ }
+{
+    match name {
+        NameAnswer::Starred(stars) => {
+            let q = bits::put_flag(out, p, true);
+            put_starred(out, q, s, stars)
+        }
+        NameAnswer::Absent => bits::put_flag(out, p, false),
+    }
 }

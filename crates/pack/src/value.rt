@@ -1,12 +1,10 @@
 // The fields of a record, and values that may be missing.
 ghost use Prim.Native.Nat.{ℕ};
 ghost use mathlib.Core.Path.{_≡_};
-ghost use mathlib.Core.List.{List};
 ghost use mathlib.Core.Option.{some, none};
 ghost use Rattle.definition.specs.Answer.{rowMeaning};
 ghost use Rattle.definition.specs.Date.{dayNumber};
-ghost use Rattle.definition.specs.Tree.{nonEmpty};
-ghost use Rattle.definition.specs.Format.{count, row, code, number, date, text, optional};
+ghost use Rattle.definition.specs.Format.{count, row, code, number, date, optional};
 ghost use Rattle.definition.specs.Pack.{constraint};
 ghost use Rattle.bits.specs.Steps.{Puts};
 ghost use Rattle.text.specs.Answers.{i64Of};
@@ -29,13 +27,13 @@ pub fn put_count(out: &mut [u8], p: Place, n: u32) -> Place
 }
 
 // A code, whatever its range.
-pub fn put_code(out: &mut [u8], p: Place, v: u32) -> Place
+pub(crate) fn put_code(out: &mut [u8], p: Place, v: u32) -> Place
     ensures { λ r. ⌜ ((lo hi : ℕ) → Puts (code lo hi) v (now (out .entry)) p (now (out .exit)) r) ⌝ }
 {
     bits::put(out, p, 4, v as u64)
 }
 
-pub fn put_number(out: &mut [u8], p: Place, v: i64) -> Place
+pub(crate) fn put_number(out: &mut [u8], p: Place, v: i64) -> Place
     ensures { λ r. ⌜ Puts number v (now (out .entry)) p (now (out .exit)) r ⌝ }
 {
     bits::put_i64(out, p, v)
@@ -59,7 +57,7 @@ pub fn put_date(out: &mut [u8], p: Place, d: Date) -> Place
 
 // ---- values that may be missing
 
-pub fn put_optional_number(out: &mut [u8], p: Place, n: I64Answer) -> Place
+pub(crate) fn put_optional_number(out: &mut [u8], p: Place, n: I64Answer) -> Place
     ensures { λ r. ⌜ Puts (optional number) (i64Of n) (now (out .entry)) p (now (out .exit)) r ⌝ }
 {
     match n {
@@ -71,7 +69,7 @@ pub fn put_optional_number(out: &mut [u8], p: Place, n: I64Answer) -> Place
     }
 }
 
-pub fn put_optional_row(out: &mut [u8], p: Place, n: RowAnswer) -> Place
+pub(crate) fn put_optional_row(out: &mut [u8], p: Place, n: RowAnswer) -> Place
     ensures { λ r. ⌜ Puts (optional row) (rowMeaning n) (now (out .entry)) p (now (out .exit)) r ⌝ }
 {
     match n {
@@ -83,7 +81,7 @@ pub fn put_optional_row(out: &mut [u8], p: Place, n: RowAnswer) -> Place
     }
 }
 
-pub fn put_optional_date(out: &mut [u8], p: Place, d: DateAnswer) -> Place
+pub(crate) fn put_optional_date(out: &mut [u8], p: Place, d: DateAnswer) -> Place
     ensures { λ r. ⌜ Puts (optional date) (dateGiven d) (now (out .entry)) p (now (out .exit)) r ⌝ }
 {
     match d {
@@ -93,17 +91,6 @@ pub fn put_optional_date(out: &mut [u8], p: Place, d: DateAnswer) -> Place
         }
         DateAnswer::Absent => bits::put_flag(out, p, false),
     }
-}
-
-// An empty text is none.
-pub fn put_optional_text(out: &mut [u8], p: Place, s: &[u8]) -> Place
-    ensures { λ r. ⌜ Puts (optional text) (nonEmpty (now (s .entry))) (now (out .entry)) p (now (out .exit)) r ⌝ }
-{
-    if s.len() == 0 {
-        return bits::put_flag(out, p, false);
-    }
-    let q = bits::put_flag(out, p, true);
-    bits::put_text(out, q, s)
 }
 
 // ---- constraints and kinds of lag
@@ -129,8 +116,8 @@ fn put_given_constraint(out: &mut [u8], p: Place, c: Constraint) -> Place
 {
     match c {
         Constraint::AsLateAsPossible => put_undated(out, p),
-        Constraint::MandatoryStart(d) => put_dated(out, p, 2, d),
-        Constraint::MandatoryFinish(d) => put_dated(out, p, 3, d),
+        Constraint::StartOn(d) => put_dated(out, p, 2, d),
+        Constraint::FinishOn(d) => put_dated(out, p, 3, d),
         Constraint::StartOnOrAfter(d) => put_dated(out, p, 4, d),
         Constraint::StartOnOrBefore(d) => put_dated(out, p, 5, d),
         Constraint::FinishOnOrAfter(d) => put_dated(out, p, 6, d),
@@ -138,7 +125,7 @@ fn put_given_constraint(out: &mut [u8], p: Place, c: Constraint) -> Place
     }
 }
 
-pub fn put_constraint(out: &mut [u8], p: Place, c: ConstraintAnswer) -> Place
+pub(crate) fn put_constraint(out: &mut [u8], p: Place, c: ConstraintAnswer) -> Place
     ensures { λ r. ⌜ Puts (optional constraint) (constraintGiven c) (now (out .entry)) p (now (out .exit)) r ⌝ }
 {
     match c {
@@ -148,7 +135,7 @@ pub fn put_constraint(out: &mut [u8], p: Place, c: ConstraintAnswer) -> Place
 }
 
 // A lag's kind, and its share of the predecessor's duration.
-pub fn put_lag_kind(out: &mut [u8], p: Place, kind: LagKind) -> Place
+pub(crate) fn put_lag_kind(out: &mut [u8], p: Place, kind: LagKind) -> Place
     ensures { λ r. ⌜ Puts lagKind (lagKindMeans kind) (now (out .entry)) p (now (out .exit)) r ⌝ }
 {
     match kind {

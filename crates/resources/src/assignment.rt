@@ -15,7 +15,7 @@ use fields::FloatAnswer;
 use fields::MinutesAnswer;
 use text::I64Answer;
 
-// Hundredths of an hour, or of the currency.
+// Hundredths: of an hour for an assignment, of the currency for an expense.
 pub struct Amounts {
     pub planned: i64,
     pub actual: i64,

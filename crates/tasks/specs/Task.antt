@@ -13,8 +13,8 @@ use Rattle.tasks.specs.declared.task.ConstraintAnswer.the-variants as an
 -- MSPDI's code, and the day number of the date
 abbrev pub codeAndDay : Constraint → ℕ × Option ℤ
 codeAndDay constraint.AsLateAsPossible = (1, none)
-codeAndDay (constraint.MandatoryStart d) = (2, some (d .0))
-codeAndDay (constraint.MandatoryFinish d) = (3, some (d .0))
+codeAndDay (constraint.StartOn d) = (2, some (d .0))
+codeAndDay (constraint.FinishOn d) = (3, some (d .0))
 codeAndDay (constraint.StartOnOrAfter d) = (4, some (d .0))
 codeAndDay (constraint.StartOnOrBefore d) = (5, some (d .0))
 codeAndDay (constraint.FinishOnOrAfter d) = (6, some (d .0))

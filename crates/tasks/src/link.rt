@@ -27,7 +27,7 @@ pub enum LagKind {
     Percent(i64),
 }
 
-// Days, or minutes where they are not whole days.
+// A working lag in days, or in minutes where they are not whole days; an elapsed one in minutes; neither for a share.
 pub struct Lag {
     pub days: i64,
     pub minutes: I64Answer,

@@ -23,8 +23,8 @@ use text::I64Answer;
 // MSPDI's codes 1 to 7.
 pub enum Constraint {
     AsLateAsPossible,
-    MandatoryStart(Date),
-    MandatoryFinish(Date),
+    StartOn(Date),
+    FinishOn(Date),
     StartOnOrAfter(Date),
     StartOnOrBefore(Date),
     FinishOnOrAfter(Date),
@@ -124,8 +124,8 @@ fn constraint_on(kind: u64, d: Date) -> ConstraintAnswer
 {
     match kind {
         1 => ConstraintAnswer::Is(Constraint::AsLateAsPossible),
-        2 => ConstraintAnswer::Is(Constraint::MandatoryStart(d)),
-        3 => ConstraintAnswer::Is(Constraint::MandatoryFinish(d)),
+        2 => ConstraintAnswer::Is(Constraint::StartOn(d)),
+        3 => ConstraintAnswer::Is(Constraint::FinishOn(d)),
         4 => ConstraintAnswer::Is(Constraint::StartOnOrAfter(d)),
         5 => ConstraintAnswer::Is(Constraint::StartOnOrBefore(d)),
         6 => ConstraintAnswer::Is(Constraint::FinishOnOrAfter(d)),

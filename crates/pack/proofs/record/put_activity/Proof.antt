@@ -1,6 +1,6 @@
 use mir.Facts.{toZ-ofZ}
 use Rattle.bits.specs.Steps.{put-⊗, put-whole, put-same}
-use Rattle.pack.specs.Record.{put-activity}
+use Rattle.pack.proofs.Records.{put-activity}
 use denote.Ref.{now}
 use borrow.Author.Needs.{needs}
 use Rattle.pack.proofs.record.put_activity.Statement.{statement}

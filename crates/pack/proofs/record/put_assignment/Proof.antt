@@ -1,6 +1,6 @@
 use mir.Facts.{toZ-ofZ}
 use Rattle.bits.specs.Steps.{put-⊗, put-whole, put-same}
-use Rattle.pack.specs.Record.{put-assignment}
+use Rattle.pack.proofs.Records.{put-assignment}
 use borrow.Author.Needs.{needs}
 use Rattle.pack.proofs.record.put_assignment.Statement.{statement}
 use Rattle.pack.proofs.record.put_assignment.Tie as tie

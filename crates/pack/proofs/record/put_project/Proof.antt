@@ -1,5 +1,5 @@
 use Rattle.bits.specs.Steps.{put-⊗, put-whole}
-use Rattle.pack.specs.Record.{put-project}
+use Rattle.pack.proofs.Records.{put-project}
 use borrow.Author.Needs.{needs}
 use Rattle.pack.proofs.record.put_project.Statement.{statement}
 use Rattle.pack.proofs.record.put_project.Tie as tie

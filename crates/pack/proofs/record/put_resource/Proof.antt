@@ -1,6 +1,6 @@
 use mir.Facts.{toZ-ofZ}
 use Rattle.bits.specs.Steps.{put-⊗, put-whole, put-same}
-use Rattle.pack.specs.Record.{put-resource}
+use Rattle.pack.proofs.Records.{put-resource}
 use borrow.Author.Needs.{needs}
 use Rattle.pack.proofs.record.put_resource.Statement.{statement}
 use Rattle.pack.proofs.record.put_resource.Tie as tie
@@ -20,8 +20,8 @@ put-text-requires-2 c κs = search needs
 put-number-requires : tie.Need-put-number-requires
 put-number-requires c κs = search needs
 
-put-optional-text-requires : tie.Need-put-optional-text-requires
-put-optional-text-requires c κs = search needs
+put-optional-name-requires : tie.Need-put-optional-name-requires
+put-optional-name-requires c κs = search needs
 
 put-optional-number-requires : tie.Need-put-optional-number-requires
 put-optional-number-requires c κs = search needs
@@ -40,7 +40,7 @@ returns c =
     let q = p .before .before .before .before in
     let r = q .before .before .before .before in
     let s = r .before .before .before .before .before .before .before in
-    put-whole (put-resource _ (put-⊗ (r .put-starred .ensures) (put-⊗ (q .put-text .ensures) (put-⊗ (p .put-code .ensures 0 2) (put-⊗ (o .put-text2 .ensures) (put-⊗ (put-same (toZ-ofZ (s .fits .units)) (n .put-number .ensures)) (put-⊗ (m .put-optional-text .ensures) (l .put-optional-number .ensures)))))))) (k .pad .ensures)
+    put-whole (put-resource _ (put-⊗ (r .put-starred .ensures) (put-⊗ (q .put-text .ensures) (put-⊗ (p .put-code .ensures 0 2) (put-⊗ (o .put-text2 .ensures) (put-⊗ (put-same (toZ-ofZ (s .fits .units)) (n .put-number .ensures)) (put-⊗ (m .put-optional-name .ensures) (l .put-optional-number .ensures)))))))) (k .pad .ensures)
 
 same-length : tie.Need-same-length
 same-length c = returns c .step .same
@@ -54,7 +54,7 @@ put-resource-spec =
     put-code-requires
     put-text-requires-2
     put-number-requires
-    put-optional-text-requires
+    put-optional-name-requires
     put-optional-number-requires
     pad-requires
     same-length

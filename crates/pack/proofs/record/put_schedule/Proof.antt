@@ -11,8 +11,8 @@ use Rattle.pack.proofs.record.put_schedule.Tie as tie
 put-text-requires : tie.Need-put-text-requires
 put-text-requires c κs = search needs
 
-put-optional-text-requires : tie.Need-put-optional-text-requires
-put-optional-text-requires c κs = search needs
+put-optional-name-requires : tie.Need-put-optional-name-requires
+put-optional-name-requires c κs = search needs
 
 put-constraint-requires : tie.Need-put-constraint-requires
 put-constraint-requires c κs = search needs
@@ -50,7 +50,7 @@ returns c =
     let r = q .before .before .before .before in
     let s = r .before .before .before .before in
     let t = s .before .before .before .before in
-    λ id stars name plan. put-⊗ (t .put-text .ensures) (put-⊗ (s .put-optional-text .ensures) (put-⊗ (r .put-constraint .ensures) (put-⊗ (q .put-optional-date .ensures) (put-⊗ (p .put-optional-date2 .ensures) (put-⊗ (o .put-optional-date3 .ensures) (put-⊗ (n .put-optional-number .ensures) (put-⊗ (m .put-code .ensures 0 3) (put-⊗ (l .put-optional-number2 .ensures) (k .put-text2 .ensures)))))))))
+    λ id stars name plan. put-⊗ (t .put-text .ensures) (put-⊗ (s .put-optional-name .ensures) (put-⊗ (r .put-constraint .ensures) (put-⊗ (q .put-optional-date .ensures) (put-⊗ (p .put-optional-date2 .ensures) (put-⊗ (o .put-optional-date3 .ensures) (put-⊗ (n .put-optional-number .ensures) (put-⊗ (m .put-code .ensures 0 3) (put-⊗ (l .put-optional-number2 .ensures) (k .put-text2 .ensures)))))))))
 
 same-length : tie.Need-same-length
 same-length c = returns c [] 0 [] (record { kind = 0; duration = record { days = pos 0; minutes = I64Answer.Absent }; parent = RowAnswer.Absent }) .step .same
@@ -60,7 +60,7 @@ put-schedule-spec =
     tie.close
     (tie.spec
     put-text-requires
-    put-optional-text-requires
+    put-optional-name-requires
     put-constraint-requires
     put-optional-date-requires
     put-optional-date-requires-2

@@ -1,4 +1,4 @@
-use Rattle.pack.specs.Bytes.{put-starred}
+use Rattle.pack.proofs.Starred.{put-starred}
 use borrow.Author.Needs.{needs}
 use Rattle.pack.proofs.stars.put_starred.Statement.{statement}
 use Rattle.pack.proofs.stars.put_starred.Tie as tie

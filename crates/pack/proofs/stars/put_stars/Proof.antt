@@ -1,14 +1,17 @@
-use mathlib.Core.Path.{_≡_, ap}
-use Prim.Native.Nat.{ℕ, _-_, _≤_}
+use mathlib.Core.Path.{_≡_}
+use Prim.Native.Nat.{_-_, _≤_}
 use native.Mathlib.Omega.{arith}
 use lib.ListN.{replicate}
 use borrow.Author.Needs.{needs}
-use Rattle.pack.specs.Bytes.{Writes, write-none, write-as, write-star}
+use Rattle.definition.specs.Bits.{bitsOf}
+use Rattle.laws.specs.Buf.{_▷_}
+use Rattle.bits.specs.Steps.{Step}
+use Rattle.pack.proofs.Starred.{star-none, star-more}
 use Rattle.pack.proofs.stars.put_stars.Statement.{statement}
 use Rattle.pack.proofs.stars.put_stars.Tie as tie
 
 abbrev Inv-loop : tie.InvT-loop
-Inv-loop out₀ stars q₀ i₀ out q i = (i ≤ stars) × Writes (replicate i 42) out₀ q₀ out q
+Inv-loop out₀ stars q₀ i₀ out q i = (i ≤ stars) × Step out₀ q₀ (λ b. b ▷ bitsOf (replicate i 42)) out q
 
 abbrev μ-loop : tie.MeasureT-loop
 μ-loop out₀ stars q₀ i₀ out q i = stars - i
@@ -16,7 +19,7 @@ abbrev μ-loop : tie.MeasureT-loop
 loop-holds : tie.Need-loop-holds Inv-loop μ-loop
 loop-holds c =
     let k = c .before in
-    (omega arith, write-none (k .args .out .now) (k .args .p))
+    (omega arith, star-none (k .args .out .now) (k .args .p))
 
 put-requires : tie.Need-put-requires Inv-loop μ-loop
 put-requires c κs = search needs
@@ -31,18 +34,18 @@ loop-again : tie.Need-loop-again Inv-loop μ-loop
 loop-again c =
     let k = c .before .before in
     let l = k .before .before .before in
-    (omega arith, write-star (l .loop .i) (l .loop .inv .1) (k .put .ensures))
+    (omega arith, star-more (l .loop .i) (l .loop .inv .1) (k .put .ensures))
 
 same-length : tie.Need-same-length Inv-loop μ-loop
 same-length c =
     let k = c .before in
-    k .loop .inv .1 .step .same
+    k .loop .inv .1 .same
 
 returns : tie.Need-returns Inv-loop μ-loop
 returns c =
     let k = c .before in
     let l = k .before .before in
-    let e : k .loop .i ≡ l .args .stars = omega arith in write-as (ap (λ (n : ℕ). replicate n 42) e) (k .loop .inv .1)
+    let e : k .loop .i ≡ l .args .stars = omega arith in rw e at (k .loop .inv .1)
 
 pub put-stars-spec : {M : Type 1} → statement M
 put-stars-spec =
