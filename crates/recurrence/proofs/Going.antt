@@ -16,12 +16,15 @@ use Rattle.date.specs.Scale.{dayCount, count-of-number}
 use Rattle.recurrence.specs.Scale.{dayDate, scaledBy}
 use Rattle.recurrence.specs.Sequence.{FirstFit, fromOn}
 use Rattle.recurrence.specs.Meaning.{asRule, sound, meaning, daysBy, toCome, said, startOf, after, stepBy, stepOf}
-use Rattle.recurrence.specs.Kind.{Ready}
+use Rattle.recurrence.specs.Kind.{Ready, Chosen}
 use Rattle.recurrence.specs.declared.Rule.{Rule}
 use Rattle.recurrence.specs.declared.Cursor.{Cursor}
 use Rattle.recurrence.specs.declared.Step.{Step}
 use Rattle.recurrence.specs.declared.Step.the-variants.{Day, Done, Skipped}
+use Rattle.recurrence.specs.declared.kind.Kind.{Kind}
+use Rattle.recurrence.specs.declared.kind.KindAnswer.{KindAnswer}
 use Rattle.recurrence.specs.declared.scale.Scaled.{Scaled}
+use Rattle.recurrence.proofs.Types.{rules-is, chosen-rule, chosen-none}
 use Rattle.recurrence.proofs.Runs.{from-past, first-fit, no-fit}
 use Rattle.laws.specs.Bools.{both, within-is}
 
@@ -57,12 +60,19 @@ module _ (r : Rule) (c : Cursor) where
 abbrev pub isOne : Scaled → Bool
 isOne t = sound t && isRule (asRule t)
 
+module _ (t : Scaled) where
+  pub is-one : sound t ≡ true → {a : KindAnswer} {k : Kind} → Chosen (t .kind) (t .month) a → a ≡ KindAnswer.Is k → isOne t ≡ true
+  is-one s h e = rw (s, sym (rules-is t)) (chosen-rule (t .kind) (t .month) h e)
+
+  pub not-sound : sound t ≡ false → isOne t ≡ false
+  not-sound s = rw s
+
+  pub no-kind : sound t ≡ true → {a : KindAnswer} → Chosen (t .kind) (t .month) a → a ≡ KindAnswer.NoRule → isOne t ≡ false
+  no-kind s h e = rw (s, sym (rules-is t)) (chosen-none (t .kind) (t .month) h e)
+
 module _ (t : Scaled) (h : isOne t ≡ true) where
   sounds : sound t ≡ true
   sounds = both (sound t) (isRule (asRule t)) h .0
-
-  pub is-one : isRule (asRule t) ≡ true
-  is-one = both (sound t) (isRule (asRule t)) h .1
 
   pub ready : (at : ℕ) → t .from ≤ at → at ≤ t .last → Ready t at
   ready at f u =

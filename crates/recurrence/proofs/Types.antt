@@ -1,14 +1,18 @@
 -- The kinds of a rule. Assumes nothing.
-use Prim.Native.Nat.{ℕ, zero, suc, _≤_, _<_}
+use Prim.Native.Nat.{ℕ, zero, suc}
 use native.Mathlib.Omega.{arith}
-use mathlib.Core.Path.{_≡_, refl, sym, ap, _∙_}
+use mathlib.Core.Path.{_≡_, refl, subst, subst⁻¹}
 use mathlib.Core.Bool.{Bool, true, false, _&&_, _||_, not}
-use Rattle.definition.specs.Base.{when, given, within}
+use borrow.Author.Tests.{le-leb, lt-leb}
+use Rattle.definition.specs.Base.{if_then_else_, when, given, within}
 use Rattle.definition.specs.Recurrence.{isRule}
 use Rattle.recurrence.specs.Scale.{IsMonth}
 use Rattle.recurrence.specs.Meaning.{asRule, rules}
+use Rattle.recurrence.specs.Kind.{IsKind, Chosen}
+use Rattle.recurrence.specs.declared.kind.Kind.{Kind}
+use Rattle.recurrence.specs.declared.kind.KindAnswer.{KindAnswer}
 use Rattle.recurrence.specs.declared.scale.Scaled.{Scaled}
-use Rattle.laws.specs.Bools.{both, within-is}
+use Rattle.laws.specs.Bools.{within-is, is-within}
 
 pub rules-is : (r : Scaled) → rules (r .kind) (r .month) ≡ isRule (asRule r)
 rules-is r = by (within 1 12 (r .month))
@@ -17,28 +21,53 @@ rules-is r = by (within 1 12 (r .month))
     by true = refl
     by false = refl
 
--- the yearly kinds have their month
-pub rule-month : (r : Scaled) (k : ℕ) → r .kind ≡ k → within 2 3 k ≡ true → isRule (asRule r) ≡ true → IsMonth (r .month)
-rule-month r k e is h =
-    by (within 1 12 (r .month)) refl (both (within 1 6 (r .kind)) (given (when (within 1 12 (r .month)) (r .month)) || not (within 2 3 (r .kind))) h .1)
+-- ---- what a Type chooses
+
+any-month : (b : Bool) → (b || true) ≡ true
+any-month true = refl
+any-month false = refl
+
+kind-rules : (type month : ℕ) (k : Kind) → IsKind type month k → rules type month ≡ true
+kind-rules type month Kind.Daily e = rw e (any-month (within 1 12 month))
+kind-rules type month Kind.YearlyByDay e = rw (e .0, is-within 1 12 month (e .1))
+kind-rules type month Kind.YearlyByPosition e = rw (e .0, is-within 1 12 month (e .1))
+kind-rules type month Kind.MonthlyByDay e = rw e (any-month (within 1 12 month))
+kind-rules type month Kind.MonthlyByPosition e = rw e (any-month (within 1 12 month))
+kind-rules type month Kind.Weekly e = rw e (any-month (within 1 12 month))
+
+pub of-kind : (type month : ℕ) {a k : Kind} → IsKind type month a → a ≡ k → IsKind type month k
+of-kind type month h e = subst (IsKind type month) e h
+
+module _ (type month : ℕ) {a : KindAnswer} (h : Chosen type month a) where
+  pub chosen-kind : {k : Kind} → a ≡ KindAnswer.Is k → IsKind type month k
+  chosen-kind e = subst (Chosen type month) e h
+
+  pub chosen-rule : {k : Kind} → a ≡ KindAnswer.Is k → rules type month ≡ true
+  chosen-rule {k} e = kind-rules type month k (chosen-kind e)
+
+  pub chosen-none : a ≡ KindAnswer.NoRule → rules type month ≡ false
+  chosen-none e = subst (Chosen type month) e h
+
+any-type : (b : Bool) → (b && false) ≡ false
+any-type true = refl
+any-type false = refl
+
+-- a yearly rule, by its month
+pub yearly-chosen : (type month : ℕ) (k : Kind) (a : KindAnswer) → within 2 3 type ≡ true → (IsMonth month → IsKind type month k) → a ≡ (if within 1 12 month then KindAnswer.Is k else KindAnswer.NoRule) → Chosen type month a
+yearly-chosen type month k a y is e = subst⁻¹ (Chosen type month) e (by (within 1 12 month) refl)
   where
-    by : (t : Bool) → within 1 12 (r .month) ≡ t → (given (when t (r .month)) || not (within 2 3 (r .kind))) ≡ true → IsMonth (r .month)
-    by true q g = within-is 1 12 (r .month) q
-    by false q g =
-        let n : true ≡ false = sym g ∙ ap (λ (j : ℕ). not (within 2 3 j)) e ∙ ap not is in
-        let z : _≡_ {A = ℕ} 0 1 = cc in
-        absurd (omega arith)
+    by : (t : Bool) → within 1 12 month ≡ t → Chosen type month (if t then KindAnswer.Is k else KindAnswer.NoRule)
+    by true q = is (within-is 1 12 month q)
+    by false q = rw (q, y) (any-type (within 1 6 type))
 
-six : (k : ℕ) → 1 ≤ k → k ≤ 6 → (k ≡ 1 → ⊥) → (k ≡ 2 → ⊥) → (k ≡ 3 → ⊥) → (k ≡ 4 → ⊥) → (k ≡ 5 → ⊥) → k ≡ 6
-six zero l m a b c d e = absurd (omega arith)
-six (suc zero) l m a b c d e = absurd (a refl)
-six (suc (suc zero)) l m a b c d e = absurd (b refl)
-six (suc (suc (suc zero))) l m a b c d e = absurd (c refl)
-six (suc (suc (suc (suc zero)))) l m a b c d e = absurd (d refl)
-six (suc (suc (suc (suc (suc zero))))) l m a b c d e = absurd (e refl)
-six (suc (suc (suc (suc (suc (suc k)))))) l m a b c d e = omega arith
-
-pub kind-six : (r : Scaled) → isRule (asRule r) ≡ true → (r .kind ≡ 1 → ⊥) → (r .kind ≡ 2 → ⊥) → (r .kind ≡ 3 → ⊥) → (r .kind ≡ 4 → ⊥) → (r .kind ≡ 5 → ⊥) → r .kind ≡ 6
-kind-six r h a b c d e =
-    let w = within-is 1 6 (r .kind) (both (within 1 6 (r .kind)) (given (when (within 1 12 (r .month)) (r .month)) || not (within 2 3 (r .kind))) h .0) in
-    six (r .kind) (w .0) (w .1) a b c d e
+pub any-other : (type month : ℕ) → (type ≡ 1 → ⊥) → (type ≡ 2 → ⊥) → (type ≡ 3 → ⊥) → (type ≡ 4 → ⊥) → (type ≡ 5 → ⊥) → (type ≡ 6 → ⊥) → rules type month ≡ false
+any-other zero month a b c d e f = refl
+any-other (suc zero) month a b c d e f = absurd (a refl)
+any-other (suc (suc zero)) month a b c d e f = absurd (b refl)
+any-other (suc (suc (suc zero))) month a b c d e f = absurd (c refl)
+any-other (suc (suc (suc (suc zero)))) month a b c d e f = absurd (d refl)
+any-other (suc (suc (suc (suc (suc zero))))) month a b c d e f = absurd (e refl)
+any-other (suc (suc (suc (suc (suc (suc zero)))))) month a b c d e f = absurd (f refl)
+any-other (suc (suc (suc (suc (suc (suc (suc k))))))) month a b c d e f =
+    let n = suc (suc (suc (suc (suc (suc (suc k)))))) in
+    rw (le-leb 1 n (omega arith), lt-leb n 6 (omega arith))

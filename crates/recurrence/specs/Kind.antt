@@ -9,8 +9,10 @@ use lib.IntN.{pos}
 use Rattle.definition.specs.Base.{findLast}
 use Rattle.definition.specs.Date.{Date, yearOf, sundayFirst, firstDate, lastDate}
 use Rattle.definition.specs.Recurrence.{mostDays, century, everyNth, isDate, onWeekday, inNthWeek, nthInMonth}
-use Rattle.recurrence.specs.Scale.{monthAt, dayIn}
-use Rattle.recurrence.specs.Meaning.{asRule}
+use Rattle.recurrence.specs.Scale.{IsMonth, monthAt, dayIn}
+use Rattle.recurrence.specs.Meaning.{asRule, rules}
+use Rattle.recurrence.specs.declared.kind.Kind.{Kind}
+use Rattle.recurrence.specs.declared.kind.KindAnswer.{KindAnswer}
 use Rattle.recurrence.specs.declared.scale.Scaled.{Scaled}
 
 abbrev pub lastOf : List ℕ → Option ℕ
@@ -69,3 +71,17 @@ pub record WeekDay (w0 step d g : ℕ) : Type 0 where
   pub on : d ≤ g
   pub between : (e : ℕ) → d ≤ e → e < g → eqb ((e - w0) / 7 % step) 0 ≡ false
   pub here : eqb ((g - w0) / 7 % step) 0 ≡ true
+
+-- the Type that a kind is chosen by; the yearly ones have their month
+abbrev pub IsKind : ℕ → ℕ → Kind → Type 0
+IsKind type month Kind.Daily = type ≡ 1
+IsKind type month Kind.YearlyByDay = (type ≡ 2) × IsMonth month
+IsKind type month Kind.YearlyByPosition = (type ≡ 3) × IsMonth month
+IsKind type month Kind.MonthlyByDay = type ≡ 4
+IsKind type month Kind.MonthlyByPosition = type ≡ 5
+IsKind type month Kind.Weekly = type ≡ 6
+
+-- what a Type and a Month choose
+abbrev pub Chosen : ℕ → ℕ → KindAnswer → Type 0
+Chosen type month (KindAnswer.Is k) = IsKind type month k
+Chosen type month KindAnswer.NoRule = rules type month ≡ false

@@ -12,12 +12,13 @@ use crate::Range;
 use crate::RangeAnswer;
 use crate::Rule;
 use crate::RuleAnswer;
+use crate::kind::KindAnswer;
+use crate::kind::kind_of;
 use crate::scale::LAST;
 use crate::scale::count_or;
 use crate::scale::date_at;
 use crate::scale::later;
 use crate::scale::least;
-use crate::sequence::is_kind;
 use text::Signed;
 use tree::Found;
 
@@ -98,10 +99,10 @@ fn rule_at(s: &[u8], at: usize, from: u32, to: u32) -> Rule
 fn judge(r: Rule) -> RuleAnswer
     ensures { λ a. ⌜ a ≡ judged r ⌝ }
 {
-    if is_kind(r.kind, r.month) {
-        return RuleAnswer::Is(r);
+    match kind_of(r.kind, r.month) {
+        KindAnswer::Is(_) => RuleAnswer::Is(r),
+        KindAnswer::NoRule => RuleAnswer::Absent,
     }
-    RuleAnswer::Absent
 }
 
 fn or_first(to: u32, from: u32) -> u32

@@ -1,11 +1,12 @@
-// The first day that fits a rule, from a day on, kind by kind: daily, yearly, monthly, weekly. Past the last day where none fits.
+// The first day that fits a rule, from a day on, kind by kind: daily, yearly, monthly, weekly; past the last day where none fits. The kind is
+// chosen by the Type.
 ghost use mathlib.Core.Path.{_≡_};
-ghost use mathlib.Core.Bool.{true};
 ghost use Prim.Native.Nat.{_≤_};
-ghost use Rattle.definition.specs.Recurrence.{isRule, fits};
+ghost use Rattle.definition.specs.Base.{if_then_else_, within};
+ghost use Rattle.definition.specs.Recurrence.{fits};
 ghost use Rattle.recurrence.specs.Sequence.{FirstFit};
 ghost use Rattle.recurrence.specs.Scale.{IsMonth};
-ghost use Rattle.recurrence.specs.Kind.{UpTo, Ready, dailyFits, yearlyFits, monthlyFits, weeklyFits, WeekDay, onMask};
+ghost use Rattle.recurrence.specs.Kind.{UpTo, Ready, dailyFits, yearlyFits, monthlyFits, weeklyFits, WeekDay, onMask, IsKind, Chosen};
 ghost use Rattle.recurrence.specs.Meaning.{asRule};
 use crate::position::candidate_in;
 use crate::position::sunday_first;
@@ -108,18 +109,57 @@ fn weekly(r: Scaled, at: u32) -> u32
     }
 }
 
-// Of a rule: the first day from `at` on that fits.
-pub(crate) fn first_fit(r: Scaled, at: u32) -> u32
-    requires { ⌜ Ready r at ⌝ ∗ ⌜ isRule (asRule r) ≡ true ⌝ }
+// The six rules.
+pub(crate) enum Kind {
+    Daily,
+    YearlyByDay,
+    YearlyByPosition,
+    MonthlyByDay,
+    MonthlyByPosition,
+    Weekly,
+}
+
+pub(crate) enum KindAnswer {
+    Is(Kind),
+    NoRule,
+}
+
+// A yearly rule, if its month is one.
+fn in_month(kind: Kind, month: u32) -> KindAnswer
+    ensures { λ a. ⌜ a ≡ (if within 1 12 month then KindAnswer.Is kind else KindAnswer.NoRule) ⌝ }
+{
+    if (1 <= month) & (month <= 12) {
+        return KindAnswer::Is(kind);
+    }
+    KindAnswer::NoRule
+}
+
+// A Type chooses among the six; any other and, in 2 and 3, a bad Month give no rule.
+pub(crate) fn kind_of(kind: u32, month: u32) -> KindAnswer
+    ensures { λ a. ⌜ Chosen kind month a ⌝ }
+{
+    match kind {
+        1 => KindAnswer::Is(Kind::Daily),
+        2 => in_month(Kind::YearlyByDay, month),
+        3 => in_month(Kind::YearlyByPosition, month),
+        4 => KindAnswer::Is(Kind::MonthlyByDay),
+        5 => KindAnswer::Is(Kind::MonthlyByPosition),
+        6 => KindAnswer::Is(Kind::Weekly),
+        _ => KindAnswer::NoRule,
+    }
+}
+
+// Of a rule of that kind: the first day from `at` on that fits.
+pub(crate) fn first_fit(kind: Kind, r: Scaled, at: u32) -> u32
+    requires { ⌜ Ready r at ⌝ ∗ ⌜ IsKind (r .kind) (r .month) kind ⌝ }
     ensures { λ x. ⌜ FirstFit (fits (asRule r)) (r .last) at x ⌝ }
 {
-    let kind = r.kind;
     match kind {
-        1 => daily(r, at),
-        2 => yearly(r, at, false),
-        3 => yearly(r, at, true),
-        4 => monthly(r, at, false),
-        5 => monthly(r, at, true),
-        _ => weekly(r, at),
+        Kind::Daily => daily(r, at),
+        Kind::YearlyByDay => yearly(r, at, false),
+        Kind::YearlyByPosition => yearly(r, at, true),
+        Kind::MonthlyByDay => monthly(r, at, false),
+        Kind::MonthlyByPosition => monthly(r, at, true),
+        Kind::Weekly => weekly(r, at),
     }
 }
