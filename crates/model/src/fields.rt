@@ -21,7 +21,7 @@ const NOTHING: Field = Field {
 };
 
 // The place behind so many bits.
-pub fn skip(s: &[u8], p: Place, width: usize) -> Place
+pub(crate) fn skip(s: &[u8], p: Place, width: usize) -> Place
     requires { ⌜ width ≤ 64 ⌝ }
     ensures { λ r. ⌜ Passes (field width) (now (s .entry)) p r ⌝ }
 {
@@ -40,7 +40,7 @@ pub fn skip(s: &[u8], p: Place, width: usize) -> Place
 }
 
 // A code from lo to hi.
-pub fn skip_code(s: &[u8], p: Place, lo: u64, hi: u64) -> Place
+pub(crate) fn skip_code(s: &[u8], p: Place, lo: u64, hi: u64) -> Place
     ensures { λ r. ⌜ Passes (code lo hi) (now (s .entry)) p r ⌝ }
 {
     let k = bits::take(s, p, 4);
@@ -54,7 +54,7 @@ pub fn skip_code(s: &[u8], p: Place, lo: u64, hi: u64) -> Place
 }
 
 // A text. It is tested for UTF-8 where `check` says so: a model that was opened needs no test.
-pub fn skip_text(s: &[u8], p: Place, check: bool) -> Place
+pub(crate) fn skip_text(s: &[u8], p: Place, check: bool) -> Place
     ensures { λ r. ⌜ Passes (textBy check) (now (s .entry)) p r ⌝ }
 {
     let t = bits::take_text(s, p);
@@ -109,7 +109,7 @@ pub(crate) fn take_date_key(s: &[u8], p: Place) -> Field
     Field { value: d, next }
 }
 
-pub fn skip_date(s: &[u8], p: Place) -> Place
+pub(crate) fn skip_date(s: &[u8], p: Place) -> Place
     ensures { λ r. ⌜ Passes date (now (s .entry)) p r ⌝ }
 {
     take_date_key(s, p).next
@@ -137,7 +137,7 @@ pub(crate) fn take_period_key(s: &[u8], p: Place) -> Field
 // ---- what may be missing
 
 // A number or a row.
-pub fn skip_optional(s: &[u8], p: Place, width: usize) -> Place
+pub(crate) fn skip_optional(s: &[u8], p: Place, width: usize) -> Place
     requires { ⌜ width ≤ 64 ⌝ }
     ensures { λ r. ⌜ Passes (optional (field width)) (now (s .entry)) p r ⌝ }
 {
@@ -148,7 +148,7 @@ pub fn skip_optional(s: &[u8], p: Place, width: usize) -> Place
     f.next
 }
 
-pub fn skip_optional_date(s: &[u8], p: Place) -> Place
+pub(crate) fn skip_optional_date(s: &[u8], p: Place) -> Place
     ensures { λ r. ⌜ Passes (optional date) (now (s .entry)) p r ⌝ }
 {
     let f = bits::take(s, p, 1);
@@ -158,7 +158,7 @@ pub fn skip_optional_date(s: &[u8], p: Place) -> Place
     f.next
 }
 
-pub fn skip_optional_text(s: &[u8], p: Place, check: bool) -> Place
+pub(crate) fn skip_optional_text(s: &[u8], p: Place, check: bool) -> Place
     ensures { λ r. ⌜ Passes (optional (textBy check)) (now (s .entry)) p r ⌝ }
 {
     let f = bits::take(s, p, 1);
@@ -187,7 +187,7 @@ fn skip_constraint(s: &[u8], p: Place) -> Place
     skip_date(s, k.next)
 }
 
-pub fn skip_optional_constraint(s: &[u8], p: Place) -> Place
+pub(crate) fn skip_optional_constraint(s: &[u8], p: Place) -> Place
     ensures { λ r. ⌜ Passes (optional constraint) (now (s .entry)) p r ⌝ }
 {
     let f = bits::take(s, p, 1);
@@ -198,7 +198,7 @@ pub fn skip_optional_constraint(s: &[u8], p: Place) -> Place
 }
 
 // A number if the code is 2.
-pub fn skip_lag_kind(s: &[u8], p: Place) -> Place
+pub(crate) fn skip_lag_kind(s: &[u8], p: Place) -> Place
     ensures { λ r. ⌜ Passes lagKind (now (s .entry)) p r ⌝ }
 {
     let k = bits::take(s, p, 4);

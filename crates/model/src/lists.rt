@@ -8,7 +8,7 @@ use bits::Field;
 use bits::PAST;
 use bits::Place;
 
-pub fn skip_periods(s: &[u8], p: Place) -> Place
+pub(crate) fn skip_periods(s: &[u8], p: Place) -> Place
     ensures { λ r. ⌜ Passes periods (now (s .entry)) p r ⌝ }
 {
     let n = bits::take(s, p, 32);
@@ -43,7 +43,7 @@ fn take_day(s: &[u8], p: Place, hours: bool) -> Field
     }
 }
 
-pub fn skip_days(s: &[u8], p: Place, hours: bool) -> Place
+pub(crate) fn skip_days(s: &[u8], p: Place, hours: bool) -> Place
     ensures { λ r. ⌜ Passes (daysOf hours) (now (s .entry)) p r ⌝ }
 {
     let n = bits::take(s, p, 32);
@@ -64,7 +64,7 @@ pub fn skip_days(s: &[u8], p: Place, hours: bool) -> Place
 }
 
 // So many lists of periods.
-pub fn skip_hours(s: &[u8], p: Place, count: usize) -> Place
+pub(crate) fn skip_hours(s: &[u8], p: Place, count: usize) -> Place
     ensures { λ r. ⌜ Passes (times count periods) (now (s .entry)) p r ⌝ }
 {
     let mut q = p;
