@@ -11,14 +11,14 @@ pub use element::rule_of;
 pub use sequence::next;
 pub use sequence::start;
 
-// A month, from 1 to 12.
+// A month from 1 to 12; any other number is none.
 pub enum MonthAnswer {
     Is(u32),
     Absent,
 }
 
-// A rule, as definition's Recurrence.antt has it, in whole numbers. The day is held to 32, the item to 10 and the position to 5, past which
-// nothing fits; of the weekdays the seven low bits are held.
+// A rule, as definition's Recurrence.antt has it, in whole numbers. The day is held to 32, the item to 10 and the position to 5, at which
+// and past which nothing fits; of the weekdays the seven low bits are held.
 pub struct Rule {
     pub kind: u32,
     pub from: Date,
