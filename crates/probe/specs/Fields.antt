@@ -1,9 +1,12 @@
 -- What the numbers that a probe hands over stand for. Assumes nothing: these are definitions.
 use Prim.Native.Nat.{ℕ, min}
 use mathlib.Core.Path.{_≡_}
+use lib.Dec.{eqb}
+use Rattle.definition.specs.Base.{if_then_else_, _or_}
 use Rattle.definition.specs.declared.Date.{Date}
 use Rattle.date.specs.Scale.{dayCount}
-use Rattle.recurrence.specs.Scale.{dayDate}
+use Rattle.recurrence.specs.Scale.{dayDate, monthMeaning}
+use Rattle.recurrence.specs.declared.MonthAnswer.{MonthAnswer}
 use Rattle.recurrence.specs.declared.Rule.{Rule}
 use Rattle.recurrence.specs.declared.RuleAnswer.{RuleAnswer}
 use Rattle.recurrence.specs.declared.RangeAnswer.{RangeAnswer}
@@ -18,9 +21,12 @@ use Rattle.probe.specs.declared.days.Run.{Run}
 abbrev pub dayAt : ℕ → Date
 dayAt n = dayDate (min n 7304850)
 
+abbrev pub monthAt : ℕ → MonthAnswer
+monthAt n = if eqb n 13 then MonthAnswer.Absent else MonthAnswer.Is n
+
 abbrev pub rule : ℕ → ℕ → ℕ → ℕ → ℕ → ℕ → ℕ → ℕ → ℕ → ℕ → Rule
 rule k f l m p o d i q w =
-    record { kind = k; from = dayAt f; last = dayAt l; most = m; period = p; month = o; day = d; item = i; position = q; weekdays = w }
+    record { kind = k; from = dayAt f; last = dayAt l; most = m; period = p; month = monthAt o; day = d; item = i; position = q; weekdays = w }
 
 abbrev pub cursor : ℕ → ℕ → Cursor
 cursor a l = record { at = dayAt a; left = l }
@@ -35,7 +41,7 @@ fieldsOf (RuleAnswer.Is r) =
       last = dayCount (r .last .0);
       most = r .most;
       period = r .period;
-      month = r .month;
+      month = monthMeaning (r .month) or 13;
       day = r .day;
       item = r .item;
       position = r .position;

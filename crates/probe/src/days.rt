@@ -1,16 +1,20 @@
 // Rules and their days. A rule goes out and comes in by its fields; a day goes as its count from 1 January of the
-// year -10000 on, 0 for none, and what lies past 31 December 9999 comes in as the day behind that.
+// year -10000 on, 0 for none, and what lies past 31 December 9999 comes in as the day behind that; a month goes by
+// its number, 13 for none.
 ghost use mathlib.Core.Path.{_≡_};
 ghost use Prim.Native.Nat.{_≤_, min};
 ghost use lib.IntN.{pos, _-ℤ_};
+ghost use Rattle.definition.specs.Base.{_or_};
 ghost use Rattle.definition.specs.Recurrence.{ruleOf, daysOf};
 ghost use Rattle.date.specs.Scale.{dayCount};
 ghost use Rattle.tree.specs.Place.{elementAt};
+ghost use Rattle.recurrence.specs.Scale.{monthMeaning};
 ghost use Rattle.recurrence.specs.Meaning.{stepOf};
 ghost use Rattle.recurrence.specs.Element.{ruleBy, rangeBy};
-ghost use Rattle.probe.specs.Fields.{dayAt, fieldsOf, runOf, Told, rule, cursor};
+ghost use Rattle.probe.specs.Fields.{dayAt, monthAt, fieldsOf, runOf, Told, rule, cursor};
 use definition::Date;
 use recurrence::Cursor;
+use recurrence::MonthAnswer;
 use recurrence::RangeAnswer;
 use recurrence::Rule;
 use recurrence::RuleAnswer;
@@ -43,6 +47,26 @@ fn day_at(n: u32) -> Date
     Date(lowered(held(n), 4371953))
 }
 
+// ---- a month, 13 for none
+
+fn month_number(a: MonthAnswer) -> u32
+    ensures { λ r. ⌜ r ≡ (monthMeaning a or 13) ⌝ }
+{
+    match a {
+        MonthAnswer::Is(m) => m,
+        MonthAnswer::Absent => 13,
+    }
+}
+
+fn month_at(n: u32) -> MonthAnswer
+    ensures { λ r. ⌜ r ≡ monthAt n ⌝ }
+{
+    if n == 13 {
+        return MonthAnswer::Absent;
+    }
+    MonthAnswer::Is(n)
+}
+
 // ---- a rule
 
 struct Fields {
@@ -62,13 +86,14 @@ fn fields_by(r: Rule) -> Fields
     ensures { λ f. ⌜ f ≡ fieldsOf (RuleAnswer.Is r) ⌝ }
 {
     let from = count(r.from);
+    let month = r.month;
     Fields {
         kind: r.kind,
         from,
         last: count(r.last),
         most: r.most,
         period: r.period,
-        month: r.month,
+        month: month_number(month),
         day: r.day,
         item: r.item,
         position: r.position,
@@ -168,6 +193,7 @@ fn step(
     let first = day_at(from);
     let end = day_at(last);
     let to = day_at(at);
+    let in_month = month_at(month);
     recurrence::next(
         Rule {
             kind,
@@ -175,7 +201,7 @@ fn step(
             last: end,
             most,
             period,
-            month,
+            month: in_month,
             day,
             item,
             position,

@@ -22,9 +22,10 @@ use Rattle.definition.specs.Recurrence.{mostDays, century, monthFrom, typeFrom,
 use Rattle.definition.specs.declared.Date as Declared
 use Rattle.laws.specs.Calendar.{is-day}
 use Rattle.date.specs.Scale.{dayCount, count-of-number}
-use Rattle.recurrence.specs.Scale.{InDates, scaledBy, dayDate}
+use Rattle.recurrence.specs.Scale.{InDates, scaledBy, dayDate, monthMeaning}
 use Rattle.recurrence.specs.Meaning.{asRule, sound, rules, meaning, daysBy}
-use Rattle.recurrence.specs.Element.{capped, heldRule, ruleBy, ruleDays, RuleRead, pickOf, maskOf, lastBy, mostBy, judged, ruleIn, periodOf}
+use Rattle.recurrence.specs.Element.{capped, monthBy, heldRule, ruleBy, ruleDays, RuleRead, pickOf, maskOf, lastBy, mostBy, judged, ruleIn, periodOf}
+use Rattle.recurrence.specs.declared.MonthAnswer.{MonthAnswer}
 use Rattle.recurrence.specs.declared.Rule.{Rule}
 use Rattle.recurrence.specs.declared.RuleAnswer.{RuleAnswer}
 use Rattle.recurrence.specs.declared.scale.Scaled.{Scaled}
@@ -56,15 +57,21 @@ mosts none = refl
 mosts (some (pos n)) = omega arith
 mosts (some (negsuc n)) = refl
 
-months : (o : Option ℤ) → pickOf 12 12 0 o + 1 ≡ (monthFrom (o or pos 0) or 13)
+months : (o : Option ℤ) → monthFrom (pos (pickOf 12 12 0 o)) ≡ monthFrom (o or pos 0)
 unfolding pickOf
 months none = refl
 months (some (pos n)) = by (decLt n 12)
   where
-    by : Dec (n < 12) → min n 12 + 1 ≡ (when (ltb n 12) (n + 1) or 13)
-    by (yes l) = rw (lt-ltb n 12 l) (omega arith)
-    by (no g) = rw (le-ltb n 12 (omega arith)) (omega arith)
+    by : Dec (n < 12) → when (ltb (min n 12) 12) (min n 12 + 1) ≡ when (ltb n 12) (n + 1)
+    by (yes l) = let m : min n 12 ≡ n = omega arith in rw m
+    by (no g) = let m : min n 12 ≡ 12 = omega arith in rw (m, le-ltb n 12 (omega arith))
 months (some (negsuc n)) = refl
+
+-- and its number back
+month-back : (o : Option ℕ) → (monthMeaning (monthBy o) or 13) ≡ (o or 13)
+unfolding monthMeaning
+month-back (some m) = refl
+month-back none = refl
 
 caps : (most k : ℕ) → k ≤ most → (o : Option ℤ) → pickOf most most k o ≡ capped most (o or pos k)
 unfolding pickOf
@@ -74,7 +81,7 @@ caps most k h (some (negsuc n)) = refl
 
 -- made of its fields
 module _ (x : Element) (from to : Date) where
-  pub made : {kind last most period month day item position weekdays occurrences step : ℕ} {b : Bool} {first until : Declared.Date}
+  pub made : {kind last most period number day item position weekdays occurrences step : ℕ} {month : MonthAnswer} {b : Bool} {first until : Declared.Date}
       → b ≡ yesIn x "EnteredByOccurrences"
       → first ≡ dayDate from
       → kind ≡ pickOf 7 7 1 (intIn x "Type")
@@ -84,32 +91,27 @@ module _ (x : Element) (from to : Date) where
       → most ≡ mostBy b occurrences
       → step ≡ pickOf 1000 1 1 (intIn x "Period")
       → period ≡ max 1 step
-      → month ≡ pickOf 12 12 0 (intIn x "Month")
+      → number ≡ pickOf 12 12 0 (intIn x "Month")
+      → month ≡ monthBy (monthFrom (pos number))
       → day ≡ pickOf 32 32 1 (intIn x "MonthDay")
       → item ≡ pickOf 10 10 0 (intIn x "MonthItem")
       → position ≡ pickOf 5 5 0 (intIn x "MonthPosition")
       → weekdays ≡ maskOf (intIn x "DaysOfWeek")
-      → record { kind = kind % 7; from = first; last = until; most = most; period = period; month = month + 1; day = day; item = item; position = position; weekdays = weekdays } ≡ heldRule (ruleFrom x from to)
+      → record { kind = kind % 7; from = first; last = until; most = most; period = period; month = month; day = day; item = item; position = position; weekdays = weekdays } ≡ heldRule (ruleFrom x from to)
   unfolding ruleFrom lastBy mostBy maskOf
-  made b f k l u o m s p n d i q w = λ j.
+  made b f k l u o m s p n t d i q w = λ j.
       record {
         kind = (ap (λ (v : ℕ). v % 7) k ∙ types (intIn x "Type")) j;
         from = f j;
         last = (u ∙ ap dayDate (l ∙ ap (λ (t : Bool). lastBy t from to) b)) j;
         most = (m ∙ (λ i. mostBy (b i) ((o ∙ mosts (intIn x "Occurrences")) i))) j;
         period = (p ∙ ap (max 1) s ∙ periods (intIn x "Period")) j;
-        month = (ap (_+ 1) n ∙ months (intIn x "Month")) j;
+        month = (t ∙ ap (λ (v : ℕ). monthBy (monthFrom (pos v))) n ∙ ap monthBy (months (intIn x "Month"))) j;
         day = (d ∙ caps 32 1 (omega arith) (intIn x "MonthDay")) j;
         item = (i ∙ caps 10 0 (omega arith) (intIn x "MonthItem")) j;
         position = (q ∙ caps 5 0 (omega arith) (intIn x "MonthPosition")) j;
         weekdays = w j;
       }
-
-pub pick-held : (o : Option ℤ) (most below absent n : ℕ) → n ≡ pickOf most below absent o → below ≤ most → absent ≤ most → n ≤ most
-unfolding pickOf
-pick-held none most below absent n e h k = omega arith
-pick-held (some (pos m)) most below absent n e h k = omega arith
-pick-held (some (negsuc m)) most below absent n e h k = omega arith
 
 -- ---- what fits does not see
 
@@ -245,7 +247,7 @@ scaled-is m = λ i.
       last = count-of-number (m .last) i;
       most = m .most;
       period = m .period;
-      month = m .month or 13;
+      month = month-back (m .month) i;
       day = capped 32 (m .day);
       item = capped 10 (m .item);
       position = capped 5 (m .position);
@@ -273,7 +275,7 @@ module _ (x : Element) (from to : Date) where
 
   pub judged-is : judged (heldRule (ruleFrom x from to)) ≡ ruleBy (when (isRule (ruleFrom x from to)) (ruleFrom x from to))
   unfolding judged ruleFrom
-  judged-is = rw (given-month (intIn x "Month" or pos 0)) (by (isRule (ruleFrom x from to)))
+  judged-is = rw (month-back (monthFrom (intIn x "Month" or pos 0)), given-month (intIn x "Month" or pos 0)) (by (isRule (ruleFrom x from to)))
     where
       by : (t : Bool) → (if t then RuleAnswer.Is (heldRule (ruleFrom x from to)) else RuleAnswer.Absent) ≡ ruleBy (when t (ruleFrom x from to))
       by true = refl

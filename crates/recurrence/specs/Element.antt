@@ -17,8 +17,9 @@ use Rattle.definition.specs.Field.{dateIn}
 use Rattle.definition.specs.Recurrence as D
 use Rattle.definition.specs.Recurrence.{mostDays, century, ruleFrom, ruleOf, recurrenceDays, daysOf, mostExceptionDays}
 use Rattle.date.specs.Scale.{dayCount}
-use Rattle.recurrence.specs.Scale.{dayDate}
+use Rattle.recurrence.specs.Scale.{dayDate, monthMeaning}
 use Rattle.recurrence.specs.Meaning.{rules, daysBy}
+use Rattle.recurrence.specs.declared.MonthAnswer.{MonthAnswer}
 use Rattle.recurrence.specs.declared.Rule.{Rule}
 use Rattle.recurrence.specs.declared.RuleAnswer.{RuleAnswer}
 use Rattle.recurrence.specs.declared.Range.{Range}
@@ -32,7 +33,11 @@ abbrev pub capped : ℕ → ℤ → ℕ
 capped most (pos n) = min n most
 capped most (negsuc n) = most
 
--- month 13 is none; of the weekdays the seven low bits
+abbrev pub monthBy : Option ℕ → MonthAnswer
+monthBy (some m) = MonthAnswer.Is m
+monthBy none = MonthAnswer.Absent
+
+-- of the weekdays the seven low bits
 abbrev pub heldRule : D.Rule → Rule
 heldRule m =
     record {
@@ -41,7 +46,7 @@ heldRule m =
       last = dayDate (m .last);
       most = m .most;
       period = m .period;
-      month = m .month or 13;
+      month = monthBy (m .month);
       day = capped 32 (m .day);
       item = capped 10 (m .item);
       position = capped 5 (m .position);
@@ -82,7 +87,7 @@ unfoldable pub mostBy : Bool → ℕ → ℕ
 mostBy byCount occurrences = if byCount then occurrences else mostDays
 
 unfoldable pub judged : Rule → RuleAnswer
-judged r = if rules (r .kind) (r .month) then RuleAnswer.Is r else RuleAnswer.Absent
+judged r = if rules (r .kind) (monthMeaning (r .month) or 13) then RuleAnswer.Is r else RuleAnswer.Absent
 
 -- with its dates, 0 for a missing one
 unfoldable pub ruleIn : Element → Date → Date → RuleAnswer

@@ -1,14 +1,15 @@
 -- Days, years and months as this crate counts them, from 1 January of the year -10000 on. Assumes nothing: these are definitions.
 use Prim.Native.Nat.{ℕ, _+_, _-_, _*_, _≤_}
 use mathlib.Core.Path.{_≡_}
-use mathlib.Core.Option.{Option}
+use mathlib.Core.Option.{Option, some, none}
 use lib.IntN.{ℤ, pos, _-ℤ_}
-use Rattle.definition.specs.Base.{when, within}
+use Rattle.definition.specs.Base.{_or_, when, within}
 use Rattle.definition.specs.Date as D
 use Rattle.definition.specs.Date.{yearOf, monthOf, dateAt, monthLength, dayNumber, firstDate, lastDate}
 use Rattle.definition.specs.declared.Date.{Date}
 use Rattle.definition.specs.declared.DateAnswer.{DateAnswer}
 use Rattle.date.specs.Scale.{dayCount}
+use Rattle.recurrence.specs.declared.MonthAnswer.{MonthAnswer}
 use Rattle.recurrence.specs.declared.Rule.{Rule}
 use Rattle.recurrence.specs.declared.scale.Scaled.{Scaled}
 use Rattle.recurrence.specs.declared.scale.Month.{Month}
@@ -38,6 +39,11 @@ unfoldable pub countBy : DateAnswer → D.Date
 countBy (DateAnswer.Is d) = dayCount (d .0)
 countBy DateAnswer.Absent = 0
 
+unfoldable pub monthMeaning : MonthAnswer → Option ℕ
+monthMeaning (MonthAnswer.Is m) = some m
+monthMeaning MonthAnswer.Absent = none
+
+-- month 13 stands for none
 abbrev pub scaledBy : Rule → Scaled
 scaledBy r =
     record {
@@ -46,7 +52,7 @@ scaledBy r =
       last = dayCount (r .last .0);
       most = r .most;
       period = r .period;
-      month = r .month;
+      month = monthMeaning (r .month) or 13;
       day = r .day;
       item = r .item;
       position = r .position;

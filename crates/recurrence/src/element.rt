@@ -2,12 +2,14 @@
 ghost use mathlib.Core.Path.{_≡_};
 ghost use Prim.Native.Nat.{_≤_};
 ghost use Rattle.definition.specs.Base.{if_then_else_, _or_};
-ghost use Rattle.definition.specs.Recurrence.{ruleFrom};
+ghost use Rattle.definition.specs.Recurrence.{monthFrom, ruleFrom};
 ghost use lib.Dec.{eqb};
+ghost use lib.IntN.{pos};
 ghost use Rattle.text.specs.Answers.{signedMeans};
 ghost use Rattle.fields.specs.Said.{wholeSaid, dateSaid};
 ghost use Rattle.tree.specs.Place.{elementAt};
-ghost use Rattle.recurrence.specs.Element.{pickOf, maskOf, lastBy, mostBy, heldRule, judged, ruleIn, RuleRead, periodOf, rangeIn, RangeRead};
+ghost use Rattle.recurrence.specs.Element.{pickOf, maskOf, lastBy, mostBy, monthBy, heldRule, judged, ruleIn, RuleRead, periodOf, rangeIn, RangeRead};
+use crate::MonthAnswer;
 use crate::Range;
 use crate::RangeAnswer;
 use crate::Rule;
@@ -19,6 +21,7 @@ use crate::scale::count_or;
 use crate::scale::date_at;
 use crate::scale::later;
 use crate::scale::least;
+use crate::scale::month_number;
 use text::Signed;
 use tree::Found;
 
@@ -75,6 +78,16 @@ fn most_by(by_count: bool, occurrences: u32) -> u32
     if by_count { occurrences } else { 5000 }
 }
 
+// MSPDI counts months from 0.
+fn month_from(n: u32) -> MonthAnswer
+    ensures { λ r. ⌜ r ≡ monthBy (monthFrom (pos n)) ⌝ }
+{
+    if n < 12 {
+        return MonthAnswer::Is(n + 1);
+    }
+    MonthAnswer::Absent
+}
+
 fn rule_at(s: &[u8], at: usize, from: u32, to: u32) -> Rule
     requires { ⌜ from ≤ 7304849 ⌝ ∗ ⌜ to ≤ 7304849 ⌝ }
     ensures { λ r. ⌜ r ≡ heldRule (ruleFrom (elementAt (now (s .entry)) at) from to) ⌝ }
@@ -87,7 +100,7 @@ fn rule_at(s: &[u8], at: usize, from: u32, to: u32) -> Rule
         last: date_at(last_by(by_count, from, to)),
         most: most_by(by_count, number_in(s, at, b"Occurrences", 5000, 0, 1)),
         period: later(1, number_in(s, at, b"Period", 1000, 1, 1)),
-        month: number_in(s, at, b"Month", 12, 12, 0) + 1,
+        month: month_from(number_in(s, at, b"Month", 12, 12, 0)),
         day: number_in(s, at, b"MonthDay", 32, 32, 1),
         item: number_in(s, at, b"MonthItem", 10, 10, 0),
         position: number_in(s, at, b"MonthPosition", 5, 5, 0),
@@ -99,7 +112,8 @@ fn rule_at(s: &[u8], at: usize, from: u32, to: u32) -> Rule
 fn judge(r: Rule) -> RuleAnswer
     ensures { λ a. ⌜ a ≡ judged r ⌝ }
 {
-    match kind_of(r.kind, r.month) {
+    let month = r.month;
+    match kind_of(r.kind, month_number(month)) {
         KindAnswer::Is(_) => RuleAnswer::Is(r),
         KindAnswer::NoRule => RuleAnswer::Absent,
     }

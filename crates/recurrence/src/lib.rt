@@ -11,14 +11,21 @@ pub use element::rule_of;
 pub use sequence::next;
 pub use sequence::start;
 
-// A rule, as definition's Recurrence.antt has it, in whole numbers; month 13 is none.
+// A month from 1 to 12; any other number is none.
+pub enum MonthAnswer {
+    Is(u32),
+    Absent,
+}
+
+// A rule, as definition's Recurrence.antt has it, in whole numbers. The day is held to 32, the item to 10 and the position to 5, at which
+// and past which nothing fits; of the weekdays the seven low bits are held.
 pub struct Rule {
     pub kind: u32,
     pub from: Date,
     pub last: Date,
     pub most: u32,
     pub period: u32,
-    pub month: u32,
+    pub month: MonthAnswer,
     pub day: u32,
     pub item: u32,
     pub position: u32,

@@ -5,7 +5,8 @@ ghost use lib.IntN.{pos, _-ℤ_};
 ghost use Rattle.definition.specs.Base.{_or_};
 ghost use Rattle.definition.specs.Date.{monthLength, yearOf};
 ghost use Rattle.date.specs.Scale.{dayCount};
-ghost use Rattle.recurrence.specs.Scale.{InDates, IsYear, IsMonth, YearNumber, dayDate, countBy, scaledBy, monthOn, monthAt, dayIn};
+ghost use Rattle.recurrence.specs.Scale.{InDates, IsYear, IsMonth, YearNumber, dayDate, countBy, monthMeaning, scaledBy, monthOn, monthAt, dayIn};
+use crate::MonthAnswer;
 use crate::Rule;
 use date::LengthAnswer;
 use date::YmdAnswer;
@@ -15,7 +16,7 @@ use definition::DateAnswer;
 // The last date, 31 December 9999.
 pub(crate) const LAST: u32 = 7304849;
 
-// A rule whose days are counted so.
+// A rule whose days are counted so; month 13 is none.
 pub(crate) struct Scaled {
     pub kind: u32,
     pub from: u32,
@@ -79,17 +80,27 @@ pub(crate) fn count_or(a: DateAnswer) -> u32
     }
 }
 
+pub(crate) fn month_number(a: MonthAnswer) -> u32
+    ensures { λ r. ⌜ r ≡ (monthMeaning a or 13) ⌝ }
+{
+    match a {
+        MonthAnswer::Is(m) => m,
+        MonthAnswer::Absent => 13,
+    }
+}
+
 pub(crate) fn to_scale(r: Rule) -> Scaled
     ensures { λ s. ⌜ s ≡ scaledBy r ⌝ }
 {
     let from = count_of(r.from);
+    let month = r.month;
     Scaled {
         kind: r.kind,
         from,
         last: count_of(r.last),
         most: r.most,
         period: r.period,
-        month: r.month,
+        month: month_number(month),
         day: r.day,
         item: r.item,
         position: r.position,

@@ -8,10 +8,13 @@ count-requires c κs = search needs
 count-requires-2 : tie.Need-count-requires-2
 count-requires-2 c κs = search needs
 
+month-number-requires : tie.Need-month-number-requires
+month-number-requires c κs = search needs
+
 returns : tie.Need-returns
 returns c =
-    let r = c .before .before .args .r in
-    λ i. record { kind = r .kind; from = c .before .count .ensures i; last = c .count2 .ensures i; most = r .most; period = r .period; month = r .month; day = r .day; item = r .item; position = r .position; weekdays = r .weekdays }
+    let r = c .before .before .before .args .r in
+    λ i. record { kind = r .kind; from = c .before .before .count .ensures i; last = c .before .count2 .ensures i; most = r .most; period = r .period; month = c .month-number .ensures i; day = r .day; item = r .item; position = r .position; weekdays = r .weekdays }
 
 pub fields-by-spec : {M : Type 1} → statement M
-fields-by-spec = tie.close (tie.spec count-requires count-requires-2 returns)
+fields-by-spec = tie.close (tie.spec count-requires count-requires-2 month-number-requires returns)

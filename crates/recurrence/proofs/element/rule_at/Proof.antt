@@ -3,7 +3,7 @@ use native.Mathlib.Omega.{arith}
 use Rattle.definition.specs.Field.{intIn, yesIn}
 use Rattle.tree.specs.Place.{elementAt}
 use Rattle.recurrence.specs.Element.{maskOf}
-use Rattle.recurrence.proofs.Rules.{made, pick-held, last-most}
+use Rattle.recurrence.proofs.Rules.{made, last-most}
 use borrow.Author.Needs.{needs}
 use Rattle.recurrence.proofs.element.rule_at.Statement.{statement}
 use Rattle.recurrence.proofs.element.rule_at.Tie as tie
@@ -56,8 +56,8 @@ slice-aggregate-number-in-4 c = search needs
 number-in-requires-4 : tie.Need-number-in-requires-4
 number-in-requires-4 c κs = search needs
 
-add-t35 : tie.Need-add-t35
-add-t35 c = let h = pick-held _ 12 12 0 (c .number-in4 .result) (c .number-in4 .ensures) (omega arith) (omega arith) in omega arith
+month-from-requires : tie.Need-month-from-requires
+month-from-requires c κs = search needs
 
 slice-aggregate-number-in-5 : tie.Need-slice-aggregate-number-in-5
 slice-aggregate-number-in-5 c = search needs
@@ -93,7 +93,8 @@ returns c =
     let i7 = w .before .before in
     let i6 = i7 .before .before in
     let i5 = i6 .before .before in
-    let i4 = i5 .before .before in
+    let mf = i5 .before .before in
+    let i4 = mf .before in
     let per = i4 .before .before in
     let i3 = per .before in
     let most = i3 .before .before in
@@ -104,7 +105,7 @@ returns c =
     let d1 = i1 .before .before in
     let y = d1 .before in
     let s = y .before .before .before in
-    made (elementAt (s .args .s .now) (s .args .at)) (s .args .from) (s .args .to) (y .yes-in .ensures) (d1 .date-at .ensures) (i1 .number-in .ensures) (last .last-by .ensures) (d2 .date-at2 .ensures) (i2 .number-in2 .ensures) (most .most-by .ensures) (i3 .number-in3 .ensures) (per .later .ensures) (i4 .number-in4 .ensures) (i5 .number-in5 .ensures) (i6 .number-in6 .ensures) (i7 .number-in7 .ensures) (c .mask-of .ensures ∙ ap maskOf (w .int-in .ensures))
+    made (elementAt (s .args .s .now) (s .args .at)) (s .args .from) (s .args .to) (y .yes-in .ensures) (d1 .date-at .ensures) (i1 .number-in .ensures) (last .last-by .ensures) (d2 .date-at2 .ensures) (i2 .number-in2 .ensures) (most .most-by .ensures) (i3 .number-in3 .ensures) (per .later .ensures) (i4 .number-in4 .ensures) (mf .month-from .ensures) (i5 .number-in5 .ensures) (i6 .number-in6 .ensures) (i7 .number-in7 .ensures) (c .mask-of .ensures ∙ ap maskOf (w .int-in .ensures))
 
 pub rule-at-spec : {M : Type 1} → statement M
 rule-at-spec =
@@ -125,7 +126,7 @@ rule-at-spec =
     later-requires
     slice-aggregate-number-in-4
     number-in-requires-4
-    add-t35
+    month-from-requires
     slice-aggregate-number-in-5
     number-in-requires-5
     slice-aggregate-number-in-6
