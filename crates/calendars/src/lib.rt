@@ -1,8 +1,10 @@
 // Calendars written: their lists, kept rising while they are the last thing written, their hours, and the two calendars that no file gives.
+mod built;
 mod hours;
 mod list;
 mod plain;
 
+pub use built::put_calendars;
 pub use hours::put_periods;
 pub use plain::put_default_calendar;
 pub use plain::put_elapsed_calendar;

@@ -8,6 +8,7 @@ pub use record::Counts;
 pub use record::Dates;
 pub use record::Plan;
 pub use record::Progress;
+pub use record::Records;
 pub use record::Skips;
 pub use record::put_activity;
 pub use record::put_assignment;

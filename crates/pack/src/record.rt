@@ -64,6 +64,12 @@ pub struct Counts {
     pub expenses: u32,
 }
 
+// The records of a section: how many there are, and the place behind them.
+pub struct Records {
+    pub count: u32,
+    pub next: Place,
+}
+
 pub fn put_link(
     out: &mut [u8],
     p: Place,
