@@ -1,0 +1,3 @@
+pub mod FitRecords
+pub mod Section
+pub mod Records
