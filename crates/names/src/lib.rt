@@ -2,11 +2,8 @@
 ghost use mathlib.Core.Path.{_≡_};
 ghost use Prim.Native.Nat.{_-_};
 ghost use lib.ListN.{length};
-ghost use mathlib.Core.List.{[]};
-ghost use Rattle.model.specs.Answers.{readAt};
-ghost use Rattle.model.specs.Parts.{raw};
 ghost use mathlib.Core.Option.{some};
-ghost use Rattle.definition.specs.Base.{same, _or_, _>>=_ as bind};
+ghost use Rattle.definition.specs.Base.{same, _>>=_ as bind};
 ghost use Rattle.definition.specs.Calendar.{free, nameOf, elapsedName};
 ghost use Rattle.definition.specs.Task.{unlessMain};
 ghost use Rattle.tree.specs.Place.{elementAt};
@@ -57,11 +54,4 @@ pub fn calendars_before(out: &[u8], c: Place, s: &[u8], root: usize, p: Place) -
     ensures { λ r. ⌜ r ≡ calendarsBefore (now (out .entry)) c (elementAt (now (s .entry)) root) p ⌝ }
 {
     false
-}
-
-// The text at a place.
-pub fn raw_text<'a>(out: &'a [u8], p: Place) -> &'a [u8]
-    ensures { λ r. ⌜ now r ≡ (readAt raw (now (out .entry)) p .0 or []) ⌝ }
-{
-    &out[0..0]
 }
