@@ -1,3 +1,2 @@
-pub mod FitRecords
 pub mod Section
 pub mod Records

@@ -1,5 +1,6 @@
 // The assignments. What is right is said in the crate definition, specs/Resource.antt.
 ghost use mathlib.Core.Path.{_≡_};
+ghost use mathlib.Core.Bool.{true};
 ghost use mathlib.Core.List.{_∷_};
 ghost use mathlib.Core.Option.{Option, some};
 ghost use Prim.Native.Nat.{ℕ, _%_, _^_};
@@ -97,7 +98,7 @@ fn put_one(out: &mut [u8], done: Done, s: &[u8], root: usize, at: usize) -> Done
 
 // Those of an Assignment and its later siblings.
 fn put_from(out: &mut [u8], p: Place, s: &[u8], root: usize, first: usize) -> Done
-    ensures { λ r. ⌜ Wrote (whole assignment) (assignmentsIn (elementAt (now (s .entry)) root) (elementAt (now (s .entry)) first ∷ laterAt (now (s .entry)) (bytes "Assignment") first)) (now (out .entry)) p (now (out .exit)) r ⌝ }
+    ensures { λ r. ⌜ Wrote (whole assignment) true (assignmentsIn (elementAt (now (s .entry)) root) (elementAt (now (s .entry)) first ∷ laterAt (now (s .entry)) (bytes "Assignment") first)) (now (out .entry)) p (now (out .exit)) r ⌝ }
 {
     let mut done = Done { count: 0, next: p };
     let mut at = first;

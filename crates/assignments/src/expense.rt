@@ -1,5 +1,6 @@
 // The expenses: of two with equal activity and name the first is kept. What is right is said in the crate definition, specs/Resource.antt.
 ghost use mathlib.Core.Path.{_≡_};
+ghost use mathlib.Core.Bool.{false};
 ghost use mathlib.Core.List.{[], _∷_};
 ghost use mathlib.Core.Option.{some};
 ghost use Rattle.definition.specs.Ascii.{bytes};
@@ -8,9 +9,8 @@ ghost use Rattle.definition.specs.Pack.{expense};
 ghost use Rattle.definition.specs.Task.{contextOf};
 ghost use Rattle.definition.specs.Resource.{expenseFrom, expenseOf, expenses as expensesOf};
 ghost use Rattle.tree.specs.Place.{elementAt, laterAt};
-ghost use Rattle.pack.specs.Writes.{Writes};
-ghost use Rattle.assignments.specs.Section.{Wrote};
-ghost use Rattle.assignments.specs.Records.{expensesAfter, isExpenseAt, isThere, AddsExpense};
+ghost use Rattle.assignments.specs.Section.{WritesIn, Wrote};
+ghost use Rattle.assignments.specs.Records.{expensesAfter, isExpenseAt, Tells, AddsExpense};
 use crate::assignment::cost_of;
 use crate::assignment::task_of;
 use crate::section::Done;
@@ -30,20 +30,22 @@ fn is_expense(out: &[u8], p: Place, activity: u32, name: &[u8]) -> bool
     ensures { λ r. ⌜ r ≡ isExpenseAt (now (out .entry)) p activity (now (name .entry)) ⌝ }
 {
     let row = bits::take(out, p, 32);
-    (row.value == activity as u64) & text::same(names::raw_text(out, row.next), name)
+    let next = row.next;
+    (activity as u64 == row.value) & text::same(name, names::raw_text(out, next))
 }
 
-// Whether one of so many from a place on is.
+// Whether one of so many from a place on is, where they stand there.
 fn is_there(out: &[u8], p: Place, count: usize, activity: u32, name: &[u8]) -> bool
-    ensures { λ r. ⌜ r ≡ isThere (now (out .entry)) p count activity (now (name .entry)) ⌝ }
+    ensures { λ r. ⌜ Tells (now (out .entry)) p count activity (now (name .entry)) r ⌝ }
 {
     let mut q = p;
     let mut i: usize = 0;
     while i < count {
+        let next = model::records::skip_record(out, q, Kind::Expenses, false);
         if is_expense(out, q, activity, name) {
             return true;
         }
-        q = model::records::skip_record(out, q, Kind::Expenses, false);
+        q = next;
         i += 1;
     }
     false
@@ -96,7 +98,7 @@ fn put_one(
 
 // Those of an Assignment and its later siblings.
 fn put_from(out: &mut [u8], p: Place, s: &[u8], root: usize, first: usize) -> Done
-    ensures { λ r. ⌜ Wrote (whole expense) (expensesAfter (elementAt (now (s .entry)) root) [] (elementAt (now (s .entry)) first ∷ laterAt (now (s .entry)) (bytes "Assignment") first)) (now (out .entry)) p (now (out .exit)) r ⌝ }
+    ensures { λ r. ⌜ Wrote (whole expense) false (expensesAfter (elementAt (now (s .entry)) root) [] (elementAt (now (s .entry)) first ∷ laterAt (now (s .entry)) (bytes "Assignment") first)) (now (out .entry)) p (now (out .exit)) r ⌝ }
 {
     let mut done = Done { count: 0, next: p };
     let mut at = first;
@@ -110,7 +112,7 @@ fn put_from(out: &mut [u8], p: Place, s: &[u8], root: usize, first: usize) -> Do
 }
 
 pub fn put_expenses(out: &mut [u8], p: Place, s: &[u8], root: usize) -> Records
-    ensures { λ r. ⌜ Writes (whole expense) (expensesOf (contextOf (elementAt (now (s .entry)) root)) (elementAt (now (s .entry)) root)) (now (out .entry)) p (now (out .exit)) r ⌝ }
+    ensures { λ r. ⌜ WritesIn (whole expense) (expensesOf (contextOf (elementAt (now (s .entry)) root)) (elementAt (now (s .entry)) root)) (now (out .entry)) p (now (out .exit)) r ⌝ }
 {
     match first_in(s, root, b"Assignments", b"Assignment") {
         Found::Nothing => Records { count: 0, next: p },

@@ -139,7 +139,7 @@ fn put_one(
     let count = (done.count % 4294967296) as u32;
     let stars = names::free_stars(out, start, Kind::Resources, count, id);
     let uid = tree::text_of(s, at, b"CalendarUID");
-    let calendar = names::calendar_text(s, root, uid);
+    let calendar = names::calendar_text(s, root, uid, b"Calendar");
     let named = calendar_of(out, c, s, root, at);
     let p = done.next;
     let next = put_said(out, p, s, at, stars, calendar, named);
@@ -148,7 +148,7 @@ fn put_one(
 
 // Those of a Resource and its later siblings.
 fn put_from(out: &mut [u8], p: Place, s: &[u8], root: usize, first: usize, c: Place) -> Done
-    ensures { λ r. ⌜ (calendarsBefore (now (out .entry)) c (elementAt (now (s .entry)) root) p ≡ true → length (keep isWork (elementAt (now (s .entry)) first ∷ laterAt (now (s .entry)) (bytes "Resource") first)) ≤ mostElements → Wrote (whole resource) (resourcesAfter (contextAt (now (out .entry)) c (elementAt (now (s .entry)) root)) [] (keep isWork (elementAt (now (s .entry)) first ∷ laterAt (now (s .entry)) (bytes "Resource") first))) (now (out .entry)) p (now (out .exit)) r) ⌝ }
+    ensures { λ r. ⌜ (calendarsBefore (now (out .entry)) c (elementAt (now (s .entry)) root) p ≡ true → length (keep isWork (elementAt (now (s .entry)) first ∷ laterAt (now (s .entry)) (bytes "Resource") first)) ≤ mostElements → Wrote (whole resource) true (resourcesAfter (contextAt (now (out .entry)) c (elementAt (now (s .entry)) root)) [] (keep isWork (elementAt (now (s .entry)) first ∷ laterAt (now (s .entry)) (bytes "Resource") first))) (now (out .entry)) p (now (out .exit)) r) ⌝ }
 {
     let mut done = Done { count: 0, next: p };
     let mut at = first;

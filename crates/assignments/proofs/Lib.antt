@@ -1,0 +1,5 @@
+pub mod Given
+pub mod Turns
+pub mod Assignments
+pub mod Work
+pub mod Expenses
