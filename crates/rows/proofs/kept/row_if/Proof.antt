@@ -1,14 +1,14 @@
+use mathlib.Core.Path.{_≡_, refl, sym}
+use mathlib.Core.Bool.{Bool}
+use Rattle.definition.specs.Base.{if_then_else_}
+use Rattle.definition.specs.declared.RowAnswer.{RowAnswer}
 use borrow.Author.Needs.{needs}
 use Rattle.rows.proofs.kept.row_if.Statement.{statement}
 use Rattle.rows.proofs.kept.row_if.Tie as tie
-use Rattle.rows.proofs.kept.row_if.Reads as reads
-use Rattle.rows.proofs.kept.row_if.Lts as lts
 
--- src/kept.rt:58:1
 returns : tie.Need-returns
-returns c = ?
+returns c = rw (c .if1 .taken)
 
--- src/kept.rt:58:1
 returns-2 : tie.Need-returns-2
 returns-2 c = search needs
 

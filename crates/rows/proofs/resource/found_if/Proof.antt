@@ -1,14 +1,10 @@
 use borrow.Author.Needs.{needs}
 use Rattle.rows.proofs.resource.found_if.Statement.{statement}
 use Rattle.rows.proofs.resource.found_if.Tie as tie
-use Rattle.rows.proofs.resource.found_if.Reads as reads
-use Rattle.rows.proofs.resource.found_if.Lts as lts
 
--- src/resource.rt:37:1
 returns : tie.Need-returns
-returns c = ?
+returns c = rw (c .if1 .taken)
 
--- src/resource.rt:37:1
 returns-2 : tie.Need-returns-2
 returns-2 c = search needs
 

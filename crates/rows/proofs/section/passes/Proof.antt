@@ -1,67 +1,49 @@
+use Rattle.rows.proofs.Walking.{passes-work, passes-cost, passes-plain, passes-derived}
 use borrow.Author.Needs.{needs}
 use Rattle.rows.proofs.section.passes.Statement.{statement}
 use Rattle.rows.proofs.section.passes.Tie as tie
-use Rattle.rows.proofs.section.passes.Reads as reads
-use Rattle.rows.proofs.section.passes.Lts as lts
-use Rattle.calendar.proofs.has_base.Reads as has-base-reads
-use Rattle.resources.proofs.is_cost.Reads as is-cost-reads
-use Rattle.resources.proofs.is_resource.Reads as is-resource-reads
 
--- src/section.rt:31:24
 enum-told : tie.Need-enum-told
 enum-told c = search needs
 
--- src/section.rt:31:24
 is-resource-requires : tie.Need-is-resource-requires
 is-resource-requires c κs = search needs
 
--- src/section.rt:31:57
 is-cost-requires : tie.Need-is-cost-requires
 is-cost-requires c κs = search needs
 
--- src/section.rt:32:24
 enum-told-2 : tie.Need-enum-told-2
 enum-told-2 c = search needs
 
--- src/section.rt:32:24
 is-resource-requires-2 : tie.Need-is-resource-requires-2
 is-resource-requires-2 c κs = search needs
 
--- src/section.rt:32:56
 is-cost-requires-2 : tie.Need-is-cost-requires-2
 is-cost-requires-2 c κs = search needs
 
--- src/section.rt:33:26
 enum-told-3 : tie.Need-enum-told-3
 enum-told-3 c = search needs
 
--- src/section.rt:33:26
 has-base-requires : tie.Need-has-base-requires
 has-base-requires c κs = search needs
 
--- src/section.rt:34:27
 enum-told-4 : tie.Need-enum-told-4
 enum-told-4 c = search needs
 
--- src/section.rt:34:27
 has-base-requires-2 : tie.Need-has-base-requires-2
 has-base-requires-2 c κs = search needs
 
--- src/section.rt:27:1
 returns : tie.Need-returns
-returns c = ?
+returns c = passes-work _ (c .before .before .enum-told .given .1) (c .before .is-resource .ensures) (c .is-cost .ensures)
 
--- src/section.rt:27:1
 returns-2 : tie.Need-returns-2
-returns-2 c = ?
+returns-2 c = passes-cost _ (c .before .before .enum-told2 .given .1) (c .before .is-resource2 .ensures) (c .is-cost2 .ensures)
 
--- src/section.rt:27:1
 returns-3 : tie.Need-returns-3
-returns-3 c = ?
+returns-3 c = passes-plain _ (c .before .enum-told3 .given .1) (c .has-base .ensures)
 
--- src/section.rt:27:1
 returns-4 : tie.Need-returns-4
-returns-4 c = ?
+returns-4 c = passes-derived _ (c .before .enum-told4 .given .1) (c .has-base2 .ensures)
 
 pub passes-spec : {M : Type 1} → statement M
 passes-spec =

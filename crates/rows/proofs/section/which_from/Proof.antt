@@ -1,51 +1,50 @@
+use mathlib.Core.Path.{sym, _∙_}
+use Rattle.rows.specs.Walks.{ahead}
+use Rattle.rows.specs.Turns.{ahead-less}
+use Rattle.rows.proofs.Walking.{Left, left-all, left-later, picks-none, picks-here}
+use borrow.Author.Needs.{needs}
 use Rattle.rows.proofs.section.which_from.Statement.{statement}
 use Rattle.rows.proofs.section.which_from.Tie as tie
-use Rattle.rows.proofs.section.which_from.Reads as reads
-use Rattle.rows.proofs.section.which_from.Lts as lts
-use Rattle.rows.proofs.section.passes.Reads as passes-reads
-use Rattle.tree.proofs.next_child.Reads as next-child-reads
 
 abbrev Inv-loop : tie.InvT-loop
-Inv-loop s name which e₀ e = ?
+Inv-loop s name which e₀ e = Left s name which e₀ e
 
 abbrev μ-loop : tie.MeasureT-loop
-μ-loop s name which e₀ e = ?
+μ-loop s name which e₀ e = ahead s e
 
--- src/section.rt:43:5
 loop-holds : tie.Need-loop-holds Inv-loop μ-loop
-loop-holds c = ?
+loop-holds c = left-all
 
--- src/section.rt:44:23
 enum-known-e : tie.Need-enum-known-e Inv-loop μ-loop
-enum-known-e c = ?
+enum-known-e c = search needs
 
--- src/section.rt:45:13
 enum-told : tie.Need-enum-told Inv-loop μ-loop
-enum-told c = ?
+enum-told c = search needs
 
--- src/section.rt:45:13
 returns : tie.Need-returns Inv-loop μ-loop
-returns c = ?
+returns c = picks-none (c .before .before .loop .inv) (c .enum-told .given .1)
 
--- src/section.rt:47:12
 passes-requires : tie.Need-passes-requires Inv-loop μ-loop
-passes-requires c κs = ?
+passes-requires c κs = search needs
 
--- src/section.rt:48:13
 returns-2 : tie.Need-returns-2 Inv-loop μ-loop
-returns-2 c = ?
+returns-2 c =
+    let k = c .before in
+    let t = k .before .before in
+    picks-here (t .before .before .loop .inv) (t .e .given .1) (sym (k .passes .ensures) ∙ c .if1 .taken)
 
--- src/section.rt:50:9
 next-child-requires : tie.Need-next-child-requires Inv-loop μ-loop
-next-child-requires c κs = ?
+next-child-requires c κs = search needs
 
--- src/section.rt:43:5
 loop-less : tie.Need-loop-less Inv-loop μ-loop
-loop-less c = ?
+loop-less c = ahead-less _ (c .before .before .before .before .e .given .1) _ (c .next-child .ensures .on)
 
--- src/section.rt:43:5
 loop-again : tie.Need-loop-again Inv-loop μ-loop
-loop-again c = ?
+loop-again c =
+    let i = c .before in
+    let k = i .before in
+    let t = k .before .before in
+    left-later (t .before .before .loop .inv) (t .e .given .1) (sym (k .passes .ensures) ∙ i .if1 .left) (c .next-child .ensures)
 
 pub which-from-spec : {M : Type 1} → statement M
 which-from-spec =
