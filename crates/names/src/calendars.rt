@@ -1,9 +1,8 @@
 // The calendars of a tree, and their names as they stand in the buffer.
 ghost use mathlib.Core.Path.{_≡_};
 ghost use mathlib.Core.List.{_∷_};
-ghost use Prim.Native.Nat.{_+_, _-_, _≤_};
 ghost use lib.ListN.{length};
-ghost use Rattle.definition.specs.Base.{_>>=_ as bind};
+ghost use Rattle.definition.specs.Base.{_>>=_ as bind, same};
 ghost use Rattle.definition.specs.Ascii.{bytes};
 ghost use Rattle.definition.specs.Tree.{all};
 ghost use Rattle.definition.specs.Calendar.{calendarElements, nameOf, elapsedName};
@@ -25,7 +24,7 @@ use tree::Found;
 
 // A calendar and its later siblings.
 fn count_from(s: &[u8], first: usize) -> usize
-    ensures { λ r. ⌜ (first ≤ length (now (s .entry)) → r ≡ length (elementAt (now (s .entry)) first ∷ laterAt (now (s .entry)) (bytes "Calendar") first)) ⌝ }
+    ensures { λ r. ⌜ r ≡ length (elementAt (now (s .entry)) first ∷ laterAt (now (s .entry)) (bytes "Calendar") first) ⌝ }
 {
     let mut p = first;
     let mut n = 1;
@@ -67,7 +66,11 @@ fn up_to(p: Place, q: Place) -> bool
     if p.byte < q.byte {
         return true;
     }
-    (p.byte == q.byte) & (p.bit <= q.bit)
+    let d = p.byte - q.byte;
+    if q.bit / 8 < d {
+        return false;
+    }
+    p.bit <= q.bit - d * 8
 }
 
 // Whether all calendars, at most 5,000,000, are read from c on before p.
@@ -140,18 +143,24 @@ fn stars_of(out: &[u8], c: Place, s: &[u8], root: usize, row: usize, at: usize) 
     (long - short) as u32
 }
 
-// A text with so many `*`, unless it is the main calendar's name.
-fn unless_main(out: &[u8], c: Place, s: &[u8], root: usize, text: &[u8], stars: u32) -> NameAnswer
-    ensures { λ r. ⌜ nameMeaning (now (text .entry)) r ≡ unlessMain (contextAt (now (out .entry)) c (elementAt (now (s .entry)) root)) (starredBy (now (text .entry)) stars) ⌝ }
+// Whether a text with so many `*` is the main calendar's name.
+fn is_main(out: &[u8], c: Place, s: &[u8], root: usize, text: &[u8], stars: u32) -> bool
+    ensures { λ r. ⌜ r ≡ same (starredBy (now (text .entry)) stars) (contextAt (now (out .entry)) c (elementAt (now (s .entry)) root) .main .name) ⌝ }
 {
-    let is = match rows::main_calendar(s, root) {
+    match rows::main_calendar(s, root) {
         CalendarAnswer::Is(row, at) => {
             let m = stars_of(out, c, s, root, row, at);
             same_starred(text, stars, wanted_name(s, at, b"Calendar"), m)
         }
         CalendarAnswer::Absent => same_starred(text, stars, b"Standard", 0),
-    };
-    if is {
+    }
+}
+
+// A text with so many `*`, unless it is the main calendar's name.
+fn unless_main(out: &[u8], c: Place, s: &[u8], root: usize, text: &[u8], stars: u32) -> NameAnswer
+    ensures { λ r. ⌜ nameMeaning (now (text .entry)) r ≡ unlessMain (contextAt (now (out .entry)) c (elementAt (now (s .entry)) root)) (starredBy (now (text .entry)) stars) ⌝ }
+{
+    if is_main(out, c, s, root, text, stars) {
         return NameAnswer::Absent;
     }
     NameAnswer::Starred(stars)
