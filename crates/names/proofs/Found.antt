@@ -30,7 +30,7 @@ use Rattle.tree.specs.Place.{elementAt, laterAt}
 use Rattle.model.specs.Answers.{readAt}
 use Rattle.model.specs.Parts.{raw}
 use Rattle.names.specs.Texts.{placeOfRow, textAt}
-use Rattle.names.proofs.Seen.{row-text, raw-length}
+use Rattle.names.specs.Seen.{row-text, raw-length}
 use Rattle.names.specs.Context.{mainRow, sectionRow, wantedBy, wantedName, starsIn, nameIn, builtAt, contextAt, textWithUidBy, textWithUid, calendarsBefore}
 
 -- ---- what a look-up answered

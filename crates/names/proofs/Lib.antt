@@ -1,3 +1,2 @@
 pub mod Starred
-pub mod Seen
 pub mod Found

@@ -4,7 +4,7 @@ use Prim.Native.Nat.{ℕ, _-_, _≤_}
 use Rattle.definition.specs.Calendar.{starred}
 use Rattle.names.specs.Texts.{textsAt}
 use Rattle.names.proofs.Starred.{Tried, tried-none, tried-more, tried-free, tried-all, not-true, not-false}
-use Rattle.names.proofs.Seen.{texts-length}
+use Rattle.names.specs.Seen.{texts-length}
 use native.Mathlib.Omega.{arith}
 use borrow.Author.Needs.{needs}
 use Rattle.names.proofs.records.free_stars.Statement.{statement}

@@ -1,6 +1,6 @@
 -- `names::records::place_of_row` meets its contract. Assumes nothing.
 use mathlib.Core.Path.{sym, _∙_}
-use Rattle.names.proofs.Seen.{place-in, place-out}
+use Rattle.names.specs.Seen.{place-in, place-out}
 use borrow.Author.Needs.{needs}
 use Rattle.names.proofs.records.place_of_row.Statement.{statement}
 use Rattle.names.proofs.records.place_of_row.Tie as tie

@@ -1,7 +1,7 @@
 -- `names::records::raw_text` meets its contract. Assumes nothing.
 use mathlib.Core.Path.{_∙_}
 use Rattle.model.specs.Places.{span-ends, between}
-use Rattle.names.proofs.Seen.{bytes-of, raw-spanned}
+use Rattle.names.specs.Seen.{bytes-of, raw-spanned}
 use native.Mathlib.Omega.{arith}
 use borrow.Author.Needs.{needs}
 use Rattle.names.proofs.records.raw_text.Statement.{statement}

@@ -8,7 +8,7 @@ use Rattle.model.specs.Passes.{Passes, pass-no, pass-more}
 use Rattle.model.specs.Parts.{recordOf}
 use Rattle.pack.specs.Value.{starredBy}
 use Rattle.names.proofs.Starred.{seen-text}
-use Rattle.names.proofs.Seen.{text-here, Left, left-start, left-hit, left-on, left-end}
+use Rattle.names.specs.Seen.{text-here, Left, left-start, left-hit, left-on, left-end}
 use native.Mathlib.Omega.{arith}
 use borrow.Author.Needs.{needs}
 use Rattle.names.proofs.records.taken.Statement.{statement}
