@@ -57,7 +57,8 @@ two-parts p (x ∷ l) = by-test (p x) (keep (λ e. not (p e)) l) (keep p l) (two
 
 pub order-length : (root : Element) → length (inOrder root) ≡ length (calendarElements root)
 unfolding inOrder
-order-length root = length-append _ _ ∙ two-parts (λ e. given (baseOf e)) (calendarElements root)
+order-length root =
+    length-append (keep (λ e. not (given (baseOf e))) (calendarElements root)) (keep (λ e. given (baseOf e)) (calendarElements root)) ∙ two-parts (λ e. given (baseOf e)) (calendarElements root)
 
 -- the calendars under an element
 pub under-one : (root e : Element) → child root (bytes "Calendars") ≡ some e → calendarElements root ≡ all e (bytes "Calendar")
