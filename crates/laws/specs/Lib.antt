@@ -4,6 +4,7 @@ pub mod Buf
 pub mod Calendar
 pub mod Each
 pub mod Fields
+pub mod FitRecords
 pub mod Formats
 pub mod Options
 pub mod Outlines
