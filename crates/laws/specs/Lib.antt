@@ -4,7 +4,10 @@ pub mod Buf
 pub mod Calendar
 pub mod Each
 pub mod Fields
+pub mod FitLists
+pub mod FitNames
 pub mod FitRecords
+pub mod FitTrees
 pub mod Formats
 pub mod Options
 pub mod Outlines
