@@ -209,7 +209,7 @@ built-distinct root =
     build-distinct (build [] first) (keep (λ e. given (baseOf e)) es) (build-distinct [] first empty)
 
 -- a test and its opposite keep all
-keep-both : {A : Type 0} (p : A → Bool) (l : List A) → length (keep (λ x. not (p x)) l) + length (keep p l) ≡ length l
+pub keep-both : {A : Type 0} (p : A → Bool) (l : List A) → length (keep (λ x. not (p x)) l) + length (keep p l) ≡ length l
 unfolding keep
 keep-both p [] = refl
 keep-both p (x ∷ l) = by (p x) (keep-both p l)

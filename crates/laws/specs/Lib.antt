@@ -4,6 +4,8 @@ pub mod Buf
 pub mod Calendar
 pub mod Each
 pub mod Fields
+pub mod FitCalendars
+pub mod FitFields
 pub mod FitLists
 pub mod FitNames
 pub mod FitRecords
