@@ -1,71 +1,68 @@
+use denote.Ref.{now}
+use Rattle.model.specs.declared.records.Kind.the-variants.{Activities}
+use Rattle.names.specs.Texts.{textsAt}
+use mathlib.Core.Path.{ap, _∙_}
+use Rattle.definition.specs.Calendar.{free}
+use Rattle.bits.specs.Steps.{put-same}
+use Rattle.activities.proofs.Values.{activity-is}
 use borrow.Author.Needs.{needs}
 use Rattle.activities.proofs.record.put_named.Statement.{statement}
 use Rattle.activities.proofs.record.put_named.Tie as tie
-use Rattle.activities.proofs.record.put_named.Reads as reads
-use Rattle.activities.proofs.record.put_named.Lts as lts
-use Rattle.activities.proofs.value.dates_of.Reads as dates-of-reads
-use Rattle.activities.proofs.value.plan_of.Reads as plan-of-reads
-use Rattle.activities.proofs.value.progress_of.Reads as progress-of-reads
-use Rattle.activities.proofs.value.wanted_id.Reads as wanted-id-reads
-use Rattle.names.proofs.free_stars.Reads as free-stars-reads
-use Rattle.pack.proofs.put_activity.Reads as put-activity-reads
-use Rattle.tree.proofs.text_of.Reads as text-of-reads
 
--- src/record.rt:37:9
 wanted-id-requires : tie.Need-wanted-id-requires
 wanted-id-requires c κs = search needs
 
--- src/record.rt:38:9
 free-stars-requires : tie.Need-free-stars-requires
 free-stars-requires c κs = search needs
 
--- src/record.rt:39:9
 plan-of-requires : tie.Need-plan-of-requires
 plan-of-requires c κs = search needs
 
--- src/record.rt:40:9
 dates-of-requires : tie.Need-dates-of-requires
 dates-of-requires c κs = search needs
 
--- src/record.rt:41:9
 progress-of-requires : tie.Need-progress-of-requires
 progress-of-requires c κs = search needs
 
--- src/record.rt:42:37
 slice-aggregate-text-of : tie.Need-slice-aggregate-text-of
 slice-aggregate-text-of c = search needs
 
--- src/record.rt:42:9
 text-of-requires : tie.Need-text-of-requires
 text-of-requires c κs = search needs
 
--- src/record.rt:43:38
 slice-aggregate-text-of-2 : tie.Need-slice-aggregate-text-of-2
 slice-aggregate-text-of-2 c = search needs
 
--- src/record.rt:43:9
 text-of-requires-2 : tie.Need-text-of-requires-2
 text-of-requires-2 c κs = search needs
 
--- src/record.rt:44:36
 slice-aggregate-text-of-3 : tie.Need-slice-aggregate-text-of-3
 slice-aggregate-text-of-3 c = search needs
 
--- src/record.rt:44:9
 text-of-requires-3 : tie.Need-text-of-requires-3
 text-of-requires-3 c κs = search needs
 
--- src/record.rt:45:5
 put-activity-requires : tie.Need-put-activity-requires
 put-activity-requires c κs = search needs
 
--- src/record.rt:24:1
-same-length : tie.Need-same-length
-same-length c = search needs
-
--- src/record.rt:24:1
 returns : tie.Need-returns
-returns c = ?
+returns c =
+    let k = c .before .before in
+    let u = k .before .before in
+    let o = u .before .before in
+    let n = o .before .before in
+    let g = n .before .before in
+    let d = g .before in
+    let p = d .before in
+    let f = p .before in
+    let w = f .before .before in
+    let a = w .before .before .before .before .args in
+    put-same
+    (activity-is (now (w .wanted-id .result)) (f .free-stars .result) (now (n .text-of .result)) (p .plan-of .result) (now (o .text-of2 .result)) (now (a .calendar)) (a .named) (d .dates-of .result) (g .progress-of .result) (now (u .text-of3 .result)) (textsAt Activities (now (a .out)) (a .start) (a .row)) (f .free-stars .ensures ∙ ap (free (textsAt Activities (now (a .out)) (a .start) (a .row))) (w .wanted-id .ensures)) (n .text-of .ensures) (p .plan-of .ensures) (o .text-of2 .ensures) (d .dates-of .ensures) (g .progress-of .ensures) (u .text-of3 .ensures))
+    (k .put-activity .ensures)
+
+same-length : tie.Need-same-length
+same-length c = returns c .step .same
 
 pub put-named-spec : {M : Type 1} → statement M
 put-named-spec =

@@ -1,62 +1,64 @@
+use denote.Ref.{now}
+use Rattle.definition.specs.Field.{textIn}
+use Rattle.tree.specs.Place.{elementAt}
+use mathlib.Core.Path.{sym, _∙_}
+use Rattle.activities.proofs.Values.{first-text, second-text, third-text}
 use borrow.Author.Needs.{needs}
 use Rattle.activities.proofs.value.wanted_id.Statement.{statement}
 use Rattle.activities.proofs.value.wanted_id.Tie as tie
-use Rattle.activities.proofs.value.wanted_id.Reads as reads
-use Rattle.activities.proofs.value.wanted_id.Lts as lts
-use Rattle.fields.proofs.given.Reads as given-reads
-use Rattle.tree.proofs.text_of.Reads as text-of-reads
 
--- src/value.rt:24:29
 slice-aggregate-given : tie.Need-slice-aggregate-given
 slice-aggregate-given c = search needs
 
--- src/value.rt:24:8
 given-requires : tie.Need-given-requires
 given-requires c κs = search needs
 
--- src/value.rt:25:37
 slice-aggregate-text-of : tie.Need-slice-aggregate-text-of
 slice-aggregate-text-of c = search needs
 
--- src/value.rt:25:9
 text-of-requires : tie.Need-text-of-requires
 text-of-requires c κs = search needs
 
--- src/value.rt:25:9
 returns : tie.Need-returns
-returns c = ?
+returns c =
+    let i = c .before .before in
+    let a = i .before .before .before .before .args in
+    let t = elementAt (now (a .s)) (a .at) in
+    c .text-of .ensures ∙ first-text (textIn t "WBS") (textIn t "ID") (textIn t "UID") (sym (i .before .given .ensures) ∙ i .if1 .taken)
 
--- src/value.rt:27:29
 slice-aggregate-given-2 : tie.Need-slice-aggregate-given-2
 slice-aggregate-given-2 c = search needs
 
--- src/value.rt:27:8
 given-requires-2 : tie.Need-given-requires-2
 given-requires-2 c κs = search needs
 
--- src/value.rt:28:37
 slice-aggregate-text-of-2 : tie.Need-slice-aggregate-text-of-2
 slice-aggregate-text-of-2 c = search needs
 
--- src/value.rt:28:9
 text-of-requires-2 : tie.Need-text-of-requires-2
 text-of-requires-2 c κs = search needs
 
--- src/value.rt:28:9
 returns-2 : tie.Need-returns-2
-returns-2 c = ?
+returns-2 c =
+    let j = c .before .before in
+    let i = j .before .before .before in
+    let a = i .before .before .before .before .args in
+    let t = elementAt (now (a .s)) (a .at) in
+    c .text-of2 .ensures ∙ second-text (textIn t "WBS") (textIn t "ID") (textIn t "UID") (sym (i .before .given .ensures) ∙ i .if1 .left) (sym (j .before .given2 .ensures) ∙ j .if2 .taken)
 
--- src/value.rt:30:26
 slice-aggregate-text-of-3 : tie.Need-slice-aggregate-text-of-3
 slice-aggregate-text-of-3 c = search needs
 
--- src/value.rt:30:5
 text-of-requires-3 : tie.Need-text-of-requires-3
 text-of-requires-3 c κs = search needs
 
--- src/value.rt:21:1
 returns-3 : tie.Need-returns-3
-returns-3 c = ?
+returns-3 c =
+    let j = c .before .before in
+    let i = j .before .before .before in
+    let a = i .before .before .before .before .args in
+    let t = elementAt (now (a .s)) (a .at) in
+    c .text-of3 .ensures ∙ third-text (textIn t "WBS") (textIn t "ID") (textIn t "UID") (sym (i .before .given .ensures) ∙ i .if1 .left) (sym (j .before .given2 .ensures) ∙ j .if2 .left)
 
 pub wanted-id-spec : {M : Type 1} → statement M
 wanted-id-spec =
