@@ -1,31 +1,23 @@
 -- Activities put one after another: each from the ids and the levels of those before it. Assumes nothing.
 use Prim.Native.Nat.{ℕ, _+_, _%_, _^_, _<_}
-use native.Mathlib.Nat.{add-zero}
 use native.Mathlib.Omega.{arith}
-use mathlib.Core.Path.{_≡_, refl, sym, ap, subst, _∙_}
+use mathlib.Core.Path.{_≡_, refl, sym, ap, _∙_}
 use mathlib.Core.Bool.{Bool, true, false}
-use mathlib.Core.List.{List, [], _∷_, _++_, map, append-assoc, append-nil}
+use mathlib.Core.List.{List, [], _∷_, _++_, map, append-assoc}
 use lib.ListN.{length, take, length-append}
 use lib.Seq.{take-at}
-use Rattle.definition.specs.Format.{Format, times, whole}
+use Rattle.definition.specs.Format.{times, whole}
 use Rattle.definition.specs.Model.{Activity}
 use Rattle.definition.specs.Pack.{activity}
 use Rattle.definition.specs.Task.{Context, levelOf, activityOf, activitiesAfter, activities}
 use Rattle.definition.specs.Text.{Text}
 use Rattle.definition.specs.Tree.{Element}
-use Rattle.laws.specs.Buf.{▷-full}
 use Rattle.laws.specs.Each.{Each, empty, next, each-append}
 use Rattle.bits.specs.Places.{inside}
-use Rattle.bits.specs.Steps.{Puts, said, puts, view, view-out, put-no, put-more, put-same}
+use Rattle.bits.specs.Steps.{Puts, put-no, put-more, put-same}
 use Rattle.bits.specs.declared.Place.{Place}
-use Rattle.pack.specs.Writes.{Writes}
+use Rattle.pack.specs.Writes.{Writes, put-any}
 use Rattle.pack.specs.declared.record.Records.{Records}
-
--- past the end any value does
-pub put-past : {A : Type 0} {f : Format A} {a : A} (b : A) {d : List ℕ} {p : Place} {d' : List ℕ} {q : Place} → inside (length d) p ≡ false → Puts f a d p d' q → Puts f b d p d' q
-put-past {f = f} {a = a} b {d = d} {p = p} h x =
-    let v = view-out d p h in
-    record { step = said (x .step) (puts f b) (rw v (▷-full _ _ ∙ sym (▷-full _ _))) }
 
 map-more : {A B : Type 0} (f : A → B) (xs : List A) (x : A) → map f (xs ++ (x ∷ [])) ≡ map f xs ++ (f x ∷ [])
 map-more f [] x = refl
@@ -79,7 +71,7 @@ module _ {Fits : Activity → Type 0} {x : Context} {entered : ℕ → Bool} {d�
       next-put z ids levels e {d'} {r} h k hl he = by (inside (length d) q) refl
         where
           by : (b : Bool) → inside (length d) q ≡ b → Puts (whole activity) nextOf d q d' r
-          by false i = put-past nextOf i h
+          by false i = put-any nextOf i h
           by true i =
               let (kz, ki) = k i in
               put-same (λ j. activityOf (kz j) (ki j) (hl j) (he j) t) h
