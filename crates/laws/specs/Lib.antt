@@ -4,6 +4,12 @@ pub mod Buf
 pub mod Calendar
 pub mod Each
 pub mod Fields
+pub mod FitCalendars
+pub mod FitFields
+pub mod FitLists
+pub mod FitNames
+pub mod FitRecords
+pub mod FitTrees
 pub mod Formats
 pub mod Options
 pub mod Outlines
