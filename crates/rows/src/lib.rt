@@ -14,12 +14,6 @@ ghost use Rattle.rows.specs.Rows.{foundMeaning, hasUid, withUidIn, mainI
 use definition::RowAnswer;
 use tree::Found;
 
-mod kept;
-
-pub use kept::KeptAnswer;
-pub use kept::first_kept;
-pub use kept::next_kept;
-
 // A calendar's row in the order in which calendars are built, and where it stands in the tree.
 pub enum CalendarAnswer {
     Is(usize, usize),
