@@ -3,3 +3,4 @@ pub mod Turns
 pub mod Assignments
 pub mod Work
 pub mod Expenses
+pub mod Fit

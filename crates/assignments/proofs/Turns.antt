@@ -1,23 +1,19 @@
 -- The records of a section, one after another: none, one more, and the turns of a loop over elements. Assumes nothing.
-use Prim.Native.Nat.{ℕ, _+_, _*_, _%_, _^_, _≤_}
+use Prim.Native.Nat.{ℕ, _+_, _*_, _%_, _^_}
 use native.Mathlib.Nat.{mod-add-mod}
 use native.Mathlib.Omega.{arith}
 use lib.Pow.{mod-mod-pow}
 use mathlib.Core.Path.{_≡_, refl, sym, ap, subst, _∙_}
 use mathlib.Core.Bool.{Bool, true, false, true≢false, _||_}
 use mathlib.Core.List.{List, [], _∷_, _++_, append-nil, append-assoc}
-use mathlib.Core.Option.{Option, some, none}
 use lib.ListN.{length, length-append}
-use Rattle.definition.specs.Text.{Text}
-use Rattle.definition.specs.Tree.{Element, all, allIn}
+use Rattle.definition.specs.Tree.{Element}
 use Rattle.definition.specs.Format.{Format, times}
 use Rattle.laws.specs.Buf.{full, ▷-full}
 use Rattle.bits.specs.Places.{inside, fits-room}
 use Rattle.bits.specs.Round.{put-stood}
 use Rattle.bits.specs.Steps.{Puts, puts, view, view-out, _⨾_, said, stays, put-same, put-no, put-more}
 use Rattle.bits.specs.declared.Place.{Place}
-use Rattle.tree.specs.Place.{elementAt, listOf, Past, Starts}
-use Rattle.tree.specs.declared.Found.{Found}
 use Rattle.pack.specs.Writes.{Writes}
 use Rattle.pack.specs.declared.record.Records.{Records}
 use Rattle.assignments.specs.declared.section.Done.{Done}
@@ -25,14 +21,9 @@ use Rattle.assignments.specs.Section.{WritesIn, Wrote, Goes}
 
 -- ---- past the end
 
-module _ {A : Type 0} {f : Format A} {d : List ℕ} {p : Place} (o : inside (length d) p ≡ false) where
-  -- any record does
-  pub put-any : {a : A} (b : A) {d' : List ℕ} {q : Place} → Puts f a d p d' q → Puts f b d p d' q
-  put-any b x = record { step = said (x .step) _ (rw (view-out d p o) (▷-full (8 * length d) _ ∙ sym (▷-full (8 * length d) _))) }
-
-  -- none does
-  put-out : (b : A) → Puts f b d p d p
-  put-out b = record { step = stays _ (rw (view-out d p o) (▷-full (8 * length d) _)) }
+-- nothing is written
+put-out : {A : Type 0} {f : Format A} {d : List ℕ} {p : Place} → inside (length d) p ≡ false → (b : A) → Puts f b d p d p
+put-out {d = d} {p} o b = record { step = stays _ (rw (view-out d p o) (▷-full (8 * length d) _)) }
 
 -- the records before are all that is said
 put-still : {A B : Type 0} {g : Format A} {a : A} {f : Format B} {b : B} {d : List ℕ} {p : Place} {d1 : List ℕ} {q : Place} {d2 : List ℕ} {r : Place} → inside (length d1) q ≡ false
@@ -132,17 +123,3 @@ module _ {A : Type 0} {f : Format A} {sure : Bool} {after : List A → List Elem
     pub going-last : fs ≡ [] → ((xs : List A) → after xs [] ≡ xs) → Wrote f sure (after [] es) d p d2 r2
     going-last z ends =
         wrote-as (sym (ends (G d (g .done))) ∙ ap (after (G d (g .done))) (sym z) ∙ sym (turn (g .done)) ∙ g .leads) (h .goes d (g .done) (ok (g .done) (g .fine)) (g .wrote))
-
--- ---- where the elements of a section start
-
-pub first-none : {s inner : Text} {o : Option Element} {m : ℕ} → o ≡ none → Starts s inner (allIn o inner) m Found.Nothing
-unfolding listOf Past
-first-none e = rw e (record { is = refl; on = tt })
-
-pub first-some : {s inner : Text} {o : Option Element} {p m : ℕ} {r : Found} → o ≡ some (elementAt s p) → m ≤ p → Starts s inner (all (elementAt s p) inner) (p + 1) r → Starts s inner (allIn o inner) m r
-unfolding Past
-first-some {s} {inner} {o} {p} {m} {r} e h i = rw e (record { is = i .is; on = by r (i .on) })
-  where
-    by : (r : Found) → Past s (p + 1) r → Past s m r
-    by (Found.At q) (k, l) = (omega arith, l)
-    by Found.Nothing u = tt

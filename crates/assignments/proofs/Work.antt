@@ -2,11 +2,12 @@
 use Prim.Native.Nat.{ℕ, suc, _+_, _%_, _^_, _≤_, _<_, min}
 use native.Mathlib.Nat.{zero-add, mod-eq-of-lt}
 use native.Mathlib.Omega.{arith}
-use mathlib.Core.Path.{_≡_, refl, sym, ap, _∙_}
+use mathlib.Core.Path.{_≡_, refl, sym, ap, subst, _∙_}
 use mathlib.Core.Bool.{Bool, true, false, true≢false, _&&_, not}
 use mathlib.Core.List.{List, [], _∷_, _++_, map}
 use mathlib.Core.Option.{Option, some, none}
 use lib.Dec.{leb}
+use lib.Pow.{mod-mod-pow}
 use lib.IntN.{ℤ}
 use lib.ListN.{length}
 use borrow.Author.Tests.{leb-true, leb-false, le-leb, lt-leb}
@@ -15,17 +16,31 @@ use Rattle.definition.specs.Ascii.{bytes}
 use Rattle.definition.specs.Text.{Text}
 use Rattle.definition.specs.Tree.{Element, child, allIn}
 use Rattle.definition.specs.Field.{textIn}
+use Rattle.definition.specs.Format.{whole}
 use Rattle.definition.specs.Model.{Resource}
+use Rattle.definition.specs.Pack.{resource}
 use Rattle.definition.specs.Calendar.{nameOf, free}
 use Rattle.definition.specs.Refusal.{mostElements}
 use Rattle.definition.specs.Task.{Context, unlessMain}
-use Rattle.definition.specs.Resource.{isResource, isCost, workResources, resourceKind, maxUnits, priceOf, resourceOf, resourcesAfter}
+use Rattle.definition.specs.Resource.{isResource, isCost, workResources, resourceKind, maxUnits, priceOf, resourceOf, resourcesAfter, resources}
+use Rattle.bits.specs.Places.{inside}
+use Rattle.bits.specs.Steps.{Puts}
+use Rattle.bits.specs.declared.Place.{Place}
+use Rattle.model.specs.declared.records.Kind.the-variants.{Resources}
 use Rattle.text.specs.Answers.{i64Of}
 use Rattle.text.specs.declared.I64Answer.{I64Answer}
 use Rattle.pack.specs.Value.{starredBy, nameMeaning}
 use Rattle.pack.specs.Record.{resourceBy}
 use Rattle.pack.specs.declared.stars.NameAnswer.{NameAnswer}
-use Rattle.assignments.specs.Records.{isWork, wantedId}
+use Rattle.pack.specs.Writes.{put-any}
+use Rattle.names.specs.Texts.{textsAt}
+use Rattle.names.specs.Context.{contextAt}
+use Rattle.names.specs.Records.{texts-resources}
+use Rattle.names.specs.Carried.{context-carried}
+use Rattle.assignments.specs.declared.section.Done.{Done}
+use Rattle.assignments.specs.Section.{Wrote}
+use Rattle.assignments.specs.Records.{isWork, wantedId, FewResources, AddsResources}
+use Rattle.assignments.proofs.Turns.{wrote-more, wrote-as}
 
 -- ---- which they are
 
@@ -141,3 +156,46 @@ more-resources x e l xs = ap (resourcesAfter x xs) (kept-parts e l) ∙ after-bo
 pub no-resources : (x : Context) (xs : List Resource) → resourcesAfter x xs (keep isWork []) ≡ xs
 unfolding resourcesAfter keep
 no-resources x xs = refl
+
+-- ---- what is read in the buffer is what was put; past the end any record does
+
+module _ (c : Place) (root : Element) {start : Place} {d : List ℕ} {r : Done} {d' : List ℕ} {q : Place} {r' : Done} (a : Element) (t : isWork a ≡ true)
+    (puts : (x : Context) (ids : List Text) → free (textsAt Resources d start (r .count % 2 ^ 32)) (wantedId a) ≡ free ids (wantedId a) → contextAt d c root ≡ x
+        → Puts (whole resource) (resourceOf x ids a) d (r .next) d' q)
+    (n : (r' .count ≡ (r .count + 1) % 2 ^ 64) × (r' .next ≡ q)) where
+  pub adds-work : AddsResources c start root (a ∷ []) d r d' r'
+  adds-work = record { goes = λ d₀ xs ok w. wrote-as (one-work (contextAt d₀ c root) xs a t) (wrote-more w (by-end d₀ xs ok w (inside (length d) (r .next)) refl) n) }
+    where
+      by-end : (d₀ : List ℕ) (xs : List Resource) → FewResources c root start d₀ xs → Wrote (whole resource) true xs d₀ start d r → (i : Bool) → inside (length d) (r .next) ≡ i
+          → Puts (whole resource) (resourceOf (contextAt d₀ c root) (map (λ (e : Resource). e .id) xs) a) d (r .next) d' q
+      by-end d₀ xs ok w false i = put-any _ i (puts (contextAt d c root) (textsAt Resources d start (r .count % 2 ^ 32)) refl refl)
+      by-end d₀ xs ok w true i =
+          let few = ok .few in
+          let m : r .count % 2 ^ 32 ≡ length xs = rw (w .counts refl, mod-mod-pow (length xs) 32 32) (mod-eq-of-lt few) in
+          let z : textsAt Resources d start (r .count % 2 ^ 32) ≡ map (λ (e : Resource). e .id) xs = rw m (texts-resources (length xs) (w .puts) i (ok .fit)) in
+          puts (contextAt d₀ c root) (map (λ (e : Resource). e .id) xs) (ap (λ (ids : List Text). free ids (wantedId a)) z) (context-carried (w .puts .step) c root (ok .stand))
+
+-- not a work resource
+pub adds-other : (c : Place) (root : Element) {start : Place} {d : List ℕ} {r : Done} (a : Element) → isWork a ≡ false → AddsResources c start root (a ∷ []) d r d r
+adds-other c root a t = record { goes = λ d₀ xs ok w. wrote-as (no-work (contextAt d₀ c root) xs a t) w }
+
+-- ---- what the callees say, about the element's own texts
+
+pub stars-said : {id w : Text} (stars : ℕ) (ids : List Text) → id ≡ w → starredBy id stars ≡ free ids id → starredBy w stars ≡ free ids w
+stars-said stars ids e h = subst (λ (t : Text). starredBy t stars ≡ free ids t) e h
+
+pub calendar-said : {x y : Context} (a : Element) {calendar uid : Text} (named : NameAnswer) (f : Text → Text) → calendar ≡ f uid → uid ≡ (textIn a "CalendarUID" or [])
+    → nameMeaning (f (textIn a "CalendarUID" or [])) named ≡ (textIn a "CalendarUID" >>= nameOf (x .built) >>= unlessMain x) → x ≡ y
+    → nameMeaning calendar named ≡ (textIn a "CalendarUID" >>= nameOf (y .built) >>= unlessMain y)
+calendar-said a named f e u h z =
+    ap (λ (t : Text). nameMeaning t named) (e ∙ ap f u) ∙ h ∙ ap (λ (x : Context). textIn a "CalendarUID" >>= nameOf (x .built) >>= unlessMain x) z
+
+-- ---- all
+
+pub all-resources : (x : Context) (root : Element) → resources x root ≡ resourcesAfter x [] (keep isWork (allIn (child root (bytes "Resources")) (bytes "Resource")))
+unfolding resources
+all-resources x root = ap (resourcesAfter x []) (work-kept root)
+
+pub most-work : (root : Element) (l : List Element) → allIn (child root (bytes "Resources")) (bytes "Resource") ≡ l → leb (length (workResources root)) mostElements ≡ true
+    → length (keep isWork l) ≤ mostElements
+most-work root l e h = subst (λ (k : List Element). length k ≤ mostElements) (work-kept root ∙ ap (keep isWork) e) (leb-true _ _ h)

@@ -17,7 +17,7 @@ use Rattle.definition.specs.Model.{Resource, Assignment, Expense}
 use Rattle.definition.specs.Task.{contextOf}
 use Rattle.definition.specs.Resource.{isResource, isCost, resourcesAfter, assignmentOf, expenseOf, firsts}
 use Rattle.laws.specs.Each.{Each}
-use Rattle.names.specs.FitRecords.{Short, FitsResourceBy, FitsExpenseBy}
+use Rattle.laws.specs.FitRecords.{Short, FitsResourceBy, FitsExpenseBy}
 use Rattle.bits.specs.Reads.{rest, Reads, takeAt}
 use Rattle.bits.specs.declared.Place.{Place}
 use Rattle.model.specs.Answers.{readAt}

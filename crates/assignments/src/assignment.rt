@@ -17,7 +17,6 @@ ghost use Rattle.pack.specs.Writes.{Writes};
 ghost use Rattle.assignments.specs.Section.{Wrote};
 ghost use Rattle.assignments.specs.Records.{assignmentsIn, AddsAssignment};
 use crate::section::Done;
-use crate::section::first_in;
 use crate::section::more;
 use crate::section::records_of;
 use bits::Place;
@@ -114,7 +113,7 @@ fn put_from(out: &mut [u8], p: Place, s: &[u8], root: usize, first: usize) -> Do
 pub fn put_assignments(out: &mut [u8], p: Place, s: &[u8], root: usize) -> Records
     ensures { λ r. ⌜ Writes (whole assignment) (assignmentsOf (contextOf (elementAt (now (s .entry)) root)) (elementAt (now (s .entry)) root)) (now (out .entry)) p (now (out .exit)) r ⌝ }
 {
-    match first_in(s, root, b"Assignments", b"Assignment") {
+    match rows::first_in(s, root, b"Assignments", b"Assignment") {
         Found::Nothing => Records { count: 0, next: p },
         Found::At(first) => records_of(put_from(out, p, s, root, first)),
     }

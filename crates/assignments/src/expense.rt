@@ -14,7 +14,6 @@ ghost use Rattle.assignments.specs.Records.{expensesAfter, isExpenseAt, 
 use crate::assignment::cost_of;
 use crate::assignment::task_of;
 use crate::section::Done;
-use crate::section::first_in;
 use crate::section::more;
 use crate::section::records_of;
 use bits::Place;
@@ -114,7 +113,7 @@ fn put_from(out: &mut [u8], p: Place, s: &[u8], root: usize, first: usize) -> Do
 pub fn put_expenses(out: &mut [u8], p: Place, s: &[u8], root: usize) -> Records
     ensures { λ r. ⌜ WritesIn (whole expense) (expensesOf (contextOf (elementAt (now (s .entry)) root)) (elementAt (now (s .entry)) root)) (now (out .entry)) p (now (out .exit)) r ⌝ }
 {
-    match first_in(s, root, b"Assignments", b"Assignment") {
+    match rows::first_in(s, root, b"Assignments", b"Assignment") {
         Found::Nothing => Records { count: 0, next: p },
         Found::At(first) => records_of(put_from(out, p, s, root, first)),
     }

@@ -24,7 +24,6 @@ ghost use Rattle.definition.specs.Calendar.{free};
 ghost use Rattle.assignments.specs.Section.{Wrote};
 ghost use Rattle.assignments.specs.Records.{isWork, wantedId, AddsResources};
 use crate::section::Done;
-use crate::section::first_in;
 use crate::section::more;
 use crate::section::records_of;
 use bits::PAST;
@@ -68,7 +67,7 @@ fn count_from(s: &[u8], first: usize) -> u32
 fn few(s: &[u8], root: usize) -> bool
     ensures { λ r. ⌜ r ≡ leb (length (workResources (elementAt (now (s .entry)) root))) mostElements ⌝ }
 {
-    match first_in(s, root, b"Resources", b"Resource") {
+    match rows::first_in(s, root, b"Resources", b"Resource") {
         Found::Nothing => true,
         Found::At(first) => count_from(s, first) <= 5000000,
     }
@@ -172,7 +171,7 @@ pub fn put_resources(out: &mut [u8], p: Place, s: &[u8], root: usize, c: Place) 
             next: PAST,
         };
     }
-    match first_in(s, root, b"Resources", b"Resource") {
+    match rows::first_in(s, root, b"Resources", b"Resource") {
         Found::Nothing => Records { count: 0, next: p },
         Found::At(first) => records_of(put_from(out, p, s, root, first, c)),
     }

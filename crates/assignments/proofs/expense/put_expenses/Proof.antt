@@ -1,62 +1,47 @@
+use borrow.Author.Needs.{needs}
+use mathlib.Core.Path.{sym, ap, _∙_}
+use mathlib.Core.List.{[]}
+use Rattle.tree.specs.Place.{elementAt}
+use Rattle.tree.specs.Answer.{found-list, none-list}
+use Rattle.assignments.specs.Records.{expensesAfter}
+use Rattle.assignments.proofs.Turns.{wrote-as, writes-in, writes-in-none}
+use Rattle.assignments.proofs.Expenses.{no-expenses, all-expenses}
 use Rattle.assignments.proofs.expense.put_expenses.Statement.{statement}
 use Rattle.assignments.proofs.expense.put_expenses.Tie as tie
-use Rattle.assignments.proofs.expense.put_expenses.Reads as reads
-use Rattle.assignments.proofs.expense.put_expenses.Lts as lts
-use Rattle.assignments.proofs.expense.put_from.Reads as put-from-reads
-use Rattle.assignments.proofs.section.first_in.Reads as first-in-reads
-use Rattle.assignments.proofs.section.records_of.Reads as records-of-reads
 
--- src/expense.rt:117:29
 slice-aggregate-first-in : tie.Need-slice-aggregate-first-in
-slice-aggregate-first-in c = ?
+slice-aggregate-first-in c = search needs
 
--- src/expense.rt:117:45
 slice-aggregate-first-in-2 : tie.Need-slice-aggregate-first-in-2
-slice-aggregate-first-in-2 c = ?
+slice-aggregate-first-in-2 c = search needs
 
--- src/expense.rt:117:11
 first-in-requires : tie.Need-first-in-requires
-first-in-requires c κs = ?
+first-in-requires c κs = search needs
 
--- src/expense.rt:118:27
 enum-told : tie.Need-enum-told
-enum-told c = ?
+enum-told c = search needs
 
--- src/expense.rt:119:19
 enum-known-first : tie.Need-enum-known-first
-enum-known-first c = ?
+enum-known-first c = search needs
 
--- src/expense.rt:119:40
 put-from-requires : tie.Need-put-from-requires
-put-from-requires c κs = ?
+put-from-requires c κs = search needs
 
--- src/expense.rt:119:29
 records-of-requires : tie.Need-records-of-requires
-records-of-requires c κs = ?
+records-of-requires c κs = search needs
 
--- src/expense.rt:114:1
 returns : tie.Need-returns
-returns c = ?
+returns c =
+    let root = elementAt (c .before .before .before .before .before .before .before .args .s .now) (c .before .before .before .before .before .before .before .args .root) in
+    writes-in-none (all-expenses root ∙ ap (expensesAfter root []) (none-list (c .before .before .first-in .ensures) (c .enum-told .given .1)) ∙ no-expenses root [])
 
--- src/expense.rt:114:1
 same-length : tie.Need-same-length
-same-length c = ?
+same-length c = search needs
 
--- src/expense.rt:114:1
 returns-2 : tie.Need-returns-2
-returns-2 c = ?
+returns-2 c =
+    let root = elementAt (c .before .before .before .before .before .before .before .before .before .before .before .before .before .args .s .now) (c .before .before .before .before .before .before .before .before .before .before .before .before .before .args .root) in
+    writes-in (wrote-as (sym (all-expenses root ∙ ap (expensesAfter root []) (found-list (c .before .before .before .before .before .before .before .before .first-in .ensures) (c .before .before .before .before .before .before .first .given .1)))) (c .before .before .before .put-from .ensures)) (c .records-of .ensures)
 
 pub put-expenses-spec : {M : Type 1} → statement M
-put-expenses-spec =
-    tie.close
-    (tie.spec
-    slice-aggregate-first-in
-    slice-aggregate-first-in-2
-    first-in-requires
-    enum-told
-    enum-known-first
-    put-from-requires
-    records-of-requires
-    returns
-    same-length
-    returns-2)
+put-expenses-spec = tie.close (tie.spec slice-aggregate-first-in slice-aggregate-first-in-2 first-in-requires enum-told enum-known-first put-from-requires records-of-requires returns same-length returns-2)
