@@ -125,19 +125,25 @@ module _ {kind : Kind} {B : Type 0} {g : Format B} {G : B → Type 0} (k : Plain
     unfolding placeOfRow
     place-last = passed-to (pass-like (like-times (length xs) (like-back (k .like))) (pass-read lies-read)) ∙ rw (there-inside (l .there))
 
+  -- the first ones
+  module _ {d : List ℕ} {p : Place} (us vs : List B) {q : Place} (l : Lies g G d p (us ++ vs) q) where
+    abbrev middle : Place
+    middle = place (at p + length (putAll g (at p) us))
+
+    cut : There d p (putAll g (at p) us) middle × There d middle (putAll g (at p + length (putAll g (at p) us)) vs) q
+    cut = there-split (putAll g (at p) us) (putAll g (at p + length (putAll g (at p) us)) vs) (rw (all-append g (at p) us vs) at (l .there))
+
+    front-lies : Lies g G d p us middle
+    front-lies = record { each = each-front us vs (l .each); there = cut .0 }
+
+    back-there : There d (placeOfRow kind d p (length us)) (putAll g (at (placeOfRow kind d p (length us))) vs) q
+    back-there = rw (place-last front-lies, at-place (at p + length (putAll g (at p) us))) (cut .1)
+
+    pub lies-front : Lies g G d p us (placeOfRow kind d p (length us)) × (at (placeOfRow kind d p (length us)) ≤ at q)
+    lies-front = (rw (place-last front-lies) front-lies, omega (arith, there-at back-there))
+
   -- one item, those before it and those behind it
   module _ {d : List ℕ} {p : Place} (us : List B) (x : B) (vs : List B) {q : Place} (l : Lies g G d p (us ++ (x ∷ vs)) q) where
-    cut : There d p (putAll g (at p) us) (place (at p + length (putAll g (at p) us))) × There d (place (at p + length (putAll g (at p) us))) (putAll g (at p + length (putAll g (at p) us)) (x ∷ vs)) q
-    cut = there-split (putAll g (at p) us) (putAll g (at p + length (putAll g (at p) us)) (x ∷ vs)) (rw (all-append g (at p) us (x ∷ vs)) at (l .there))
-
-    pub before-row : Lies g G d p us (placeOfRow kind d p (length us))
-    before-row = let a : Lies g G d p us _ = record { each = each-front us (x ∷ vs) (l .each); there = cut .0 } in rw (place-last a) a
-
-    from-row : There d (placeOfRow kind d p (length us)) (putAll g (at (placeOfRow kind d p (length us))) (x ∷ vs)) q
-    from-row =
-        let a : Lies g G d p us _ = record { each = each-front us (x ∷ vs) (l .each); there = cut .0 } in
-        rw (place-last a, at-place (at p + length (putAll g (at p) us))) (cut .1)
-
     row-fits : G x
     row-fits = first-each (each-back us (x ∷ vs) (l .each))
       where
@@ -148,7 +154,7 @@ module _ {kind : Kind} {B : Type 0} {g : Format B} {G : B → Type 0} (k : Plain
     row-there =
         let m = at (placeOfRow kind d p (length us)) in
         let b = g .put m x in
-        let (s, t) = there-split b (putAll g (m + length b) vs) (rw (all-one g m x vs) at from-row) in
+        let (s, t) = there-split b (putAll g (m + length b) vs) (rw (all-one g m x vs) at (back-there us (x ∷ vs) l)) in
         (place (m + length b), s, omega (arith, there-at t, at-place (m + length b)))
 
     -- it is read at its place
