@@ -5,3 +5,4 @@ pub mod Context
 pub mod Seen
 pub mod Kept
 pub mod Records
+pub mod Short
