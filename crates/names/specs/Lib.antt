@@ -1,5 +1,3 @@
-pub mod FitRecords
-pub mod FitNames
 pub mod Texts
 pub mod Context
 pub mod Seen

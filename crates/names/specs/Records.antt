@@ -22,7 +22,7 @@ use Rattle.laws.specs.Bits.{Bytes}
 use Rattle.laws.specs.Formats.{Good, _&_, Both, IfGiven, Times, good-times, good-whole, good-count}
 use Rattle.laws.specs.Fields.{good-code, good-number, good-optional}
 use Rattle.laws.specs.Bools.{Within}
-use Rattle.names.specs.FitRecords.{Short, IsCount, IsNumber, anyText, good-any, CalendarParts, ActivityRest, ExpenseParts, FitsCalendarBy, FitsActivityBy, FitsResourceBy, FitsExpenseBy, good-calendar-parts, good-activity-rest, good-expense-parts}
+use Rattle.laws.specs.FitRecords.{Short, IsCount, IsNumber, anyText, good-any, CalendarParts, ActivityRest, ExpenseParts, FitsCalendarBy, FitsActivityBy, FitsResourceBy, FitsExpenseBy, good-calendar-parts, good-activity-rest, good-expense-parts}
 use Rattle.bits.specs.Places.{at, place, past, inside, Before, at-place, room-fits}
 use Rattle.bits.specs.Reads.{rest, rest-in, spot, Reads, Spans}
 use Rattle.bits.specs.Steps.{Puts, past-out}
