@@ -6,7 +6,7 @@ use mathlib.Core.Option.{Option, some, none}
 use Prim.Native.Nat.{ℕ, suc, _+_, _*_, _-_, _/_, _^_, _≤_, _<_}
 use native.Mathlib.Omega.{arith}
 use lib.Dec.{leb, ltb, eqb}
-use lib.ListN.{length, length-append}
+use lib.ListN.{length}
 use borrow.Author.Tests.{lt-ltb, le-ltb, le-leb, lt-leb, ltb-true, leb-true, leb-false, eq-eqb, ne-eqb}
 use Rattle.definition.specs.Base.{if_then_else_, _>>=_, _or_, _orElse_, when, given, keep, first, find, numbered, same}
 use Rattle.definition.specs.Ascii.{bytes}
@@ -30,6 +30,7 @@ use Rattle.tree.specs.Place.{elementAt, laterAt}
 use Rattle.model.specs.Answers.{readAt}
 use Rattle.model.specs.Parts.{raw}
 use Rattle.names.specs.Texts.{placeOfRow, textAt}
+use Rattle.names.specs.Turned.{order-length}
 use Rattle.names.specs.Seen.{row-text, raw-length}
 use Rattle.names.specs.Context.{mainRow, sectionRow, wantedBy, wantedName, starsIn, nameIn, builtAt, contextAt, textWithUidBy, textWithUid, calendarsBefore}
 
@@ -45,20 +46,6 @@ module _ (s : Text) (r : CalendarAnswer) {o : Option (ℕ × Element)} (h : cale
   is-absent e = sym h ∙ rw e
 
 -- ---- how many
-
-two-parts : (p : Element → Bool) (l : List Element) → length (keep (λ e. not (p e)) l) + length (keep p l) ≡ length l
-unfolding keep
-two-parts p [] = refl
-two-parts p (x ∷ l) = by-test (p x) (keep (λ e. not (p e)) l) (keep p l) (two-parts p l)
-  where
-    by-test : (t : Bool) (a b : List Element) → length a + length b ≡ length l → length (if not t then x ∷ a else a) + length (if t then x ∷ b else b) ≡ suc (length l)
-    by-test true a b e = omega arith
-    by-test false a b e = omega arith
-
-pub order-length : (root : Element) → length (inOrder root) ≡ length (calendarElements root)
-unfolding inOrder
-order-length root =
-    length-append (keep (λ e. not (given (baseOf e))) (calendarElements root)) (keep (λ e. given (baseOf e)) (calendarElements root)) ∙ two-parts (λ e. given (baseOf e)) (calendarElements root)
 
 -- the calendars under an element
 pub under-one : (root e : Element) → child root (bytes "Calendars") ≡ some e → calendarElements root ≡ all e (bytes "Calendar")

@@ -4,3 +4,6 @@ pub mod Seen
 pub mod Kept
 pub mod Records
 pub mod Short
+pub mod Carried
+pub mod Agree
+pub mod Turned

@@ -3,7 +3,7 @@ use mathlib.Core.Path.{_≡_, refl, sym, ap, _∙_}
 use mathlib.Core.Bool.{Bool, true, false, true≢false}
 use mathlib.Core.List.{List, [], _∷_, _++_, map, append-assoc}
 use mathlib.Core.Option.{Option, some, none}
-use Prim.Native.Nat.{ℕ, zero, suc, _+_, _*_, _≤_}
+use Prim.Native.Nat.{ℕ, zero, suc, _+_, _*_, _≤_, _<_}
 use native.Mathlib.Nat.{add-assoc, add-zero}
 use native.Mathlib.Numerals.{add-one}
 use native.Mathlib.Omega.{arith}
@@ -85,6 +85,11 @@ parted [] i x e = never e
 parted {A} (y ∷ xs) zero x e = let z : y ≡ x = cc in ([], xs, ap (λ (a : A). a ∷ xs) z, refl)
 parted {A} (y ∷ xs) (suc i) x e = let (us, vs, z, n) = parted xs i x e in (y ∷ us, vs, ap (λ (l : List A). y ∷ l) z, ap suc n)
 
+split-at : {A : Type 0} (xs : List A) (i : ℕ) → i < length xs → (us : List A) × (x : A) × (vs : List A) × (xs ≡ us ++ (x ∷ vs)) × (length us ≡ i)
+split-at [] i h = absurd (omega arith)
+split-at (y ∷ xs) zero h = ([], y, xs, refl, refl)
+split-at {A} (y ∷ xs) (suc i) h = let (us, x, vs, z, n) = split-at xs i (omega arith) in (y ∷ us, x, vs, ap (λ (l : List A). y ∷ l) z, ap suc n)
+
 -- ---- one kind of records: the format without tests, what fits it, the text at the front
 
 pub record Plain (kind : Kind) {B : Type 0} (g : Format B) (G : B → Type 0) : Type 0 where
@@ -120,19 +125,25 @@ module _ {kind : Kind} {B : Type 0} {g : Format B} {G : B → Type 0} (k : Plain
     unfolding placeOfRow
     place-last = passed-to (pass-like (like-times (length xs) (like-back (k .like))) (pass-read lies-read)) ∙ rw (there-inside (l .there))
 
+  -- the first ones
+  module _ {d : List ℕ} {p : Place} (us vs : List B) {q : Place} (l : Lies g G d p (us ++ vs) q) where
+    abbrev middle : Place
+    middle = place (at p + length (putAll g (at p) us))
+
+    cut : There d p (putAll g (at p) us) middle × There d middle (putAll g (at p + length (putAll g (at p) us)) vs) q
+    cut = there-split (putAll g (at p) us) (putAll g (at p + length (putAll g (at p) us)) vs) (rw (all-append g (at p) us vs) at (l .there))
+
+    front-lies : Lies g G d p us middle
+    front-lies = record { each = each-front us vs (l .each); there = cut .0 }
+
+    back-there : There d (placeOfRow kind d p (length us)) (putAll g (at (placeOfRow kind d p (length us))) vs) q
+    back-there = rw (place-last front-lies, at-place (at p + length (putAll g (at p) us))) (cut .1)
+
+    pub lies-front : Lies g G d p us (placeOfRow kind d p (length us)) × (at (placeOfRow kind d p (length us)) ≤ at q)
+    lies-front = (rw (place-last front-lies) front-lies, omega (arith, there-at back-there))
+
   -- one item, those before it and those behind it
   module _ {d : List ℕ} {p : Place} (us : List B) (x : B) (vs : List B) {q : Place} (l : Lies g G d p (us ++ (x ∷ vs)) q) where
-    cut : There d p (putAll g (at p) us) (place (at p + length (putAll g (at p) us))) × There d (place (at p + length (putAll g (at p) us))) (putAll g (at p + length (putAll g (at p) us)) (x ∷ vs)) q
-    cut = there-split (putAll g (at p) us) (putAll g (at p + length (putAll g (at p) us)) (x ∷ vs)) (rw (all-append g (at p) us (x ∷ vs)) at (l .there))
-
-    pub before-row : Lies g G d p us (placeOfRow kind d p (length us))
-    before-row = let a : Lies g G d p us _ = record { each = each-front us (x ∷ vs) (l .each); there = cut .0 } in rw (place-last a) a
-
-    from-row : There d (placeOfRow kind d p (length us)) (putAll g (at (placeOfRow kind d p (length us))) (x ∷ vs)) q
-    from-row =
-        let a : Lies g G d p us _ = record { each = each-front us (x ∷ vs) (l .each); there = cut .0 } in
-        rw (place-last a, at-place (at p + length (putAll g (at p) us))) (cut .1)
-
     row-fits : G x
     row-fits = first-each (each-back us (x ∷ vs) (l .each))
       where
@@ -143,7 +154,7 @@ module _ {kind : Kind} {B : Type 0} {g : Format B} {G : B → Type 0} (k : Plain
     row-there =
         let m = at (placeOfRow kind d p (length us)) in
         let b = g .put m x in
-        let (s, t) = there-split b (putAll g (m + length b) vs) (rw (all-one g m x vs) at from-row) in
+        let (s, t) = there-split b (putAll g (m + length b) vs) (rw (all-one g m x vs) at (back-there us (x ∷ vs) l)) in
         (place (m + length b), s, omega (arith, there-at t, at-place (m + length b)))
 
     -- it is read at its place
@@ -194,17 +205,24 @@ module _ {kind : Kind} {B : Type 0} {g : Format B} {G : B → Type 0} (k : Plain
       by-rest none z = nowhere (ap (λ (o : Option Bits). seen d (o >>= f .get) .1) z)
       by-rest (some l) z = by-get l z (f .get l) refl
 
-  module _ {n : ℕ} {d d' : List ℕ} (u : Kept n d d') (p : Place) (rows : ℕ) (i : inside (length d) (placeOfRow kind d p rows) ≡ true) (h : at (placeOfRow kind d p rows) ≤ n) where
+  module _ {n : ℕ} {d d' : List ℕ} (u : Kept n d d') (p : Place) (rows : ℕ) (i' : inside (length d) (placeOfRow kind d p rows) ≡ true) (h : at (placeOfRow kind d p rows) ≤ n) where
     -- they are read where they were
     pub place-kept : placeOfRow kind d' p rows ≡ placeOfRow kind d p rows
     place-kept =
-        let (xs, e, l) = lies-found d p rows i in
+        let (xs, e, l) = lies-found d p rows i' in
         ap (placeOfRow kind d' p) (sym e) ∙ place-last (lies-kept u h l)
 
     pub texts-kept : {front : B → Text} → Fronts g front → textsAt kind d' p rows ≡ textsAt kind d p rows
     texts-kept w =
-        let (xs, e, l) = lies-found d p rows i in
+        let (xs, e, l) = lies-found d p rows i' in
         ap (textsAt kind d' p) (sym e) ∙ texts-front w (lies-kept u h l) ∙ sym (texts-front w l) ∙ ap (textsAt kind d p) e
+
+    pub text-kept : {front : B → Text} → Fronts g front → (i : ℕ) → i < rows → textAt kind d' p i ≡ textAt kind d p i
+    text-kept w i h' =
+        let (xs, e, l) = lies-found d p rows i' in
+        let (us, x, vs, z, m) = split-at xs i (omega arith) in
+        let l' = rw z at l in
+        rw (← m) (text-front w us x vs (lies-kept u h l') ∙ sym (text-front w us x vs l'))
 
 -- ---- the kinds
 
@@ -421,3 +439,8 @@ module _ (k : ℕ) {xs : List Expense} {d₀ : List ℕ} {p : Place} {d : List �
 
   pub last-expenses : placeOfRow Expenses d p (length xs) ≡ q
   last-expenses = ap (placeOfRow Expenses d p) (sym (length-map xs expenseFields)) ∙ place-last plain-expenses expenses-lie
+
+-- an expense's row, and its name behind it
+pub expense-key : {s : List ℕ} {p : Place} {t : ExpenseFields} → Stands plainExpenses s p t → Stands row s p (t .0) × ((q : Place) → Passes row s p q → Stands raw s q (t .1 .0))
+unfolding expenseParts
+expense-key h = let w = stands-whole h in (stands-first _ w, λ q i. stands-first _ (stands-pass w i))
