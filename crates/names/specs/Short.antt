@@ -44,8 +44,7 @@ module _ (d : List ℕ) (c : Place) where
   name-short root x h =
       let w = wanted-slim h in
       let n = length (textAt Calendars d c (sectionRow (mainRow root) (x .0))) in
-      let l = text-length d c (sectionRow (mainRow root) (x .0)) in
-      (
+      let l = text-length d c (sectionRow (mainRow root) (x .0)) in (
         rw (length-append, length-replicate) (omega (arith, w .0, l)),
         each-append (w .1) (each-replicate (n - length (wantedName (x .1))) 42 (omega arith)),
       )
