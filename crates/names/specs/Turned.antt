@@ -7,7 +7,7 @@ use Prim.Native.Nat.{ℕ, zero, suc, _+_, _-_, _≤_, _<_}
 use native.Mathlib.Nat.{add-zero, zero-add}
 use native.Mathlib.Omega.{arith}
 use native.Mathlib.Decide.{decLt}
-use lib.Dec.{leb, ltb, eqb}
+use lib.Dec.{ltb, eqb}
 use lib.ListN.{length, take, drop, replicate, getElem?, length-append, length-replicate, length-map, length-drop, take-append-drop}
 use lib.Seq.{length-take-le}
 use borrow.Author.Tests.{eqb-true, eqb-false, ltb-true, ltb-false, le-leb}
@@ -17,18 +17,18 @@ use Rattle.definition.specs.Text.{Text}
 use Rattle.definition.specs.Tree.{Element}
 use Rattle.definition.specs.Field.{textIn}
 use Rattle.definition.specs.Format.{times, whole}
-use Rattle.definition.specs.Model.{Calendar, Activity, Resource}
+use Rattle.definition.specs.Model.{Calendar}
 use Rattle.definition.specs.Pack.{calendar}
-use Rattle.definition.specs.Calendar.{Named, plainCalendar, defaultCalendar, elapsedCalendar, mainCalendar, withUid, nameOf, baseOf, free, calendarOf, build, calendarElements, builtCalendars}
+use Rattle.definition.specs.Calendar.{Named, plainCalendar, defaultCalendar, elapsedCalendar, mainCalendar, withUid, nameOf, baseOf, calendarOf, build, calendarElements, builtCalendars}
 use Rattle.definition.specs.Refusal.{mostElements}
-use Rattle.definition.specs.Task.{Context, contextOf, activities, isElapsed, keptTasks, perDayOf}
+use Rattle.definition.specs.Task.{contextOf, activities, isElapsed, keptTasks}
 use Rattle.definition.specs.Resource.{resources}
 use Rattle.definition.specs.Read.{calendarsOf}
 use Rattle.laws.specs.Options.{never}
 use Rattle.laws.specs.Each.{Each}
-use Rattle.names.specs.FitRecords.{Short, FitsCalendarBy, CalendarParts}
-use Rattle.names.specs.FitNames.{Distinct, Starred, free-shape, namesIn, calendarsIn, addedTo, build-next, built-distinct, keep-both, calendars-turned}
-use Rattle.bits.specs.Places.{at, inside, Before, room-fits}
+use Rattle.laws.specs.FitRecords.{Short, FitsCalendarBy}
+use Rattle.laws.specs.FitNames.{free-shape, namesIn, calendarsIn, addedTo, build-next, built-distinct, keep-both, calendars-turned}
+use Rattle.bits.specs.Places.{at, inside, room-fits}
 use Rattle.bits.specs.Steps.{Puts}
 use Rattle.bits.specs.declared.Place.{Place}
 use Rattle.model.specs.declared.records.Kind.the-variants.{Calendars}
