@@ -6,6 +6,7 @@ use mathlib.Core.List.{List, [], _∷_}
 use lib.ListN.{drop}
 use lib.Dec.{eqb}
 use lib.IntN.{pos}
+use Prim.Native.Nat.{_<_}
 use Rattle.definition.specs.Base.{if_then_else_, _or_, given}
 use Rattle.definition.specs.Ascii.{bytes}
 use Rattle.definition.specs.Text.{Text}
@@ -15,9 +16,15 @@ use Rattle.definition.specs.Tree.{Element}
 use Rattle.definition.specs.Recurrence.{recurrenceDays, daysOf}
 use Rattle.definition.specs.Calendar as C
 use Rattle.definition.specs.Calendar.{Exception, exceptionOn, dayType, weekDays, recurring, workingTime, works}
+use Rattle.laws.specs.Fields.{InYears}
+use Rattle.pack.specs.Value.{dateBy}
+use Rattle.definition.specs.declared.Date.{Date as DateIs}
+use Rattle.calendars.specs.declared.exceptions.DayAnswer.{DayAnswer}
 use Rattle.tree.specs.Place.{Starts}
 use Rattle.tree.specs.declared.Found.{Found}
 use Rattle.recurrence.specs.Element.{ruleDays, RangeRead}
+use Rattle.recurrence.specs.Meaning.{toCome}
+use Rattle.recurrence.specs.declared.Cursor.{Cursor}
 use Rattle.recurrence.specs.declared.Rule.{Rule}
 use Rattle.recurrence.specs.declared.RuleAnswer.{RuleAnswer}
 use Rattle.recurrence.specs.declared.Range.{Range}
@@ -69,6 +76,20 @@ daily r =
 
 pub record Ruled (r : RangeAnswer) (a : RuleAnswer) : Type 0 where
   pub days : (w : Element) → RangeRead w r → daysIn a ≡ daysOf w
+
+-- the days of a rule that are still to come
+abbrev pub coming : Rule → Cursor → List Date
+coming r c = toCome r c or []
+
+-- the next of them, and those behind it
+pub record Next (r : Rule) (c : Cursor) (d : DateIs) (c' : Cursor) : Type 0 where
+  pub is : coming r c ≡ dateBy (d .0) ∷ coming r c'
+  pub years : InYears (dateBy (d .0))
+  pub less : c' .left < c .left
+
+pub record Follows (r : Rule) (c : Cursor) (a : DayAnswer) : Type 0 where
+  pub day : (d : DateIs) (c' : Cursor) → a ≡ DayAnswer.Is d c' → Next r c d c'
+  pub none : a ≡ DayAnswer.Absent → coming r c ≡ []
 
 abbrev pub isTime : Element → Bool
 isTime t = given (workingTime t)

@@ -11,14 +11,16 @@ ghost use Rattle.definition.specs.Tree.{child, allIn};
 ghost use Rattle.definition.specs.Calendar.{periodsOf, isEmpty};
 ghost use Rattle.tree.specs.Place.{elementAt, laterAt, Starts};
 ghost use Rattle.calendar.specs.Hours.{workingMeaning};
-ghost use Rattle.calendars.specs.Exceptions.{nameOf, itemsOf, daysAt, daysIn, daily as dailyBy, Ruled, isTime, On};
+ghost use Rattle.calendars.specs.Exceptions.{nameOf, itemsOf, daysAt, daysIn, daily as dailyBy, Ruled, Follows, isTime, On};
 use calendar::WorkingTimeAnswer;
 use definition::Date;
+use recurrence::Cursor;
 use recurrence::MonthAnswer;
 use recurrence::Range;
 use recurrence::RangeAnswer;
 use recurrence::Rule;
 use recurrence::RuleAnswer;
+use recurrence::Step;
 use tree::Found;
 
 // ---- the elements
@@ -129,6 +131,22 @@ pub(crate) fn rule_at(s: &[u8], at: usize, old: bool) -> RuleAnswer
         return RuleAnswer::Absent;
     }
     rule_by(recurrence::days_of(s, at))
+}
+
+// The next day of a rule, with the cursor behind it.
+pub(crate) enum DayAnswer {
+    Is(Date, Cursor),
+    Absent,
+}
+
+pub(crate) fn day_after(r: Rule, c: Cursor) -> DayAnswer
+    ensures { λ a. ⌜ Follows r c a ⌝ }
+{
+    match recurrence::next(r, c) {
+        Step::Day(d, after) => DayAnswer::Is(d, after),
+        Step::Done => DayAnswer::Absent,
+        Step::Skipped => DayAnswer::Absent,
+    }
 }
 
 // ---- the hours
