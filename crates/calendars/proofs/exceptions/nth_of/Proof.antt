@@ -30,10 +30,10 @@ loop-less : tie.Need-loop-less Inv-loop μ-loop
 loop-less c = search needs
 
 loop-again : tie.Need-loop-again Inv-loop μ-loop
-loop-again c = let l = c .before .before in (omega (arith, c .before .loop-test .taken), nth-more _ _ (l .loop .inv .1) (c .after .ensures))
+loop-again c = let l = c .before .before in (omega (arith, c .before .loop-test .taken), nth-more (itemsOf (l .before .before .before .args .old) (elementAt (l .before .before .before .args .s .now) (l .before .before .before .args .at))) (l .loop .i) (l .loop .inv .1) (c .after .ensures))
 
 returns : tie.Need-returns Inv-loop μ-loop
-returns c = let l = c .before in nth-end _ _ _ (l .loop .inv .0) (c .loop-test .left) (l .loop .inv .1)
+returns c = let l = c .before in nth-end (itemsOf (l .before .before .before .args .old) (elementAt (l .before .before .before .args .s .now) (l .before .before .before .args .at))) (l .loop .i) (l .before .before .before .args .n) (l .loop .inv .0) (c .loop-test .left) (l .loop .inv .1)
 
 pub nth-of-spec : {M : Type 1} → statement M
 nth-of-spec =
