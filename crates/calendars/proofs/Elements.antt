@@ -8,13 +8,13 @@ use native.Mathlib.Omega.{arith}
 use lib.ListN.{length, drop}
 use lib.Seq.{drop-drop}
 use lib.Dec.{eqb}
-use Rattle.definition.specs.Base.{_or_, given, if_then_else_, some?}
+use Rattle.definition.specs.Base.{_or_, given, some?}
 use Rattle.definition.specs.Ascii.{bytes}
 use Rattle.definition.specs.Text.{Text}
 use Rattle.definition.specs.Tree.{Element, all, allIn, child}
 use Rattle.definition.specs.Format.{Period}
 use Rattle.definition.specs.Calendar.{weekDays, recurring, periodsOf, isEmpty, dayType, workingTime}
-use Rattle.tree.specs.Place.{elementAt, laterAt, listOf, Past, Starts}
+use Rattle.tree.specs.Place.{laterAt, listOf, Past, Starts}
 use Rattle.tree.specs.Answer.{found-list, none-list, found-on}
 use Rattle.tree.specs.declared.Found.{Found}
 use Rattle.tree.specs.declared.Found.the-variants.{At, Nothing}

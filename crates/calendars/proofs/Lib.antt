@@ -11,5 +11,6 @@ pub mod RuleDays
 pub mod Going
 pub mod Changes
 pub mod Bases
+pub mod BaseDays
 pub mod Elements
 pub mod Loops

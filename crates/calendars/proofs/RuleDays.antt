@@ -11,7 +11,7 @@ use lib.ListN.{length, take}
 use borrow.Author.Tests.{leb-true, lt-ltb}
 use Rattle.definition.specs.Base.{if_then_else_, _>>=_, _or_, when, within, keep, count}
 use Rattle.definition.specs.Ascii.{bytes}
-use Rattle.definition.specs.Date.{Date, dayNumber, firstDate, lastDate, fromDays}
+use Rattle.definition.specs.Date.{Date, dayNumber, firstDate, lastDate}
 use Rattle.definition.specs.declared.Date.{Date as DateIs}
 use Rattle.definition.specs.Format.{rises}
 use Rattle.definition.specs.Tree.{Element, child}
