@@ -21,23 +21,32 @@ use Rattle.laws.specs.Bits.{Bytes, length-enc, enc-low, length-bytes, whole-byt
 use Rattle.laws.specs.Each.{empty, next, each-take}
 use Rattle.laws.specs.Formats.{Fills, fills-whole, fills-pair, fills-times}
 use Rattle.laws.specs.Buf.{_▷_, sizeOf}
+use Rattle.tree.specs.Place.{elementAt}
 use Rattle.bits.specs.Places.{at, inside, Fits, room-none}
-use Rattle.bits.specs.Clear.{cleared}
+use Rattle.bits.specs.Clear.{cleared, cleared-all}
 use Rattle.bits.specs.Steps.{Puts, Step, said, view, view-in}
 use Rattle.bits.specs.Round.{put-stood, stood-all, overran}
 use Rattle.bits.specs.declared.Place.{Place}
 use Rattle.pack.specs.Record.{countsBy}
 use Rattle.pack.specs.declared.record.Counts as P
-use Rattle.read.specs.Sections.{start, low, zeros, Closes}
-use Rattle.read.specs.Answers.{Leaves}
+use Rattle.read.specs.Sections.{start, low, zeros, Few, AllPut, Closes}
+use Rattle.read.specs.declared.sections.Sections.{Sections}
+use Rattle.read.specs.Answers.{Leaves, Gives}
+use Rattle.read.specs.Answers as A
+use Rattle.read.specs.declared.ReadAnswer.{ReadAnswer}
 use Rattle.read.specs.declared.ReadAnswer.the-variants as answer
 use Rattle.read.proofs.Evens.{even-body}
+use Rattle.read.proofs.Wanted.{Wants}
 
 -- ---- whole bytes
 
 counts-length : (k : Counts) → length (counts .put 0 k) ≡ 192
 unfolding _⊗_ field
 counts-length k = simp (length-append, length-enc)
+
+pub fills-counts : Fills counts
+unfolding _⊗_ field
+fills-counts = record { ends = λ n k h. simp (length-append, length-enc) (omega arith) }
 
 fills-body : (k : Counts) → Fills (body k)
 unfolding body
@@ -119,13 +128,13 @@ module _ (m : Model) {d d1 : List ℕ} {end : Place} (w : Puts (counts ⊗ body 
       let lt' : 8 * length d < at start + length (f .put 0 a) = rw e at lt in
       omega (arith, encode-long m, ap length (bits-with m zeros), long-with m zeros, body-whole m)
 
-  pub leaves-short : {out : List ℕ} → inside (length d1) end ≡ false → out ≡ replicate (length d1) 0 → Leaves (length d) (inRoom (length d) (encode m)) (answer.Refused 9) out
+  leaves-short : {out : List ℕ} → inside (length d1) end ≡ false → out ≡ replicate (length d1) 0 → Leaves (length d) (inRoom (length d) (encode m)) (answer.Refused 9) out
   unfolding inRoom
   leaves-short {out} h e =
       let i : inRoom (length d) (encode m) ≡ refused 9 = rw (lt-leb _ _ (short h)) in
       subst (λ (a : Answer). Leaves (length d) a (answer.Refused 9) out) (sym i) (record { refusal = refl; count = refl; given = e ∙ ap (λ (k : ℕ). replicate k 0) (w .step .same) })
 
-  pub leaves-written : {n : P.Counts} {d2 out : List ℕ} → inside (length d1) end ≡ true → countsBy n ≡ low (countsOf m) → Closes n d1 d2 → ((i : ℕ) → getD d2 i 0 < 256)
+  leaves-written : {n : P.Counts} {d2 out : List ℕ} → inside (length d1) end ≡ true → countsBy n ≡ low (countsOf m) → Closes n d1 d2 → ((i : ℕ) → getD d2 i 0 < 256)
       → out ≡ cleared (end .byte) d2 → Leaves (length d) (inRoom (length d) (encode m)) (answer.Written (end .byte)) out
   unfolding inRoom
   leaves-written {n} {d2} {out} h e c b o =
@@ -138,7 +147,7 @@ module _ (m : Model) {d d1 : List ℕ} {end : Place} (w : Puts (counts ⊗ body 
 
 -- ---- the tree is not refused
 
-pub not-many : (s : Text) → treeRefusal s ≡ 0 → length (records s) ≤ mostElements
+not-many : (s : Text) → treeRefusal s ≡ 0 → length (records s) ≤ mostElements
 unfolding treeRefusal
 not-many s e = by-tests (layout s) (every? utf8? (records s)) (ltb mostElements (length (records s))) refl e
   where
@@ -150,10 +159,47 @@ not-many s e = by-tests (layout s) (every? utf8? (records s)) (ltb mostElements 
     by-tests true true true h k = absurd (omega (arith, k))
     by-tests true true false h k = ltb-false mostElements (length (records s)) h
 
-pub reads-on : (s : Text) (room : ℕ) → treeRefusal s ≡ 0 → readAnswer s room ≡ inRoom room (encode (modelOf (element (records s))))
+few-of : Wants → (s : Text) → treeRefusal s ≡ 0 → Few (elementAt s 0)
+few-of w s h = record {
+  calendars = omega (arith, not-many s h, w .calendars-most (records s));
+  resources = omega (arith, not-many s h, w .resources-most (records s));
+}
+
+reads-on : (s : Text) (room : ℕ) → treeRefusal s ≡ 0 → readAnswer s room ≡ inRoom room (encode (modelOf (element (records s))))
 unfolding readAnswer
 reads-on s room e = rw e
 
-pub reads-not : (s : Text) (room : ℕ) → 0 < treeRefusal s → readAnswer s room ≡ refused (treeRefusal s)
+reads-not : (s : Text) (room : ℕ) → 0 < treeRefusal s → readAnswer s room ≡ refused (treeRefusal s)
 unfolding readAnswer
 reads-not s room h = rw (lt-ltb 0 (treeRefusal s) h)
+
+module _ (wants : Wants) {s : Text} {d d1 : List ℕ} {r : Sections} (w : AllPut s 0 d d1 r) where
+  pub fills-short : {out : List ℕ} → inside (length d1) (r .next) ≡ false → out ≡ replicate (length d1) 0 → A.Fills s d out (answer.Refused 9)
+  fills-short {out} h e = record {
+    fills = λ k.
+        subst (λ (a : Answer). Leaves (length d) a (answer.Refused 9) out) (sym (reads-on s (length d) k))
+        (leaves-short (modelOf (elementAt s 0)) (w .puts (few-of wants s k)) h e);
+  }
+
+  pub fills-written : {d2 out : List ℕ} → inside (length d1) (r .next) ≡ true → Closes (r .counts) d1 d2 → ((i : ℕ) → getD d2 i 0 < 256) → out ≡ cleared (r .next .byte) d2
+      → A.Fills s d out (answer.Written (r .next .byte))
+  fills-written {d2} {out} h c b e = record {
+    fills = λ k.
+        let f = few-of wants s k in
+        subst (λ (a : Answer). Leaves (length d) a (answer.Written (r .next .byte)) out) (sym (reads-on s (length d) k))
+        (leaves-written (modelOf (elementAt s 0)) (w .puts f) h (w .counts f h) c b e);
+  }
+
+-- the answer for a tree that is refused, and for one that is read
+
+module _ {s : Text} {n : ℕ} {model work work′ out : List ℕ} (e : n ≡ treeRefusal s) where
+  pub gives-refused : 0 < n → work′ ≡ cleared 0 work → out ≡ replicate (length model) 0 → Gives s model work out work′ (answer.Refused n)
+  gives-refused h c o =
+      let k : readAnswer s (length model) ≡ refused n = reads-not s (length model) (rw (← e) h) ∙ ap refused (sym e) in
+      record {
+        leaves = subst (λ (a : Answer). Leaves (length model) a (answer.Refused n) out) (sym k) (record { refusal = refl; count = refl; given = o });
+        cleared = c ∙ cleared-all work;
+      }
+
+  pub gives-read : {r : ReadAnswer} → n ≤ 0 → work′ ≡ cleared 0 work → A.Fills s model out r → Gives s model work out work′ r
+  gives-read h c f = record { leaves = f .fills (sym e ∙ omega arith); cleared = c ∙ cleared-all work }

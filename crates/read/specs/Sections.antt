@@ -52,14 +52,19 @@ pub record Few (e : Element) : Type 0 where
   pub calendars : length (calendarElements e) ≤ mostElements
   pub resources : length (workResources e) ≤ mostElements
 
+-- a place that is inside is at a whole byte
+abbrev pub Whole : List ℕ → Place → Type 0
+Whole d p = inside (length d) p ≡ true → p .bit % 8 ≡ 0
+
 -- their counts, where all fitted
 abbrev pub Counted : Element → List ℕ → Sections → Type 0
 Counted e d' r = inside (length d') (r .next) ≡ true → countsBy (r .counts) ≡ low (countsOf (modelOf e))
 
 -- the sections
 pub record SectionsPut (s : Text) (root : ℕ) (d : List ℕ) (p : Place) (d' : List ℕ) (r : Sections) : Type 0 where
-  pub puts : Few (elementAt s root) → Puts (listed (countsOf (modelOf (elementAt s root)))) (listedOf (modelOf (elementAt s root))) d p d' (r .next)
-  pub counts : Few (elementAt s root) → Counted (elementAt s root) d' r
+  pub same : length d' ≡ length d
+  pub puts : Few (elementAt s root) → Whole d p → Puts (listed (countsOf (modelOf (elementAt s root)))) (listedOf (modelOf (elementAt s root))) d p d' (r .next)
+  pub counts : Few (elementAt s root) → Whole d p → Counted (elementAt s root) d' r
 
 -- all from the start on, with open counts
 pub record AllPut (s : Text) (root : ℕ) (d d' : List ℕ) (r : Sections) : Type 0 where
