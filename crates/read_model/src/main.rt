@@ -1,5 +1,6 @@
 // A packed tree on standard input, its model on standard output, 65,536 bytes at most each way; nothing on a refusal or a longer input.
 ghost use mathlib.Core.Path.{_≡_};
+ghost use Rattle.io.specs.Counts.{Counts};
 ghost use Rattle.read.specs.Answers.{lengthOf};
 ghost use Rattle.read_model.specs.Writes.{Writes};
 use libc::STDIN_FILENO;
@@ -19,6 +20,7 @@ fn length_of(a: ReadAnswer) -> usize
 
 // The model of a tree, at the front of the room, and how many bytes of it are written.
 fn model_of(tree: &[u8], room: &mut [u8]) -> usize
+    ensures { λ r. ⌜ Counts r (now (room .exit)) ⌝ }
     ensures { λ r. ⌜ Writes (now (tree .entry)) (now (room .entry)) (now (room .exit)) r ⌝ }
 {
     if MOST < tree.len() {

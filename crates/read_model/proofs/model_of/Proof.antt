@@ -1,34 +1,25 @@
+use Rattle.read_model.proofs.Programs.{too-long, writes}
 use borrow.Author.Needs.{needs}
 use Rattle.read_model.proofs.model_of.Statement.{statement}
 use Rattle.read_model.proofs.model_of.Tie as tie
-use Rattle.read_model.proofs.model_of.Reads as reads
-use Rattle.read_model.proofs.model_of.Lts as lts
-use Rattle.read.proofs.read.Reads as read-reads
-use Rattle.read_model.proofs.length_of.Reads as length-of-reads
 
--- src/main.rt:25:9
 returns : tie.Need-returns
-returns c = ?
+returns c = let a = c .before .before .before .args in too-long (a .tree .now) (a .room .now) (c .if1 .taken)
 
--- src/main.rt:28:38
 slice-aggregate-read : tie.Need-slice-aggregate-read
 slice-aggregate-read c = search needs
 
--- src/main.rt:28:15
 read-requires : tie.Need-read-requires
 read-requires c κs = search needs
 
--- src/main.rt:28:5
 length-of-requires : tie.Need-length-of-requires
 length-of-requires c κs = search needs
 
--- src/main.rt:21:1
 same-length : tie.Need-same-length
 same-length c = search needs
 
--- src/main.rt:21:1
 returns-2 : tie.Need-returns-2
-returns-2 c = ?
+returns-2 c = writes (c .length-of .result) (c .before .before .before .before .before .before .before .if1 .left) (c .before .before .before .before .read .ensures) (c .length-of .ensures)
 
 pub model-of-spec : {M : Type 1} → statement M
 model-of-spec =
