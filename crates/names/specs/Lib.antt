@@ -4,3 +4,5 @@ pub mod Seen
 pub mod Kept
 pub mod Records
 pub mod Carried
+pub mod Agree
+pub mod Turned
