@@ -1,12 +1,13 @@
 -- The sections one after another. Assumes nothing.
 use mathlib.Core.Path.{_≡_, refl, sym, ap, _∙_, subst}
 use mathlib.Core.Bool.{Bool, true, false, _&&_}
-use mathlib.Core.List.{List}
-use Prim.Native.Nat.{ℕ, _+_, _*_, _%_, _^_, _≤_}
+use mathlib.Core.List.{List, [], _∷_}
+use Prim.Native.Nat.{ℕ, suc, _*_, _%_, _^_, _<_}
 use native.Mathlib.Omega.{arith}
 use borrow.Author.Tests.{le-leb}
 use lib.Dec.{leb, eqb}
-use lib.ListN.{length}
+use lib.ListN.{length, drop, getD}
+use Rattle.definition.specs.Text.{Text}
 use Rattle.definition.specs.Format.{Format, times, whole, _⊗_}
 use Rattle.definition.specs.Tree.{Element}
 use Rattle.definition.specs.Pack.{Counts, counts, countsOf, body, bodyOf, project, calendar, activity, link, resource, assignment, expense}
@@ -16,8 +17,14 @@ use Rattle.definition.specs.Link.{links, entered}
 use Rattle.definition.specs.Resource.{workResources, resources, assignments, expenses}
 use Rattle.definition.specs.Refusal.{mostElements}
 use Rattle.definition.specs.Read.{projectOf, calendarsOf, modelOf}
+use Rattle.laws.specs.Bits.{Bytes}
+use Rattle.laws.specs.Each.{Each, empty, next, each-drop}
+use Rattle.laws.specs.FitRecords.{Short, FitsCalendarBy}
+use Rattle.laws.specs.FitTrees.{slim-texts, small-element}
+use Rattle.laws.specs.FitCalendars.{fit-calendars}
 use Rattle.laws.specs.Buf.{Buf, full, _▷_, sizeOf, ▷-full}
 use Rattle.laws.specs.Formats.{Fills, fills-whole, fills-pair}
+use Rattle.tree.specs.Place.{elementAt}
 use Rattle.bits.specs.Places.{at, place, past, inside, Fits, fits-room}
 use Rattle.bits.specs.Steps.{Puts, Step, _⨾_, said, refuses, view, view-out, puts, put-⊗}
 use Rattle.bits.specs.Round.{put-stood}
@@ -27,9 +34,23 @@ use Rattle.pack.specs.Record.{countsBy}
 use Rattle.pack.specs.declared.record.Records.{Records}
 use Rattle.pack.specs.declared.record.Counts as P
 use Rattle.names.specs.Context.{contextAt, calendarsBefore}
+use Rattle.names.specs.Carried.{context-carried, before-carried}
+use Rattle.names.specs.Turned.{calendars-stand, same-activities, same-resources}
 use Rattle.read.specs.Sections.{start, low, zeros, listed, listedOf, Few, Whole, SectionsPut, AllPut}
 use Rattle.read.specs.declared.sections.Sections.{Sections}
-use Rattle.read.proofs.Wanted.{Fit, Wants}
+
+-- ---- what a tree says fits
+
+-- its calendars fit their fields
+abbrev pub Fit : Element → Type 0
+Fit e = Each (FitsCalendarBy Short) (calendarsOf (contextOf e))
+
+bytes-of : (s : List ℕ) → ((i : ℕ) → getD s i 0 < 256) → Bytes s
+bytes-of [] h = empty
+bytes-of (b ∷ s) h = next (h 0) (bytes-of s (λ i. h (suc i)))
+
+pub fit-tree : (s : Text) (root : ℕ) → ((i : ℕ) → getD s i 0 < 256) → Few (elementAt s root) → Fit (elementAt s root)
+fit-tree s root h few = fit-calendars slim-texts (small-element (drop root s) (each-drop root (bytes-of s h))) (few .calendars)
 
 -- ---- one section
 
@@ -92,7 +113,7 @@ if-same {test = test} {d = d} {d' = d'} w = by-test test refl
 
 -- ---- all six
 
-module _ (wants : Wants) (e : Element) {d d1 d2 d3 d4 d5 d6 : List ℕ} {p : Place} {r1 r2 r3 r4 r5 r6 : Records}
+module _ (e : Element) {d d1 d2 d3 d4 d5 d6 : List ℕ} {p : Place} {r1 r2 r3 r4 r5 r6 : Records}
     (w1 : WritesIf (leb (length (calendarElements e)) mostElements && eqb (p .bit % 8) 0) (whole calendar) (calendarsOf (contextOf e)) d p d1 r1)
     (w2 : WritesIf (calendarsBefore d1 p e (r1 .next)) (whole activity) (activities (contextAt d1 p e) (entered (links (contextOf e)))) d1 (r1 .next) d2 r2)
     (w3 : Writes (whole link) (links (contextOf e)) d2 (r2 .next) d3 r3)
@@ -111,7 +132,7 @@ module _ (wants : Wants) (e : Element) {d d1 d2 d3 d4 d5 d6 : List ℕ} {p : Pla
       s1 = section-if (calendarsOf x) w1 (λ i. (rw (le-leb _ _ (few .calendars), at-byte i), refl))
 
       s2 : Section (whole activity) (activities x (entered (links x))) d1 (r1 .next) d2 r2
-      s2 = section-if (activities x (entered (links x))) w2 (λ i. (wants .calendars-stand e fit (length (calendarsOf x)) (s1 .put) i (few .calendars), wants .same-activities e fit (length (calendarsOf x)) (s1 .put) i (entered (links x))))
+      s2 = section-if (activities x (entered (links x))) w2 (λ i. (calendars-stand (length (calendarsOf x)) e (s1 .put) i fit (few .calendars), same-activities (length (calendarsOf x)) e (s1 .put) i fit (entered (links x))))
 
       s3 : Section (whole link) (links x) d2 (r2 .next) d3 r3
       s3 = section w3
@@ -120,10 +141,10 @@ module _ (wants : Wants) (e : Element) {d d1 d2 d3 d4 d5 d6 : List ℕ} {p : Pla
       s4 = section-if (resources x e) w4 (λ i.
           let i1 = began (s2 .put) (began (s3 .put) i) in
           let t = s2 .put .step ⨾ s3 .put .step in
-          let o = wants .calendars-stand e fit (length (calendarsOf x)) (s1 .put) i1 (few .calendars) in
-          let c : contextAt d3 p e ≡ contextAt d1 p e = wants .context-carried p e t o in
-          let y : calendarsBefore d3 p e (r3 .next) ≡ true = wants .before-carried p e t o i in
-          (rw (le-leb _ _ (few .resources), y), rw c (wants .same-resources e fit (length (calendarsOf x)) (s1 .put) i1)))
+          let o = calendars-stand (length (calendarsOf x)) e (s1 .put) i1 fit (few .calendars) in
+          let c : contextAt d3 p e ≡ contextAt d1 p e = context-carried t p e o in
+          let y : calendarsBefore d3 p e (r3 .next) ≡ true = before-carried t p e o i in
+          (rw (le-leb _ _ (few .resources), y), rw c (same-resources (length (calendarsOf x)) e (s1 .put) i1 fit)))
 
       s5 : Section (whole assignment) (assignments x e) d4 (r4 .next) d5 r5
       s5 = section w5

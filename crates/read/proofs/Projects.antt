@@ -26,15 +26,16 @@ use Rattle.definition.specs.Answer.{dateMeaning, dayNumberOf}
 use Rattle.definition.specs.declared.DateAnswer.{DateAnswer}
 use Rattle.definition.specs.declared.Date as D
 use Rattle.laws.specs.Bits.{enc-low}
+use Rattle.laws.specs.FitLists.{is-given}
+use Rattle.laws.specs.FitFields.{date-in as in-years}
 use Rattle.laws.specs.Buf.{_▷_, sizeOf}
 use Rattle.bits.specs.Steps.{Puts, said, view, put-same}
 use Rattle.bits.specs.declared.Place.{Place}
-use Rattle.pack.specs.Value.{dateBy, dateGiven, date-read}
+use Rattle.pack.specs.Value.{dateBy, dateGiven, date-read, years-back}
 use Rattle.pack.specs.Record.{projectBy}
 use Rattle.pack.specs.declared.record.Skips.{Skips}
 use Rattle.fields.specs.Said.{dateSaid, date-in}
 use Rattle.read.specs.Project.{Skipped}
-use Rattle.read.proofs.Wanted.{Wants}
 
 -- ---- its fields
 
@@ -51,8 +52,8 @@ unfolding fromDays
 epoch-is = refl
 
 -- a date that was read
-pub date-given : Wants → (a : DateAnswer) (e : Element) (n : String) → dateMeaning a ≡ dayNumberOf (dateSaid e (bytes n)) → dateGiven a ≡ dateIn e n
-date-given w a e n h = date-read a (dateIn e n) (h ∙ ap dayNumberOf (date-in e n)) (w .in-years e n)
+pub date-given : (a : DateAnswer) (e : Element) (n : String) → dateMeaning a ≡ dayNumberOf (dateSaid e (bytes n)) → dateGiven a ≡ dateIn e n
+date-given a e n h = date-read a (dateIn e n) (h ∙ ap dayNumberOf (date-in e n)) (years-back (dateIn e n) (is-given (in-years e n)))
 
 module _ (a : DateAnswer) (o : Option Date) (h : dateGiven a ≡ o) where
   pub start-given : (d : D.Date) → a ≡ DateAnswer.Is d → dateBy (d .0) ≡ (o or epoch)

@@ -19,6 +19,7 @@ use Rattle.definition.specs.Read.{modelOf}
 use Rattle.definition.specs.Refusal.{Answer, refused, gives, inRoom, mostElements, utf8?, project?, tooLong, treeRefusal, readAnswer}
 use Rattle.laws.specs.Bits.{Bytes, length-enc, enc-low, length-bytes, whole-bytes, bits-take}
 use Rattle.laws.specs.Each.{empty, next, each-take}
+use Rattle.laws.specs.FitTrees.{calendars-most, resources-most}
 use Rattle.laws.specs.Formats.{Fills, fills-whole, fills-pair, fills-times}
 use Rattle.laws.specs.Buf.{_▷_, sizeOf}
 use Rattle.tree.specs.Place.{elementAt}
@@ -36,7 +37,6 @@ use Rattle.read.specs.Answers as A
 use Rattle.read.specs.declared.ReadAnswer.{ReadAnswer}
 use Rattle.read.specs.declared.ReadAnswer.the-variants as answer
 use Rattle.read.proofs.Evens.{even-body}
-use Rattle.read.proofs.Wanted.{Wants}
 
 -- ---- whole bytes
 
@@ -159,10 +159,10 @@ not-many s e = by-tests (layout s) (every? utf8? (records s)) (ltb mostElements 
     by-tests true true true h k = absurd (omega (arith, k))
     by-tests true true false h k = ltb-false mostElements (length (records s)) h
 
-few-of : Wants → (s : Text) → treeRefusal s ≡ 0 → Few (elementAt s 0)
-few-of w s h = record {
-  calendars = omega (arith, not-many s h, w .calendars-most (records s));
-  resources = omega (arith, not-many s h, w .resources-most (records s));
+few-of : (s : Text) → treeRefusal s ≡ 0 → Few (elementAt s 0)
+few-of s h = record {
+  calendars = omega (arith, not-many s h, calendars-most (records s));
+  resources = omega (arith, not-many s h, resources-most (records s));
 }
 
 reads-on : (s : Text) (room : ℕ) → treeRefusal s ≡ 0 → readAnswer s room ≡ inRoom room (encode (modelOf (element (records s))))
@@ -173,19 +173,19 @@ reads-not : (s : Text) (room : ℕ) → 0 < treeRefusal s → readAnswer s room 
 unfolding readAnswer
 reads-not s room h = rw (lt-ltb 0 (treeRefusal s) h)
 
-module _ (wants : Wants) {s : Text} {d d1 : List ℕ} {r : Sections} (w : AllPut s 0 d d1 r) where
+module _ {s : Text} {d d1 : List ℕ} {r : Sections} (w : AllPut s 0 d d1 r) where
   pub fills-short : {out : List ℕ} → inside (length d1) (r .next) ≡ false → out ≡ replicate (length d1) 0 → A.Fills s d out (answer.Refused 9)
   fills-short {out} h e = record {
     fills = λ k.
         subst (λ (a : Answer). Leaves (length d) a (answer.Refused 9) out) (sym (reads-on s (length d) k))
-        (leaves-short (modelOf (elementAt s 0)) (w .puts (few-of wants s k)) h e);
+        (leaves-short (modelOf (elementAt s 0)) (w .puts (few-of s k)) h e);
   }
 
   pub fills-written : {d2 out : List ℕ} → inside (length d1) (r .next) ≡ true → Closes (r .counts) d1 d2 → ((i : ℕ) → getD d2 i 0 < 256) → out ≡ cleared (r .next .byte) d2
       → A.Fills s d out (answer.Written (r .next .byte))
   fills-written {d2} {out} h c b e = record {
     fills = λ k.
-        let f = few-of wants s k in
+        let f = few-of s k in
         subst (λ (a : Answer). Leaves (length d) a (answer.Written (r .next .byte)) out) (sym (reads-on s (length d) k))
         (leaves-written (modelOf (elementAt s 0)) (w .puts f) h (w .counts f h) c b e);
   }

@@ -1,5 +1,7 @@
+use native.Mathlib.Omega.{arith}
+use Rattle.read.specs.Sections.{Few}
 use Rattle.tree.specs.Place.{elementAt}
-use Rattle.read.proofs.Chains.{six-same, six-put, six-counted}
+use Rattle.read.proofs.Chains.{Fit, fit-tree, six-same, six-put, six-counted}
 use borrow.Author.Needs.{needs}
 use Rattle.read.proofs.sections.put_sections.Statement.{statement}
 use Rattle.read.proofs.sections.put_sections.Tie as tie
@@ -26,10 +28,11 @@ returns : tie.Need-returns
 returns c =
     let a = c .before .before .before .before .before .before .before .before .before .before .before .before .before .before .before .before .before .before .before .before .before .before .before .before .before .before .before .args in
     let e = elementAt (a .s .now) (a .root) in
+    let fit : Few e → Fit e = fit-tree (a .s .now) (a .root) (λ i. omega (arith, c .before .before .before .before .before .before .before .before .before .before .before .before .before .before .before .before .before .before .before .before .before .before .before .before .before .shared-slice-known .given i)) in
     record {
-      same = six-same ? e (c .before .before .before .before .before .before .before .before .before .before .before .before .before .before .before .before .before .before .before .before .before .before .before .put-calendars .ensures) (c .before .before .before .before .before .before .before .before .before .before .before .before .before .before .before .before .before .before .before .put-activities .ensures) (c .before .before .before .before .before .before .before .before .before .before .before .before .before .before .before .put-links .ensures) (c .before .before .before .before .before .before .before .before .before .before .before .put-resources .ensures) (c .before .before .before .before .before .before .before .put-assignments .ensures) (c .before .before .before .put-expenses .ensures);
-      puts = six-put ? e (c .before .before .before .before .before .before .before .before .before .before .before .before .before .before .before .before .before .before .before .before .before .before .before .put-calendars .ensures) (c .before .before .before .before .before .before .before .before .before .before .before .before .before .before .before .before .before .before .before .put-activities .ensures) (c .before .before .before .before .before .before .before .before .before .before .before .before .before .before .before .put-links .ensures) (c .before .before .before .before .before .before .before .before .before .before .before .put-resources .ensures) (c .before .before .before .before .before .before .before .put-assignments .ensures) (c .before .before .before .put-expenses .ensures) ?;
-      counts = six-counted ? e (c .before .before .before .before .before .before .before .before .before .before .before .before .before .before .before .before .before .before .before .before .before .before .before .put-calendars .ensures) (c .before .before .before .before .before .before .before .before .before .before .before .before .before .before .before .before .before .before .before .put-activities .ensures) (c .before .before .before .before .before .before .before .before .before .before .before .before .before .before .before .put-links .ensures) (c .before .before .before .before .before .before .before .before .before .before .before .put-resources .ensures) (c .before .before .before .before .before .before .before .put-assignments .ensures) (c .before .before .before .put-expenses .ensures) ?;
+      same = six-same e (c .before .before .before .before .before .before .before .before .before .before .before .before .before .before .before .before .before .before .before .before .before .before .before .put-calendars .ensures) (c .before .before .before .before .before .before .before .before .before .before .before .before .before .before .before .before .before .before .before .put-activities .ensures) (c .before .before .before .before .before .before .before .before .before .before .before .before .before .before .before .put-links .ensures) (c .before .before .before .before .before .before .before .before .before .before .before .put-resources .ensures) (c .before .before .before .before .before .before .before .put-assignments .ensures) (c .before .before .before .put-expenses .ensures);
+      puts = λ few. six-put e (c .before .before .before .before .before .before .before .before .before .before .before .before .before .before .before .before .before .before .before .before .before .before .before .put-calendars .ensures) (c .before .before .before .before .before .before .before .before .before .before .before .before .before .before .before .before .before .before .before .put-activities .ensures) (c .before .before .before .before .before .before .before .before .before .before .before .before .before .before .before .put-links .ensures) (c .before .before .before .before .before .before .before .before .before .before .before .put-resources .ensures) (c .before .before .before .before .before .before .before .put-assignments .ensures) (c .before .before .before .put-expenses .ensures) (fit few) few;
+      counts = λ few. six-counted e (c .before .before .before .before .before .before .before .before .before .before .before .before .before .before .before .before .before .before .before .before .before .before .before .put-calendars .ensures) (c .before .before .before .before .before .before .before .before .before .before .before .before .before .before .before .before .before .before .before .put-activities .ensures) (c .before .before .before .before .before .before .before .before .before .before .before .before .before .before .before .put-links .ensures) (c .before .before .before .before .before .before .before .before .before .before .before .put-resources .ensures) (c .before .before .before .before .before .before .before .put-assignments .ensures) (c .before .before .before .put-expenses .ensures) (fit few) few;
     }
 
 same-length : tie.Need-same-length
