@@ -18,10 +18,10 @@ pub record More {A : Type 0} (f : Format A) (xs : List A) (d : List ℕ) (done :
   pub counts : done .count < 2 ^ 32 → r .count ≡ (done .count + length xs) % 2 ^ 32
 
 -- sums as so many bits hold them
-sum-none : (m a : ℕ) → a < m → a ≡ (a + 0) % m
+pub sum-none : (m a : ℕ) → a < m → a ≡ (a + 0) % m
 sum-none m a h = sym (ap (λ (n : ℕ). n % m) (add-zero a) ∙ mod-eq-of-lt h)
 
-sum-both : (m a x y b c : ℕ) → a < m → (a < m → b ≡ (a + x) % m) → (b < m → c ≡ (b + y) % m) → c ≡ (a + (x + y)) % m
+pub sum-both : (m a x y b c : ℕ) → a < m → (a < m → b ≡ (a + x) % m) → (b < m → c ≡ (b + y) % m) → c ≡ (a + (x + y)) % m
 sum-both m a x y b c h i j =
     let k : b < m = rw (i h) (mod-lt (a + x) (omega arith)) in
     j k ∙ ap (λ (n : ℕ). (n + y) % m) (i h) ∙ mod-add-mod (a + x) m y ∙ ap (λ (n : ℕ). n % m) (add-assoc a x y)

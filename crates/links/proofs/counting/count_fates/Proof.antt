@@ -1,52 +1,49 @@
+use Rattle.definition.specs.Task.{keptTasks}
+use Rattle.tree.specs.Place.{elementAt}
+use Rattle.rows.specs.Walks.{keptBy, room}
+use Rattle.rows.specs.Turns.{kept-end, kept-next, kept-less}
+use Rattle.links.specs.Fates.{countedOf}
+use Rattle.links.proofs.Counts.{CountOf, tasks-begin, tasks-next, tasks-end}
+use borrow.Author.Needs.{needs}
+use native.Mathlib.Omega.{arith}
 use Rattle.links.proofs.counting.count_fates.Statement.{statement}
 use Rattle.links.proofs.counting.count_fates.Tie as tie
-use Rattle.links.proofs.counting.count_fates.Reads as reads
-use Rattle.links.proofs.counting.count_fates.Lts as lts
-use Rattle.links.proofs.counting.counted_in.Reads as counted-in-reads
-use Rattle.rows.proofs.first_kept.Reads as first-kept-reads
-use Rattle.rows.proofs.next_kept.Reads as next-kept-reads
 
 abbrev Inv-loop : tie.InvT-loop
-Inv-loop s root count₀ task₀ count task = ?
+Inv-loop s root count₀ task₀ count task = CountOf (keptTasks (elementAt s root)) (countedOf (keptTasks (elementAt s root)) count₀ (keptTasks (elementAt s root))) count (keptBy s task)
 
 abbrev μ-loop : tie.MeasureT-loop
-μ-loop s root count₀ task₀ count task = ?
+μ-loop s root count₀ task₀ count task = room task
 
--- src/counting.rt:52:9
 first-kept-requires : tie.Need-first-kept-requires Inv-loop μ-loop
-first-kept-requires c κs = ?
+first-kept-requires c κs = search needs
 
--- src/counting.rt:53:5
 loop-holds : tie.Need-loop-holds Inv-loop μ-loop
-loop-holds c = ?
+loop-holds c = tasks-begin _ _ (c .first-kept .ensures .is)
 
--- src/counting.rt:54:28
 enum-known-task : tie.Need-enum-known-task Inv-loop μ-loop
-enum-known-task c = ?
+enum-known-task c = search needs
 
--- src/counting.rt:55:13
 enum-told : tie.Need-enum-told Inv-loop μ-loop
-enum-told c = ?
+enum-told c = search needs
 
--- src/counting.rt:55:13
 returns : tie.Need-returns Inv-loop μ-loop
-returns c = ?
+returns c = tasks-end _ (c .before .before .loop .inv) (kept-end _ (c .enum-told .given .1))
 
--- src/counting.rt:57:9
 counted-in-requires : tie.Need-counted-in-requires Inv-loop μ-loop
-counted-in-requires c κs = ?
+counted-in-requires c κs = search needs
 
--- src/counting.rt:58:9
 next-kept-requires : tie.Need-next-kept-requires Inv-loop μ-loop
-next-kept-requires c κs = ?
+next-kept-requires c κs = search needs
 
--- src/counting.rt:53:5
 loop-less : tie.Need-loop-less Inv-loop μ-loop
-loop-less c = ?
+loop-less c = kept-less (c .before .before .before .task .given .1) (c .next-kept .ensures) (omega arith)
 
--- src/counting.rt:53:5
 loop-again : tie.Need-loop-again Inv-loop μ-loop
-loop-again c = ?
+loop-again c =
+    let k = c .before in
+    let t = k .before .before in
+    tasks-next (t .before .before .loop .inv) (kept-next (t .task .given .1) (c .next-kept .ensures)) (k .counted-in .ensures)
 
 pub count-fates-spec : {M : Type 1} → statement M
 count-fates-spec =

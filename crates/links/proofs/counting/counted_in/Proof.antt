@@ -1,65 +1,61 @@
+use mathlib.Core.Path.{sym, _∙_}
+use Rattle.definition.specs.Ascii.{bytes}
+use Rattle.definition.specs.Task.{keptTasks}
+use Rattle.definition.specs.Tree.{all}
+use Rattle.tree.specs.Place.{elementAt, listOf}
+use Rattle.rows.specs.Walks.{ahead}
+use Rattle.rows.specs.Turns.{list-end, list-next, ahead-less}
+use Rattle.links.specs.Fates.{countedIn}
+use Rattle.links.proofs.Counts.{CountIn, count-begin, count-next, count-end}
+use borrow.Author.Needs.{needs}
 use Rattle.links.proofs.counting.counted_in.Statement.{statement}
 use Rattle.links.proofs.counting.counted_in.Tie as tie
-use Rattle.links.proofs.counting.counted_in.Reads as reads
-use Rattle.links.proofs.counting.counted_in.Lts as lts
-use Rattle.links.proofs.counting.counted.Reads as counted-reads
-use Rattle.links.proofs.fate.fate_of.Reads as fate-of-reads
-use Rattle.tree.proofs.child.Reads as child-reads
-use Rattle.tree.proofs.next_child.Reads as next-child-reads
 
 abbrev Inv-loop : tie.InvT-loop
-Inv-loop s root at count₀ link₀ t9 count link = ?
+Inv-loop s root at count₀ link₀ t9 count link = CountIn (keptTasks (elementAt s root)) (countedIn (keptTasks (elementAt s root)) count₀ (all (elementAt s at) (bytes "PredecessorLink"))) count (listOf s (bytes "PredecessorLink") link)
 
 abbrev μ-loop : tie.MeasureT-loop
-μ-loop s root at count₀ link₀ t9 count link = ?
+μ-loop s root at count₀ link₀ t9 count link = ahead s link
 
--- src/counting.rt:35:39
 slice-aggregate-child : tie.Need-slice-aggregate-child Inv-loop μ-loop
-slice-aggregate-child c = ?
+slice-aggregate-child c = search needs
 
--- src/counting.rt:35:9
 child-requires : tie.Need-child-requires Inv-loop μ-loop
-child-requires c κs = ?
+child-requires c κs = search needs
 
--- src/counting.rt:36:5
 loop-holds : tie.Need-loop-holds Inv-loop μ-loop
-loop-holds c = ?
+loop-holds c = count-begin _ _ (c .child .ensures .is)
 
--- src/counting.rt:37:23
 enum-known-link : tie.Need-enum-known-link Inv-loop μ-loop
-enum-known-link c = ?
+enum-known-link c = search needs
 
--- src/counting.rt:38:13
 enum-told : tie.Need-enum-told Inv-loop μ-loop
-enum-told c = ?
+enum-told c = search needs
 
--- src/counting.rt:38:13
 returns : tie.Need-returns Inv-loop μ-loop
-returns c = ?
+returns c = count-end (c .before .before .loop .inv) (list-end _ _ (c .enum-told .given .1))
 
--- src/counting.rt:40:32
 fate-of-requires : tie.Need-fate-of-requires Inv-loop μ-loop
-fate-of-requires c κs = ?
+fate-of-requires c κs = search needs
 
--- src/counting.rt:40:9
 counted-requires : tie.Need-counted-requires Inv-loop μ-loop
-counted-requires c κs = ?
+counted-requires c κs = search needs
 
--- src/counting.rt:41:39
 slice-aggregate-next-child : tie.Need-slice-aggregate-next-child Inv-loop μ-loop
-slice-aggregate-next-child c = ?
+slice-aggregate-next-child c = search needs
 
--- src/counting.rt:41:9
 next-child-requires : tie.Need-next-child-requires Inv-loop μ-loop
-next-child-requires c κs = ?
+next-child-requires c κs = search needs
 
--- src/counting.rt:36:5
 loop-less : tie.Need-loop-less Inv-loop μ-loop
-loop-less c = ?
+loop-less c = ahead-less _ (c .before .before .before .before .before .link .given .1) _ (c .next-child .ensures .on)
 
--- src/counting.rt:36:5
 loop-again : tie.Need-loop-again Inv-loop μ-loop
-loop-again c = ?
+loop-again c =
+    let k = c .before .before in
+    let f = k .before in
+    let t = f .before .before in
+    count-next (t .before .before .loop .inv) (list-next (t .link .given .1) (c .next-child .ensures)) (f .fate-of .ensures) (k .counted .ensures)
 
 pub counted-in-spec : {M : Type 1} → statement M
 counted-in-spec =

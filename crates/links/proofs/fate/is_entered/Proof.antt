@@ -1,69 +1,70 @@
+use mathlib.Core.Path.{sym, _∙_}
+use Rattle.definition.specs.Ascii.{bytes}
+use Rattle.definition.specs.Task.{keptTasks}
+use Rattle.tree.specs.Place.{elementAt, listOf}
+use Rattle.rows.specs.Walks.{ahead}
+use Rattle.rows.specs.Turns.{list-end, list-at, ahead-less, AnyIn, any-begin, any-end, any-here, any-on}
+use Rattle.links.specs.Fates.{isKeptLink, isEntered}
+use Rattle.links.specs.Entered.{kept-is}
+use Rattle.links.proofs.Links.{fate-kept}
+use borrow.Author.Needs.{needs}
 use Rattle.links.proofs.fate.is_entered.Statement.{statement}
 use Rattle.links.proofs.fate.is_entered.Tie as tie
-use Rattle.links.proofs.fate.is_entered.Reads as reads
-use Rattle.links.proofs.fate.is_entered.Lts as lts
-use Rattle.links.proofs.fate.fate_of.Reads as fate-of-reads
-use Rattle.links.proofs.fate.is_kept.Reads as is-kept-reads
-use Rattle.tree.proofs.child.Reads as child-reads
-use Rattle.tree.proofs.next_child.Reads as next-child-reads
 
 abbrev Inv-loop : tie.InvT-loop
-Inv-loop s root at link₀ t7 link = ?
+Inv-loop s root at link₀ t7 link = AnyIn (isKeptLink (keptTasks (elementAt s root))) (isEntered (keptTasks (elementAt s root)) (elementAt s at)) (listOf s (bytes "PredecessorLink") link)
 
 abbrev μ-loop : tie.MeasureT-loop
-μ-loop s root at link₀ t7 link = ?
+μ-loop s root at link₀ t7 link = ahead s link
 
--- src/fate.rt:52:39
 slice-aggregate-child : tie.Need-slice-aggregate-child Inv-loop μ-loop
-slice-aggregate-child c = ?
+slice-aggregate-child c = search needs
 
--- src/fate.rt:52:9
 child-requires : tie.Need-child-requires Inv-loop μ-loop
-child-requires c κs = ?
+child-requires c κs = search needs
 
--- src/fate.rt:53:5
 loop-holds : tie.Need-loop-holds Inv-loop μ-loop
-loop-holds c = ?
+unfolding isEntered
+loop-holds c = any-begin _ (c .child .ensures .is)
 
--- src/fate.rt:54:23
 enum-known-link : tie.Need-enum-known-link Inv-loop μ-loop
-enum-known-link c = ?
+enum-known-link c = search needs
 
--- src/fate.rt:55:13
 enum-told : tie.Need-enum-told Inv-loop μ-loop
-enum-told c = ?
+enum-told c = search needs
 
--- src/fate.rt:55:13
 returns : tie.Need-returns Inv-loop μ-loop
-returns c = ?
+returns c = any-end (c .before .before .loop .inv) (list-end _ _ (c .enum-told .given .1))
 
--- src/fate.rt:57:20
 fate-of-requires : tie.Need-fate-of-requires Inv-loop μ-loop
-fate-of-requires c κs = ?
+fate-of-requires c κs = search needs
 
--- src/fate.rt:57:12
 is-kept-requires : tie.Need-is-kept-requires Inv-loop μ-loop
-is-kept-requires c κs = ?
+is-kept-requires c κs = search needs
 
--- src/fate.rt:58:13
 returns-2 : tie.Need-returns-2 Inv-loop μ-loop
-returns-2 c = ?
+returns-2 c =
+    let k = c .before in
+    let f = k .before in
+    let t = f .before .before in
+    any-here (t .before .before .loop .inv) (list-at _ _ (t .link .given .1)) (fate-kept _ _ (f .fate-of .ensures) (k .is-kept .ensures) (c .if1 .taken))
 
--- src/fate.rt:60:39
 slice-aggregate-next-child : tie.Need-slice-aggregate-next-child Inv-loop μ-loop
-slice-aggregate-next-child c = ?
+slice-aggregate-next-child c = search needs
 
--- src/fate.rt:60:9
 next-child-requires : tie.Need-next-child-requires Inv-loop μ-loop
-next-child-requires c κs = ?
+next-child-requires c κs = search needs
 
--- src/fate.rt:53:5
 loop-less : tie.Need-loop-less Inv-loop μ-loop
-loop-less c = ?
+loop-less c = ahead-less _ (c .before .before .before .before .before .before .link .given .1) _ (c .next-child .ensures .on)
 
--- src/fate.rt:53:5
 loop-again : tie.Need-loop-again Inv-loop μ-loop
-loop-again c = ?
+loop-again c =
+    let i = c .before .before in
+    let k = i .before in
+    let f = k .before in
+    let t = f .before .before in
+    any-on (t .before .before .loop .inv) (list-at _ _ (t .link .given .1)) (fate-kept _ _ (f .fate-of .ensures) (k .is-kept .ensures) (i .if1 .left)) (c .next-child .ensures .is)
 
 pub is-entered-spec : {M : Type 1} → statement M
 is-entered-spec =

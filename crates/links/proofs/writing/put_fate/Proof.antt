@@ -1,41 +1,38 @@
+use mathlib.Core.Path.{sym, ap}
+use Rattle.tree.specs.Place.{elementAt}
+use Rattle.links.specs.Fates.{linksBy}
+use Rattle.links.specs.More.{more-none, more-as}
+use Rattle.links.specs.declared.fate.LinkFate.{LinkFate}
+use Rattle.links.proofs.Links.{put-across, put-dangling, put-fate}
 use borrow.Author.Needs.{needs}
 use Rattle.links.proofs.writing.put_fate.Statement.{statement}
 use Rattle.links.proofs.writing.put_fate.Tie as tie
-use Rattle.links.proofs.writing.put_fate.Reads as reads
-use Rattle.links.proofs.writing.put_fate.Lts as lts
-use Rattle.links.proofs.writing.put_kept.Reads as put-kept-reads
 
--- src/writing.rt:53:29
 enum-told : tie.Need-enum-told
 enum-told c = search needs
 
--- src/writing.rt:54:31
 enum-told-2 : tie.Need-enum-told-2
 enum-told-2 c = search needs
 
--- src/writing.rt:55:24
 enum-known-fate : tie.Need-enum-known-fate
 enum-known-fate c = search needs
 
--- src/writing.rt:55:30
 put-kept-requires : tie.Need-put-kept-requires
 put-kept-requires c κs = search needs
 
--- src/writing.rt:41:1
 returns : tie.Need-returns
-returns c = ?
+returns c = put-across _ _ _ (c .enum-told .given .1)
 
--- src/writing.rt:41:1
 returns-2 : tie.Need-returns-2
-returns-2 c = ?
+returns-2 c = put-dangling _ _ _ (c .enum-told2 .given .1)
 
--- src/writing.rt:41:1
 same-length : tie.Need-same-length
 same-length c = search needs
 
--- src/writing.rt:41:1
 returns-3 : tie.Need-returns-3
-returns-3 c = ?
+returns-3 c =
+    let p = c .before .before in
+    put-fate _ _ _ (p .before .before .before .fate .given .1) (p .put-kept .ensures)
 
 pub put-fate-spec : {M : Type 1} → statement M
 put-fate-spec =

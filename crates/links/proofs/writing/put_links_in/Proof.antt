@@ -1,69 +1,69 @@
+use mathlib.Core.Path.{_≡_, refl, _∙_}
+use lib.ListN.{length}
+use Rattle.definition.specs.Format.{whole}
+use Rattle.definition.specs.Pack.{link as linkFormat}
+use Rattle.definition.specs.Tree.{all}
+use Rattle.definition.specs.Ascii.{bytes}
+use Rattle.definition.specs.Task.{keptTasks}
+use Rattle.tree.specs.Place.{elementAt, listOf}
+use Rattle.rows.specs.Walks.{ahead}
+use Rattle.rows.specs.Turns.{list-end, list-next, ahead-less}
+use Rattle.links.specs.Fates.{linksIn}
+use Rattle.links.specs.More.{Left, left-all, left-end}
+use Rattle.links.proofs.Links.{in-begin, in-next, in-end}
+use borrow.Author.Needs.{needs}
 use Rattle.links.proofs.writing.put_links_in.Statement.{statement}
 use Rattle.links.proofs.writing.put_links_in.Tie as tie
-use Rattle.links.proofs.writing.put_links_in.Reads as reads
-use Rattle.links.proofs.writing.put_links_in.Lts as lts
-use Rattle.links.proofs.fate.fate_of.Reads as fate-of-reads
-use Rattle.links.proofs.writing.put_fate.Reads as put-fate-reads
-use Rattle.tree.proofs.child.Reads as child-reads
-use Rattle.tree.proofs.next_child.Reads as next-child-reads
 
 abbrev Inv-loop : tie.InvT-loop
-Inv-loop out₀ s root at per-day row r₀ link₀ t12 out r link = ?
+Inv-loop out₀ s root at per-day row r₀ link₀ t12 out r link = (length out ≡ length out₀) × Left (whole linkFormat) (linksIn per-day (keptTasks (elementAt s root)) row (all (elementAt s at) (bytes "PredecessorLink"))) (linksIn per-day (keptTasks (elementAt s root)) row (listOf s (bytes "PredecessorLink") link)) out₀ r₀ out r
 
 abbrev μ-loop : tie.MeasureT-loop
-μ-loop out₀ s root at per-day row r₀ link₀ t12 out r link = ?
+μ-loop out₀ s root at per-day row r₀ link₀ t12 out r link = ahead s link
 
--- src/writing.rt:72:39
 slice-aggregate-child : tie.Need-slice-aggregate-child Inv-loop μ-loop
-slice-aggregate-child c = ?
+slice-aggregate-child c = search needs
 
--- src/writing.rt:72:9
 child-requires : tie.Need-child-requires Inv-loop μ-loop
-child-requires c κs = ?
+child-requires c κs = search needs
 
--- src/writing.rt:73:5
 loop-holds : tie.Need-loop-holds Inv-loop μ-loop
-loop-holds c = ?
+loop-holds c = (refl, in-begin _ _ _ (c .child .ensures .is))
 
--- src/writing.rt:74:23
 enum-known-link : tie.Need-enum-known-link Inv-loop μ-loop
-enum-known-link c = ?
+enum-known-link c = search needs
 
--- src/writing.rt:75:13
 enum-told : tie.Need-enum-told Inv-loop μ-loop
-enum-told c = ?
+enum-told c = search needs
 
--- src/writing.rt:75:13
 same-length : tie.Need-same-length Inv-loop μ-loop
-same-length c = ?
+same-length c = c .before .before .loop .inv .0
 
--- src/writing.rt:75:13
 returns : tie.Need-returns Inv-loop μ-loop
-returns c = ?
+returns c = in-end _ _ _ (c .before .before .loop .inv .1) (list-end _ _ (c .enum-told .given .1))
 
--- src/writing.rt:77:50
 fate-of-requires : tie.Need-fate-of-requires Inv-loop μ-loop
-fate-of-requires c κs = ?
+fate-of-requires c κs = search needs
 
--- src/writing.rt:77:9
 put-fate-requires : tie.Need-put-fate-requires Inv-loop μ-loop
-put-fate-requires c κs = ?
+put-fate-requires c κs = search needs
 
--- src/writing.rt:78:39
 slice-aggregate-next-child : tie.Need-slice-aggregate-next-child Inv-loop μ-loop
-slice-aggregate-next-child c = ?
+slice-aggregate-next-child c = search needs
 
--- src/writing.rt:78:9
 next-child-requires : tie.Need-next-child-requires Inv-loop μ-loop
-next-child-requires c κs = ?
+next-child-requires c κs = search needs
 
--- src/writing.rt:73:5
 loop-less : tie.Need-loop-less Inv-loop μ-loop
-loop-less c = ?
+loop-less c = ahead-less _ (c .before .before .before .before .before .before .before .before .link .given .1) _ (c .next-child .ensures .on)
 
--- src/writing.rt:73:5
 loop-again : tie.Need-loop-again Inv-loop μ-loop
-loop-again c = ?
+loop-again c =
+    let p = c .before .before .before .before in
+    let f = p .before in
+    let t = f .before .before .before in
+    let l = t .before .before in
+    (p .put-fate .kept .0 ∙ l .loop .inv .0, in-next _ _ _ (l .loop .inv .1) (list-next (t .link .given .1) (c .next-child .ensures)) (f .fate-of .ensures) (p .put-fate .ensures))
 
 pub put-links-in-spec : {M : Type 1} → statement M
 put-links-in-spec =
