@@ -3,3 +3,5 @@ pub mod Places
 pub mod Inserts
 pub mod Hours
 pub mod Plain
+pub mod Exceptions
+pub mod Days

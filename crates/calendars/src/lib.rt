@@ -1,5 +1,9 @@
 // Calendars written: their lists, kept rising while they are the last thing written, their hours, and the two calendars that no file gives.
+mod base;
 mod built;
+mod dates;
+mod days;
+mod exceptions;
 mod hours;
 mod list;
 mod plain;
