@@ -2,11 +2,7 @@ use borrow.Author.Needs.{needs}
 use mathlib.Core.Path.{sym, _∙_}
 use borrow.Author.Tests.{not-true, not-false}
 use Rattle.tree.specs.Place.{elementAt}
-use Prim.Native.Nat.{_%_, _^_}
-use Rattle.model.specs.declared.records.Kind.the-variants.{Resources}
-use Rattle.names.specs.Texts.{textsAt}
-use Rattle.names.specs.Context.{textWithUid}
-use Rattle.assignments.proofs.Work.{adds-work, adds-other, stars-said, calendar-said}
+use Rattle.assignments.proofs.Work.{adds-said, adds-other}
 use Rattle.assignments.proofs.resource.put_one.Statement.{statement}
 use Rattle.assignments.proofs.resource.put_one.Tie as tie
 
@@ -53,9 +49,7 @@ returns-2 : tie.Need-returns-2
 returns-2 c =
     let root = elementAt (c .before .before .before .before .before .before .before .before .before .before .before .before .before .before .before .before .before .before .before .before .args .s .now) (c .before .before .before .before .before .before .before .before .before .before .before .before .before .before .before .before .before .before .before .before .args .root) in
     let a = elementAt (c .before .before .before .before .before .before .before .before .before .before .before .before .before .before .before .before .before .before .before .before .args .s .now) (c .before .before .before .before .before .before .before .before .before .before .before .before .before .before .before .before .before .before .before .before .args .at) in
-    adds-work (c .before .before .before .before .before .before .before .before .before .before .before .before .before .before .before .before .before .before .before .before .args .c) root a (sym (c .before .before .before .before .before .before .before .before .before .before .before .before .before .before .before .before .before .is-work .ensures) ∙ not-false _ (c .before .before .before .before .before .before .before .before .before .before .before .before .before .before .before .before .if1 .left))
-    (λ x ids e z. c .before .before .before .put-said .ensures x ids (stars-said (c .before .before .before .before .before .before .before .before .before .before .before .before .free-stars .result) (textsAt Resources (c .before .before .before .before .before .before .before .before .before .before .before .before .before .before .before .before .before .before .before .before .args .out .now) (c .before .before .before .before .before .before .before .before .before .before .before .before .before .before .before .before .before .before .before .before .args .start) (c .before .before .before .before .before .before .before .before .before .before .before .before .before .before .before .before .before .before .before .before .args .done .count % 2 ^ 32)) (c .before .before .before .before .before .before .before .before .before .before .before .before .before .before .before .wanted-id .ensures) (c .before .before .before .before .before .before .before .before .before .before .before .before .free-stars .ensures) ∙ e) (calendar-said a _ (textWithUid root) (c .before .before .before .before .before .before .before .before .calendar-text .ensures) (c .before .before .before .before .before .before .before .before .before .before .text-of .ensures) (c .before .before .before .before .before .before .calendar-of .ensures) z))
-    (c .more .ensures)
+    adds-said (c .before .before .before .before .before .before .before .before .before .before .before .before .before .before .before .before .before .before .before .before .args .c) root a (sym (c .before .before .before .before .before .before .before .before .before .before .before .before .before .before .before .before .before .is-work .ensures) ∙ not-false _ (c .before .before .before .before .before .before .before .before .before .before .before .before .before .before .before .before .if1 .left)) (c .before .before .before .before .before .before .before .before .before .before .before .before .free-stars .result) (c .before .before .before .before .before .before .before .before .before .before .before .before .before .before .before .wanted-id .ensures) (c .before .before .before .before .before .before .before .before .before .before .before .before .free-stars .ensures) (c .before .before .before .before .before .before .calendar-of .result) (c .before .before .before .before .before .before .before .before .calendar-text .ensures) (c .before .before .before .before .before .before .before .before .before .before .text-of .ensures) (c .before .before .before .before .before .before .calendar-of .ensures) (c .before .before .before .put-said .ensures) (c .more .ensures)
 
 pub put-one-spec : {M : Type 1} → statement M
 put-one-spec = tie.close (tie.spec is-work-requires returns wanted-id-requires cast-count free-stars-requires slice-aggregate-text-of text-of-requires slice-aggregate-calendar-text calendar-text-requires calendar-of-requires put-said-requires more-requires same-length returns-2)
