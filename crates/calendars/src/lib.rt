@@ -1,8 +1,10 @@
 // Calendars written: their lists, kept rising while they are the last thing written, their hours, and the two calendars that no file gives.
 mod built;
+mod days;
 mod hours;
 mod list;
 mod plain;
+mod record;
 
 pub use built::put_calendars;
 pub use hours::put_periods;
