@@ -5,23 +5,20 @@ ghost use mathlib.Core.Bool.{_&&_};
 ghost use Prim.Native.Nat.{_%_};
 ghost use lib.Dec.{leb, eqb};
 ghost use lib.ListN.{length};
-ghost use Rattle.definition.specs.Base.{keep};
-ghost use Rattle.definition.specs.Ascii.{bytes};
-ghost use Rattle.definition.specs.Tree.{all};
 ghost use Rattle.definition.specs.Format.{whole};
 ghost use Rattle.definition.specs.Pack.{calendar};
 ghost use Rattle.definition.specs.Refusal.{mostElements};
 ghost use Rattle.definition.specs.Task.{contextOf};
 ghost use Rattle.definition.specs.Calendar.{calendarElements, free};
 ghost use Rattle.definition.specs.Read.{calendarsOf};
-ghost use Rattle.tree.specs.Place.{elementAt, laterAt};
+ghost use Rattle.tree.specs.Place.{elementAt};
 ghost use Rattle.names.specs.Context.{wantedName};
 ghost use Rattle.names.specs.Texts.{textsAt};
 ghost use Rattle.pack.specs.Value.{starredBy};
 ghost use Rattle.pack.specs.Writes.{WritesIf};
 ghost use Rattle.model.specs.declared.records.Kind.the-variants.{Calendars};
-ghost use Rattle.calendars.specs.Built.{inPhase, AtRow, BaseFound, BaseIn, Adds, AddsDefault, PutsBuilt, Turns, TurnsMain, AddsElapsed};
-use crate::days::Base;
+ghost use Rattle.calendars.specs.Built.{AtRow, BaseFound, BaseIn, Adds, AddsAll, AddsDefault, PutsBuilt, Turns, TurnsMain, AddsElapsed};
+use crate::base::Base;
 use crate::plain::put_default_calendar;
 use crate::plain::put_elapsed_calendar;
 use crate::record::put_calendar;
@@ -38,7 +35,7 @@ use tree::Found;
 fn stars_of(out: &[u8], start: Place, count: u32, s: &[u8], at: usize) -> u32
     ensures { λ r. ⌜ starredBy (wantedName (elementAt (now (s .entry)) at)) r ≡ free (textsAt Calendars (now (out .entry)) start count) (wantedName (elementAt (now (s .entry)) at)) ⌝ }
 {
-    names::free_stars(out, start, Kind::Calendars, count, names::wanted_name(s, at))
+    names::free_stars(out, start, Kind::Calendars, count, names::wanted_name(s, at, b"Calendar"))
 }
 
 // The calendar of a row, if it is built.
@@ -92,88 +89,23 @@ fn put_next(
     }
 }
 
-// ---- all of them, those without a base and then the others
+// ---- all of them
 
-fn in_phase(s: &[u8], at: usize, based: bool) -> bool
-    ensures { λ r. ⌜ r ≡ inPhase «based» (elementAt (now (s .entry)) at) ⌝ }
+// Those without a base, then the others.
+fn put_each(out: &mut [u8], start: Place, s: &[u8], root: usize) -> Records
+    ensures { λ r. ⌜ AddsAll (elementAt (now (s .entry)) root) start (now (out .entry)) (now (out .exit)) r ⌝ }
 {
-    let has = calendar::has_base(s, at);
-    if based {
-        return has;
-    }
-    !has
-}
-
-fn put_if(
-    out: &mut [u8],
-    start: Place,
-    done: Records,
-    s: &[u8],
-    root: usize,
-    at: usize,
-    based: bool,
-) -> Records
-    ensures { λ r. ⌜ Adds (elementAt (now (s .entry)) root) (keep (inPhase «based») (elementAt (now (s .entry)) at ∷ [])) start (now (out .entry)) done (now (out .exit)) r ⌝ }
-{
-    if in_phase(s, at, based) {
-        return put_next(out, start, done, s, root, at);
-    }
-    done
-}
-
-// A Calendar and its later siblings.
-fn put_from(
-    out: &mut [u8],
-    start: Place,
-    done: Records,
-    s: &[u8],
-    root: usize,
-    first: usize,
-    based: bool,
-) -> Records
-    ensures { λ r. ⌜ Adds (elementAt (now (s .entry)) root) (keep (inPhase «based») (elementAt (now (s .entry)) first ∷ laterAt (now (s .entry)) (bytes "Calendar") first)) start (now (out .entry)) done (now (out .exit)) r ⌝ }
-{
-    let mut built = done;
-    let mut at = first;
+    let mut built = Records {
+        count: 0,
+        next: start,
+    };
+    let mut found = rows::first_calendar(s, root);
     loop {
-        built = put_if(out, start, built, s, root, at, based);
-        let Found::At(next) = tree::next_child(s, at, b"Calendar") else {
+        let Found::At(at) = found else {
             return built;
         };
-        at = next;
-    }
-}
-
-fn put_in(
-    out: &mut [u8],
-    start: Place,
-    done: Records,
-    s: &[u8],
-    root: usize,
-    at: usize,
-    based: bool,
-) -> Records
-    ensures { λ r. ⌜ Adds (elementAt (now (s .entry)) root) (keep (inPhase «based») (all (elementAt (now (s .entry)) at) (bytes "Calendar"))) start (now (out .entry)) done (now (out .exit)) r ⌝ }
-{
-    match tree::child(s, at, b"Calendar") {
-        Found::Nothing => done,
-        Found::At(first) => put_from(out, start, done, s, root, first, based),
-    }
-}
-
-fn put_phase(
-    out: &mut [u8],
-    start: Place,
-    done: Records,
-    s: &[u8],
-    root: usize,
-    based: bool,
-) -> Records
-    ensures { λ r. ⌜ Adds (elementAt (now (s .entry)) root) (keep (inPhase «based») (calendarElements (elementAt (now (s .entry)) root))) start (now (out .entry)) done (now (out .exit)) r ⌝ }
-{
-    match tree::child(s, root, b"Calendars") {
-        Found::Nothing => done,
-        Found::At(at) => put_in(out, start, done, s, root, at, based),
+        built = put_next(out, start, built, s, root, at);
+        found = rows::next_calendar(s, root, at);
     }
 }
 
@@ -193,10 +125,8 @@ fn or_default(out: &mut [u8], done: Records) -> Records
 fn put_built(out: &mut [u8], p: Place, s: &[u8], root: usize) -> Records
     ensures { λ r. ⌜ PutsBuilt (elementAt (now (s .entry)) root) (now (out .entry)) p (now (out .exit)) r ⌝ }
 {
-    let none = Records { count: 0, next: p };
-    let first = put_phase(out, p, none, s, root, false);
-    let all = put_phase(out, p, first, s, root, true);
-    or_default(out, all)
+    let done = put_each(out, p, s, root);
+    or_default(out, done)
 }
 
 // ---- the main one to the front
@@ -205,8 +135,11 @@ fn put_built(out: &mut [u8], p: Place, s: &[u8], root: usize) -> Records
 fn turn(out: &mut [u8], start: Place, row: usize)
     ensures { λ _. ⌜ Turns row start (now (out .entry)) (now (out .exit)) ⌝ }
 {
+    if 5_000_000 <= row {
+        return;
+    }
     let m = names::place_of_row(out, start, Kind::Calendars, row);
-    let e = model::records::skip_record(out, m, Kind::Calendars, false);
+    let e = names::place_of_row(out, start, Kind::Calendars, row + 1);
     bits::rotate(out, start, m, e);
 }
 

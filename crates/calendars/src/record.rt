@@ -11,10 +11,10 @@ ghost use Rattle.bits.specs.Steps.{Puts};
 ghost use Rattle.calendar.specs.Week.{placeMeaning};
 ghost use Rattle.rows.specs.Rows.{foundMeaning};
 ghost use Rattle.calendars.specs.Record.{isPlace, onPlace, laterFound, hoursOf, WeekRead, CopiesHours, BaseHours, PutsHours, PutsWeekHours, PutsCalendar};
-use crate::days::Base;
+use crate::base::Base;
+use crate::dates::put_extra_days;
+use crate::dates::put_holidays;
 use crate::days::put_exceptions;
-use crate::days::put_extra_days;
-use crate::days::put_holidays;
 use crate::hours::put_periods;
 use crate::list::begin;
 use crate::plain::put_week;
@@ -151,8 +151,8 @@ pub(crate) fn put_calendar(
 ) -> Place
     ensures { λ r. ⌜ PutsCalendar (elementAt (now (s .entry)) at) stars base (now (out .entry)) p (now (out .exit)) r ⌝ }
 {
+    let a = pack::put_starred(out, p, names::wanted_name(s, at, b"Calendar"), stars);
     let week = calendar::week_of(s, at, base_week(out, base));
-    let a = pack::put_starred(out, p, names::wanted_name(s, at), stars);
     let b = put_week(out, a, week);
     let c = put_hours(out, b, s, at, base);
     let d = put_holidays(out, c, s, at, week, base);

@@ -4,12 +4,12 @@ ghost use Prim.Native.Nat.{_-_};
 ghost use lib.ListN.{length};
 ghost use mathlib.Core.Option.{some};
 ghost use Rattle.definition.specs.Base.{same, _>>=_ as bind};
-ghost use Rattle.definition.specs.Calendar.{free, nameOf, elapsedName, calendarElements};
+ghost use Rattle.definition.specs.Calendar.{free, nameOf, elapsedName};
 ghost use Rattle.definition.specs.Task.{unlessMain};
 ghost use Rattle.tree.specs.Place.{elementAt};
 ghost use Rattle.pack.specs.Value.{starredBy, nameMeaning};
-ghost use Rattle.names.specs.Texts.{textsAt, placeOfRow};
-ghost use Rattle.names.specs.Context.{builtAt, contextAt, textWithUid, calendarsBefore, wantedName};
+ghost use Rattle.names.specs.Texts.{textsAt};
+ghost use Rattle.names.specs.Context.{builtAt, contextAt, textWithUid, calendarsBefore};
 use bits::Place;
 use model::records::Kind;
 use pack::NameAnswer;
@@ -54,23 +54,4 @@ pub fn calendars_before(out: &[u8], c: Place, s: &[u8], root: usize, p: Place) -
     ensures { λ r. ⌜ r ≡ calendarsBefore (now (out .entry)) c (elementAt (now (s .entry)) root) p ⌝ }
 {
     false
-}
-
-// The place of the record of a row.
-pub fn place_of_row(out: &[u8], p: Place, kind: Kind, row: usize) -> Place
-    ensures { λ r. ⌜ r ≡ placeOfRow kind (now (out .entry)) p row ⌝ }
-{
-    p
-}
-
-pub fn wanted_name<'a>(s: &'a [u8], at: usize) -> &'a [u8]
-    ensures { λ r. ⌜ now r ≡ wantedName (elementAt (now (s .entry)) at) ⌝ }
-{
-    &s[0..0]
-}
-
-pub fn count_calendars(s: &[u8], root: usize) -> usize
-    ensures { λ r. ⌜ r ≡ length (calendarElements (elementAt (now (s .entry)) root)) ⌝ }
-{
-    0
 }
