@@ -5,6 +5,7 @@ mod days;
 mod leaves;
 mod models;
 mod ours;
+mod reads;
 mod shrink;
 mod trees;
 mod written;
@@ -12,14 +13,14 @@ mod written;
 use std::process::ExitCode;
 
 const USAGE: &str = "runner [SEED [COUNT [PART]]]   SEED: of the random inputs, by default 1; COUNT: random texts of each kind, by default 200000;
-a tenth as many trees, five times as many models and rules; PART: texts, trees, models, days or times alone, by default all";
+a tenth as many trees judged, as many read, five times as many models and rules; PART: texts, trees, reads, models, days or times alone, by default all";
 
 fn main() -> ExitCode {
     let words: Vec<String> = std::env::args().skip(1).collect();
     let number = |at: usize, usual: u64| words.get(at).map_or(Ok(usual), |word| word.parse::<u64>());
     let part = words.get(2).map_or("all", String::as_str);
     let (Ok(seed), Ok(count), true, ..=3) =
-        (number(0, 1), number(1, 200_000), ["all", "texts", "trees", "models", "days", "times"].contains(&part), words.len())
+        (number(0, 1), number(1, 200_000), ["all", "texts", "trees", "reads", "models", "days", "times"].contains(&part), words.len())
     else {
         eprintln!("{USAGE}");
         return ExitCode::FAILURE;
@@ -32,6 +33,9 @@ fn main() -> ExitCode {
     if asked("trees") {
         differ += trees::compare(seed, count / 10);
     }
+    if asked("reads") {
+        differ += reads::compare(seed, count);
+    }
     if asked("models") {
         differ += models::compare(seed, count * 5);
     }
@@ -42,6 +46,7 @@ fn main() -> ExitCode {
     if asked("times") {
         bench::table(seed);
         trees::bench();
+        reads::bench();
         bench::models();
         days::bench(seed);
     }

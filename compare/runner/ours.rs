@@ -19,6 +19,7 @@ unsafe extern "C" {
     fn probe_tree(s: *const u8, len: usize) -> u32;
     fn mspdi_duration(minutes: i64, text: *mut u8, len: usize, written: *mut u64) -> u32;
     fn mspdi_time(minutes: u32, text: *mut u8, len: usize, written: *mut u64) -> u32;
+    fn mspdi_read(tree: *const u8, len: usize, model: *mut u8, model_len: usize, work: *mut u32, work_len: usize, written: *mut u64) -> u32;
     fn mspdi_check(model: *const u8, len: usize, work: *mut u32, work_len: usize) -> u32;
     fn mspdi_outline(model: *const u8, len: usize, rows: *mut u32, rows_len: usize, work: *mut u32, work_len: usize, count: *mut u64) -> u32;
     fn mspdi_day_sheet(model: *const u8, len: usize, calendar: u32, date: i32, sheet: *mut u8, sheet_len: usize, written: *mut u64) -> u32;
@@ -91,6 +92,14 @@ pub fn time_text(minutes: u32, text: &mut [u8]) -> (u32, u64) {
     let mut written = u64::MAX;
     // Sound: as above.
     let number = unsafe { mspdi_time(minutes, text.as_mut_ptr(), text.len(), &mut written) };
+    (number, written)
+}
+
+/// The refusal's number or 0, and how many bytes were written.
+pub fn read(tree: &[u8], model: &mut [u8], work: &mut [u32]) -> (u32, u64) {
+    let mut written = u64::MAX;
+    // Sound: as above.
+    let number = unsafe { mspdi_read(tree.as_ptr(), tree.len(), model.as_mut_ptr(), model.len(), work.as_mut_ptr(), work.len(), &mut written) };
     (number, written)
 }
 

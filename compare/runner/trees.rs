@@ -29,7 +29,7 @@ fn made(seed: u64, k: u64, count: u64) -> Vec<u8> {
 }
 
 /// The packed trees that compare/taskjuggler made, if it was run.
-fn samples() -> Vec<Vec<u8>> {
+pub fn samples() -> Vec<Vec<u8>> {
     let folder = std::env::current_exe().ok().and_then(|exe| Some(exe.parent()?.join("samples")));
     let files = folder.and_then(|folder| std::fs::read_dir(folder).ok()).into_iter().flatten().flatten().map(|entry| entry.path());
     files.filter(|path| path.extension().is_some_and(|end| end == "tree")).filter_map(|path| std::fs::read(path).ok()).collect()

@@ -10,6 +10,15 @@ mod entries {
     unsafe extern "C" {
         pub fn mspdi_duration(minutes: i64, text: *mut u8, text_len: usize, written: *mut u64) -> u32;
         pub fn mspdi_time(minutes: u32, text: *mut u8, text_len: usize, written: *mut u64) -> u32;
+        pub fn mspdi_read(
+            tree: *const u8,
+            tree_len: usize,
+            model: *mut u8,
+            model_len: usize,
+            work: *mut u32,
+            work_len: usize,
+            written: *mut u64,
+        ) -> u32;
         pub fn mspdi_check(model: *const u8, model_len: usize, work: *mut u32, work_len: usize) -> u32;
         pub fn mspdi_outline(
             model: *const u8,
@@ -47,9 +56,17 @@ pub fn time(minutes: u32, text: &mut [u8]) -> Outcome {
     Outcome { number, written }
 }
 
+pub fn read(tree: &[u8], model: &mut [u8], work: &mut [u32]) -> Outcome {
+    let mut written = 0;
+    // SAFETY: as above; the pointer of an empty slice is not null.
+    let number =
+        unsafe { entries::mspdi_read(tree.as_ptr(), tree.len(), model.as_mut_ptr(), model.len(), work.as_mut_ptr(), work.len(), &mut written) };
+    Outcome { number, written }
+}
+
 /// The number alone: 0 or a refusal's.
 pub fn check(model: &[u8], work: &mut [u32]) -> u32 {
-    // SAFETY: as above; the pointer of an empty slice is not null.
+    // SAFETY: as above.
     unsafe { entries::mspdi_check(model.as_ptr(), model.len(), work.as_mut_ptr(), work.len()) }
 }
 

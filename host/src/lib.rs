@@ -2,13 +2,24 @@
 //!
 //! Every function here is safe for every argument: the library tests what it is given and answers with a result or with a [`Refusal`].
 //! The boundary that is called is `mspdi.h` beside this crate.
+//!
+//! A plan goes three steps: an XML parser's events become a packed tree ([`TreeBuilder`]), the tree becomes a model ([`read`]), and a model is asked
+//! ([`outline`], [`day_sheet`], [`check`]) or decoded into plain values ([`Plan`]).
 
+mod bits;
 mod boundary;
 mod model;
+mod plan;
+mod tree;
 
 use std::fmt;
 
 pub use model::{DaySheet, Period, Row, Weekday, check, day_sheet, outline};
+pub use plan::{
+    Accrual, Activity, ActivityKind, Assignment, Calendar, Constraint, Date, DurationType, Expense, LagKind, Link, LinkKind, Plan, Project, Resource,
+    ResourceKind,
+};
+pub use tree::{TreeBuilder, TreeError, read, read_into};
 
 use boundary::Outcome;
 

@@ -1,5 +1,6 @@
 //! What is asked of a packed model: the check, the outline, the sheet of a day. Any bytes may be given.
 
+use crate::bits::Reader;
 use crate::{Refusal, boundary};
 
 /// A row of the outline.
@@ -107,31 +108,17 @@ pub fn day_sheet(model: &[u8], calendar: u32, date: i32) -> Result<DaySheet, Ref
 
 /// The sheet of its bytes.
 fn unpacked(sheet: &[u8]) -> DaySheet {
-    let mut bits = Bits { bytes: sheet, at: 0 };
+    let r = &mut Reader::new(sheet);
+    let mut take = |width| r.take(width).unwrap_or_default();
     DaySheet {
-        weekday: weekday(bits.take(4)),
-        holiday: bits.take(1) == 1,
-        extra: bits.take(1) == 1,
-        periods: (0..bits.take(32)).map(|_| Period { from: bits.take(11) as u16, to: bits.take(11) as u16 }).collect(),
+        weekday: weekday(take(4)),
+        holiday: take(1) == 1,
+        extra: take(1) == 1,
+        periods: (0..take(32)).map(|_| Period { from: take(11) as u16, to: take(11) as u16 }).collect(),
     }
 }
 
-fn weekday(code: u32) -> Weekday {
+fn weekday(code: u64) -> Weekday {
     use Weekday::*;
     [Monday, Tuesday, Wednesday, Thursday, Friday, Saturday, Sunday][code as usize % 7]
-}
-
-/// Fields, most significant bit first.
-struct Bits<'a> {
-    bytes: &'a [u8],
-    at: usize,
-}
-
-impl Bits<'_> {
-    fn take(&mut self, width: usize) -> u32 {
-        let bit = |at: usize| u32::from(self.bytes[at / 8] >> (7 - at % 8) & 1);
-        let value = (self.at..self.at + width).fold(0, |value, at| value * 2 + bit(at));
-        self.at += width;
-        value
-    }
 }

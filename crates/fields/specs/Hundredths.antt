@@ -1,19 +1,15 @@
 -- Hundredths of a number that is kept, where it lies from -10 ^ 13 to 10 ^ 13; the size of a number with a sign. Assumes nothing.
 use Prim.Native.Nat.{ℕ, zero, suc, _^_}
-use mathlib.Core.Path.{_≡_, refl, sym, ap, _∙_, subst}
+use mathlib.Core.Path.{_≡_, refl, ap, _∙_}
 use mathlib.Core.Bool.{Bool, true, false}
 use mathlib.Core.Option.{some}
 use lib.Dec.{T}
 use lib.IntN.{natAbs}
-use lib.Ieee.{Float, binary64, round, neg, le, lt, mul}
+use lib.Ieee.{Float, binary64, neg, le, mul}
 use Rattle.definition.specs.Base.{when}
-use Rattle.definition.specs.Number.{float, zeroFloat, hundredths, withSign}
+use Rattle.definition.specs.Number.{float, hundredths, withSign}
 use Rattle.number.specs.Whole.{wholeWithin, hundredths-same}
-use Rattle.number.specs.Order.{of-lt, from-zero}
-
-pub float-0 : float 0 ≡ zeroFloat
-unfolding round
-float-0 = refl
+pub use Rattle.laws.specs.Floats.{float-0, above-0}
 
 abbrev Bounded : Float → Type 0
 Bounded x = T (le (neg (float (10 ^ 13))) x) × T (le x (float (10 ^ 13)))
@@ -26,10 +22,6 @@ module _ (x : Float) where
       by : (u : Bool) → (T u → Bounded x) → when u (wholeWithin (mul binary64 x (float 100))) ≡ when u (hundredths x)
       by true h = let b = h tt in ap some (hundredths-same x (b .0) (b .1))
       by false h = refl
-
-  -- above 0 is above any opposite
-  pub above-0 : (n : ℕ) → T (lt zeroFloat x) → T (le (neg (float n)) x)
-  above-0 n t = from-zero x 0 n (subst (λ (y : Float). T (le y x)) (sym float-0) (of-lt zeroFloat x t))
 
 pub size-sign : (b : Bool) (n : ℕ) → natAbs (withSign b n) ≡ n
 size-sign true zero = refl

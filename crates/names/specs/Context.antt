@@ -31,11 +31,19 @@ mainRow root = (mainIn root >>= λ x. some (x .0)) or 0
 abbrev pub sectionRow : ℕ → ℕ → ℕ
 sectionRow main row = if eqb row main then 0 else if ltb row main then suc row else row
 
+-- the name that a calendar is to have, by what stands for a missing one
+abbrev pub wantedBy : Text → Element → Text
+wantedBy unnamed e = textIn e "Name" or unnamed
+
 abbrev pub wantedName : Element → Text
-wantedName e = textIn e "Name" or bytes "Calendar"
+wantedName = wantedBy (bytes "Calendar")
+
+-- how many `*` the name of a row's calendar has
+abbrev pub starsIn : List ℕ → Place → Element → ℕ → Element → ℕ
+starsIn d c root row e = length (textAt Calendars d c (sectionRow (mainRow root) row)) - length (wantedName e)
 
 abbrev pub nameIn : List ℕ → Place → Element → ℕ × Element → Text
-nameIn d c root x = starredBy (wantedName (x .1)) (length (textAt Calendars d c (sectionRow (mainRow root) (x .0))) - length (wantedName (x .1)))
+nameIn d c root x = starredBy (wantedName (x .1)) (starsIn d c root (x .0) (x .1))
 
 unfoldable pub builtAt : List ℕ → Place → Element → List Named
 builtAt d c root = map (λ (x : ℕ × Element). (textIn (x .1) "UID" or [], plainCalendar (nameIn d c root x) [] [])) (numbered 0 (inOrder root))
@@ -45,8 +53,11 @@ contextAt d c root =
     record { perDay = perDayOf root; built = builtAt d c root; main = mainCalendar root (builtAt d c root); tasks = keptTasks root }
 
 -- the wanted name of the first calendar with a UID, no text where there is none
+abbrev pub textWithUidBy : Text → Element → Text → Text
+textWithUidBy unnamed root u = (withUidIn root u >>= λ x. some (wantedBy unnamed (x .1))) or []
+
 abbrev pub textWithUid : Element → Text → Text
-textWithUid root u = (withUidIn root u >>= λ x. some (wantedName (x .1))) or []
+textWithUid = textWithUidBy (bytes "Calendar")
 
 -- all calendars are read before a place, and there are no more than 5,000,000
 unfoldable pub calendarsBefore : List ℕ → Place → Element → Place → Bool

@@ -13,9 +13,9 @@ use lib.Ieee.{Float, nan, inf, fin, binary64, up, down, unlike, round, mul, le, 
 use lib.Ieee.Fits.{up-pos, down-pos, and-l, and-r}
 use lib.Ieee.Exact.{HasValue, round-exact}
 use lib.Ieee.Nearest.{div-same}
-use Rattle.number.specs.Floats.{at-most as most}
 use Rattle.number.proofs.Values.{mul-of}
 use Rattle.definition.specs.Number.{halfAway, zeroFloat}
+pub use Rattle.laws.specs.Floats.{at-least, at-most-size as at-most}
 
 -- 10 ^ 18
 abbrev pub cap : Float
@@ -76,25 +76,6 @@ cut (fin true n g) s a c C h (inr z) l =
     }
 
 -- ---- twice x
--- x is at least 0: its sign is clear, or it is a zero
-pub at-least : (s : Bool) (m : ℕ) (e : ℤ) → T (le zeroFloat (fin s m e)) → (s ≡ false) ⊎ (m * up e * 2 ≡ 0)
-unfolding le
-at-least false m e t = inl refl
-at-least true m e t =
-    let h : 0 * 1 * down e ≡ m * up e * 1 = eqb→eq (0 * 1 * down e) (m * up e * 1) (and-l (eqb (0 * 1 * down e) (m * up e * 1)) (eqb (0 * 1 * down e) 0) t) in
-    let k : m * up e ≡ 0 = sym (mul-one (m * up e)) ∙ sym h ∙ zero-mul (down e) in
-    inr (ap (λ (n : ℕ). n * 2) k)
-
--- x is at most b * 2 ^ k
-pub at-most : (b k : ℕ) (s : Bool) (m : ℕ) (e : ℤ) → T (le zeroFloat (fin s m e)) → T (le (fin s m e) (fin false b (pos k))) → m * up e ≤ b * 2 ^ k * down e
-unfolding le
-at-most b k false m e z t = most b k m e t
-at-most b k true m e z t =
-    elim (at-least true m e z) [
-      | inl u ↦ let w : _≡_ {A = ℕ} 0 1 = cc in absurd (omega arith)
-      | inr u ↦ omega arith
-    ]
-
 -- twice 2 ^ e is 2 ^ j of the smallest values, for some j
 pub record Steps (e : ℤ) : Type 0 where
   pub steps : ℕ

@@ -1,27 +1,26 @@
 -- The figures of a duration text, piece by piece. Assumes nothing.
-use mathlib.Core.Path.{_≡_, refl, sym, ap, _∙_, subst}
-use mathlib.Core.Bool.{Bool, true, false, _&&_}
+use mathlib.Core.Path.{_≡_, refl, sym, ap, _∙_}
+use mathlib.Core.Bool.{Bool, true, false}
 use mathlib.Core.List.{[], _∷_, _++_, append-assoc, append-nil}
 use Prim.Native.Nat.{ℕ, suc, _+_, _-_, _≤_, _<_}
 use native.Mathlib.Numerals.{add-one}
 use native.Mathlib.Omega.{arith}
 use borrow.Author.Tests.{eq-eqb, ne-eqb}
-use lib.Dec.{T, eqb, eqb·suc-suc, eqb-refl}
+use lib.Dec.{eqb, eqb·suc-suc, eqb-refl}
 use lib.ListN.{length, take, drop, getD, length-append, length-drop}
 use lib.Seq.{getD-drop, drop-drop}
-use lib.Ieee.{Float, le, lt, eq}
-use lib.Ieee.Fits.{and-i, and-l, and-r}
+use lib.Ieee.{Float}
 use Rattle.definition.specs.Base.{if_then_else_, _or_, same}
 use Rattle.definition.specs.Text.{Text, before, after}
-use Rattle.definition.specs.Number.{Reading, absent, long, value, zeroFloat, numberOf}
-use Rattle.definition.specs.Duration.{isUnit, isD, isT, setUnit, notBelowZero, pieceOf, _then_, timeFigures, daysOf, dayFigures, figuresOf}
+use Rattle.definition.specs.Number.{Reading, absent, value, zeroFloat}
+use Rattle.definition.specs.Duration.{isUnit, isD, isT, setUnit, pieceOf, _then_, timeFigures, daysOf, dayFigures, figuresOf}
 use Rattle.definition.specs.declared.Figures.{Figures}
 use Rattle.number.specs.Tests.{is-true}
-use Rattle.number.specs.Duration.{notBelow, noneBelow}
 use Rattle.number.specs.Number.{meaning}
 use Rattle.number.specs.declared.decimal.NumberAnswer.{NumberAnswer}
 use Rattle.text.specs.Parts.{at-end, all-of}
 use Rattle.text.specs.Cut.{place-within, before-take, after-drop}
+pub use Rattle.laws.specs.Durations.{Least, of-test, figures-least}
 
 -- ---- one piece
 onward : (s part : Text) (f : Figures) → length (before isUnit s) < length s
@@ -166,99 +165,7 @@ some-figures s rest days time k n e r at a b =
     ∙ ap (λ (l : Text). daysOf (before isT (drop 1 s)) then λ d. timeFigures l [] (dayFigures d)) t
     ∙ sym (figures-p s n e)
 
--- ---- no figure is below 0
-abbrev least : Reading Float → Bool
-least absent = true
-least long = true
-least (value x) = le zeroFloat x
-
-piece-least : (s : Text) → T (least (pieceOf s))
-unfolding pieceOf
-piece-least s = go (numberOf s)
-  where
-    pick : (x : Float) (t : Bool) → le zeroFloat x ≡ t → T (least (if t then value x else absent))
-    pick x true e = subst T (sym e) tt
-    pick x false e = tt
-
-    go : (r : Reading Float) → T (least (notBelowZero r))
-    go absent = tt
-    go long = tt
-    go (value x) = pick x (le zeroFloat x) refl
-
-zero-least : T (le zeroFloat zeroFloat)
-unfolding le lt eq
-zero-least = tt
-
-pub record Least (f : Figures) : Type 0 where
-  pub days : T (le zeroFloat (f .days))
-  pub hours : T (le zeroFloat (f .hours))
-  pub minutes : T (le zeroFloat (f .minutes))
-  pub seconds : T (le zeroFloat (f .seconds))
-
-pub of-test : (f : Figures) → T (notBelow f) → Least f
-of-test f t =
-    let d = le zeroFloat (f .days) in
-    let h = le zeroFloat (f .hours) in
-    let m = le zeroFloat (f .minutes) in
-    let s = le zeroFloat (f .seconds) in
-    let hms = and-r d (h && (m && s)) t in
-    let ms = and-r h (m && s) hms in
-    record { days = and-l d (h && (m && s)) t; hours = and-l h (m && s) hms; minutes = and-l m s ms; seconds = and-r m s ms }
-
-to-test : (f : Figures) → Least f → T (notBelow f)
-to-test f l =
-    and-i (le zeroFloat (f .days)) _ (l .days)
-    (and-i (le zeroFloat (f .hours)) _ (l .hours) (and-i (le zeroFloat (f .minutes)) (le zeroFloat (f .seconds)) (l .minutes) (l .seconds)))
-
-set-least : (b : ℕ) (x : Float) (f : Figures) → T (le zeroFloat x) → T (notBelow f) → T (notBelow (setUnit b x f))
-unfolding setUnit
-set-least b x f p q = go (eqb 72 b) (eqb 77 b)
-  where
-    l : Least f
-    l = of-test f q
-
-    go : (h m : Bool) → T (notBelow (if h then record { days = f .days; hours = x; minutes = f .minutes; seconds = f .seconds } else
-        if m then record { days = f .days; hours = f .hours; minutes = x; seconds = f .seconds } else record { days = f .days; hours = f .hours; minutes = f .minutes; seconds = x }))
-    go true m = to-test _ (record { days = l .days; hours = p; minutes = l .minutes; seconds = l .seconds })
-    go false true = to-test _ (record { days = l .days; hours = l .hours; minutes = p; seconds = l .seconds })
-    go false false = to-test _ (record { days = l .days; hours = l .hours; minutes = l .minutes; seconds = p })
-
-time-least : (s part : Text) (f : Figures) → T (notBelow f) → T (noneBelow (timeFigures s part f))
-unfolding timeFigures
-time-least [] [] f q = q
-time-least [] (p ∷ part) f q = tt
-time-least (b ∷ s) part f q = go (isUnit b) (pieceOf part) (piece-least part) (λ x p. time-least s [] (setUnit b x f) (set-least b x f p q)) (time-least s (part ++ (b ∷ [])) f q)
-  where
-    go : (t : Bool) (r : Reading Float) → T (least r) → ((x : Float) → T (le zeroFloat x) → T (noneBelow (timeFigures s [] (setUnit b x f)))) → T (noneBelow (timeFigures s (part ++ (b ∷ [])) f))
-        → T (noneBelow (if t then (r then λ x. timeFigures s [] (setUnit b x f)) else timeFigures s (part ++ (b ∷ [])) f))
-    go true absent l h k = tt
-    go true long l h k = tt
-    go true (value x) l h k = h x l
-    go false r l h k = k
-
-days-least : (s : Text) → T (least (daysOf s))
-unfolding daysOf le lt eq
-days-least [] = tt
-days-least (b ∷ s) = go (same (before isD (b ∷ s) ++ (68 ∷ [])) (b ∷ s))
-  where
-    go : (t : Bool) → T (least (if t then pieceOf (before isD (b ∷ s)) else absent))
-    go true = piece-least (before isD (b ∷ s))
-    go false = tt
-
-pub figures-least : (s : Text) → T (noneBelow (figuresOf s))
-unfolding figuresOf
-figures-least [] = tt
-figures-least (b ∷ s) = go (eqb b 80) (daysOf (before isT s)) (days-least (before isT s))
-  where
-    start : (d : Float) → T (le zeroFloat d) → T (notBelow (dayFigures d))
-    start d p = to-test (dayFigures d) (record { days = p; hours = zero-least; minutes = zero-least; seconds = zero-least })
-
-    go : (t : Bool) (r : Reading Float) → T (least r) → T (noneBelow (if t then (r then λ d. timeFigures (after isT s or []) [] (dayFigures d)) else absent))
-    go true absent l = tt
-    go true long l = tt
-    go true (value d) l = time-least (after isT s or []) [] (dayFigures d) (start d l)
-    go false r l = tt
-
+-- ---- all is read
 pub all-read : (s : Text) (from : ℕ) (f : Figures) → length s ≤ from → timeFigures (drop from s) [] f ≡ value f
 unfolding timeFigures
 all-read s from f h = rw (at-end s from h)

@@ -2,7 +2,7 @@
 use mathlib.Core.Path.{_≡_, refl, sym, ap, _∙_, subst}
 use mathlib.Core.Bool.{Bool, true, false, _&&_}
 use Prim.Native.Nat.{ℕ, zero, suc, _+_, _*_, _/_, _^_, _≤_, _<_}
-use native.Mathlib.Nat.{mul-pos, zero-lt-suc, div-lt-iff-lt-mul, add-mul, mul-assoc}
+use native.Mathlib.Nat.{mul-pos, zero-lt-suc, div-lt-iff-lt-mul}
 use native.Mathlib.Omega.{arith}
 use borrow.Author.Tests.{ltb-true, ltb-false}
 use lib.Dec.{T}
@@ -15,7 +15,8 @@ use Rattle.definition.specs.Number.{zeroFloat, halfAway, nearestWhole, withSign
 use Rattle.number.specs.Tests.{is-true}
 use Rattle.number.specs.Floats.{le-neg, neg-below, zero-below, float-10¹⁸}
 use Rattle.number.specs.Whole.{halfWithin, wholeWithin}
-use Rattle.number.proofs.Doubled.{cap, at-most}
+use Rattle.number.proofs.Doubled.{cap}
+pub use Rattle.laws.specs.Floats.{bound}
 
 abbrev low : Float
 low = fin true 3814697265625 (pos 18)
@@ -29,24 +30,10 @@ unfolding wholeWithin neg
 whole-is x = rw float-10¹⁸
 
 -- ---- the half is small
-twice-more : (b d : ℕ) → b * d * 2 + (d + d) ≡ (b + 1) * (d * 2)
-twice-more b d = rw (add-mul b 1 (d * 2), mul-assoc b d 2) (omega arith)
-
-few : (b n d : ℕ) → 0 < d → n ≤ b * d → (n * 2 + d) / (d * 2) ≤ b
-few b n d D h =
-    let q : (n * 2 + d) / (d * 2) < b + 1 = div-lt-iff-lt-mul (mul-pos D (zero-lt-suc 1)) .1 (omega (arith, twice-more b d)) in
-    omega arith
-
 none : (n d : ℕ) → 0 < d → n ≡ 0 → (n * 2 + d) / (d * 2) ≡ 0
 none n d D h =
     let q : (n * 2 + d) / (d * 2) < 1 = div-lt-iff-lt-mul (mul-pos D (zero-lt-suc 1)) .1 (omega arith) in
     omega arith
-
-pub bound : (b k : ℕ) (x : Float) → T (le zeroFloat x) → T (le x (fin false b (pos k))) → halfAway x ≤ b * 2 ^ k
-unfolding halfAway le lt eq
-bound b k nan l h = absurd l
-bound b k (inf s) l h = omega arith
-bound b k (fin s m e) l h = few (b * 2 ^ k) (m * up e) (down e) (down-pos e) (at-most b k s m e l h)
 
 pub half-small : (x : Float) → halfWithin x ≤ 1000000000000000000
 half-small x = rw half-is (go (le zeroFloat x) (le x cap) (bound 3814697265625 18 x))

@@ -1,13 +1,12 @@
 -- What the answer of a duration text means; figures none of which is below 0. Assumes nothing.
 use Prim.Native.Nat.{ℕ}
-use mathlib.Core.Bool.{Bool, true, _&&_}
-use lib.Ieee.{le}
-use Rattle.definition.specs.Number.{Reading, absent, long, value, zeroFloat}
+use Rattle.definition.specs.Number.{Reading, absent, long, value}
 use Rattle.definition.specs.declared.Figures.{Figures}
 use Rattle.number.specs.declared.duration.DurationAnswer.{DurationAnswer}
 use Rattle.number.specs.declared.duration.DurationAnswer.the-variants as answer
 use Rattle.number.specs.declared.duration.FiguresAnswer.{FiguresAnswer}
 use Rattle.number.specs.declared.duration.FiguresAnswer.the-variants as figures
+pub use Rattle.laws.specs.Durations.{notBelow, noneBelow}
 
 abbrev pub meaning : DurationAnswer → Reading ℕ
 meaning answer.Absent = absent
@@ -24,11 +23,3 @@ abbrev pub figuresMeaning : FiguresAnswer → Reading Figures
 figuresMeaning figures.Absent = absent
 figuresMeaning figures.Long = long
 figuresMeaning (figures.Are f) = value f
-
-abbrev pub notBelow : Figures → Bool
-notBelow f = le zeroFloat (f .days) && (le zeroFloat (f .hours) && (le zeroFloat (f .minutes) && le zeroFloat (f .seconds)))
-
-abbrev pub noneBelow : Reading Figures → Bool
-noneBelow absent = true
-noneBelow long = true
-noneBelow (value f) = notBelow f

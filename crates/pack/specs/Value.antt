@@ -8,11 +8,13 @@ use lib.IntN.{ℤ}
 use lib.ListN.{replicate}
 use Rattle.definition.specs.Base.{_or_, _>>=_}
 use Rattle.definition.specs.Date.{Date, fromDays}
+use Rattle.laws.specs.Fields.{InYears, days-day}
+use Rattle.laws.specs.Formats.{IfGiven}
 use Rattle.definition.specs.Text.{Text}
 use Rattle.definition.specs.Format.{Format, depending, code, number}
 use Rattle.definition.specs.Answer.{dateMeaning, dayNumberOf}
 use Rattle.definition.specs.declared.DateAnswer.{DateAnswer}
-use Rattle.tasks.specs.Task.{constraintMeans}
+use Rattle.tasks.specs.Task.{constraintMeans, dayNumbered}
 use Rattle.tasks.specs.declared.task.ConstraintAnswer.{ConstraintAnswer}
 use Rattle.pack.specs.declared.stars.NameAnswer.{NameAnswer}
 use Rattle.pack.specs.declared.stars.NameAnswer.the-variants as name
@@ -52,3 +54,18 @@ date-back (some d) h = rw h
 -- a date
 pub date-read : (a : DateAnswer) (o : Option Date) → dateMeaning a ≡ dayNumberOf o → (dayNumberOf o >>= fromDays) ≡ o → dateGiven a ≡ o
 date-read a o e h = ap (λ (o : Option ℤ). o >>= λ z. some (dateBy z)) e ∙ date-back o h
+
+-- where it stands in the years
+pub years-back : (o : Option Date) → IfGiven InYears o → (dayNumberOf o >>= fromDays) ≡ o
+unfolding dayNumberOf
+years-back none h = refl
+years-back (some d) h = days-day d h
+
+-- a constraint
+pub constraint-read : (a : ConstraintAnswer) (o : Option (ℕ × Option Date)) → constraintMeans a ≡ dayNumbered o → IfGiven (λ (x : ℕ × Option Date). IfGiven InYears (x .1)) o → constraintGiven a ≡ o
+unfolding dayNumbered
+constraint-read a o e h = ap (λ (o : Option (ℕ × Option ℤ)). o >>= λ x. some (x .0, x .1 >>= λ z. some (dateBy z))) e ∙ back o h
+  where
+    back : (o : Option (ℕ × Option Date)) → IfGiven (λ (x : ℕ × Option Date). IfGiven InYears (x .1)) o → (dayNumbered o >>= λ x. some (x .0, x .1 >>= λ z. some (dateBy z))) ≡ o
+    back none h = refl
+    back (some (k, d)) h = ap (λ (d : Option Date). some (k, d)) (date-back d (years-back d h))

@@ -37,3 +37,8 @@ mainIn root = (textIn root "CalendarUID" >>= withUidIn root) orElse first (numbe
 unfoldable pub calendarMeaning : Text → CalendarAnswer → Option (ℕ × Element)
 calendarMeaning s (Is row at) = some (row, elementAt s at)
 calendarMeaning s Absent = none
+
+-- the first one, where there is any
+abbrev pub rowZero : Found → CalendarAnswer
+rowZero Nothing = Absent
+rowZero (At p) = Is 0 p

@@ -2,147 +2,22 @@
 -- decode are those of the model that they decode to. Assumes nothing.
 use mathlib.Core.Path.{_≡_, refl, sym, ap, _∙_}
 use mathlib.Core.Logic.{_↔_}
-use mathlib.Core.Bool.{not}
 use mathlib.Core.List.{List, [], _∷_, _++_, append-nil}
 use mathlib.Core.Option.{Option, some, none}
-use Prim.Native.Nat.{ℕ, _+_, _/_, _%_, _^_, _<_}
+use Prim.Native.Nat.{ℕ, _+_, _/_, _%_}
 use native.Mathlib.Omega.{arith}
-use lib.Dec.{ltb, eqb}
-use lib.IntN.{ℤ}
 use lib.ListN.{length, length-append}
 use Rattle.definition.specs.Bits.{Bits, bitsOf, bytesOf}
-use Rattle.definition.specs.Date.{Date}
-use Rattle.definition.specs.Format.{Format, Period, field, _⊗_, via, times, flag, earlier}
-use Rattle.definition.specs.Model.{Project, Calendar, Activity, Link, Resource, Assignment, Expense, Model}
-use Rattle.definition.specs.Calendar.{byDate}
-use Rattle.definition.specs.Pack.{named, project, calendar, constraint, activity, link, resource, assignment, expense, Counts, counts, countsOf, Body, body, bodyOf, modelFrom, model, encode, atEnd, decode}
-use Rattle.laws.specs.Bools.{Within}
+use Rattle.definition.specs.Format.{field, _⊗_, via}
+use Rattle.definition.specs.Model.{Model}
+use Rattle.definition.specs.Pack.{project, calendar, activity, link, resource, assignment, expense, Counts, counts, countsOf, Body, body, bodyOf, modelFrom, model, encode, atEnd, decode}
 use Rattle.laws.specs.Options.{never}
-use Rattle.laws.specs.Each.{Each, empty, next}
+use Rattle.laws.specs.Each.{Each}
 use Rattle.laws.specs.Bits.{Bytes, length-enc, bits-binary, length-bits, bytes-small, whole-bits, whole-bytes}
-use Rattle.laws.specs.Formats.{got, Ends, Good, regard, lead, good-lead, Both, _&_, IfGiven, Depends, good-depending, good-via, Times, good-times, good-whole, IsText, good-count, good-text, Rising, good-list, Fills, fills-whole, fills-pair, fills-times}
-use Rattle.laws.specs.Fields.{good-flag, good-code, IsPeriod, good-periods, Signed, good-number, InYears, good-date, good-dates, good-optional}
-
--- ---- records
-
--- the same values under names
-good-named : {A B : Type 0} (to : A → B) (from : B → A) {f : Format A} {F : A → Type 0}
-    → ((b : B) → to (from b) ≡ b) → ((a : A) → from (to a) ≡ a) → Good f F → Good (named to from f) (λ b. F (from b))
-good-named to from {F = F} left right g =
-    good-via
-    (record {
-      fits = λ b h. h;
-      there = λ b h. ap some (left b);
-      back = λ a b h e. got (λ b. (from b ≡ a) × F (from b)) e (right a, rw (right a) h);
-    })
-    g
-
--- counts and rows
-abbrev pub IsCount : ℕ → Type 0
-IsCount n = n < 2 ^ 32
-
-abbrev pub IsNumber : ℤ → Type 0
-IsNumber = Signed 64
-
-abbrev pub FitsProject : Project → Type 0
-FitsProject p =
-    IsText (p .name) × (InYears (p .start) × (IsText (p .currency) × (IsCount (p .skipped) × (IsCount (p .dangling) × (IsCount (p .across) ×
-    IfGiven InYears (p .dataDate))))))
-
-pub good-project : Good project FitsProject
-unfolding project
-good-project =
-    good-named _ _ (λ p. refl) (λ t. refl) (good-text & good-date & good-text & good-count & good-count & good-count & good-optional good-date)
-
--- seven flags and seven lists of periods
-each-any : {A : Type 0} (l : List A) → Each (λ x. Unit {0}) l
-each-any [] = empty
-each-any (x ∷ l) = next tt (each-any l)
-
-good-week : Good (times 7 flag) (λ l. length l ≡ 7)
-good-week = regard (λ l h. h .many) (λ l h. record { many = h; each = each-any l }) (good-times 7 good-flag)
-
-abbrev pub ArePeriods : List Period → Type 0
-ArePeriods = Rising earlier IsPeriod
-
-abbrev pub FitsCalendar : Calendar → Type 0
-FitsCalendar c =
-    IsText (c .name) × ((length (c .week) ≡ 7) × (Times ArePeriods 7 (c .hours) × (Rising ltb InYears (c .holidays) × (Rising ltb InYears (c .extraDays) ×
-    Rising byDate (Both InYears ArePeriods) (c .exceptions)))))
-
-pub good-calendar : Good calendar FitsCalendar
-unfolding calendar
-good-calendar =
-    good-named _ _ (λ c. refl) (λ t. refl)
-    (good-text & good-week & good-times 7 good-periods & good-dates & good-dates & good-list byDate (good-date & good-periods))
-
--- code 1 to 7, and a date unless it is 1
-abbrev pub IsConstraint : ℕ × Option Date → Type 0
-IsConstraint = Depends (Within 1 7) (λ k. not (eqb k 1)) InYears
-
-pub good-constraint : Good constraint IsConstraint
-unfolding constraint
-good-constraint = good-depending (λ k. not (eqb k 1)) (good-code 1 7 (omega arith)) good-date
-
-abbrev pub FitsActivity : Activity → Type 0
-FitsActivity a =
-    IsText (a .id) × (IsText (a .name) × (Within 0 2 (a .kind) × (IsNumber (a .duration) × (IfGiven IsNumber (a .minutes) ×
-    (IfGiven IsCount (a .parent) × (IsText (a .notes) × (IfGiven IsText (a .calendar) × (IfGiven IsConstraint (a .constraint) ×
-    (IfGiven InYears (a .deadline) × (IfGiven InYears (a .start) × (IfGiven InYears (a .finish) × (IfGiven IsNumber (a .percent) ×
-    (Within 0 3 (a .durationType) × (IfGiven IsNumber (a .remaining) × IsText (a .uid)))))))))))))))
-
-pub good-activity : Good activity FitsActivity
-unfolding activity
-good-activity =
-    good-named _ _ (λ a. refl) (λ t. refl)
-    (good-text & good-text & good-code 0 2 (omega arith) & good-number & good-optional good-number & good-optional good-count & good-text &
-    good-optional good-text & good-optional good-constraint & good-optional good-date & good-optional good-date & good-optional good-date &
-    good-optional good-number & good-code 0 3 (omega arith) & good-optional good-number & good-text)
-
-abbrev pub FitsLink : Link → Type 0
-FitsLink l =
-    IsCount (l .predecessor) × (IsCount (l .successor) × (Within 0 3 (l .kind) × (IsNumber (l .lag) × (IfGiven IsNumber (l .minutes) ×
-    Depends (Within 0 2) (eqb 2) IsNumber (l .lagKind)))))
-
-pub good-link : Good link FitsLink
-unfolding link
-good-link =
-    good-named _ _ (λ l. refl) (λ t. refl)
-    (good-count & good-count & good-code 0 3 (omega arith) & good-number & good-optional good-number &
-    good-depending (eqb 2) (good-code 0 2 (omega arith)) good-number)
-
-abbrev pub FitsResource : Resource → Type 0
-FitsResource r =
-    IsText (r .id) × (IsText (r .name) × (Within 0 2 (r .kind) × (IsText (r .unit) × (IsNumber (r .maxUnits) × (IfGiven IsText (r .calendar) ×
-    IfGiven IsNumber (r .price))))))
-
-pub good-resource : Good resource FitsResource
-unfolding resource
-good-resource =
-    good-named _ _ (λ r. refl) (λ t. refl)
-    (good-text & good-text & good-code 0 2 (omega arith) & good-text & good-number & good-optional good-text & good-optional good-number)
-
-abbrev pub FitsAssignment : Assignment → Type 0
-FitsAssignment a =
-    IsCount (a .activity) × (IsCount (a .resource) × (IsNumber (a .planned) × (IsNumber (a .actual) × (IfGiven IsNumber (a .remaining) ×
-    IfGiven IsNumber (a .rate)))))
-
-pub good-assignment : Good assignment FitsAssignment
-unfolding assignment
-good-assignment =
-    good-named _ _ (λ a. refl) (λ t. refl)
-    (good-count & good-count & good-number & good-number & good-optional good-number & good-optional good-number)
-
-abbrev pub FitsExpense : Expense → Type 0
-FitsExpense e =
-    IsCount (e .activity) × (IsText (e .name) × (IsNumber (e .planned) × (IsNumber (e .actual) × (IfGiven IsNumber (e .remaining) ×
-    Within 0 2 (e .accrual)))))
-
-pub good-expense : Good expense FitsExpense
-unfolding expense
-good-expense =
-    good-named _ _ (λ e. refl) (λ t. refl)
-    (good-count & good-text & good-number & good-number & good-optional good-number & good-code 0 2 (omega arith))
+use Rattle.laws.specs.Formats.{got, Ends, Good, regard, lead, good-lead, Both, _&_, Times, good-times, good-whole, good-count, Fills, fills-whole, fills-pair, fills-times}
+use Rattle.laws.specs.FitRecords.{good-named, IsCount}
+pub use Rattle.laws.specs.FitRecords.{FitsProject, FitsCalendar, FitsActivity, FitsLink, FitsResource, FitsAssignment, FitsExpense}
+pub use Rattle.laws.specs.FitRecords.{good-project, good-calendar, good-activity, good-link, good-resource, good-assignment, good-expense}
 
 -- ---- the whole
 

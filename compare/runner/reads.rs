@@ -1,0 +1,168 @@
+//! Whole reads: random trees, damaged ones, those at the limits and TaskJuggler's, each read by both sides, into rooms of every kind; and their time.
+
+use std::time::{Duration, Instant};
+
+use oracle::bench::{bench_read, big_tree};
+use oracle::generate::{LIMITS, damaged, limit_tree, packed_tree};
+use oracle::rng::Rng;
+use oracle::{hex, read};
+
+use crate::trees::samples;
+use crate::{ours, shrink};
+
+/// At most so many differences are printed.
+const SHOWN: u64 = 5;
+
+/// Room for the model: none, a byte too little, just enough, more.
+#[derive(Clone, Copy)]
+enum Room {
+    No,
+    Short,
+    Right,
+    Long,
+}
+
+const ROOMS: [Room; 4] = [Room::No, Room::Short, Room::Right, Room::Long];
+
+impl Room {
+    fn of(self, length: usize) -> usize {
+        match self {
+            Room::No => 0,
+            Room::Short => length.saturating_sub(1),
+            Room::Right => length,
+            Room::Long => length + 5,
+        }
+    }
+}
+
+/// What a call leaves: its number, the count, the model's room and the work.
+#[derive(Debug, PartialEq)]
+struct Left {
+    number: u32,
+    written: u64,
+    model: Vec<u8>,
+    work: Vec<u32>,
+}
+
+/// The Rust's model of a tree, or the refusal.
+type Answer = Result<Vec<u8>, u32>;
+
+fn expected(answer: &Answer, room: usize, work: usize) -> Left {
+    let (number, bytes) = match answer {
+        Err(number) => (*number, &[][..]),
+        Ok(bytes) if bytes.len() > room => (9, &[][..]),
+        Ok(bytes) => (0, bytes.as_slice()),
+    };
+    let mut model = bytes.to_vec();
+    model.resize(room, 0);
+    Left { number, written: bytes.len() as u64, model, work: vec![0; work] }
+}
+
+fn said(tree: &[u8], room: usize, work: usize) -> Left {
+    let (mut model, mut work) = (vec![0xAA; room], vec![0xAAAA_AAAA; work]);
+    let (number, written) = ours::read(tree, &mut model, &mut work);
+    Left { number, written, model, work }
+}
+
+/// Whether the sides differ on a tree in that room.
+fn differs(tree: &[u8], answer: &Answer, room: Room, work: usize) -> Option<(Left, Left)> {
+    let length = room.of(answer.as_ref().map_or(9, Vec::len));
+    let (wanted, got) = (expected(answer, length, work), said(tree, length, work));
+    (wanted != got).then_some((wanted, got))
+}
+
+#[derive(Default)]
+struct Tally {
+    trees: u64,
+    calls: u64,
+    numbers: [u64; 10],
+    differ: u64,
+}
+
+impl Tally {
+    /// One tree in these rooms.
+    fn run(&mut self, tree: &[u8], rooms: &[Room], work: usize) {
+        let answer = read::read_model(tree);
+        self.trees += 1;
+        for &room in rooms {
+            self.calls += 1;
+            let length = room.of(answer.as_ref().map_or(9, Vec::len));
+            self.numbers[expected(&answer, length, 0).number as usize] += 1;
+            if differs(tree, &answer, room, work).is_some() {
+                self.differ += 1;
+                if self.differ <= SHOWN {
+                    show(tree, room, work);
+                }
+            }
+        }
+    }
+}
+
+fn show(tree: &[u8], room: Room, work: usize) {
+    let other = |tree: &[u8]| differs(tree, &read::read_model(tree), room, work);
+    let least = if tree.len() > 20_000 { tree.to_vec() } else { shrink::smallest(tree, |tree| other(tree).is_some()) };
+    if let Some((wanted, got)) = other(&least) {
+        let short = &least[..least.len().min(2_000)];
+        println!("tree {} of {} bytes: the Rust {wanted:.900?}, ours {got:.900?}", hex::encode(short), least.len());
+    }
+}
+
+/// How many differ; each is printed with its smallest tree.
+pub fn compare(seed: u64, count: u64) -> u64 {
+    let mut tally = Tally::default();
+    on_small_stack(&mut tally);
+    for k in 0..count {
+        let mut rng = Rng::new(seed.wrapping_add(k << 32));
+        let tree = packed_tree(&mut rng);
+        let tree = if k % 4 == 3 { damaged(&mut rng, &tree) } else { tree };
+        // Mostly one that fits, and each other kind in turn.
+        let room = ROOMS[if k % 3 == 0 { (k / 3 % 4) as usize } else { 2 }];
+        tally.run(&tree, &[room], (k % 40) as usize);
+    }
+    let numbers: Vec<String> = (0..10).filter(|n| tally.numbers[*n] > 0).map(|n| format!("{n}: {}", tally.numbers[n])).collect();
+    println!("reads: {} trees in {} calls ({}), {} differ", tally.trees, tally.calls, numbers.join(", "), tally.differ);
+    tally.differ
+}
+
+/// The trees at the limits and TaskJuggler's, on a thread of 256 KiB of stack for our side, in every room.
+fn on_small_stack(tally: &mut Tally) {
+    let trees = samples().into_iter().chain(LIMITS.iter().filter_map(|name| limit_tree(name)));
+    for tree in trees {
+        let answer = read::read_model(&tree);
+        for room in ROOMS {
+            let run = || differs(&tree, &answer, room, 64);
+            let differ = std::thread::scope(|scope| {
+                let thread = std::thread::Builder::new().stack_size(256 * 1024).spawn_scoped(scope, run);
+                thread.expect("a thread").join().expect("the tree is read")
+            });
+            tally.calls += 1;
+            let length = room.of(answer.as_ref().map_or(9, Vec::len));
+            tally.numbers[expected(&answer, length, 0).number as usize] += 1;
+            if differ.is_some() {
+                tally.differ += 1;
+                show(&tree, room, 64);
+            }
+        }
+        tally.trees += 1;
+    }
+}
+
+/// Prints the table: plans of so many tasks with 60 fields, the Rust's whole read from the packed tree and ours, with no `work`.
+pub fn bench() {
+    println!("\n| a plan read | bytes of its tree | the Rust, ms | ours, ms | ours / the Rust |\n|---|---|---|---|---|");
+    for tasks in [100, 1_000, 10_000] {
+        let tree = big_tree(tasks, 60);
+        let mut model = vec![0; 2 * tree.len()];
+        let rust = bench_read(&tree);
+        let runs = if tasks > 1_000 { 1 } else { 5 };
+        let ours = (0..runs).map(|_| timed(&tree, &mut model)).min().unwrap_or_default();
+        let ms = |time: Duration| time.as_secs_f64() * 1e3;
+        println!("| {tasks} tasks | {} | {:.2} | {:.2} | {:.2} |", tree.len(), ms(rust), ms(ours), ms(ours) / ms(rust));
+    }
+}
+
+fn timed(tree: &[u8], model: &mut [u8]) -> Duration {
+    let start = Instant::now();
+    assert_eq!(std::hint::black_box(ours::read(std::hint::black_box(tree), model, &mut [])).0, 0);
+    start.elapsed()
+}

@@ -1,0 +1,4 @@
+pub mod Values
+pub mod Owed
+pub mod Loop
+pub mod Turn

@@ -1,0 +1,250 @@
+-- The calendars of a tree and the names by which they are found. Assumes nothing.
+use mathlib.Core.Path.{_≡_, refl, sym, ap, _∙_}
+use mathlib.Core.Bool.{Bool, true, false, not, _&&_}
+use mathlib.Core.List.{List, [], _∷_, _++_, map}
+use mathlib.Core.Option.{Option, some, none}
+use Prim.Native.Nat.{ℕ, suc, _+_, _*_, _-_, _/_, _^_, _≤_, _<_}
+use native.Mathlib.Omega.{arith}
+use lib.Dec.{leb, ltb, eqb}
+use lib.ListN.{length, length-append}
+use borrow.Author.Tests.{lt-ltb, le-ltb, le-leb, lt-leb, ltb-true, leb-true, leb-false, eq-eqb, ne-eqb}
+use Rattle.definition.specs.Base.{if_then_else_, _>>=_, _or_, _orElse_, when, given, keep, first, find, numbered, same}
+use Rattle.definition.specs.Ascii.{bytes}
+use Rattle.definition.specs.Text.{Text, trim}
+use Rattle.definition.specs.Tree.{Element, all, child, nonEmpty, textOf}
+use Rattle.definition.specs.Field.{textIn}
+use Rattle.definition.specs.Model.{Calendar}
+use Rattle.definition.specs.Calendar.{Named, plainCalendar, defaultCalendar, mainCalendar, withUid, nameOf, baseOf, calendarElements}
+use Rattle.definition.specs.Refusal.{mostElements}
+use Rattle.definition.specs.Task.{Context, unlessMain}
+use Rattle.bits.specs.Places.{at, upTo}
+use Rattle.bits.specs.declared.Place.{Place}
+use Rattle.model.specs.declared.records.Kind.the-variants.{Calendars}
+use Rattle.pack.specs.Value.{starredBy, nameMeaning}
+use Rattle.pack.specs.declared.stars.NameAnswer.{NameAnswer}
+use Rattle.pack.specs.declared.stars.NameAnswer.the-variants as name
+use Rattle.rows.specs.Rows.{hasUid, inOrder, withUidIn, mainIn, calendarMeaning}
+use Rattle.rows.specs.declared.CalendarAnswer.{CalendarAnswer}
+use Rattle.rows.specs.declared.CalendarAnswer.the-variants.{Is, Absent}
+use Rattle.tree.specs.Place.{elementAt, laterAt}
+use Rattle.model.specs.Answers.{readAt}
+use Rattle.model.specs.Parts.{raw}
+use Rattle.names.specs.Texts.{placeOfRow, textAt}
+use Rattle.names.specs.Seen.{row-text, raw-length}
+use Rattle.names.specs.Context.{mainRow, sectionRow, wantedBy, wantedName, starsIn, nameIn, builtAt, contextAt, textWithUidBy, textWithUid, calendarsBefore}
+
+-- ---- what a look-up answered
+
+module _ (s : Text) (r : CalendarAnswer) {o : Option (ℕ × Element)} (h : calendarMeaning s r ≡ o) where
+  pub is-there : {row p : ℕ} → r ≡ Is row p → o ≡ some (row, elementAt s p)
+  unfolding calendarMeaning
+  is-there e = sym h ∙ rw e
+
+  pub is-absent : r ≡ Absent → o ≡ none
+  unfolding calendarMeaning
+  is-absent e = sym h ∙ rw e
+
+-- ---- how many
+
+two-parts : (p : Element → Bool) (l : List Element) → length (keep (λ e. not (p e)) l) + length (keep p l) ≡ length l
+unfolding keep
+two-parts p [] = refl
+two-parts p (x ∷ l) = by-test (p x) (keep (λ e. not (p e)) l) (keep p l) (two-parts p l)
+  where
+    by-test : (t : Bool) (a b : List Element) → length a + length b ≡ length l → length (if not t then x ∷ a else a) + length (if t then x ∷ b else b) ≡ suc (length l)
+    by-test true a b e = omega arith
+    by-test false a b e = omega arith
+
+pub order-length : (root : Element) → length (inOrder root) ≡ length (calendarElements root)
+unfolding inOrder
+order-length root =
+    length-append (keep (λ e. not (given (baseOf e))) (calendarElements root)) (keep (λ e. given (baseOf e)) (calendarElements root)) ∙ two-parts (λ e. given (baseOf e)) (calendarElements root)
+
+-- the calendars under an element
+pub under-one : (root e : Element) → child root (bytes "Calendars") ≡ some e → calendarElements root ≡ all e (bytes "Calendar")
+under-one root e h = rw h
+
+pub under-none : (root : Element) → child root (bytes "Calendars") ≡ none → calendarElements root ≡ []
+under-none root h = rw h
+
+-- ---- the names
+
+-- an empty text counts as missing
+module _ (e : Element) (n other : Text) {t : Text} (h : t ≡ (textOf e n or [])) where
+  pub wanted-not : length t ≡ 0 → other ≡ (textOf e n or other)
+  unfolding textOf
+  wanted-not z = by-child (child e n) (ap length (sym h) ∙ z)
+    where
+      by-text : (s : Text) → length (nonEmpty s or []) ≡ 0 → other ≡ (nonEmpty s or other)
+      by-text [] z = refl
+      by-text (b ∷ s) z = absurd (omega arith)
+
+      by-child : (o : Option Element) → length ((o >>= λ c. nonEmpty (trim (c .text))) or []) ≡ 0 → other ≡ ((o >>= λ c. nonEmpty (trim (c .text))) or other)
+      by-child none z = refl
+      by-child (some c) z = by-text (trim (c .text)) z
+
+  pub wanted-given : (length t ≡ 0 → ⊥) → t ≡ (textOf e n or other)
+  wanted-given z = by-text (textOf e n) h
+    where
+      by-text : (o : Option Text) → t ≡ (o or []) → t ≡ (o or other)
+      by-text none k = absurd (z (ap length k))
+      by-text (some s) k = k
+
+module _ (f : ℕ × Element → Named) where
+  first-map : (l : List (ℕ × Element)) → first (map f l) ≡ (first l >>= λ x. some (f x))
+  unfolding first
+  first-map [] = refl
+  first-map (x ∷ l) = refl
+
+  find-map : (p : Named → Bool) (l : List (ℕ × Element)) → find p (map f l) ≡ (find (λ x. p (f x)) l >>= λ x. some (f x))
+  unfolding keep first
+  find-map p [] = first-map []
+  find-map p (x ∷ l) = by-test (p (f x)) (keep p (map f l)) (keep (λ x. p (f x)) l) (find-map p l)
+    where
+      by-test : (t : Bool) (a : List Named) (b : List (ℕ × Element)) → first a ≡ (first b >>= λ x. some (f x)) → first (if t then f x ∷ a else a) ≡ (first (if t then x ∷ b else b) >>= λ x. some (f x))
+      by-test true a b e = refl
+      by-test false a b e = e
+
+module _ (d : List ℕ) (c : Place) (root : Element) where
+  abbrev entry : ℕ × Element → Named
+  entry x = (textIn (x .1) "UID" or [], plainCalendar (nameIn d c root x) [] [])
+
+  with-uid : (u : Text) → withUid u (builtAt d c root) ≡ (withUidIn root u >>= λ x. some (entry x .1))
+  unfolding builtAt
+  with-uid u = ap (λ (o : Option Named). o >>= λ x. some (x .1)) (find-map entry (λ (x : Named). same (x .0) u) (numbered 0 (inOrder root))) ∙ by-found (withUidIn root u)
+    where
+      by-found : (o : Option (ℕ × Element)) → (o >>= (λ x. some (entry x)) >>= λ x. some (x .1)) ≡ (o >>= λ x. some (entry x .1))
+      by-found none = refl
+      by-found (some x) = refl
+
+  first-entry : (first (builtAt d c root) >>= λ x. some (x .1)) ≡ (first (numbered 0 (inOrder root)) >>= λ x. some (entry x .1))
+  unfolding builtAt
+  first-entry = ap (λ (o : Option Named). o >>= λ x. some (x .1)) (first-map entry (numbered 0 (inOrder root))) ∙ by-found (first (numbered 0 (inOrder root)))
+    where
+      by-found : (o : Option (ℕ × Element)) → (o >>= (λ x. some (entry x)) >>= λ x. some (x .1)) ≡ (o >>= λ x. some (entry x .1))
+      by-found none = refl
+      by-found (some x) = refl
+
+  -- the name of a UID
+  pub name-with : (u : Text) → nameOf (builtAt d c root) u ≡ (withUidIn root u >>= λ x. some (nameIn d c root x))
+  name-with u = ap (λ (o : Option Calendar). o >>= λ x. some (x .name)) (with-uid u) ∙ by-found (withUidIn root u)
+    where
+      by-found : (o : Option (ℕ × Element)) → (o >>= (λ x. some (entry x .1)) >>= λ x. some (x .name)) ≡ (o >>= λ x. some (nameIn d c root x))
+      by-found none = refl
+      by-found (some x) = refl
+
+  main-is : ((textIn root "CalendarUID" >>= λ u. withUid u (builtAt d c root)) orElse (first (builtAt d c root) >>= λ x. some (x .1))) ≡ (mainIn root >>= λ x. some (entry x .1))
+  unfolding mainIn
+  main-is = by-uid (textIn root "CalendarUID")
+    where
+      by-found : (o : Option (ℕ × Element)) → (o >>= (λ x. some (entry x .1))) orElse (first (builtAt d c root) >>= λ x. some (x .1)) ≡ ((o orElse first (numbered 0 (inOrder root))) >>= λ x. some (entry x .1))
+      by-found none = first-entry
+      by-found (some x) = refl
+
+      by-uid : (o : Option Text) → ((o >>= λ u. withUid u (builtAt d c root)) orElse (first (builtAt d c root) >>= λ x. some (x .1))) ≡ (((o >>= withUidIn root) orElse first (numbered 0 (inOrder root))) >>= λ x. some (entry x .1))
+      by-uid none = first-entry
+      by-uid (some u) = ap (λ (o : Option Calendar). o orElse (first (builtAt d c root) >>= λ x. some (x .1))) (with-uid u) ∙ by-found (withUidIn root u)
+
+  main-calendar : mainCalendar root (builtAt d c root) ≡ ((mainIn root >>= λ x. some (entry x .1)) or defaultCalendar)
+  unfolding mainCalendar
+  main-calendar = ap (λ (o : Option Calendar). o or defaultCalendar) main-is
+
+  -- the main one's name
+  pub main-there : (x : ℕ × Element) → mainIn root ≡ some x → contextAt d c root .main .name ≡ nameIn d c root x
+  unfolding contextAt
+  main-there x h =
+      let z : mainCalendar root (builtAt d c root) ≡ entry x .1 = main-calendar ∙ ap (λ (o : Option (ℕ × Element)). (o >>= λ x. some (entry x .1)) or defaultCalendar) h in
+      ap (λ (y : Calendar). y .name) z
+
+  pub main-absent : mainIn root ≡ none → contextAt d c root .main .name ≡ bytes "Standard"
+  unfolding contextAt defaultCalendar
+  main-absent h =
+      let z : mainCalendar root (builtAt d c root) ≡ defaultCalendar = main-calendar ∙ ap (λ (o : Option (ℕ × Element)). (o >>= λ x. some (entry x .1)) or defaultCalendar) h in
+      ap (λ (y : Calendar). y .name) z
+
+  -- ---- what the functions answer
+
+  -- the name of a UID, beside its text
+  pub named-there : (u : Text) (row : ℕ) (e : Element) (r : NameAnswer) → withUidIn root u ≡ some (row, e)
+      → nameMeaning (wantedName e) r ≡ unlessMain (contextAt d c root) (starredBy (wantedName e) (starsIn d c root row e))
+      → nameMeaning (textWithUid root u) r ≡ (nameOf (builtAt d c root) u >>= unlessMain (contextAt d c root))
+  named-there u row e r h k =
+      ap (λ (o : Option (ℕ × Element)). nameMeaning ((o >>= λ x. some (wantedName (x .1))) or []) r) h ∙ k
+      ∙ sym (ap (λ (o : Option Text). o >>= unlessMain (contextAt d c root)) (name-with u ∙ ap (λ (o : Option (ℕ × Element)). o >>= λ x. some (nameIn d c root x)) h))
+
+  -- the text beside it and its `*`, as they were found
+  pub beside : (row : ℕ) (e : Element) {t : Text} {k : ℕ} (r : NameAnswer) → t ≡ wantedName e → k ≡ starsIn d c root row e → nameMeaning t r ≡ unlessMain (contextAt d c root) (starredBy t k)
+      → nameMeaning (wantedName e) r ≡ unlessMain (contextAt d c root) (starredBy (wantedName e) (starsIn d c root row e))
+  beside row e {t} {k} r h i x = ap (λ (t : Text). nameMeaning t r) (sym h) ∙ x ∙ ap (λ (t : Text). unlessMain (contextAt d c root) (starredBy t k)) h ∙ ap (λ (k : ℕ). unlessMain (contextAt d c root) (starredBy (wantedName e) k)) i
+
+  pub named-absent : (u : Text) → withUidIn root u ≡ none → nameMeaning (textWithUid root u) name.Absent ≡ (nameOf (builtAt d c root) u >>= unlessMain (contextAt d c root))
+  unfolding nameMeaning
+  named-absent u h = sym (ap (λ (o : Option Text). o >>= unlessMain (contextAt d c root)) (name-with u ∙ ap (λ (o : Option (ℕ × Element)). o >>= λ x. some (nameIn d c root x)) h))
+
+  pub unless-is : (t : Text) (k : ℕ) → same (starredBy t k) (contextAt d c root .main .name) ≡ true → nameMeaning t name.Absent ≡ unlessMain (contextAt d c root) (starredBy t k)
+  unfolding nameMeaning
+  unless-is t k h = rw h
+
+  pub unless-other : (t : Text) (k : ℕ) → same (starredBy t k) (contextAt d c root .main .name) ≡ false → nameMeaning t (name.Starred k) ≡ unlessMain (contextAt d c root) (starredBy t k)
+  unfolding nameMeaning
+  unless-other t k h = rw h
+
+  module _ (row : ℕ) (e : Element) {w : Text} (hw : w ≡ wantedName e) where
+    pub main-same : (t : Text) {k : ℕ} → k ≡ starsIn d c root row e → same t (starredBy w k) ≡ same t (nameIn d c root (row, e))
+    main-same t {k} h = ap (λ (x : Text). same t (starredBy x k)) hw ∙ ap (λ (k : ℕ). same t (starredBy (wantedName e) k)) h
+
+    module _ {m k : ℕ} {q : Place} {t : Text} (hm : m ≡ mainRow root) (hk : k ≡ sectionRow m row) (hq : q ≡ placeOfRow Calendars d c k) (ht : t ≡ (readAt raw d q .0 or [])) where
+      pub stars-is : length t - length w ≡ starsIn d c root row e
+      stars-is =
+          let r : k ≡ sectionRow (mainRow root) row = hk ∙ ap (λ (m : ℕ). sectionRow m row) hm in
+          let z : t ≡ textAt Calendars d c (sectionRow (mainRow root) row) = row-text Calendars (sectionRow (mainRow root) row) d c (hq ∙ ap (placeOfRow Calendars d c) r) ht in
+          ap (λ (x : Text). length x - length w) z ∙ ap (λ (x : Text). length (textAt Calendars d c (sectionRow (mainRow root) row)) - length x) hw
+
+      pub stars-none : length t < length w → 0 ≡ starsIn d c root row e
+      stars-none h = let z : 0 ≡ length t - length w = omega arith in z ∙ stars-is
+
+      pub stars-fit : length t - length w < 2 ^ 32
+      stars-fit = let z : length t < 2 ^ 32 = rw ht (raw-length d q) in omega arith
+
+  pub too-many : (p : Place) → mostElements < length (calendarElements root) → false ≡ calendarsBefore d c root p
+  unfolding calendarsBefore
+  too-many p h = rw (order-length root, lt-leb (length (calendarElements root)) mostElements h)
+
+  pub few : (p : Place) (r : Bool) (n : ℕ) → n ≡ length (calendarElements root) → n ≤ mostElements → r ≡ upTo (placeOfRow Calendars d c n) p → r ≡ calendarsBefore d c root p
+  unfolding calendarsBefore
+  few p r n e h k = k ∙ rw (order-length root, ← e, le-leb n mostElements h)
+
+-- ---- places and rows
+
+pub section-main : (main row : ℕ) → row ≡ main → 0 ≡ sectionRow main row
+section-main main row h = rw (eq-eqb row main h)
+
+pub section-before : (main row : ℕ) → (row ≡ main → ⊥) → row < main → row + 1 ≡ sectionRow main row
+section-before main row n h = rw (ne-eqb row main n, lt-ltb row main h) (omega arith)
+
+pub section-behind : (main row : ℕ) → (row ≡ main → ⊥) → main ≤ row → row ≡ sectionRow main row
+section-behind main row n h = rw (ne-eqb row main n, le-ltb row main h)
+
+pub up-not : (p q : Place) → (p .bit < 8 → at q < at p) → false ≡ upTo p q
+unfolding upTo
+up-not p q h = not-if (ltb (p .bit) 8) refl
+  where
+    not-if : (t : Bool) → ltb (p .bit) 8 ≡ t → false ≡ (t && leb (at p) (at q))
+    not-if true e = sym (lt-leb (at p) (at q) (h (ltb-true (p .bit) 8 e)))
+    not-if false e = refl
+
+pub up-is : (p q : Place) → p .bit < 8 → at p ≤ at q → true ≡ upTo p q
+unfolding upTo
+up-is p q b h = rw (lt-ltb (p .bit) 8 b, le-leb (at p) (at q) h)
+
+-- the other place stands a number of bytes before
+pub up-rest : (p q : Place) → q .byte ≤ p .byte → p .byte - q .byte ≤ q .bit / 8 → leb (p .bit) (q .bit - (p .byte - q .byte) * 8) ≡ leb (at p) (at q)
+up-rest p q h k = by-test (leb (at p) (at q)) refl
+  where
+    by-test : (t : Bool) → leb (at p) (at q) ≡ t → leb (p .bit) (q .bit - (p .byte - q .byte) * 8) ≡ t
+    by-test true e = le-leb (p .bit) (q .bit - (p .byte - q .byte) * 8) (omega (arith, leb-true (at p) (at q) e))
+    by-test false e = lt-leb (p .bit) (q .bit - (p .byte - q .byte) * 8) (omega (arith, leb-false (at p) (at q) e))
+
+pub up-by : (p q : Place) (t : Bool) → p .bit < 8 → t ≡ leb (at p) (at q) → t ≡ upTo p q
+unfolding upTo
+up-by p q t b h = h ∙ rw (lt-ltb (p .bit) 8 b)

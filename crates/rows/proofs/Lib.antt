@@ -1,0 +1,2 @@
+pub mod Lasts
+pub mod Walking

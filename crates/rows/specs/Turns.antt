@@ -1,0 +1,126 @@
+-- What a loop over a walk learns in each turn: the list that is left is the element and what the next answer stands for, and less is left. Assumes nothing.
+use Prim.Native.Nat.{ℕ, suc, _+_, _-_, _≤_, _<_}
+use native.Mathlib.Omega.{arith}
+use mathlib.Core.Path.{_≡_, refl, sym, ap, _∙_}
+use mathlib.Core.Bool.{Bool, true, false, _&&_, _||_, not}
+use mathlib.Core.List.{List, [], _∷_}
+use lib.ListN.{length, take}
+use Rattle.definition.specs.Base.{if_then_else_, given, keep, some?}
+use Rattle.definition.specs.Ascii.{bytes}
+use Rattle.definition.specs.Text.{Text}
+use Rattle.definition.specs.Tree.{Element, child, allIn}
+use Rattle.definition.specs.Task.{isKept}
+use Rattle.definition.specs.Calendar.{baseOf}
+use Rattle.definition.specs.Resource.{isResource, isCost, workResources, costResources}
+use Rattle.tree.specs.Place.{elementAt, laterAt, Past}
+use Rattle.tree.specs.declared.Found.{Found}
+use Rattle.tree.specs.declared.Found.the-variants.{At, Nothing}
+use Rattle.rows.specs.Walks.{ahead, keptBy, room, Kept, passes, pickedBy, Picks, laterInOrder, orderBy, orderRoom, Orders}
+use Rattle.rows.specs.declared.kept.KeptAnswer.{KeptAnswer}
+use Rattle.rows.specs.declared.kept.KeptAnswer.the-variants.{Is, Absent}
+use Rattle.rows.specs.declared.section.Which.{Which}
+use Rattle.rows.specs.declared.section.Which.the-variants.{Work, Cost}
+
+-- ---- the kept tasks
+
+pub kept-end : (s : Text) {task : KeptAnswer} → task ≡ Absent → keptBy s task ≡ []
+unfolding keptBy
+kept-end s e = rw e
+
+pub kept-at : (s : Text) {task : KeptAnswer} {at left : ℕ} → task ≡ Is at left → keptBy s task ≡ elementAt s at ∷ keep isKept (take left (laterAt s (bytes "Task") at))
+unfolding keptBy
+kept-at s e = rw e
+
+pub room-at : {task : KeptAnswer} {at left : ℕ} → task ≡ Is at left → room task ≡ suc left
+unfolding room
+room-at e = rw e
+
+module _ {s : Text} {task : KeptAnswer} {at left : ℕ} (e : task ≡ Is at left) {n : ℕ} {r : KeptAnswer} (h : Kept s (keep isKept (take left (laterAt s (bytes "Task") at))) n r) where
+  pub kept-next : keptBy s task ≡ elementAt s at ∷ keptBy s r
+  kept-next = kept-at s e ∙ ap (λ (l : List Element). elementAt s at ∷ l) (h .is)
+
+  pub kept-less : n ≤ left → room r < room task
+  kept-less k = omega (arith, h .on, room-at e)
+
+-- ---- elements that pass a test
+
+pub picked-end : (s n : Text) (w : Which) {e : Found} → e ≡ Nothing → pickedBy s n w e ≡ []
+unfolding pickedBy
+picked-end s n w i = rw i
+
+pub picked-next : {s n : Text} {w : Which} {e : Found} {p : ℕ} → e ≡ At p → {from : ℕ} {r : Found} → Picks s n w (laterAt s n p) from r → pickedBy s n w e ≡ elementAt s p ∷ pickedBy s n w r
+unfolding pickedBy
+picked-next {s} {n} {w} {p = p} i h = ap (pickedBy s n w) i ∙ ap (λ (l : List Element). elementAt s p ∷ l) (h .is)
+
+pub ahead-less : (s : Text) {e : Found} {p : ℕ} → e ≡ At p → (r : Found) → Past s (p + 1) r → ahead s r < ahead s e
+unfolding ahead Past
+ahead-less s i Nothing h = rw i (omega arith)
+ahead-less s i (At q) h = rw i (omega (arith, h))
+
+-- work and cost resources are those that pass
+keep-both : (p q : Element → Bool) (l : List Element) → keep (λ x. p x && q x) l ≡ keep q (keep p l)
+unfolding keep
+keep-both p q [] = refl
+keep-both p q (x ∷ l) = by (p x) (q x) refl (keep-both p q l)
+  where
+    by : (t u : Bool) → q x ≡ u → keep (λ x. p x && q x) l ≡ keep q (keep p l)
+        → (if t && u then x ∷ keep (λ x. p x && q x) l else keep (λ x. p x && q x) l) ≡ keep q (if t then x ∷ keep p l else keep p l)
+    by true true i h = rw i (ap (λ (l : List Element). x ∷ l) h)
+    by true false i h = rw i h
+    by false true i h = h
+    by false false i h = h
+
+pub work-picked : (root : Element) → keep (passes Work) (allIn (child root (bytes "Resources")) (bytes "Resource")) ≡ workResources root
+unfolding passes
+work-picked root = keep-both isResource (λ r. not (isCost r)) _
+
+pub cost-picked : (root : Element) → keep (passes Cost) (allIn (child root (bytes "Resources")) (bytes "Resource")) ≡ costResources root
+unfolding passes
+cost-picked root = keep-both isResource isCost _
+
+-- ---- the calendars in the order in which they are built
+
+pub order-end : (s : Text) (root : Element) {c : Found} → c ≡ Nothing → orderBy s root c ≡ []
+unfolding orderBy
+order-end s root i = rw i
+
+pub order-at : (s : Text) (root : Element) {c : Found} {p : ℕ} → c ≡ At p → orderBy s root c ≡ elementAt s p ∷ laterInOrder s root p
+unfolding orderBy
+order-at s root i = rw i
+
+pub order-some : (s : Text) {c : Found} {p : ℕ} → c ≡ At p → 0 < orderRoom s c
+unfolding orderRoom
+order-some s {p = p} i = rw i (by (given (baseOf (elementAt s p))))
+  where
+    by : (t : Bool) → 0 < (if t then suc (length s - p) else suc (length s + (length s - p)))
+    by true = omega arith
+    by false = omega arith
+
+module _ {s : Text} {root : Element} {c : Found} {p : ℕ} (i : c ≡ At p) {r : Found} (h : Orders s root (laterInOrder s root p) (orderRoom s (At p)) r) where
+  pub order-next : orderBy s root c ≡ elementAt s p ∷ orderBy s root r
+  order-next = order-at s root i ∙ ap (λ (l : List Element). elementAt s p ∷ l) (h .is)
+
+  pub order-less : orderRoom s r < orderRoom s c
+  order-less = rw i (h .on)
+
+-- ---- whether any of a list passes: those that are left
+
+pub record AnyIn {A : Type 0} (p : A → Bool) (t : Bool) (l : List A) : Type 0 where
+  pub is : t ≡ some? p l
+
+pub any-begin : {A : Type 0} (p : A → Bool) {es l : List A} → es ≡ l → AnyIn p (some? p es) l
+any-begin p e = record { is = ap (some? p) e }
+
+module _ {A : Type 0} {p : A → Bool} {t : Bool} {l : List A} (h : AnyIn p t l) where
+  pub any-end : l ≡ [] → false ≡ t
+  unfolding some?
+  any-end i = sym (h .is ∙ rw i)
+
+  module _ {x : A} {k : List A} (i : l ≡ x ∷ k) where
+    pub any-here : p x ≡ true → true ≡ t
+    unfolding some?
+    any-here j = sym (h .is ∙ rw (i, j))
+
+    pub any-on : p x ≡ false → {k' : List A} → k ≡ k' → AnyIn p t k'
+    unfolding some?
+    any-on j z = record { is = h .is ∙ rw (i, j, z) }

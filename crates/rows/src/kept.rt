@@ -1,0 +1,112 @@
+// The kept tasks: those among the first 100,000 that have a UID other than `0` and a level of at least 1.
+ghost use mathlib.Core.Path.{_≡_};
+ghost use mathlib.Core.List.{map};
+ghost use lib.ListN.{take};
+ghost use Rattle.definition.specs.Base.{if_then_else_, keep, some?};
+ghost use Rattle.definition.specs.Ascii.{bytes};
+ghost use Rattle.definition.specs.Answer.{rowMeaning};
+ghost use Rattle.definition.specs.Task.{levelOf, mostTasks, isKept, keptTasks, rowOf, parentOf, isElapsed};
+ghost use Rattle.definition.specs.declared.RowAnswer.the-variants.{Is as RowIs};
+ghost use Rattle.tree.specs.Place.{elementAt, laterAt, listOf};
+ghost use Rattle.rows.specs.Walks.{Kept};
+use crate::section::first_in;
+use definition::RowAnswer;
+use tree::Found;
+
+// Where a kept task stands, and how many tasks after it may be kept.
+pub enum KeptAnswer {
+    Is(usize, u32),
+    Absent,
+}
+
+// The first of at most `most` tasks, from where a list of tasks starts.
+fn kept_from(s: &[u8], start: Found, most: u32) -> KeptAnswer
+    ensures { λ r. ⌜ Kept (now (s .entry)) (keep isKept (take most (listOf (now (s .entry)) (bytes "Task") start))) most r ⌝ }
+{
+    let mut task = start;
+    let mut left = most;
+    loop {
+        let Found::At(at) = task else {
+            return KeptAnswer::Absent;
+        };
+        if left == 0 {
+            return KeptAnswer::Absent;
+        }
+        left -= 1;
+        if tasks::is_kept(s, at) {
+            return KeptAnswer::Is(at, left);
+        }
+        task = tree::next_child(s, at, b"Task");
+    }
+}
+
+// The first kept task.
+pub fn first_kept(s: &[u8], root: usize) -> KeptAnswer
+    ensures { λ r. ⌜ Kept (now (s .entry)) (keptTasks (elementAt (now (s .entry)) root)) mostTasks r ⌝ }
+{
+    kept_from(s, first_in(s, root, b"Tasks", b"Task"), 100000)
+}
+
+// The next one, of at most `left` tasks after the one at `at`.
+pub fn next_kept(s: &[u8], at: usize, left: u32) -> KeptAnswer
+    ensures { λ r. ⌜ Kept (now (s .entry)) (keep isKept (take left (laterAt (now (s .entry)) (bytes "Task") at))) left r ⌝ }
+{
+    kept_from(s, tree::next_child(s, at, b"Task"), left)
+}
+
+// The row where the test holds, else what was found before.
+pub(crate) fn row_if(test: bool, row: u32, found: RowAnswer) -> RowAnswer
+    ensures { λ r. ⌜ r ≡ (if «test» then RowIs row else found) ⌝ }
+{
+    if test { RowAnswer::Is(row) } else { found }
+}
+
+// The row of the last kept task with a UID.
+pub fn task_row(s: &[u8], root: usize, uid: &[u8]) -> RowAnswer
+    ensures { λ r. ⌜ rowMeaning r ≡ rowOf (keptTasks (elementAt (now (s .entry)) root)) (now (uid .entry)) ⌝ }
+{
+    let mut found = RowAnswer::Absent;
+    let mut row: u32 = 0;
+    let mut task = first_kept(s, root);
+    loop {
+        let KeptAnswer::Is(at, left) = task else {
+            return found;
+        };
+        found = row_if(fields::text_is(s, at, b"UID", uid), row, found);
+        row += 1;
+        task = next_kept(s, at, left);
+    }
+}
+
+// The nearest kept task of a lower level before the task of a row.
+pub fn parent_row(s: &[u8], root: usize, row: u32, level: u64) -> RowAnswer
+    ensures { λ r. ⌜ rowMeaning r ≡ parentOf (map levelOf (take row (keptTasks (elementAt (now (s .entry)) root)))) level ⌝ }
+{
+    let mut found = RowAnswer::Absent;
+    let mut n: u32 = 0;
+    let mut task = first_kept(s, root);
+    while n < row {
+        let KeptAnswer::Is(at, left) = task else {
+            return found;
+        };
+        found = row_if(tasks::level_of(s, at) < level, n, found);
+        n += 1;
+        task = next_kept(s, at, left);
+    }
+    found
+}
+
+pub fn any_elapsed(s: &[u8], root: usize) -> bool
+    ensures { λ r. ⌜ r ≡ some? isElapsed (keptTasks (elementAt (now (s .entry)) root)) ⌝ }
+{
+    let mut task = first_kept(s, root);
+    loop {
+        let KeptAnswer::Is(at, left) = task else {
+            return false;
+        };
+        if tasks::is_elapsed(s, at) {
+            return true;
+        }
+        task = next_kept(s, at, left);
+    }
+}

@@ -1,0 +1,189 @@
+//! Whole reads, the decoder and the builder, on the cases of the gate: each tree with the model that the Rust reads, each model, and damaged ones.
+
+use std::thread;
+
+use mspdi::{ActivityKind, Constraint, Date, LagKind, Plan, Refusal, TreeBuilder, TreeError, check, outline, read, read_into};
+
+/// The bodies of the gate's cases of a kind.
+fn bodies(kind: u8) -> Vec<&'static [u8]> {
+    let mut left: &[u8] = include_bytes!("../../crates/samples/stdin");
+    let mut found = Vec::new();
+    while let Some((head, rest)) = left.split_first_chunk::<5>() {
+        let (body, behind) = rest.split_at(length(&head[1..]));
+        if head[0] == kind {
+            found.push(body);
+        }
+        left = behind;
+    }
+    found
+}
+
+fn length(bytes: &[u8]) -> usize {
+    bytes[..4].iter().fold(0, |n, b| n << 8 | usize::from(*b))
+}
+
+/// Bytes behind their length, and what follows them.
+fn piece(bytes: &[u8]) -> (&[u8], &[u8]) {
+    bytes[4..].split_at(length(bytes))
+}
+
+/// Refusal or 0, tree, and the model that the Rust reads.
+fn trees() -> Vec<(u32, &'static [u8], &'static [u8])> {
+    let case = |body: &'static [u8]| {
+        let (tree, model) = piece(&body[1..]);
+        (body[0].into(), tree, model)
+    };
+    bodies(11).into_iter().map(case).collect()
+}
+
+/// The models of the cases.
+fn models() -> Vec<&'static [u8]> {
+    let read = trees().into_iter().filter(|case| case.0 == 0).map(|case| case.2);
+    read.chain(bodies(13).into_iter().map(|body| piece(body).0)).collect()
+}
+
+#[test]
+fn each_tree_reads_as_by_the_rust() {
+    assert!(trees().len() >= 300);
+    for (refusal, tree, model) in trees() {
+        let expected = if refusal == 0 { Ok(model.to_vec()) } else { Err(refusal) };
+        assert_eq!(read(tree).map_err(Refusal::number), expected);
+    }
+}
+
+#[test]
+fn a_room_of_any_length_is_served() {
+    for (_, tree, model) in trees().into_iter().filter(|case| case.0 == 0) {
+        let room = |length| {
+            let mut room = vec![0xAA; length];
+            let outcome = read_into(tree, &mut room);
+            (outcome, room)
+        };
+        assert_eq!(room(model.len()), (Ok(model.len()), model.to_vec()));
+        assert_eq!(room(model.len() + 3), (Ok(model.len()), [model, &[0; 3]].concat()));
+        assert_eq!(room(model.len() - 1), (Err(Refusal::NoRoom), vec![0; model.len() - 1]));
+        assert_eq!(room(0), (Err(Refusal::NoRoom), vec![]));
+    }
+}
+
+/// What decodes is what the check does not refuse with 6.
+fn decodes_as_checked(model: &[u8]) {
+    assert_eq!(Plan::decode(model).is_ok(), check(model) != Err(Refusal::NotModel), "{model:?}");
+}
+
+#[test]
+fn the_decoder_accepts_what_the_check_does() {
+    for model in models() {
+        decodes_as_checked(model);
+    }
+}
+
+#[test]
+fn damaged_models_decode_as_checked() {
+    for model in models().into_iter().filter(|model| model.len() <= 400).step_by(9) {
+        let mut other = model.to_vec();
+        for bit in 0..8 * model.len() {
+            other[bit / 8] ^= 0x80 >> (bit % 8);
+            decodes_as_checked(&other);
+            other[bit / 8] = model[bit / 8];
+        }
+        for at in 0..model.len() {
+            decodes_as_checked(&model[..at]);
+            decodes_as_checked(&[&model[..at], &[0], &model[at..]].concat());
+        }
+    }
+}
+
+#[test]
+fn dates_go_there_and_back() {
+    for days in (-4_371_587..=2_932_896).step_by(97).chain([-4_371_587, -1, 0, 58, 59, 2_932_896]) {
+        assert_eq!(Date::from_days(days).and_then(Date::days), Some(days));
+    }
+    assert_eq!(Date::from_days(20_514), Some(Date { year: 2026, month: 3, day: 2 }));
+    assert_eq!(Date::from_days(-4_371_588), None);
+    assert_eq!(Date::from_days(2_932_897), None);
+    assert_eq!(Date { year: 2026, month: 2, day: 29 }.days(), None);
+    assert_eq!(Date { year: 2026, month: 13, day: 1 }.days(), None);
+}
+
+/// The plan of the repository, as a packed tree.
+const MANUAL: &[u8] = include_bytes!("../../plans/manual.tree");
+
+#[test]
+fn the_plan_of_the_repository() {
+    let model = read(MANUAL).expect("a plan");
+    assert_eq!(check(&model), Ok(()));
+    let plan = Plan::decode(&model).expect("a model");
+    assert_eq!(Plan::read(MANUAL).as_ref(), Ok(&plan));
+    assert_eq!(plan.project.name, "Press line 4: manuals");
+    assert_eq!((plan.project.skipped, plan.project.dangling, plan.project.across), (0, 1, 0));
+    let names: Vec<&str> = plan.calendars.iter().map(|c| c.name.as_str()).collect();
+    assert_eq!(names, ["Standard", "Standard*"]);
+    let ids: Vec<&str> = plan.activities.iter().map(|a| a.id.as_str()).collect();
+    assert_eq!(ids, ["1", "1.1", "1.2", "1.2*", "2"]);
+    let levels: Vec<u32> = outline(&model).expect("an outline").iter().map(|row| row.level).collect();
+    assert_eq!(levels, [1, 2, 2, 2, 1]);
+    assert_eq!(plan.activities[4].kind, ActivityKind::FinishMilestone);
+    assert_eq!(plan.activities[3].constraint, Some(Constraint::StartOnOrAfter(Date { year: 2026, month: 3, day: 30 })));
+    // A day of lag, a minute less than none, and a day that passes.
+    let lags: Vec<(i64, Option<i64>, LagKind)> = plan.links.iter().map(|l| (l.lag, l.minutes, l.lag_kind)).collect();
+    assert_eq!(lags, [(1, None, LagKind::Working), (0, Some(-1), LagKind::Working), (0, Some(1440), LagKind::Elapsed)]);
+    // Easter without its weekend, and the last Fridays.
+    let days = |dates: &[(u32, u32)]| dates.iter().map(|&(month, day)| Date { year: 2026, month, day }).collect::<Vec<_>>();
+    assert_eq!(plan.calendars[0].holidays, days(&[(3, 27), (4, 3), (4, 6), (4, 24), (5, 29), (6, 26)]));
+    assert_eq!(plan.calendars[1].holidays, plan.calendars[0].holidays);
+    assert_eq!(plan.calendars[1].exceptions.iter().map(|day| day.0).collect::<Vec<_>>(), days(&[(3, 21)]));
+    assert_eq!(plan.expenses[0].name, "Terminology check");
+}
+
+#[test]
+fn events_become_a_tree() {
+    let mut tree = TreeBuilder::new();
+    tree.text("\n").unwrap();
+    tree.start("ms:Project").unwrap();
+    tree.text(" a").unwrap();
+    tree.start("Name").unwrap();
+    tree.text("B&B").unwrap();
+    tree.end().unwrap();
+    tree.text("b ").unwrap();
+    assert_eq!(tree.clone().finish(), Err(TreeError::Unbalanced));
+    tree.end().unwrap();
+    assert_eq!(tree.end(), Err(TreeError::Unbalanced));
+    assert_eq!(tree.text("x"), Err(TreeError::TextOutside));
+    assert_eq!(tree.finish().unwrap(), b"\x02\x07\x00\x04Project ab \x04\x04\x00\x03NameB&B");
+}
+
+#[test]
+fn what_no_tree_can_hold_is_an_error() {
+    let mut tree = TreeBuilder::new();
+    assert_eq!(tree.start(&"n".repeat(512)), Err(TreeError::NameTooLong));
+    tree.start(&format!("long-prefix:{}", "n".repeat(511))).unwrap();
+    tree.text(&"t".repeat(65_535)).unwrap();
+    assert_eq!(tree.text("t"), Err(TreeError::TextTooLong));
+    for _ in 2..=65 {
+        tree.start("deep").unwrap();
+    }
+    assert_eq!(tree.start("deeper"), Err(TreeError::TooDeep));
+    assert_eq!(tree.text("deep"), Err(TreeError::TooDeep));
+    tree.text("").unwrap();
+    for _ in 1..=65 {
+        tree.end().unwrap();
+    }
+    assert_eq!(read(&tree.finish().unwrap()), Err(Refusal::NotProject));
+}
+
+#[test]
+fn a_small_stack_serves() {
+    let deep = {
+        let mut tree = TreeBuilder::new();
+        tree.start("Project").unwrap();
+        for _ in 0..2_000 {
+            (2..=65).for_each(|_| tree.start("Tasks").unwrap());
+            (2..=65).for_each(|_| tree.end().unwrap());
+        }
+        tree.end().unwrap();
+        tree.finish().unwrap()
+    };
+    let on_thread = move || read(&deep).is_ok();
+    assert!(thread::Builder::new().stack_size(256 * 1024).spawn(on_thread).unwrap().join().unwrap());
+}
