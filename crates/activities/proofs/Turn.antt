@@ -10,14 +10,20 @@ use Rattle.definition.specs.Link.{links, entered}
 use Rattle.definition.specs.Pack.{activity}
 use Rattle.definition.specs.Task.{contextOf, keptTasks, levelOf, activityOf, mostTasks}
 use Rattle.definition.specs.Tree.{Element}
+use Rattle.laws.specs.FitActivities.{fit-activity}
+use Rattle.laws.specs.FitRecords.{Short, FitsActivityBy}
+use Rattle.laws.specs.FitTrees.{Small, slim-texts}
 use Rattle.bits.specs.Steps.{Puts}
 use Rattle.bits.specs.declared.Place.{Place}
 use Rattle.links.specs.Fates.{isEntered}
 use Rattle.model.specs.declared.records.Kind.the-variants.{Activities}
+use Rattle.names.specs.Carried.{context-carried}
 use Rattle.names.specs.Context.{contextAt, calendarsBefore}
+use Rattle.names.specs.Records.{texts-activities}
+use Rattle.names.specs.Short.{built-short}
 use Rattle.names.specs.Texts.{textsAt}
 use Rattle.activities.proofs.Loop.{Written, written-more, next-put, tasks-before, idsOf}
-use Rattle.activities.proofs.Owed.{Short, Small, FitsActivityBy, fit-activity, built-short, entered-row, texts-activities, context-carried}
+use Rattle.activities.proofs.Owed.{entered-row}
 
 -- the activities of some tasks are put, and those of ts are left
 abbrev pub Goes : List ℕ → Place → Element → Place → List ℕ → Place → ℕ → List Element → Type 0
@@ -32,9 +38,9 @@ module _ {d₀ : List ℕ} (c : Place) (root : Element) {p : Place} (stand : cal
   goes-on h n s z =
       let li : length (idsOf (w .done)) ≤ 5000000 = rw (length-map) (omega (arith, w .done-are)) in
       let ll : length (map levelOf (w .before)) ≤ 2 ^ 32 = rw (length-map) (omega (arith, w .tasks-are)) in
-      written-more w (fit-activity (contextAt d₀ c root) (idsOf (w .done)) (map levelOf (w .before)) _ s (built-short d₀ c small) li ll)
+      written-more w (fit-activity slim-texts (contextAt d₀ c root) (idsOf (w .done)) (map levelOf (w .before)) _ s (built-short d₀ c small) li ll)
       (next-put w (contextAt d c root) _ _ _ h
-      (λ i. (context-carried c root (w .puts .step) stand, ap (textsAt Activities d p) (sym (w .done-are)) ∙ texts-activities _ (w .puts) i (w .fits)))
+      (λ i. (context-carried (w .puts .step) c root stand, ap (textsAt Activities d p) (sym (w .done-are)) ∙ texts-activities _ (w .puts) i (w .fits)))
       (ap (map levelOf) (tasks-before w))
       (sym (entered-row root (w .before) t ts (w .split)) ∙ ap (entered (links (contextOf root))) (w .tasks-are ∙ sym (w .done-are))))
       z

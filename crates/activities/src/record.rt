@@ -85,6 +85,7 @@ pub(crate) fn put_task(
             named,
         );
     }
-    let text = names::calendar_text(s, root, tree::text_of(s, at, b"CalendarUID"));
+    let uid = tree::text_of(s, at, b"CalendarUID");
+    let text = names::calendar_text(s, root, uid, b"Calendar");
     put_named(out, start, p, s, root, at, row, text, named)
 }

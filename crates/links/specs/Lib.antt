@@ -1,1 +1,3 @@
 pub mod Fates
+pub mod More
+pub mod Entered

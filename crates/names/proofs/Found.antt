@@ -1,37 +1,38 @@
 -- The calendars of a tree and the names by which they are found. Assumes nothing.
 use mathlib.Core.Path.{_≡_, refl, sym, ap, _∙_}
-use mathlib.Core.Bool.{Bool, true, false, not, _&&_}
-use mathlib.Core.List.{List, [], _∷_, _++_, map}
+use mathlib.Core.Bool.{Bool, true, false, _&&_}
+use mathlib.Core.List.{List, [], _∷_, map}
 use mathlib.Core.Option.{Option, some, none}
-use Prim.Native.Nat.{ℕ, suc, _+_, _*_, _-_, _/_, _^_, _≤_, _<_}
+use Prim.Native.Nat.{ℕ, _+_, _*_, _-_, _/_, _^_, _≤_, _<_}
 use native.Mathlib.Omega.{arith}
-use lib.Dec.{leb, ltb, eqb}
-use lib.ListN.{length, length-append}
+use lib.Dec.{leb, ltb}
+use lib.ListN.{length}
 use borrow.Author.Tests.{lt-ltb, le-ltb, le-leb, lt-leb, ltb-true, leb-true, leb-false, eq-eqb, ne-eqb}
-use Rattle.definition.specs.Base.{if_then_else_, _>>=_, _or_, _orElse_, when, given, keep, first, find, numbered, same}
+use Rattle.definition.specs.Base.{if_then_else_, _>>=_, _or_, _orElse_, keep, first, find, numbered, same}
 use Rattle.definition.specs.Ascii.{bytes}
 use Rattle.definition.specs.Text.{Text, trim}
 use Rattle.definition.specs.Tree.{Element, all, child, nonEmpty, textOf}
 use Rattle.definition.specs.Field.{textIn}
 use Rattle.definition.specs.Model.{Calendar}
-use Rattle.definition.specs.Calendar.{Named, plainCalendar, defaultCalendar, mainCalendar, withUid, nameOf, baseOf, calendarElements}
+use Rattle.definition.specs.Calendar.{Named, plainCalendar, defaultCalendar, mainCalendar, withUid, nameOf, calendarElements}
 use Rattle.definition.specs.Refusal.{mostElements}
-use Rattle.definition.specs.Task.{Context, unlessMain}
+use Rattle.definition.specs.Task.{unlessMain}
 use Rattle.bits.specs.Places.{at, upTo}
 use Rattle.bits.specs.declared.Place.{Place}
 use Rattle.model.specs.declared.records.Kind.the-variants.{Calendars}
 use Rattle.pack.specs.Value.{starredBy, nameMeaning}
 use Rattle.pack.specs.declared.stars.NameAnswer.{NameAnswer}
 use Rattle.pack.specs.declared.stars.NameAnswer.the-variants as name
-use Rattle.rows.specs.Rows.{hasUid, inOrder, withUidIn, mainIn, calendarMeaning}
+use Rattle.rows.specs.Rows.{inOrder, withUidIn, mainIn, calendarMeaning}
 use Rattle.rows.specs.declared.CalendarAnswer.{CalendarAnswer}
 use Rattle.rows.specs.declared.CalendarAnswer.the-variants.{Is, Absent}
-use Rattle.tree.specs.Place.{elementAt, laterAt}
+use Rattle.tree.specs.Place.{elementAt}
 use Rattle.model.specs.Answers.{readAt}
 use Rattle.model.specs.Parts.{raw}
 use Rattle.names.specs.Texts.{placeOfRow, textAt}
+use Rattle.names.specs.Turned.{order-length}
 use Rattle.names.specs.Seen.{row-text, raw-length}
-use Rattle.names.specs.Context.{mainRow, sectionRow, wantedBy, wantedName, starsIn, nameIn, builtAt, contextAt, textWithUidBy, textWithUid, calendarsBefore}
+use Rattle.names.specs.Context.{mainRow, sectionRow, wantedName, starsIn, nameIn, builtAt, contextAt, textWithUid, calendarsBefore}
 
 -- ---- what a look-up answered
 
@@ -45,20 +46,6 @@ module _ (s : Text) (r : CalendarAnswer) {o : Option (ℕ × Element)} (h : cale
   is-absent e = sym h ∙ rw e
 
 -- ---- how many
-
-two-parts : (p : Element → Bool) (l : List Element) → length (keep (λ e. not (p e)) l) + length (keep p l) ≡ length l
-unfolding keep
-two-parts p [] = refl
-two-parts p (x ∷ l) = by-test (p x) (keep (λ e. not (p e)) l) (keep p l) (two-parts p l)
-  where
-    by-test : (t : Bool) (a b : List Element) → length a + length b ≡ length l → length (if not t then x ∷ a else a) + length (if t then x ∷ b else b) ≡ suc (length l)
-    by-test true a b e = omega arith
-    by-test false a b e = omega arith
-
-pub order-length : (root : Element) → length (inOrder root) ≡ length (calendarElements root)
-unfolding inOrder
-order-length root =
-    length-append (keep (λ e. not (given (baseOf e))) (calendarElements root)) (keep (λ e. given (baseOf e)) (calendarElements root)) ∙ two-parts (λ e. given (baseOf e)) (calendarElements root)
 
 -- the calendars under an element
 pub under-one : (root e : Element) → child root (bytes "Calendars") ≡ some e → calendarElements root ≡ all e (bytes "Calendar")

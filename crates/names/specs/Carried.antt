@@ -1,27 +1,26 @@
 -- What is read before a place still is when others are written behind it: the names of the calendars. Assumes nothing.
-use mathlib.Core.Path.{_≡_, refl, sym, ap, _∙_}
-use mathlib.Core.Bool.{Bool, true, false, _&&_}
+use mathlib.Core.Path.{_≡_, refl, ap, _∙_}
+use mathlib.Core.Bool.{Bool, true, false}
 use mathlib.Core.List.{List, [], _∷_, map}
 use mathlib.Core.Option.{Option, some, none}
-use Prim.Native.Nat.{ℕ, suc, _+_, _-_, _*_, _≤_, _<_}
+use Prim.Native.Nat.{ℕ, suc, _+_, _-_, _≤_, _<_}
 use native.Mathlib.Omega.{arith}
-use native.Mathlib.Decide.{decLt}
 use lib.Dec.{leb, ltb, eqb}
 use lib.ListN.{length}
-use borrow.Author.Tests.{ltb-true, eqb-true}
-use Rattle.definition.specs.Base.{if_then_else_, _>>=_, _or_, _orElse_, keep, first, find, numbered, same}
+use borrow.Author.Tests.{ltb-true}
+use Rattle.definition.specs.Base.{if_then_else_, _>>=_, _or_, _orElse_, keep, first, numbered}
 use Rattle.definition.specs.Bits.{Bits}
 use Rattle.definition.specs.Text.{Text}
 use Rattle.definition.specs.Tree.{Element}
 use Rattle.definition.specs.Field.{textIn}
-use Rattle.definition.specs.Format.{Format, times}
+use Rattle.definition.specs.Format.{times}
 use Rattle.definition.specs.Calendar.{Named, plainCalendar, mainCalendar}
 use Rattle.definition.specs.Refusal.{mostElements}
-use Rattle.definition.specs.Task.{Context, perDayOf, keptTasks}
+use Rattle.definition.specs.Task.{perDayOf, keptTasks}
 use Rattle.laws.specs.Bools.{both}
 use Rattle.laws.specs.Buf.{Buf}
-use Rattle.laws.specs.Options.{never, some-is}
-use Rattle.bits.specs.Places.{at, place, past, inside, upTo, Fits, fits-room, room-fits, Before, up-before, before-up}
+use Rattle.laws.specs.Options.{never}
+use Rattle.bits.specs.Places.{at, inside, upTo, Fits, fits-room, room-fits, Before, up-before, before-up}
 use Rattle.bits.specs.Reads.{rest, spot}
 use Rattle.bits.specs.Steps.{Step, before, before-in, before-out}
 use Rattle.bits.specs.declared.Place.{Place}
@@ -31,7 +30,7 @@ use Rattle.model.specs.declared.records.Kind.{Kind}
 use Rattle.model.specs.declared.records.Kind.the-variants.{Calendars}
 use Rattle.pack.specs.Value.{starredBy}
 use Rattle.rows.specs.Rows.{inOrder, mainIn, withUidIn, hasUid}
-use Rattle.names.specs.Texts.{placeOfRow, textAt}
+use Rattle.names.specs.Texts.{placeOfRow}
 use Rattle.names.specs.Context.{mainRow, sectionRow, wantedName, nameIn, builtAt, contextAt, calendarsBefore}
 use Rattle.names.specs.Kept.{Kept, step-kept}
 use Rattle.names.specs.Records.{plain-calendars, front-calendars, place-kept, text-kept}
@@ -110,15 +109,15 @@ numbered-same {A} {B} f g k (x ∷ l) h =
 -- ---- the calendars' names
 
 -- all calendars stand before a place
-pub record Before-all (d : List ℕ) (c : Place) (root : Element) (q : Place) : Type 0 where
+pub record AllBefore (d : List ℕ) (c : Place) (root : Element) (q : Place) : Type 0 where
   pub few : leb (length (inOrder root)) mostElements ≡ true
   pub last : Before (placeOfRow Calendars d c (length (inOrder root))) q
 
-pub all-before : (d : List ℕ) (c : Place) (root : Element) (q : Place) → calendarsBefore d c root q ≡ true → Before-all d c root q
+pub all-before : (d : List ℕ) (c : Place) (root : Element) (q : Place) → calendarsBefore d c root q ≡ true → AllBefore d c root q
 unfolding calendarsBefore
 all-before d c root q h = let (a, b) = both (leb (length (inOrder root)) mostElements) (upTo (placeOfRow Calendars d c (length (inOrder root))) q) h in record { few = a; last = up-before _ q b }
 
-pub before-all : {d : List ℕ} {c : Place} {root : Element} {q : Place} → Before-all d c root q → calendarsBefore d c root q ≡ true
+pub before-all : {d : List ℕ} {c : Place} {root : Element} {q : Place} → AllBefore d c root q → calendarsBefore d c root q ≡ true
 unfolding calendarsBefore
 before-all h = rw (h .few, before-up (h .last))
 

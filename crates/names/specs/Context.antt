@@ -4,7 +4,7 @@
 use Prim.Native.Nat.{ℕ, suc, _-_}
 use mathlib.Core.Bool.{Bool, _&&_}
 use mathlib.Core.List.{List, [], map}
-use mathlib.Core.Option.{Option, some, none}
+use mathlib.Core.Option.{some}
 use lib.Dec.{leb, ltb, eqb}
 use lib.ListN.{length}
 use Rattle.definition.specs.Base.{if_then_else_, _>>=_, _or_, numbered}
@@ -12,7 +12,6 @@ use Rattle.definition.specs.Ascii.{bytes}
 use Rattle.definition.specs.Text.{Text}
 use Rattle.definition.specs.Tree.{Element}
 use Rattle.definition.specs.Field.{textIn}
-use Rattle.definition.specs.Model.{Calendar}
 use Rattle.definition.specs.Calendar.{Named, plainCalendar, mainCalendar}
 use Rattle.definition.specs.Refusal.{mostElements}
 use Rattle.definition.specs.Task.{Context, perDayOf, keptTasks}

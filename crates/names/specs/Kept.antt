@@ -1,10 +1,9 @@
 -- What was put in a format that gives back what fits is read there, and still is while the bits before a place stay. Assumes nothing.
 use mathlib.Core.Path.{_≡_, refl, sym, ap, _∙_}
 use mathlib.Core.Bool.{Bool, true, false}
-use mathlib.Core.List.{List, [], _∷_, _++_, append-assoc}
+use mathlib.Core.List.{List, _++_, append-assoc}
 use mathlib.Core.Option.{Option, some, none}
-use Prim.Native.Nat.{ℕ, _+_, _-_, _*_, _%_, _≤_}
-use native.Mathlib.Nat.{add-assoc}
+use Prim.Native.Nat.{ℕ, _+_, _-_, _*_, _≤_}
 use native.Mathlib.Omega.{arith}
 use lib.ListN.{length, take, drop, length-append, length-drop, take-append-drop}
 use lib.Seq.{take-take, take-at}
@@ -16,7 +15,7 @@ use Rattle.laws.specs.Each.{each-drop}
 use Rattle.laws.specs.Bits.{bits-binary, length-bits}
 use Rattle.laws.specs.Buf.{Buf}
 use Rattle.laws.specs.Formats.{Ends, Good}
-use Rattle.bits.specs.Places.{at, place, inside, Fits, room-fits, fits-room, at-place, place-at, next-fits}
+use Rattle.bits.specs.Places.{at, place, inside, Fits, room-fits, fits-room, at-place, next-fits}
 use Rattle.bits.specs.Reads.{rest, rest-in, rest-out, length-rest, spot, spot-at, Reads}
 use Rattle.bits.specs.Round.{Stood, stood-from, stood-before, put-stood}
 use Rattle.bits.specs.Steps.{Step, Puts, before, length-before}

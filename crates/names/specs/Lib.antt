@@ -3,4 +3,7 @@ pub mod Context
 pub mod Seen
 pub mod Kept
 pub mod Records
+pub mod Short
 pub mod Carried
+pub mod Agree
+pub mod Turned

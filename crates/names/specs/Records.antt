@@ -3,13 +3,12 @@ use mathlib.Core.Path.{_≡_, refl, sym, ap, _∙_}
 use mathlib.Core.Bool.{Bool, true, false, true≢false}
 use mathlib.Core.List.{List, [], _∷_, _++_, map, append-assoc}
 use mathlib.Core.Option.{Option, some, none}
-use Prim.Native.Nat.{ℕ, zero, suc, _+_, _*_, _≤_, _<_}
-use native.Mathlib.Nat.{add-assoc, add-zero}
-use native.Mathlib.Numerals.{add-one}
+use Prim.Native.Nat.{ℕ, zero, suc, _+_, _≤_, _<_}
+use native.Mathlib.Nat.{add-zero}
 use native.Mathlib.Omega.{arith}
 use lib.IntN.{ℤ}
 use lib.ListN.{length, take, drop, getElem?, length-append, length-map}
-use Rattle.definition.specs.Base.{if_then_else_, _>>=_, _or_, count}
+use Rattle.definition.specs.Base.{_>>=_, _or_, count}
 use Rattle.definition.specs.Bits.{Bits}
 use Rattle.definition.specs.Text.{Text}
 use Rattle.definition.specs.Date.{Date}
@@ -19,12 +18,12 @@ use Rattle.definition.specs.Pack.{calendar, activity, resource, expense}
 use Rattle.laws.specs.Options.{never, some-is}
 use Rattle.laws.specs.Each.{Each, empty, next, each-front, each-back}
 use Rattle.laws.specs.Bits.{Bytes}
-use Rattle.laws.specs.Formats.{Good, _&_, Both, IfGiven, Times, good-times, good-whole, good-count}
+use Rattle.laws.specs.Formats.{Good, _&_, Both, IfGiven, good-times, good-whole, good-count}
 use Rattle.laws.specs.Fields.{good-code, good-number, good-optional}
 use Rattle.laws.specs.Bools.{Within}
 use Rattle.laws.specs.FitRecords.{Short, IsCount, IsNumber, anyText, good-any, CalendarParts, ActivityRest, ExpenseParts, FitsCalendarBy, FitsActivityBy, FitsResourceBy, FitsExpenseBy, good-calendar-parts, good-activity-rest, good-expense-parts}
-use Rattle.bits.specs.Places.{at, place, past, inside, Before, at-place, room-fits}
-use Rattle.bits.specs.Reads.{rest, rest-in, spot, Reads, Spans}
+use Rattle.bits.specs.Places.{at, place, past, inside, at-place, room-fits}
+use Rattle.bits.specs.Reads.{rest, rest-in, spot, spanAt, Reads}
 use Rattle.bits.specs.Steps.{Puts, past-out}
 use Rattle.bits.specs.declared.Place.{Place}
 use Rattle.bits.specs.declared.Span.{Span}
@@ -96,6 +95,9 @@ pub record Plain (kind : Kind) {B : Type 0} (g : Format B) (G : B → Type 0) : 
   pub good : Good g G
   pub like : Like (recordOf false kind) g
 
+pub plain-lax : {kind : Kind} {B : Type 0} {g : Format B} {G : B → Type 0} → Plain kind g G → Lax (recordOf false kind) g
+plain-lax {g = g} k = lax-like (k .like) (lax-same g)
+
 -- each begins with a text
 pub record Fronts {B : Type 0} (g : Format B) (front : B → Text) : Type 0 where
   pub leads : {s : List ℕ} {p : Place} {b : B} → Stands g s p b → Stands raw s p (front b)
@@ -125,19 +127,25 @@ module _ {kind : Kind} {B : Type 0} {g : Format B} {G : B → Type 0} (k : Plain
     unfolding placeOfRow
     place-last = passed-to (pass-like (like-times (length xs) (like-back (k .like))) (pass-read lies-read)) ∙ rw (there-inside (l .there))
 
+  -- the first ones
+  module _ {d : List ℕ} {p : Place} (us vs : List B) {q : Place} (l : Lies g G d p (us ++ vs) q) where
+    abbrev middle : Place
+    middle = place (at p + length (putAll g (at p) us))
+
+    cut : There d p (putAll g (at p) us) middle × There d middle (putAll g (at p + length (putAll g (at p) us)) vs) q
+    cut = there-split (putAll g (at p) us) (putAll g (at p + length (putAll g (at p) us)) vs) (rw (all-append g (at p) us vs) at (l .there))
+
+    front-lies : Lies g G d p us middle
+    front-lies = record { each = each-front us vs (l .each); there = cut .0 }
+
+    back-there : There d (placeOfRow kind d p (length us)) (putAll g (at (placeOfRow kind d p (length us))) vs) q
+    back-there = rw (place-last front-lies, at-place (at p + length (putAll g (at p) us))) (cut .1)
+
+    pub lies-front : Lies g G d p us (placeOfRow kind d p (length us)) × (at (placeOfRow kind d p (length us)) ≤ at q)
+    lies-front = (rw (place-last front-lies) front-lies, omega (arith, there-at back-there))
+
   -- one item, those before it and those behind it
   module _ {d : List ℕ} {p : Place} (us : List B) (x : B) (vs : List B) {q : Place} (l : Lies g G d p (us ++ (x ∷ vs)) q) where
-    cut : There d p (putAll g (at p) us) (place (at p + length (putAll g (at p) us))) × There d (place (at p + length (putAll g (at p) us))) (putAll g (at p + length (putAll g (at p) us)) (x ∷ vs)) q
-    cut = there-split (putAll g (at p) us) (putAll g (at p + length (putAll g (at p) us)) (x ∷ vs)) (rw (all-append g (at p) us (x ∷ vs)) at (l .there))
-
-    pub before-row : Lies g G d p us (placeOfRow kind d p (length us))
-    before-row = let a : Lies g G d p us _ = record { each = each-front us (x ∷ vs) (l .each); there = cut .0 } in rw (place-last a) a
-
-    from-row : There d (placeOfRow kind d p (length us)) (putAll g (at (placeOfRow kind d p (length us))) (x ∷ vs)) q
-    from-row =
-        let a : Lies g G d p us _ = record { each = each-front us (x ∷ vs) (l .each); there = cut .0 } in
-        rw (place-last a, at-place (at p + length (putAll g (at p) us))) (cut .1)
-
     row-fits : G x
     row-fits = first-each (each-back us (x ∷ vs) (l .each))
       where
@@ -148,7 +156,7 @@ module _ {kind : Kind} {B : Type 0} {g : Format B} {G : B → Type 0} (k : Plain
     row-there =
         let m = at (placeOfRow kind d p (length us)) in
         let b = g .put m x in
-        let (s, t) = there-split b (putAll g (m + length b) vs) (rw (all-one g m x vs) at from-row) in
+        let (s, t) = there-split b (putAll g (m + length b) vs) (rw (all-one g m x vs) at (back-there us (x ∷ vs) l)) in
         (place (m + length b), s, omega (arith, there-at t, at-place (m + length b)))
 
     -- it is read at its place
@@ -433,6 +441,14 @@ module _ (k : ℕ) {xs : List Expense} {d₀ : List ℕ} {p : Place} {d : List �
 
   pub last-expenses : placeOfRow Expenses d p (length xs) ≡ q
   last-expenses = ap (placeOfRow Expenses d p) (sym (length-map xs expenseFields)) ∙ place-last plain-expenses expenses-lie
+
+-- a text that stands there, as it is answered, and by its bytes
+module _ {s : List ℕ} {p : Place} {t : Text} (h : Stands raw s p t) where
+  pub raw-stands : (readAt raw s p .0 or []) ≡ t
+  raw-stands = ap (λ (o : Option Text). o or []) (stands-read h)
+
+  pub raw-span : Bytes s → {x : Span} → x ≡ spanAt s p → t ≡ take (x .len) (drop (x .start) s)
+  raw-span b e = sym (raw-spanned s p b e ∙ raw-stands)
 
 -- an expense's row, and its name behind it
 pub expense-key : {s : List ℕ} {p : Place} {t : ExpenseFields} → Stands plainExpenses s p t → Stands row s p (t .0) × ((q : Place) → Passes row s p q → Stands raw s q (t .1 .0))

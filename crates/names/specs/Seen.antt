@@ -18,7 +18,7 @@ use Rattle.laws.specs.Bits.{Bytes, bits-append, bits-drop, bytes-bits, length-b
 use Rattle.laws.specs.Each.{empty, next, each-take, each-drop}
 use Rattle.laws.specs.Options.{never}
 use Rattle.bits.specs.Places.{at, past, inside, Fits, room-fits}
-use Rattle.bits.specs.Reads.{rest, rest-in, rest-out, rest-past, length-rest, spot-at, Reads, chain, takeAt, padAt, spanOf, spanAt, read-field, read-whole, skip-pad, pad-whole, field-lt}
+use Rattle.bits.specs.Reads.{rest, rest-in, rest-out, rest-past, length-rest, Reads, chain, takeAt, padAt, spanOf, spanAt, read-field, read-whole, skip-pad, pad-whole, field-lt}
 use Rattle.bits.specs.declared.Span.{Span}
 use Rattle.bits.specs.declared.Place.{Place}
 use Rattle.model.specs.Answers.{readAt, seen, read-there, read-nowhere}

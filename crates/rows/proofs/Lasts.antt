@@ -82,21 +82,17 @@ else-else : {A : Type 0} (a b c : Option A) → (a orElse b orElse c) ≡ (a orE
 else-else none b c = refl
 else-else (some x) b c = refl
 
-row-if-is : (t : Bool) {r : RowAnswer} (row : ℕ) (found : RowAnswer) → r ≡ (if t then RowAnswer.Is row else found) → rowMeaning r ≡ (when t row orElse rowMeaning found)
-unfolding rowMeaning
-row-if-is true row found e = rw e
-row-if-is false row found e = rw e
-
 module _ {A : Type 0} {next : ℕ → ℕ} {p : A → Bool} {t : Option ℕ} where
   row-all : {l : List A} → t ≡ rowBy next p 0 l → RowIn next p t 0 l RowAnswer.Absent
   unfolding rowMeaning
   row-all h = record { is = h ∙ sym (none-else _) }
 
   module _ {n : ℕ} {l : List A} {found : RowAnswer} (h : RowIn next p t n l found) where
-    pub row-turn : {x : A} {k : List A} → l ≡ x ∷ k → {b : Bool} → b ≡ p x → {found' : RowAnswer} → found' ≡ (if b then RowAnswer.Is n else found) → {n' : ℕ} → n' ≡ next n → RowIn next p t n' k found'
+    pub row-turn : {x : A} {k : List A} → l ≡ x ∷ k → {b : Bool} → b ≡ p x → {here : Option ℕ} → here ≡ when b n → {found' : RowAnswer} → rowMeaning found' ≡ (here orElse rowMeaning found) → {n' : ℕ} → n' ≡ next n
+        → RowIn next p t n' k found'
     unfolding rowBy
-    row-turn {x} {k} i {b} z {found'} j m =
-        let f : rowMeaning found' ≡ (when (p x) n orElse rowMeaning found) = row-if-is b n found j ∙ rw z in
+    row-turn {x} {k} i {b} z w {found'} j m =
+        let f : rowMeaning found' ≡ (when (p x) n orElse rowMeaning found) = j ∙ ap (λ o. o orElse rowMeaning found) (w ∙ ap (λ (t : Bool). when t n) z) in
         let a : (rowBy next p n l orElse rowMeaning found) ≡ (rowBy next p (next n) k orElse (when (p x) n orElse rowMeaning found)) = rw i (else-else (rowBy next p (next n) k) (when (p x) n) (rowMeaning found)) in
         record { is = h .is ∙ a ∙ ap (λ o. rowBy next p (next n) k orElse o) (sym f) ∙ ap (λ (j : ℕ). rowBy next p j k orElse rowMeaning found') (sym m) }
 

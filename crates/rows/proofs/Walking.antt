@@ -18,6 +18,7 @@ use Rattle.tree.specs.Place.{elementAt, laterAt, listOf, Past, Starts}
 use Rattle.tree.specs.declared.Found.{Found}
 use Rattle.tree.specs.declared.Found.the-variants.{At, Nothing}
 use Rattle.rows.specs.Rows.{inOrder, calendarMeaning, rowZero}
+use Rattle.rows.specs.Turns.{list-at, list-end}
 use Rattle.rows.specs.Walks.{keptBy, room, Kept, passes, pickedBy, Picks, PicksFrom, laterInOrder, orderBy, orderRoom, Orders, OrdersAfter}
 use Rattle.rows.specs.declared.CalendarAnswer.{CalendarAnswer}
 use Rattle.rows.specs.declared.CalendarAnswer.the-variants as calendar
@@ -36,14 +37,6 @@ past-later s h (At p) k = (omega (arith, k), k .1)
 before-next : (s : Text) (m p : ℕ) → Past s m (At p) → m ≤ p + 1
 unfolding Past
 before-next s m p h = omega (arith, h)
-
-list-at : (s n : Text) {o : Found} {p : ℕ} → o ≡ At p → listOf s n o ≡ elementAt s p ∷ laterAt s n p
-unfolding listOf
-list-at s n e = rw e
-
-list-none : (s n : Text) {o : Found} → o ≡ Nothing → listOf s n o ≡ []
-unfolding listOf
-list-none s n e = rw e
 
 -- ---- the kept tasks
 
@@ -82,7 +75,7 @@ tasks-all s start most = record { is = refl; on = omega arith }
 module _ {s : Text} {l : List Element} {most left : ℕ} {task : Found} (h : TasksIn s l most task left) where
   pub kept-none : task ≡ Nothing → Kept s l most Absent
   unfolding keptBy room keep
-  kept-none e = record { is = h .is ∙ ap (λ (l : List Element). keep isKept (take left l)) (list-none s (bytes "Task") e) ∙ ap (keep isKept) (take-nil left); on = omega arith }
+  kept-none e = record { is = h .is ∙ ap (λ (l : List Element). keep isKept (take left l)) (list-end s (bytes "Task") e) ∙ ap (keep isKept) (take-nil left); on = omega arith }
 
   pub kept-out : left ≡ 0 → Kept s l most Absent
   unfolding keptBy room keep
@@ -119,7 +112,7 @@ left-all = record { is = refl; on = λ from h. h }
 module _ {s n : Text} {w : Which} {start e : Found} (h : Left s n w start e) where
   pub picks-none : e ≡ Nothing → PicksFrom s n w start Nothing
   unfolding keep pickedBy Past
-  picks-none i = record { go = λ from k. record { is = h .is ∙ ap (keep (passes w)) (list-none s n i); on = tt } }
+  picks-none i = record { go = λ from k. record { is = h .is ∙ ap (keep (passes w)) (list-end s n i); on = tt } }
 
   module _ {p : ℕ} (i : e ≡ At p) where
     pub picks-here : passes w (elementAt s p) ≡ true → PicksFrom s n w start (At p)

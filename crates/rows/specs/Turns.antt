@@ -12,7 +12,7 @@ use Rattle.definition.specs.Tree.{Element, child, allIn}
 use Rattle.definition.specs.Task.{isKept}
 use Rattle.definition.specs.Calendar.{baseOf}
 use Rattle.definition.specs.Resource.{isResource, isCost, workResources, costResources}
-use Rattle.tree.specs.Place.{elementAt, laterAt, Past}
+use Rattle.tree.specs.Place.{elementAt, laterAt, listOf, Past, Starts}
 use Rattle.tree.specs.declared.Found.{Found}
 use Rattle.tree.specs.declared.Found.the-variants.{At, Nothing}
 use Rattle.rows.specs.Walks.{ahead, keptBy, room, Kept, passes, pickedBy, Picks, laterInOrder, orderBy, orderRoom, Orders}
@@ -20,6 +20,24 @@ use Rattle.rows.specs.declared.kept.KeptAnswer.{KeptAnswer}
 use Rattle.rows.specs.declared.kept.KeptAnswer.the-variants.{Is, Absent}
 use Rattle.rows.specs.declared.section.Which.{Which}
 use Rattle.rows.specs.declared.section.Which.the-variants.{Work, Cost}
+
+-- ---- all elements of a name
+
+pub list-end : (s n : Text) {e : Found} → e ≡ Nothing → listOf s n e ≡ []
+unfolding listOf
+list-end s n i = rw i
+
+pub list-at : (s n : Text) {e : Found} {p : ℕ} → e ≡ At p → listOf s n e ≡ elementAt s p ∷ laterAt s n p
+unfolding listOf
+list-at s n i = rw i
+
+pub list-next : {s n : Text} {e : Found} {p : ℕ} → e ≡ At p → {from : ℕ} {r : Found} → Starts s n (laterAt s n p) from r → listOf s n e ≡ elementAt s p ∷ listOf s n r
+list-next {s} {n} {p = p} i h = list-at s n i ∙ ap (λ (l : List Element). elementAt s p ∷ l) (h .is)
+
+pub ahead-less : (s : Text) {e : Found} {p : ℕ} → e ≡ At p → (r : Found) → Past s (p + 1) r → ahead s r < ahead s e
+unfolding ahead Past
+ahead-less s i Nothing h = rw i (omega arith)
+ahead-less s i (At q) h = rw i (omega (arith, h))
 
 -- ---- the kept tasks
 
@@ -51,11 +69,6 @@ picked-end s n w i = rw i
 pub picked-next : {s n : Text} {w : Which} {e : Found} {p : ℕ} → e ≡ At p → {from : ℕ} {r : Found} → Picks s n w (laterAt s n p) from r → pickedBy s n w e ≡ elementAt s p ∷ pickedBy s n w r
 unfolding pickedBy
 picked-next {s} {n} {w} {p = p} i h = ap (pickedBy s n w) i ∙ ap (λ (l : List Element). elementAt s p ∷ l) (h .is)
-
-pub ahead-less : (s : Text) {e : Found} {p : ℕ} → e ≡ At p → (r : Found) → Past s (p + 1) r → ahead s r < ahead s e
-unfolding ahead Past
-ahead-less s i Nothing h = rw i (omega arith)
-ahead-less s i (At q) h = rw i (omega (arith, h))
 
 -- work and cost resources are those that pass
 keep-both : (p q : Element → Bool) (l : List Element) → keep (λ x. p x && q x) l ≡ keep q (keep p l)

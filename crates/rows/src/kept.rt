@@ -2,11 +2,10 @@
 ghost use mathlib.Core.Path.{_≡_};
 ghost use mathlib.Core.List.{map};
 ghost use lib.ListN.{take};
-ghost use Rattle.definition.specs.Base.{if_then_else_, keep, some?};
+ghost use Rattle.definition.specs.Base.{_orElse_, when, keep, some?};
 ghost use Rattle.definition.specs.Ascii.{bytes};
 ghost use Rattle.definition.specs.Answer.{rowMeaning};
 ghost use Rattle.definition.specs.Task.{levelOf, mostTasks, isKept, keptTasks, rowOf, parentOf, isElapsed};
-ghost use Rattle.definition.specs.declared.RowAnswer.the-variants.{Is as RowIs};
 ghost use Rattle.tree.specs.Place.{elementAt, laterAt, listOf};
 ghost use Rattle.rows.specs.Walks.{Kept};
 use crate::section::first_in;
@@ -54,11 +53,25 @@ pub fn next_kept(s: &[u8], at: usize, left: u32) -> KeptAnswer
     kept_from(s, tree::next_child(s, at, b"Task"), left)
 }
 
-// The row where the test holds, else what was found before.
-pub(crate) fn row_if(test: bool, row: u32, found: RowAnswer) -> RowAnswer
-    ensures { λ r. ⌜ r ≡ (if «test» then RowIs row else found) ⌝ }
+// The row where the test holds.
+pub(crate) fn row_when(test: bool, row: u32) -> RowAnswer
+    ensures { λ r. ⌜ rowMeaning r ≡ when «test» row ⌝ }
 {
-    if test { RowAnswer::Is(row) } else { found }
+    if test {
+        RowAnswer::Is(row)
+    } else {
+        RowAnswer::Absent
+    }
+}
+
+// The first of two that is there.
+pub(crate) fn or_row(a: RowAnswer, b: RowAnswer) -> RowAnswer
+    ensures { λ r. ⌜ rowMeaning r ≡ (rowMeaning a orElse rowMeaning b) ⌝ }
+{
+    match a {
+        RowAnswer::Is(n) => RowAnswer::Is(n),
+        RowAnswer::Absent => b,
+    }
 }
 
 // The row of the last kept task with a UID.
@@ -72,7 +85,8 @@ pub fn task_row(s: &[u8], root: usize, uid: &[u8]) -> RowAnswer
         let KeptAnswer::Is(at, left) = task else {
             return found;
         };
-        found = row_if(fields::text_is(s, at, b"UID", uid), row, found);
+        let here = row_when(fields::text_is(s, at, b"UID", uid), row);
+        found = or_row(here, found);
         row += 1;
         task = next_kept(s, at, left);
     }
@@ -89,7 +103,8 @@ pub fn parent_row(s: &[u8], root: usize, row: u32, level: u64) -> RowAnswer
         let KeptAnswer::Is(at, left) = task else {
             return found;
         };
-        found = row_if(tasks::level_of(s, at) < level, n, found);
+        let here = row_when(tasks::level_of(s, at) < level, n);
+        found = or_row(here, found);
         n += 1;
         task = next_kept(s, at, left);
     }

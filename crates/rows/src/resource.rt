@@ -9,7 +9,8 @@ ghost use Rattle.definition.specs.Resource.{workResources, costResources};
 ghost use Rattle.tree.specs.Place.{elementAt};
 ghost use Rattle.tree.specs.declared.Found.the-variants.{At as FoundAt};
 ghost use Rattle.rows.specs.Rows.{foundMeaning, hasUid};
-use crate::kept::row_if;
+use crate::kept::or_row;
+use crate::kept::row_when;
 use crate::section::Which;
 use crate::section::first_which;
 use crate::section::next_which;
@@ -27,7 +28,8 @@ pub fn resource_row(s: &[u8], root: usize, uid: &[u8]) -> RowAnswer
         let Found::At(at) = e else {
             return found;
         };
-        found = row_if(fields::text_is(s, at, b"UID", uid), row, found);
+        let here = row_when(fields::text_is(s, at, b"UID", uid), row);
+        found = or_row(here, found);
         row = std::num::wrapping_add_u32(row, 1);
         e = next_which(s, at, b"Resource", Which::Work);
     }

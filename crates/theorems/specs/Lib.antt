@@ -1,6 +1,9 @@
+pub mod Counts
 pub mod Laws
 pub mod Leads
 pub mod Outlines
 pub mod Packing
+pub mod Reading
 pub mod Texts
+pub mod Utf8
 pub mod Whole

@@ -2,15 +2,17 @@ use Prim.Native.Nat.{_+_, _≤_}
 use native.Mathlib.Omega.{arith}
 use mathlib.Core.Path.{_≡_, refl, ap, _∙_}
 use mathlib.Core.Bool.{true}
-use lib.ListN.{length}
+use lib.ListN.{length, drop}
 use denote.Ref.{now}
 use Rattle.definition.specs.Task.{mostTasks}
 use Rattle.tree.specs.Place.{elementAt}
+use Rattle.laws.specs.Each.{each-drop}
+use Rattle.laws.specs.FitTrees.{small-element}
+use Rattle.names.specs.Seen.{bytes-of}
 use Rattle.names.specs.Context.{contextAt, calendarsBefore}
 use Rattle.rows.specs.Walks.{keptBy, room}
 use Rattle.activities.proofs.Loop.{written-none, written-all}
 use Rattle.activities.proofs.Turn.{Goes, goes-on}
-use Rattle.activities.proofs.Owed.{bytes-of, small-at}
 use borrow.Author.Needs.{needs}
 use Rattle.activities.proofs.put_tasks.Statement.{statement}
 use Rattle.activities.proofs.put_tasks.Tie as tie
@@ -78,7 +80,7 @@ loop-again c =
       u .put-task .kept .0 ∙ l .loop .inv .0,
       (
         omega (arith, k, l .loop .inv .1 .0, c .next-kept .ensures .on),
-        λ h. goes-on (a .c) root h (small-at (now (a .s)) (a .root) bytes) (rw e at (l .loop .inv .1 .1 h)) (u .put-task .ensures) (omega (arith, l .loop .inv .1 .0)) (small-at (now (a .s)) (t .task .given .0 .0) bytes) (c .next-kept .ensures .is),
+        λ h. goes-on (a .c) root h (small-element (drop (a .root) (now (a .s))) (each-drop (a .root) bytes)) (rw e at (l .loop .inv .1 .1 h)) (u .put-task .ensures) (omega (arith, l .loop .inv .1 .0)) (small-element (drop (t .task .given .0 .0) (now (a .s))) (each-drop (t .task .given .0 .0) bytes)) (c .next-kept .ensures .is),
       ),
     )
 

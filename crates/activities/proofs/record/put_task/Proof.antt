@@ -44,6 +44,9 @@ slice-aggregate-text-of c = search needs
 text-of-requires : tie.Need-text-of-requires
 text-of-requires c κs = search needs
 
+slice-aggregate-calendar-text : tie.Need-slice-aggregate-calendar-text
+slice-aggregate-calendar-text c = search needs
+
 calendar-text-requires : tie.Need-calendar-text-requires
 calendar-text-requires c κs = search needs
 
@@ -55,12 +58,12 @@ unfolding contextAt
 returns-2 c =
     let k = c .before .before in
     let t = k .before .before in
-    let i = t .before .before .before in
+    let i = t .before .before .before .before in
     let n = i .before .before in
     let a = n .before .before .before .before .args in
     let x = contextAt (now (a .out)) (a .c) (elementAt (now (a .s)) (a .root)) in
     let e : isElapsed (elementAt (now (a .s)) (a .at)) ≡ false = sym (i .before .is-elapsed .ensures) ∙ i .if1 .left in
-    put-same (activity-of x _ _ _ _ (named-own x (elementAt (now (a .s)) (a .root)) (elementAt (now (a .s)) (a .at)) _ e (t .calendar-text .ensures ∙ ap (textWithUid (elementAt (now (a .s)) (a .root))) (t .before .text-of .ensures)) (n .named-of .ensures)) refl) (k .put-named2 .ensures)
+    put-same (activity-of x _ _ _ _ (named-own x (elementAt (now (a .s)) (a .root)) (elementAt (now (a .s)) (a .at)) _ e (t .calendar-text .ensures ∙ ap (textWithUid (elementAt (now (a .s)) (a .root))) (t .before .before .text-of .ensures)) (n .named-of .ensures)) refl) (k .put-named2 .ensures)
 
 same-length-2 : tie.Need-same-length-2
 same-length-2 c = returns-2 c .step .same
@@ -77,6 +80,7 @@ put-task-spec =
     returns
     slice-aggregate-text-of
     text-of-requires
+    slice-aggregate-calendar-text
     calendar-text-requires
     put-named-requires-2
     same-length-2

@@ -4,7 +4,8 @@ use Rattle.definition.specs.Task.{constraintOf}
 use Rattle.pack.specs.Value.{date-read, constraint-read, years-back}
 use Rattle.tree.specs.Place.{elementAt}
 use Rattle.activities.proofs.Values.{constraint-years}
-use Rattle.activities.proofs.Owed.{date-in-years}
+use Rattle.laws.specs.FitFields.{date-in}
+use Rattle.laws.specs.FitLists.{is-given}
 use borrow.Author.Needs.{needs}
 use Rattle.activities.proofs.value.dates_of.Statement.{statement}
 use Rattle.activities.proofs.value.dates_of.Tie as tie
@@ -39,10 +40,10 @@ returns c =
     let a = k .before .before .args in
     let t = elementAt (now (a .s)) (a .at) in
     record {
-      constraint-is = constraint-read _ (constraintOf t) (k .constraint-of .ensures) (constraint-years _ (dateIn t "ConstraintDate") (date-in-years t "ConstraintDate"));
-      deadline-is = date-read _ (dateIn t "Deadline") (m .date-in .ensures) (years-back _ (date-in-years t "Deadline"));
-      start-is = date-read _ (dateIn t "ActualStart") (l .date-in2 .ensures) (years-back _ (date-in-years t "ActualStart"));
-      finish-is = date-read _ (dateIn t "ActualFinish") (c .date-in3 .ensures) (years-back _ (date-in-years t "ActualFinish"));
+      constraint-is = constraint-read _ (constraintOf t) (k .constraint-of .ensures) (constraint-years _ (dateIn t "ConstraintDate") (is-given (date-in t "ConstraintDate")));
+      deadline-is = date-read _ (dateIn t "Deadline") (m .date-in .ensures) (years-back _ (is-given (date-in t "Deadline")));
+      start-is = date-read _ (dateIn t "ActualStart") (l .date-in2 .ensures) (years-back _ (is-given (date-in t "ActualStart")));
+      finish-is = date-read _ (dateIn t "ActualFinish") (c .date-in3 .ensures) (years-back _ (is-given (date-in t "ActualFinish")));
     }
 
 pub dates-of-spec : {M : Type 1} → statement M

@@ -1,5 +1,4 @@
 -- `names::calendars::calendar_named` meets its contract. Assumes nothing.
-use mathlib.Core.Path.{sym, ap, _∙_}
 use Rattle.tree.specs.Place.{elementAt}
 use Rattle.names.proofs.Found.{is-there, is-absent, named-there, named-absent, beside}
 use borrow.Author.Needs.{needs}

@@ -2,7 +2,6 @@
 use mathlib.Core.Path.{sym, ap, _∙_}
 use Rattle.definition.specs.Base.{same}
 use Rattle.definition.specs.Ascii.{bytes}
-use Rattle.definition.specs.Text.{Text}
 use Rattle.tree.specs.Place.{elementAt}
 use Rattle.pack.specs.Value.{starredBy}
 use Rattle.names.proofs.Starred.{star-none}

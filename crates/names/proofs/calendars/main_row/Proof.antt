@@ -1,5 +1,5 @@
 -- `names::calendars::main_row` meets its contract. Assumes nothing.
-use mathlib.Core.Path.{sym, ap, _∙_}
+use mathlib.Core.Path.{sym, ap}
 use mathlib.Core.Option.{Option, some}
 use Prim.Native.Nat.{ℕ}
 use Rattle.definition.specs.Base.{_>>=_, _or_}

@@ -1,7 +1,4 @@
 -- `names::calendars::wanted_name` meets its contract. Assumes nothing.
-use mathlib.Core.Path.{sym, ap, _∙_}
-use lib.ListN.{length}
-use Rattle.definition.specs.Text.{Text}
 use Rattle.definition.specs.Ascii.{bytes}
 use Rattle.tree.specs.Place.{elementAt}
 use Rattle.names.proofs.Found.{wanted-given, wanted-not}

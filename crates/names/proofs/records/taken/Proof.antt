@@ -1,5 +1,4 @@
 -- `names::records::taken` meets its contract. Assumes nothing.
-use mathlib.Core.Path.{_≡_}
 use mathlib.Core.Bool.{false}
 use Prim.Native.Nat.{_-_, _≤_}
 use Rattle.definition.specs.Base.{same}

@@ -40,26 +40,30 @@ returns c =
 level-of-requires : tie.Need-level-of-requires Inv-loop μ-loop
 level-of-requires c κs = search needs
 
-row-if-requires : tie.Need-row-if-requires Inv-loop μ-loop
-row-if-requires c κs = search needs
+row-when-requires : tie.Need-row-when-requires Inv-loop μ-loop
+row-when-requires c κs = search needs
+
+or-row-requires : tie.Need-or-row-requires Inv-loop μ-loop
+or-row-requires c κs = search needs
 
 add-n : tie.Need-add-n Inv-loop μ-loop
-add-n c = omega (arith, c .before .before .before .before .before .loop-test .taken)
+add-n c = omega (arith, c .before .before .before .before .before .before .loop-test .taken)
 
 next-kept-requires : tie.Need-next-kept-requires Inv-loop μ-loop
 next-kept-requires c κs = search needs
 
 loop-less : tie.Need-loop-less Inv-loop μ-loop
-loop-less c = kept-less (c .before .before .before .before .task .given .1) (c .next-kept .ensures) (omega arith)
+loop-less c = kept-less (c .before .before .before .before .before .task .given .1) (c .next-kept .ensures) (omega arith)
 
 loop-again : tie.Need-loop-again Inv-loop μ-loop
 loop-again c =
     let f = c .before in
-    let u = f .before in
+    let w = f .before in
+    let u = w .before in
     let t = u .before .before in
     let l = t .before .before in
     let a = l .before .before .before .before .args in
-    row-turn (l .before .loop .inv) (take-next (a .row) (l .before .loop .n) (l .loop-test .taken) (kept-next (t .task .given .1) (c .next-kept .ensures))) (ap (λ n. ltb n (a .level)) (u .level-of .ensures)) (f .row-if .ensures) refl
+    row-turn (l .before .loop .inv) (take-next (a .row) (l .before .loop .n) (l .loop-test .taken) (kept-next (t .task .given .1) (c .next-kept .ensures))) (ap (λ n. ltb n (a .level)) (u .level-of .ensures)) (w .row-when .ensures) (f .or-row .ensures) refl
 
 returns-2 : tie.Need-returns-2 Inv-loop μ-loop
 returns-2 c =
@@ -78,7 +82,8 @@ parent-row-spec =
     enum-told
     returns
     level-of-requires
-    row-if-requires
+    row-when-requires
+    or-row-requires
     add-n
     next-kept-requires
     loop-less

@@ -38,27 +38,31 @@ slice-aggregate-text-is c = search needs
 text-is-requires : tie.Need-text-is-requires Inv-loop μ-loop
 text-is-requires c κs = search needs
 
-row-if-requires : tie.Need-row-if-requires Inv-loop μ-loop
-row-if-requires c κs = search needs
+row-when-requires : tie.Need-row-when-requires Inv-loop μ-loop
+row-when-requires c κs = search needs
+
+or-row-requires : tie.Need-or-row-requires Inv-loop μ-loop
+or-row-requires c κs = search needs
 
 add-row : tie.Need-add-row Inv-loop μ-loop
 add-row c =
-    let t = c .before .before .before .before in
+    let t = c .before .before .before .before .before in
     omega (arith, t .before .before .loop .inv .1, room-at (t .task .given .1))
 
 next-kept-requires : tie.Need-next-kept-requires Inv-loop μ-loop
 next-kept-requires c κs = search needs
 
 loop-less : tie.Need-loop-less Inv-loop μ-loop
-loop-less c = kept-less (c .before .before .before .before .before .task .given .1) (c .next-kept .ensures) (omega arith)
+loop-less c = kept-less (c .before .before .before .before .before .before .task .given .1) (c .next-kept .ensures) (omega arith)
 
 loop-again : tie.Need-loop-again Inv-loop μ-loop
 loop-again c =
     let f = c .before in
-    let u = f .before in
+    let w = f .before in
+    let u = w .before in
     let t = u .before .before .before in
     let l = t .before .before in
-    (row-turn (l .loop .inv .0) (kept-next (t .task .given .1) (c .next-kept .ensures)) (u .text-is .ensures) (f .row-if .ensures) refl, omega (arith, l .loop .inv .1, kept-less (t .task .given .1) (c .next-kept .ensures) (omega arith)))
+    (row-turn (l .loop .inv .0) (kept-next (t .task .given .1) (c .next-kept .ensures)) (u .text-is .ensures) (w .row-when .ensures) (f .or-row .ensures) refl, omega (arith, l .loop .inv .1, kept-less (t .task .given .1) (c .next-kept .ensures) (omega arith)))
 
 pub task-row-spec : {M : Type 1} → statement M
 task-row-spec =
@@ -73,7 +77,8 @@ task-row-spec =
     returns
     slice-aggregate-text-is
     text-is-requires
-    row-if-requires
+    row-when-requires
+    or-row-requires
     add-row
     next-kept-requires
     loop-less

@@ -48,8 +48,11 @@ slice-aggregate-text-is c = search needs
 text-is-requires : tie.Need-text-is-requires Inv-loop μ-loop
 text-is-requires c κs = search needs
 
-row-if-requires : tie.Need-row-if-requires Inv-loop μ-loop
-row-if-requires c κs = search needs
+row-when-requires : tie.Need-row-when-requires Inv-loop μ-loop
+row-when-requires c κs = search needs
+
+or-row-requires : tie.Need-or-row-requires Inv-loop μ-loop
+or-row-requires c κs = search needs
 
 wrapping-add-u32-requires : tie.Need-wrapping-add-u32-requires Inv-loop μ-loop
 wrapping-add-u32-requires c κs = search needs
@@ -61,15 +64,16 @@ next-which-requires : tie.Need-next-which-requires Inv-loop μ-loop
 next-which-requires c κs = search needs
 
 loop-less : tie.Need-loop-less Inv-loop μ-loop
-loop-less c = ahead-less _ (c .before .before .before .before .before .before .before .e .given .1) _ (c .next-which .ensures .on)
+loop-less c = ahead-less _ (c .before .before .before .before .before .before .before .before .e .given .1) _ (c .next-which .ensures .on)
 
 loop-again : tie.Need-loop-again Inv-loop μ-loop
 loop-again c =
-    let w = c .before .before in
-    let f = w .before in
-    let u = f .before in
+    let a = c .before .before in
+    let f = a .before in
+    let w = f .before in
+    let u = w .before in
     let t = u .before .before .before in
-    row-turn (t .before .before .loop .inv) (picked-next (t .e .given .1) (c .next-which .ensures)) (u .text-is .ensures) (f .row-if .ensures) (w .wrapping-add-u32 .ensures)
+    row-turn (t .before .before .loop .inv) (picked-next (t .e .given .1) (c .next-which .ensures)) (u .text-is .ensures) (w .row-when .ensures) (f .or-row .ensures) (a .wrapping-add-u32 .ensures)
 
 pub resource-row-spec : {M : Type 1} → statement M
 resource-row-spec =
@@ -86,7 +90,8 @@ resource-row-spec =
     returns
     slice-aggregate-text-is
     text-is-requires
-    row-if-requires
+    row-when-requires
+    or-row-requires
     wrapping-add-u32-requires
     slice-aggregate-next-which
     next-which-requires

@@ -1,0 +1,60 @@
+// How many link elements dangle and go across, as 32 bits hold it.
+ghost use mathlib.Core.Path.{_≡_};
+ghost use Rattle.definition.specs.Ascii.{bytes};
+ghost use Rattle.definition.specs.Tree.{all};
+ghost use Rattle.definition.specs.Task.{contextOf, keptTasks};
+ghost use Rattle.tree.specs.Place.{elementAt};
+ghost use Rattle.links.specs.Fates.{countedBy, countedIn, Counted};
+use crate::Fates;
+use crate::fate::LinkFate;
+use crate::fate::fate_of;
+use rows::KeptAnswer;
+use tree::Found;
+
+fn counted(n: Fates, fate: LinkFate) -> Fates
+    ensures { λ r. ⌜ r ≡ countedBy n fate ⌝ }
+{
+    match fate {
+        LinkFate::Across => Fates {
+            dangling: n.dangling,
+            across: std::num::wrapping_add_u32(n.across, 1),
+        },
+        LinkFate::Dangling => Fates {
+            dangling: std::num::wrapping_add_u32(n.dangling, 1),
+            across: n.across,
+        },
+        LinkFate::Kept(_) => n,
+    }
+}
+
+// With those of the task at `at`.
+fn counted_in(s: &[u8], root: usize, at: usize, n: Fates) -> Fates
+    ensures { λ r. ⌜ r ≡ countedIn (keptTasks (elementAt (now (s .entry)) root)) n (all (elementAt (now (s .entry)) at) (bytes "PredecessorLink")) ⌝ }
+{
+    let mut count = n;
+    let mut link = tree::child(s, at, b"PredecessorLink");
+    loop {
+        let Found::At(p) = link else {
+            return count;
+        };
+        count = counted(count, fate_of(s, root, p));
+        link = tree::next_child(s, p, b"PredecessorLink");
+    }
+}
+
+pub fn count_fates(s: &[u8], root: usize) -> Fates
+    ensures { λ r. ⌜ Counted (contextOf (elementAt (now (s .entry)) root)) r ⌝ }
+{
+    let mut count = Fates {
+        dangling: 0,
+        across: 0,
+    };
+    let mut task = rows::first_kept(s, root);
+    loop {
+        let KeptAnswer::Is(at, left) = task else {
+            return count;
+        };
+        count = counted_in(s, root, at, count);
+        task = rows::next_kept(s, at, left);
+    }
+}

@@ -1,0 +1,62 @@
+// What becomes of a link element.
+ghost use mathlib.Core.Path.{_≡_};
+ghost use Rattle.definition.specs.Answer.{rowMeaning};
+ghost use Rattle.definition.specs.Task.{keptTasks};
+ghost use Rattle.tree.specs.Place.{elementAt};
+ghost use Rattle.links.specs.Fates.{isEntered, fateByRow, fateFor, keptFate};
+use definition::RowAnswer;
+use tree::Found;
+
+// A kept one has the row of its predecessor.
+pub(crate) enum LinkFate {
+    Across,
+    Dangling,
+    Kept(u32),
+}
+
+fn by_row(row: RowAnswer) -> LinkFate
+    ensures { λ r. ⌜ r ≡ fateByRow (rowMeaning row) ⌝ }
+{
+    match row {
+        RowAnswer::Is(n) => LinkFate::Kept(n),
+        RowAnswer::Absent => LinkFate::Dangling,
+    }
+}
+
+pub(crate) fn fate_of(s: &[u8], root: usize, at: usize) -> LinkFate
+    ensures { λ r. ⌜ r ≡ fateFor (keptTasks (elementAt (now (s .entry)) root)) (elementAt (now (s .entry)) at) ⌝ }
+{
+    if tasks::is_across(s, at) {
+        return LinkFate::Across;
+    }
+    if !fields::given(s, at, b"PredecessorUID") {
+        return LinkFate::Dangling;
+    }
+    by_row(rows::task_row(s, root, tree::text_of(s, at, b"PredecessorUID")))
+}
+
+fn is_kept(fate: LinkFate) -> bool
+    ensures { λ r. ⌜ r ≡ keptFate fate ⌝ }
+{
+    match fate {
+        LinkFate::Across => false,
+        LinkFate::Dangling => false,
+        LinkFate::Kept(_) => true,
+    }
+}
+
+// Whether a kept link enters the task at `at`.
+pub fn is_entered(s: &[u8], root: usize, at: usize) -> bool
+    ensures { λ r. ⌜ r ≡ isEntered (keptTasks (elementAt (now (s .entry)) root)) (elementAt (now (s .entry)) at) ⌝ }
+{
+    let mut link = tree::child(s, at, b"PredecessorLink");
+    loop {
+        let Found::At(p) = link else {
+            return false;
+        };
+        if is_kept(fate_of(s, root, p)) {
+            return true;
+        }
+        link = tree::next_child(s, p, b"PredecessorLink");
+    }
+}

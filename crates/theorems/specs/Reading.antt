@@ -1,0 +1,354 @@
+-- The model of a tree that is not refused fits its fields, so the bytes that reading gives decode to that model. Assumes nothing.
+use mathlib.Core.Path.{_≡_, refl, sym, ap, _∙_, subst}
+use mathlib.Core.Bool.{Bool, true, false, true≢false, not}
+use mathlib.Core.List.{List, [], _∷_, _++_, map}
+use mathlib.Core.Option.{Option, some, none}
+use Prim.Native.Nat.{ℕ, zero, suc, _+_, _^_, _≤_, _<_}
+use native.Mathlib.Omega.{arith}
+use borrow.Author.Tests.{ltb-false}
+use lib.Dec.{ltb, leb}
+use lib.ListN.{length, length-append, length-map}
+use Rattle.definition.specs.Base.{if_then_else_, _>>=_, _or_, _orElse_, given, keep, every?, some?, findLast, present, numbered, same}
+use Rattle.definition.specs.Ascii.{bytes}
+use Rattle.definition.specs.Text.{Text}
+use Rattle.definition.specs.Date.{epoch}
+use Rattle.definition.specs.Tree.{Rec, records, layout, belowRoot, Element, element, all}
+use Rattle.definition.specs.Field.{textIn, yesIn, dateIn}
+use Rattle.definition.specs.Model.{Calendar, Activity, Link, Resource, Assignment, Expense, Model}
+use Rattle.definition.specs.Calendar.{Named, calendarElements, builtCalendars, elapsedCalendar, skipped}
+use Rattle.definition.specs.Task.{Context, contextOf, keptTasks, levelOf, rowOf, activityOf, activitiesAfter, activities, isElapsed}
+use Rattle.definition.specs.Link.{Fate, across, dangling, kept, linkOf, fateBy, fateOf, fates, keptOf, isDangling, isAcross, links, entered}
+use Rattle.definition.specs.Resource.{workResources, costResources, resourceOf, resourcesAfter, resources, assignmentElements, taskRow, costOf, resourceRow, assignmentFrom, assignmentOf, assignments, expenseFrom, expenseOf, sameExpense, firsts, expenses}
+use Rattle.definition.specs.Read.{projectOf, calendarsOf, modelOf}
+use Rattle.definition.specs.Pack.{encode, decode}
+use Rattle.definition.specs.Refusal.{Answer, refused, gives, inRoom, mostElements, utf8?, project?, tooLong, treeRefusal, unless, readAnswer}
+use Rattle.laws.specs.Bits.{Bytes}
+use Rattle.laws.specs.Each.{Each, empty, next, each-append}
+use Rattle.laws.specs.Formats.{IsText}
+use Rattle.laws.specs.Fields.{InYears}
+use Rattle.laws.specs.FitRecords.{FitsProject, FitsCalendar, FitsActivity, FitsLink, FitsResource, FitsAssignment, FitsExpense}
+use Rattle.laws.specs.FitLists.{each-flat, Perhaps, missing, there, is-given, perhaps-or, perhaps-else, perhaps-if, perhaps-bind, perhaps-any, each-present, each-last, each-row}
+use Rattle.laws.specs.FitTrees.{Holds, Texts, says, holds-tasks, holds-work, holds-costs, keep-most, calendars-most, resources-most, assignments-most, tasks-most}
+use Rattle.laws.specs.FitNames.{built-length, calendarsIn}
+use Rattle.laws.specs.FitFields.{each-map-any, date-in}
+use Rattle.laws.specs.FitCalendars.{text-none, text-is, fit-names, fit-built, fit-calendars}
+use Rattle.laws.specs.FitActivities.{text-in, fit-activity, fit-link}
+use Rattle.laws.specs.FitResources.{fit-resource, fit-expense, fit-assignment}
+use Rattle.theorems.specs.Utf8.{Neat, neat-texts, neat-element}
+use Rattle.theorems.specs.Counts.{below, root-most, skipped-most, fates-most}
+use Rattle.theorems.specs.Packing.{Rows, FitsModel, decode-encode}
+
+-- ---- rows
+
+row-in : (es : List Element) (u : Text) → Perhaps (λ n. n < length es) (rowOf es u)
+unfolding rowOf
+row-in es u = perhaps-bind (each-last (λ (x : ℕ × Element). same (textIn (x .1) "UID" or []) u) (each-row 0 es)) (λ x h. there (row (x .0) h))
+  where
+    row : (n : ℕ) → n < 0 + length es → n < length es
+    row n h = omega arith
+
+perhaps-less : {A : Type 0} {P Q : A → Type 0} {o : Option A} → ((a : A) → P a → Q a) → Perhaps P o → Perhaps Q o
+perhaps-less f missing = missing
+perhaps-less f (there {a = a} h) = there (f a h)
+
+present-most : {A : Type 0} (l : List (Option A)) → length (present l) ≤ length l
+unfolding present
+present-most [] = omega arith
+present-most (none ∷ l) = omega (arith, present-most l)
+present-most (some x ∷ l) = omega (arith, present-most l)
+
+-- ---- activities
+
+module _ (x : Context) (entered : ℕ → Bool) (names : Each (λ (n : Named). IsText (n .1 .name)) (x .built)) where
+  activities-fit : {done : List Activity} (levels : List ℕ) {ts : List Element} → Each FitsActivity done → Each (Holds Neat) ts
+      → length done + length ts ≤ 5000000 → length levels + length ts ≤ 2 ^ 32 → Each FitsActivity (activitiesAfter x entered done levels ts)
+  unfolding activitiesAfter
+  activities-fit levels d empty m n = d
+  activities-fit {done} levels d (next {x = t} {l = ts} h hs) m n =
+      let ids = map (λ (a : Activity). a .id) done in
+      let i : length ids ≤ 5000000 = omega (arith, length-map done (λ (a : Activity). a .id)) in
+      let a = fit-activity neat-texts x ids levels (entered (length done)) h names i (omega arith) in
+      activities-fit (levels ++ (levelOf t ∷ [])) (each-append d (next a empty)) hs
+      (omega (arith, length-append done (activityOf x ids levels (entered (length done)) t ∷ [])))
+      (omega (arith, length-append levels (levelOf t ∷ [])))
+
+activities-length : (x : Context) (entered : ℕ → Bool) (done : List Activity) (levels : List ℕ) (ts : List Element)
+    → length (activitiesAfter x entered done levels ts) ≡ length done + length ts
+unfolding activitiesAfter
+activities-length x entered done levels [] = omega arith
+activities-length x entered done levels (t ∷ ts) =
+    let a = activityOf x (map (λ (a : Activity). a .id) done) levels (entered (length done)) t in
+    activities-length x entered (done ++ (a ∷ [])) (levels ++ (levelOf t ∷ [])) ts ∙ omega (arith, length-append done (a ∷ []))
+
+-- ---- links
+
+abbrev FitsFate : Fate → Type 0
+FitsFate across = Unit {0}
+FitsFate dangling = Unit {0}
+FitsFate (kept l) = FitsLink l
+
+fate-fits : (x : Context) (row : ℕ) (l : Element) → row < 0 + length (x .tasks) → length (x .tasks) ≤ 100000 → FitsFate (fateOf x row l)
+unfolding fateOf
+fate-fits x row l h m = by (yesIn l "CrossProject")
+  where
+    found : {o : Option ℕ} → Perhaps (λ n. n < length (x .tasks)) o → FitsFate (fateBy x row l o)
+    found missing = tt
+    found (there {a = p} k) = fit-link x p row l (omega arith) (omega arith)
+
+    by : (t : Bool) → FitsFate (if t then across else fateBy x row l (textIn l "PredecessorUID" >>= rowOf (x .tasks)))
+    by true = tt
+    by false = found (perhaps-any (textIn l "PredecessorUID") (row-in (x .tasks)))
+
+fates-fit : (x : Context) → length (x .tasks) ≤ 100000 → Each FitsFate (fates x)
+unfolding fates
+fates-fit x m =
+    each-flat (λ (p : ℕ × Element). map (fateOf x (p .0)) (all (p .1) (bytes "PredecessorLink")))
+    (λ p h. each-map-any (fateOf x (p .0)) (λ l. fate-fits x (p .0) l h m) (all (p .1) (bytes "PredecessorLink")))
+    (each-row 0 (x .tasks))
+
+kept-fit : {l : List Fate} → Each FitsFate l → Each FitsLink (keptOf l)
+unfolding keptOf
+kept-fit empty = empty
+kept-fit (next {x = across} h hs) = kept-fit hs
+kept-fit (next {x = dangling} h hs) = kept-fit hs
+kept-fit (next {x = kept l} h hs) = next h (kept-fit hs)
+
+kept-most : (l : List Fate) → length (keptOf l) ≤ length l
+unfolding keptOf
+kept-most [] = omega arith
+kept-most (across ∷ l) = omega (arith, kept-most l)
+kept-most (dangling ∷ l) = omega (arith, kept-most l)
+kept-most (kept x ∷ l) = omega (arith, kept-most l)
+
+-- ---- resources, assignments, expenses
+
+module _ (x : Context) (names : Each (λ (n : Named). IsText (n .1 .name)) (x .built)) where
+  resources-fit : {done : List Resource} {rs : List Element} → Each FitsResource done → Each (Holds Neat) rs → length done + length rs ≤ 5000000
+      → Each FitsResource (resourcesAfter x done rs)
+  unfolding resourcesAfter
+  resources-fit d empty m = d
+  resources-fit {done} d (next {x = r} {l = rs} h hs) m =
+      let ids = map (λ (d : Resource). d .id) done in
+      let i : length ids ≤ 5000000 = omega (arith, length-map done (λ (d : Resource). d .id)) in
+      resources-fit (each-append d (next (fit-resource neat-texts x ids h names i) empty)) hs (omega (arith, length-append done (resourceOf x ids r ∷ [])))
+
+resources-length : (x : Context) (done : List Resource) (rs : List Element) → length (resourcesAfter x done rs) ≡ length done + length rs
+unfolding resourcesAfter
+resources-length x done [] = omega arith
+resources-length x done (r ∷ rs) =
+    let a = resourceOf x (map (λ (d : Resource). d .id) done) r in
+    resources-length x (done ++ (a ∷ [])) rs ∙ omega (arith, length-append done (a ∷ []))
+
+module _ (x : Context) (root : Element) (few : length (x .tasks) ≤ 100000) where
+  task-in : (a : Element) → Perhaps (λ n. n < 2 ^ 32) (taskRow x a)
+  task-in a = perhaps-less row (perhaps-any (textIn a "TaskUID") (row-in (x .tasks)))
+    where
+      row : (n : ℕ) → n < length (x .tasks) → n < 2 ^ 32
+      row n h = omega arith
+
+  assignment-fits : length (workResources root) ≤ 5000000 → (a : Element) → Perhaps FitsAssignment (assignmentOf x root a)
+  unfolding assignmentOf
+  assignment-fits m a =
+      perhaps-if (given (costOf root a)) missing
+      (perhaps-bind (task-in a)
+      (λ t h. perhaps-bind (perhaps-any (textIn a "ResourceUID") (row-in (workResources root))) (λ r k. there (fit-assignment t r a h (row r k)))))
+    where
+      row : (n : ℕ) → n < length (workResources root) → n < 2 ^ 32
+      row n h = omega arith
+
+  expense-fits : Each (Holds Neat) (costResources root) → (a : Element) → Perhaps FitsExpense (expenseOf x root a)
+  unfolding expenseOf
+  expense-fits c a =
+      perhaps-bind (task-in a)
+      (λ t h. perhaps-bind (perhaps-any (textIn a "ResourceUID") (λ u. each-last (λ r. same (textIn r "UID" or []) u) c)) (λ r k. there (fit-expense neat-texts t a k h)))
+
+firsts-fit : {P : Expense → Type 0} {done es : List Expense} → Each P done → Each P es → Each P (firsts done es)
+unfolding firsts
+firsts-fit d empty = d
+firsts-fit {P} {done} d (next {x = e} h hs) = firsts-fit (by (some? (sameExpense e) done)) hs
+  where
+    by : (t : Bool) → Each P (if t then done else done ++ (e ∷ []))
+    by true = d
+    by false = each-append d (next h empty)
+
+firsts-most : (done es : List Expense) → length (firsts done es) ≤ length done + length es
+unfolding firsts
+firsts-most done [] = omega arith
+firsts-most done (e ∷ es) = by (some? (sameExpense e) done) (firsts-most done es) (firsts-most (done ++ (e ∷ [])) es)
+  where
+    by : (t : Bool) → length (firsts done es) ≤ length done + length es → length (firsts (done ++ (e ∷ [])) es) ≤ length (done ++ (e ∷ [])) + length es
+        → length (firsts (if t then done else done ++ (e ∷ [])) es) ≤ length done + suc (length es)
+    by true h k = omega arith
+    by false h k = omega (arith, length-append done (e ∷ []))
+
+-- ---- the whole
+
+calendars-length : (x : Context) → length (calendarsOf x) ≤ length (x .built) + 2
+unfolding calendarsOf
+calendars-length x =
+    let others = keep (λ (c : Calendar). not (same (c .name) (x .main .name))) (calendarsIn (x .built)) in
+    omega (
+      arith,
+      length-append (x .main ∷ others) (if some? isElapsed (x .tasks) then elapsedCalendar ∷ [] else []),
+      one (some? isElapsed (x .tasks)),
+      keep-most (λ (c : Calendar). not (same (c .name) (x .main .name))) (calendarsIn (x .built)),
+      length-map (x .built) (λ (n : Named). n .1),
+    )
+  where
+    one : (t : Bool) → length (if t then elapsedCalendar ∷ [] else []) ≤ 1
+    one true = omega arith
+    one false = omega arith
+
+project-fits : (x : Context) {root : Element} → Holds Neat root → skipped root < 2 ^ 32 → length (fates x) < 2 ^ 32 → FitsProject (projectOf x root)
+unfolding projectOf
+project-fits x {root} h s f = (
+  text-is neat-texts (perhaps-or {P = Neat} [] (perhaps-else (says neat-texts h "Title") (says neat-texts h "Name")) (text-none neat-texts)),
+  (
+    perhaps-or {P = InYears} epoch (date-in root "StartDate") (omega arith, omega arith),
+    (
+      text-in neat-texts h "CurrencySymbol",
+      (
+        s,
+        (
+          omega (arith, keep-most isDangling (fates x)),
+          (omega (arith, keep-most isAcross (fates x)), is-given (date-in root "StatusDate")),
+        ),
+      ),
+    ),
+  ),
+)
+
+module _ (rs : List Rec) (few : length rs ≤ 5000000) (h : Holds Neat (element rs)) where
+  abbrev root : Element
+  root = element rs
+
+  abbrev context : Context
+  context = contextOf root
+
+  tasks-few : length (context .tasks) ≤ 100000
+  unfolding contextOf
+  tasks-few = tasks-most root
+
+  calendars-few : length (calendarElements root) ≤ 5000000
+  calendars-few = omega (arith, calendars-most rs)
+
+  built-names : Each (λ (n : Named). IsText (n .1 .name)) (context .built)
+  unfolding contextOf
+  built-names = fit-names IsText (fit-built neat-texts h calendars-few)
+
+  built-few : length (context .built) ≤ 5000000
+  unfolding contextOf
+  built-few = omega (arith, built-length root, calendars-few)
+
+  fates-few : length (fates context) ≤ 5000000
+  unfolding contextOf
+  fates-few = omega (arith, fates-most context root refl, root-most rs)
+
+  tasks-hold : Each (Holds Neat) (context .tasks)
+  unfolding contextOf
+  tasks-hold = holds-tasks h
+
+  activities-rows : (entered : ℕ → Bool) → Rows FitsActivity (activities context entered)
+  unfolding activities
+  activities-rows entered = (
+    omega (arith, activities-length context entered [] [] (context .tasks), tasks-few),
+    activities-fit context entered built-names [] empty tasks-hold (omega (arith, tasks-few)) (omega (arith, tasks-few)),
+  )
+
+  links-rows : Rows FitsLink (links context)
+  unfolding links
+  links-rows = (omega (arith, kept-most (fates context), fates-few), kept-fit (fates-fit context tasks-few))
+
+  work-few : length (workResources root) ≤ 5000000
+  work-few = omega (arith, resources-most rs)
+
+  resources-rows : Rows FitsResource (resources context root)
+  unfolding resources
+  resources-rows = (
+    omega (arith, resources-length context [] (workResources root), work-few),
+    resources-fit context built-names empty (holds-work h) (omega (arith, work-few)),
+  )
+
+  assignments-rows : Rows FitsAssignment (assignments context root)
+  unfolding assignments
+  assignments-rows =
+      let es = assignmentElements root in (
+        omega (arith, present-most (map (assignmentOf context root) es), length-map es (assignmentOf context root), assignments-most rs),
+        each-present (each-map-any (assignmentOf context root) (assignment-fits context root tasks-few work-few) es),
+      )
+
+  expenses-rows : Rows FitsExpense (expenses context root)
+  unfolding expenses
+  expenses-rows =
+      let es = assignmentElements root in
+      let l = present (map (expenseOf context root) es) in (
+        omega (arith, firsts-most [] l, present-most (map (expenseOf context root) es), length-map es (expenseOf context root), assignments-most rs),
+        firsts-fit empty (each-present (each-map-any (expenseOf context root) (expense-fits context root tasks-few (holds-costs h)) es)),
+      )
+
+  pub model-fits : FitsModel (modelOf root)
+  unfolding modelOf
+  model-fits = record {
+    project = project-fits context h (omega (arith, skipped-most root, root-most rs)) (omega (arith, fates-few));
+    calendars = (omega (arith, calendars-length context, built-few), fit-calendars neat-texts h calendars-few);
+    activities = activities-rows (entered (links context));
+    links = links-rows;
+    resources = resources-rows;
+    assignments = assignments-rows;
+    expenses = expenses-rows;
+  }
+
+-- ---- a tree that is not refused
+
+record Accepted (s : Text) : Type 0 where
+  utf8 : every? utf8? (records s) ≡ true
+  few : length (records s) ≤ 5000000
+
+accepted : (s : Text) → treeRefusal s ≡ 0 → Accepted s
+unfolding treeRefusal
+accepted s h = by (layout s) (every? utf8? (records s)) (ltb mostElements (length (records s))) refl refl h
+  where
+    rest : ℕ
+    rest = if not (project? (records s)) then 4 else if some? tooLong (belowRoot (records s)) then 5 else 0
+
+    by : (l u m : Bool) → every? utf8? (records s) ≡ u → ltb mostElements (length (records s)) ≡ m
+        → (if not l then 1 else if not u then 2 else if m then 3 else rest) ≡ 0 → Accepted s
+    by true true false e f k = record { utf8 = e; few = ltb-false mostElements (length (records s)) f }
+    by true true true e f k = absurd (omega arith)
+    by true false m e f k = absurd (omega arith)
+    by false u m e f k = absurd (omega arith)
+
+-- the model of a tree that is not refused fits
+pub read-fits : (s : Text) → Bytes s → treeRefusal s ≡ 0 → FitsModel (modelOf (element (records s)))
+read-fits s b h = let a = accepted s h in model-fits (records s) (a .few) (neat-element s b (a .utf8))
+
+-- so its bytes decode to it
+pub read-decodes : (s : Text) → Bytes s → treeRefusal s ≡ 0 → decode (encode (modelOf (element (records s)))) ≡ some (modelOf (element (records s)))
+read-decodes s b h = decode-encode (modelOf (element (records s))) (read-fits s b h)
+
+abbrev bytesIn : Answer → List ℕ
+bytesIn (refused n) = []
+bytesIn (gives l) = l
+
+abbrev isGiven : Answer → Bool
+isGiven (refused n) = false
+isGiven (gives l) = true
+
+unless-given : (n : ℕ) (a : Answer) (l : List ℕ) → unless n a ≡ gives l → (n ≡ 0) × (a ≡ gives l)
+unless-given n a l h = by (ltb 0 n) refl h
+  where
+    by : (t : Bool) → ltb 0 n ≡ t → (if t then refused n else a) ≡ gives l → (n ≡ 0) × (a ≡ gives l)
+    by true e k = absurd (true≢false (sym (ap isGiven k)))
+    by false e k = (omega (arith, ltb-false 0 n e), k)
+
+in-room : (t : Bool) (m l : List ℕ) → (if t then gives m else refused 9) ≡ gives l → m ≡ l
+in-room true m l h = ap bytesIn h
+in-room false m l h = absurd (true≢false (sym (ap isGiven h)))
+
+-- what reading gives decodes to the model of the tree
+pub answer-decodes : (s : Text) (room : ℕ) (l : List ℕ) → Bytes s → readAnswer s room ≡ gives l → decode l ≡ some (modelOf (element (records s)))
+unfolding readAnswer inRoom
+answer-decodes s room l b h =
+    let m = encode (modelOf (element (records s))) in
+    let (z, k) = unless-given (treeRefusal s) (if leb (length m) room then gives m else refused 9) l h in
+    ap decode (sym (in-room (leb (length m) room) m l k)) ∙ read-decodes s b z
