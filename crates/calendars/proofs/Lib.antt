@@ -6,3 +6,8 @@ pub mod Copies
 pub mod Keys
 pub mod Times
 pub mod PlainCalendars
+pub mod Overs
+pub mod WeekHours
+pub mod Orders
+pub mod Turning
+pub mod Builts

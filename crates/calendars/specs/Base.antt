@@ -12,8 +12,8 @@ use Rattle.bits.specs.Reads.{Reads}
 use Rattle.bits.specs.Steps.{Puts}
 use Rattle.bits.specs.declared.Place.{Place}
 use Rattle.model.specs.declared.parts.CalendarPlaces.{CalendarPlaces}
-use Rattle.calendars.specs.declared.days.Base.{Base}
-use Rattle.calendars.specs.declared.days.Base.the-variants.{At, Default}
+use Rattle.calendars.specs.declared.base.Base.{Base}
+use Rattle.calendars.specs.declared.base.Base.the-variants.{At, Default}
 
 -- the parts of a record that stands before a place
 pub record Based (r : CalendarPlaces) (d : List ℕ) (p : Place) (c : Calendar) : Type 0 where

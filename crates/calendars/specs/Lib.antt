@@ -3,7 +3,7 @@ pub mod Places
 pub mod Inserts
 pub mod Hours
 pub mod Plain
+pub mod Days
 pub mod Base
 pub mod Record
-pub mod Temp
 pub mod Built

@@ -20,7 +20,7 @@ use Rattle.bits.specs.Steps.{Puts}
 use Rattle.bits.specs.declared.Place.{Place}
 use Rattle.calendar.specs.Week.{flagsIn}
 use Rattle.pack.specs.Value.{starredBy}
-use Rattle.calendars.specs.declared.days.Base.{Base}
+use Rattle.calendars.specs.declared.base.Base.{Base}
 use Rattle.calendars.specs.Base.{BaseIs, Over}
 
 -- ---- the week

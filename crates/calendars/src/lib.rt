@@ -1,5 +1,7 @@
 // Calendars written: their lists, kept rising while they are the last thing written, their hours, and the two calendars that no file gives.
+mod base;
 mod built;
+mod dates;
 mod days;
 mod hours;
 mod list;

@@ -1,34 +1,28 @@
+use mathlib.Core.Path.{ap}
+use Rattle.bits.specs.Reads.{field-lt}
+use native.Mathlib.Omega.{arith}
+use Rattle.calendars.proofs.WeekHours.{week-at, week-default}
 use borrow.Author.Needs.{needs}
 use Rattle.calendars.proofs.record.base_week.Statement.{statement}
 use Rattle.calendars.proofs.record.base_week.Tie as tie
-use Rattle.calendars.proofs.record.base_week.Reads as reads
-use Rattle.calendars.proofs.record.base_week.Lts as lts
-use Rattle.bits.proofs.take.Reads as take-reads
 
--- src/record.rt:32:18
 enum-known-base : tie.Need-enum-known-base
 enum-known-base c = search needs
 
--- src/record.rt:32:24
 take-requires : tie.Need-take-requires
 take-requires c κs = search needs
 
--- src/record.rt:32:24
 cast-result : tie.Need-cast-result
-cast-result c = ?
+cast-result c = let h = field-lt (c .before .before .before .before .before .before .args .out .now) _ 7 (c .before .take .ensures) in record { fits = omega (arith, h) }
 
--- src/record.rt:33:26
 enum-told : tie.Need-enum-told
 enum-told c = search needs
 
--- src/record.rt:28:1
 returns : tie.Need-returns
-returns c = ?
+returns c = rw (c .before .before .before .base .given .1) (week-at (ap (λ x. x .value) (c .before .take .ensures)))
 
--- src/record.rt:28:1
 returns-2 : tie.Need-returns-2
-returns-2 c = ?
+returns-2 c = rw (c .enum-told .given .1) (week-default (c .before .before .before .args .out .now))
 
 pub base-week-spec : {M : Type 1} → statement M
-base-week-spec =
-    tie.close (tie.spec enum-known-base take-requires cast-result enum-told returns returns-2)
+base-week-spec = tie.close (tie.spec enum-known-base take-requires cast-result enum-told returns returns-2)

@@ -1,52 +1,32 @@
+use Rattle.calendars.proofs.Times.{begun}
+use Rattle.calendars.proofs.WeekHours.{base-hours-at, base-hours-default}
 use borrow.Author.Needs.{needs}
 use Rattle.calendars.proofs.record.put_base_hours.Statement.{statement}
 use Rattle.calendars.proofs.record.put_base_hours.Tie as tie
-use Rattle.calendars.proofs.record.put_base_hours.Reads as reads
-use Rattle.calendars.proofs.record.put_base_hours.Lts as lts
-use Rattle.calendars.proofs.list.begin.Reads as begin-reads
-use Rattle.calendars.proofs.record.copy_hours.Reads as copy-hours-reads
 
--- src/record.rt:115:18
 enum-known-base : tie.Need-enum-known-base
 enum-known-base c = search needs
 
--- src/record.rt:115:24
 copy-hours-requires : tie.Need-copy-hours-requires
 copy-hours-requires c κs = search needs
 
--- src/record.rt:116:32
 enum-told : tie.Need-enum-told
 enum-told c = search needs
 
--- src/record.rt:116:26
 begin-requires : tie.Need-begin-requires
 begin-requires c κs = search needs
 
--- src/record.rt:111:1
 same-length : tie.Need-same-length
 same-length c = search needs
 
--- src/record.rt:111:1
 returns : tie.Need-returns
-returns c = ?
+returns c = rw (c .before .before .before .before .before .base .given .1) (base-hours-at (c .before .before .copy-hours .ensures))
 
--- src/record.rt:111:1
 same-length-2 : tie.Need-same-length-2
 same-length-2 c = search needs
 
--- src/record.rt:111:1
 returns-2 : tie.Need-returns-2
-returns-2 c = ?
+returns-2 c = rw (c .before .before .before .before .enum-told .given .1) (base-hours-default (begun (c .before .before .begin .ensures)))
 
 pub put-base-hours-spec : {M : Type 1} → statement M
-put-base-hours-spec =
-    tie.close
-    (tie.spec
-    enum-known-base
-    copy-hours-requires
-    enum-told
-    begin-requires
-    same-length
-    returns
-    same-length-2
-    returns-2)
+put-base-hours-spec = tie.close (tie.spec enum-known-base copy-hours-requires enum-told begin-requires same-length returns same-length-2 returns-2)
