@@ -1,11 +1,12 @@
 -- Calendars built one after another behind each other; the default one, the main one and the elapsed one. Assumes nothing.
 use mathlib.Core.Path.{_≡_, refl, sym, ap, subst, _∙_}
-use mathlib.Core.Bool.{Bool, true, false, true≢false, not}
+use mathlib.Core.Bool.{Bool, true, false, true≢false, not, _&&_}
 use mathlib.Core.List.{List, [], _∷_, _++_, map, append-assoc, append-nil, map-append}
 use mathlib.Core.Option.{Option, some, none}
 use Prim.Native.Nat.{ℕ, zero, suc, _+_, _%_, _^_, _≤_, _<_}
 use native.Mathlib.Omega.{arith}
 use lib.Dec.{leb, eqb}
+use borrow.Author.Tests.{leb-true, eqb-true}
 use lib.ListN.{length, take, drop, getElem?, length-append, length-map}
 use Rattle.definition.specs.Base.{if_then_else_, _>>=_, _or_, _orElse_, given, keep, first, find, same, some?}
 use Rattle.definition.specs.Bits.{pad}
@@ -19,8 +20,9 @@ use Rattle.definition.specs.Read.{calendarsOf}
 use Rattle.definition.specs.Refusal.{mostElements}
 use Rattle.definition.specs.Task.{contextOf, keptTasks, isElapsed}
 use Rattle.definition.specs.Calendar.{Named, baseOf, withUid, build, builtCalendars, mainCalendar, calendarElements, calendarOf, renamed, free, defaultCalendar, elapsedCalendar}
+use Rattle.laws.specs.Bools.{both}
 use Rattle.laws.specs.Each.{Each, empty, next, each-append, each-front, each-back}
-use Rattle.bits.specs.Places.{at, place, inside, room-fits}
+use Rattle.bits.specs.Places.{at, place, past, inside, room-fits}
 use Rattle.bits.specs.Reads.{Reads, rest-in}
 use Rattle.bits.specs.Steps.{Puts, put-same, put-no, put-more}
 use Rattle.bits.specs.declared.Place.{Place}
@@ -30,7 +32,7 @@ use Rattle.model.specs.Splits.{split-⊗}
 use Rattle.model.specs.declared.parts.CalendarPlaces.{CalendarPlaces}
 use Rattle.model.specs.declared.records.Kind.the-variants.{Calendars}
 use Rattle.pack.specs.Value.{starredBy}
-use Rattle.pack.specs.Writes.{Writes, WritesIf}
+use Rattle.pack.specs.Writes.{Writes, WritesIf, writes-if, writes-not}
 use Rattle.pack.specs.declared.record.Records.{Records}
 use Rattle.rows.specs.Rows.{inOrder, mainIn, calendarMeaning, withUidIn}
 use Rattle.rows.specs.declared.CalendarAnswer.{CalendarAnswer}
@@ -132,6 +134,9 @@ base-found s {root} {e} {start} {count} {d} {b} g found m h = record {
 }
 
 -- ---- one more
+
+pub stars-as : {v w : Text} (r : ℕ) (names : List Text) → w ≡ v → starredBy w r ≡ free names w → starredBy v r ≡ free names v
+stars-as r names e h = subst (λ t. starredBy t r ≡ free names t) e h
 
 stand-more : {cs : List Calendar} {d₀ : List ℕ} {start : Place} {d : List ℕ} {r : Records} {c : Calendar} {d' : List ℕ} {r' : Records} → Stand cs d₀ start d r → Puts (whole calendar) c d (r .next) d' (r' .next)
     → r' .count ≡ r .count + 1 → Stand (cs ++ (c ∷ [])) d₀ start d' r'
@@ -289,3 +294,15 @@ calendars-written s root found m small few {d} {p} b built t e =
     let z = e .adds d p (mainFirst root) (omega arith) y in
     let l = length-append (mainFirst root) (elapsedIn root) in
     record { puts = z .puts; counts = z .counts ∙ omega (arith, elapsed-length root) }
+
+module _ (s : Text) (root : Element) {d : List ℕ} {p : Place} {n : ℕ} (is : n ≡ length (calendarElements root)) where
+  pub calendars-if : Small root → (leb n 5000000 && eqb (p .bit % 8) 0) ≡ true → (found : CalendarAnswer) → calendarMeaning s found ≡ mainIn root → {d1 : List ℕ} {r : Records} {d2 d3 : List ℕ} {r' : Records}
+      → PutsBuilt root d p d1 r → TurnsMain found p d1 d2 → AddsElapsed root d2 r d3 r' → WritesIf (leb (length (calendarElements root)) mostElements && eqb (p .bit % 8) 0) (whole calendar) (calendarsOf (contextOf root)) d p d3 r'
+  calendars-if small e found m built t el =
+      let e' : (leb (length (calendarElements root)) mostElements && eqb (p .bit % 8) 0) ≡ true = rw is at e in
+      let (few, begins) = both (leb (length (calendarElements root)) mostElements) (eqb (p .bit % 8) 0) e' in
+      writes-if (whole calendar) e' (calendars-written s root found m small (leb-true _ _ few) (eqb-true _ _ begins) built t el)
+
+  pub calendars-not : (leb n 5000000 && eqb (p .bit % 8) 0) ≡ false → {r : Records} → r .next ≡ past
+      → WritesIf (leb (length (calendarElements root)) mostElements && eqb (p .bit % 8) 0) (whole calendar) (calendarsOf (contextOf root)) d p d r
+  calendars-not e z = let e' : (leb (length (calendarElements root)) mostElements && eqb (p .bit % 8) 0) ≡ false = rw is at e in writes-not (whole calendar) e' z

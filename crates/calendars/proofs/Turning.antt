@@ -30,7 +30,7 @@ use Rattle.model.specs.declared.records.Kind.the-variants.{Calendars}
 use Rattle.pack.specs.declared.record.Records.{Records}
 use Rattle.names.specs.Kept.{there-at, there-inside}
 use Rattle.names.specs.Texts.{placeOfRow}
-use Rattle.names.specs.Records.{CalendarFields, calendarFields, plainCalendars, plain-calendars, calendars-lie, Lies, before-row, place-last}
+use Rattle.names.specs.Records.{CalendarFields, calendarFields, plainCalendars, plain-calendars, calendars-lie, Lies, lies-front}
 use Rattle.calendars.specs.Built.{Stand, turned, Turns}
 
 -- ---- bits that go by the place modulo 8
@@ -165,19 +165,12 @@ unfolding putAll calendarParts raw calendar text via whole _⊗_
 put-plain n [] = refl
 put-plain n (c ∷ cs) = ap (λ (b : Bits). whole calendar .put n c ++ b) (put-plain (n + length (whole calendar .put n c)) cs)
 
--- the first of some records end where the next one stands
-front-lies : {d : List ℕ} {p : Place} (us vs : List CalendarFields) {q : Place} → Lies plainCalendars (CalendarParts Short) d p (us ++ vs) q → Lies plainCalendars (CalendarParts Short) d p us (placeOfRow Calendars d p (length us))
-front-lies {d} {p} us [] {q} l =
-    let m : Lies plainCalendars (CalendarParts Short) d p us q = rw (append-nil us) at l in
-    rw (place-last plain-calendars m) m
-front-lies us (x ∷ vs) l = before-row plain-calendars us x vs l
-
 module _ (k : ℕ) {cs : List Calendar} {d₀ : List ℕ} {p : Place} {d : List ℕ} {q : Place} (h : Puts (times k (whole calendar)) cs d₀ p d q) (i : inside (length d) q ≡ true) (fit : Each (FitsCalendarBy Short) cs)
          (begins : at p % 8 ≡ 0) where
   row-place : (us vs : List Calendar) → cs ≡ us ++ vs → Offset d p (length (recs us)) (placeOfRow Calendars d p (length us))
   row-place us vs e =
       let all : Lies plainCalendars (CalendarParts Short) d p (map calendarFields us ++ map calendarFields vs) q = rw (e, map-append calendarFields us vs) at (calendars-lie k h i fit) in
-      let l = rw (length-map us calendarFields) at (front-lies (map calendarFields us) (map calendarFields vs) all) in
+      let l = rw (length-map us calendarFields) at (lies-front plain-calendars (map calendarFields us) (map calendarFields vs) all .0) in
       let t = l .there in
       let n : length (putAll plainCalendars (at p) (map calendarFields us)) ≡ length (recs us) = ap length (put-plain (at p) us ∙ recs-at (at p) us begins) in
       record { inner = there-inside t; is = there-at t ∙ ap (λ (n : ℕ). at p + n) n }

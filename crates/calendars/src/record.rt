@@ -4,7 +4,6 @@ ghost use mathlib.Core.List.{List, _∷_};
 ghost use Rattle.definition.specs.Base.{findLast};
 ghost use Rattle.definition.specs.Ascii.{bytes};
 ghost use Rattle.definition.specs.Format.{periods};
-ghost use Rattle.definition.specs.Tree.{all};
 ghost use Rattle.definition.specs.Calendar.{weekDays};
 ghost use Rattle.tree.specs.Place.{elementAt, laterAt};
 ghost use Rattle.bits.specs.Steps.{Puts};
@@ -70,22 +69,13 @@ fn last_day_from(s: &[u8], first: usize, day: usize) -> Found
     }
 }
 
-fn last_day_in(s: &[u8], at: usize, day: usize) -> Found
-    ensures { λ r. ⌜ foundMeaning (now (s .entry)) r ≡ findLast (onPlace day) (all (elementAt (now (s .entry)) at) (bytes "WeekDay")) ⌝ }
-{
-    match tree::child(s, at, b"WeekDay") {
-        Found::Nothing => Found::Nothing,
-        Found::At(first) => last_day_from(s, first, day),
-    }
-}
-
 // The last WeekDay of a Calendar for a day, 0 for Monday.
 fn last_day(s: &[u8], at: usize, day: usize) -> Found
     ensures { λ r. ⌜ foundMeaning (now (s .entry)) r ≡ findLast (onPlace day) (weekDays (elementAt (now (s .entry)) at)) ⌝ }
 {
-    match tree::child(s, at, b"WeekDays") {
+    match rows::first_in(s, at, b"WeekDays", b"WeekDay") {
         Found::Nothing => Found::Nothing,
-        Found::At(days) => last_day_in(s, days, day),
+        Found::At(first) => last_day_from(s, first, day),
     }
 }
 
