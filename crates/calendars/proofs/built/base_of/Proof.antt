@@ -1,4 +1,4 @@
-use Rattle.laws.specs.Bools.{not-true, not-false}
+use borrow.Author.Tests.{not-true, not-false}
 use mathlib.Core.Path.{sym, ap, _∙_}
 use Rattle.rows.specs.Rows.{withUidIn}
 use Rattle.tree.specs.Place.{elementAt}

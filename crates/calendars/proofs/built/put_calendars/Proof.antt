@@ -1,4 +1,4 @@
-use Rattle.laws.specs.Bools.{not-true, not-false}
+use borrow.Author.Tests.{not-true, not-false}
 use native.Mathlib.Omega.{arith}
 use mathlib.Core.Path.{refl}
 use lib.ListN.{drop}
