@@ -3,6 +3,7 @@ mod base;
 mod built;
 mod dates;
 mod days;
+mod exceptions;
 mod hours;
 mod list;
 mod plain;

@@ -1,0 +1,53 @@
+-- Texts that may be missing: a look-up by one, and the first of two. Assumes nothing.
+use mathlib.Core.Path.{_≡_, refl, sym, ap, _∙_}
+use mathlib.Core.Bool.{Bool, true, false, true≢false, not}
+use mathlib.Core.List.{[]}
+use mathlib.Core.Option.{Option, some, none}
+use borrow.Author.Tests.{not-true, not-false}
+use Rattle.definition.specs.Base.{_>>=_, _or_, _orElse_, given}
+use Rattle.definition.specs.Text.{Text}
+use Rattle.laws.specs.Options.{bind-assoc}
+
+module _ {B : Type 0} (o : Option Text) {g : Bool} (e : g ≡ given o) where
+  pub look-not : (f : Text → Option B) → not g ≡ true → none ≡ (o >>= f)
+  look-not f h = by o (sym e ∙ not-true g h)
+    where
+      by : (o : Option Text) → given o ≡ false → none ≡ (o >>= f)
+      by none e = refl
+      by (some a) e = absurd (true≢false e)
+
+  look-is : (f : Text → Option B) → not g ≡ false → f (o or []) ≡ (o >>= f)
+  look-is f h = by o (sym e ∙ not-false g h)
+    where
+      by : (o : Option Text) → given o ≡ true → f (o or []) ≡ (o >>= f)
+      by none e = absurd (true≢false (sym e))
+      by (some a) e = refl
+
+  pub look-up : (f : Text → Option B) {t : Text} {m : Option B} → not g ≡ false → t ≡ (o or []) → m ≡ f t → m ≡ (o >>= f)
+  look-up f h z u = u ∙ ap f z ∙ look-is f h
+
+-- and then another
+module _ {B C : Type 0} (o : Option Text) {g : Bool} (e : g ≡ given o) (f : Text → Option B) (k : B → Option C) where
+  pub then-not : not g ≡ true → none ≡ (o >>= f >>= k)
+  then-not h = look-not o e (λ t. f t >>= k) h ∙ sym (bind-assoc o f k)
+
+  pub then-look : {t : Text} {m : Option C} → not g ≡ false → t ≡ (o or []) → m ≡ (f t >>= k) → m ≡ (o >>= f >>= k)
+  then-look h z u = look-up o e (λ t. f t >>= k) h z u ∙ sym (bind-assoc o f k)
+
+  pub then-up : (m : Text → Option C) {t : Text} → not g ≡ false → t ≡ (o or []) → m t ≡ (f t >>= k) → m (o or []) ≡ (o >>= f >>= k)
+  then-up m h z u = ap m (sym z) ∙ then-look h z u
+
+-- the first of two
+pub first-given : (o p : Option Text) {g : Bool} → g ≡ given o → g ≡ true → (o or []) ≡ ((o orElse p) or [])
+first-given o p e h = by o (sym e ∙ h)
+  where
+    by : (o : Option Text) → given o ≡ true → (o or []) ≡ ((o orElse p) or [])
+    by none e = absurd (true≢false (sym e))
+    by (some a) e = refl
+
+pub second-given : (o p : Option Text) {g : Bool} → g ≡ given o → g ≡ false → (p or []) ≡ ((o orElse p) or [])
+second-given o p e h = by o (sym e ∙ h)
+  where
+    by : (o : Option Text) → given o ≡ false → (p or []) ≡ ((o orElse p) or [])
+    by none e = refl
+    by (some a) e = absurd (true≢false e)

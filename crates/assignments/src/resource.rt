@@ -1,0 +1,178 @@
+// The work resources. What is right is said in the crate definition, specs/Resource.antt.
+ghost use mathlib.Core.Path.{_≡_};
+ghost use mathlib.Core.Bool.{true, _&&_, not};
+ghost use mathlib.Core.List.{List, [], _∷_};
+ghost use Prim.Native.Nat.{ℕ, suc, min, _≤_};
+ghost use Rattle.definition.specs.Ascii.{bytes};
+ghost use Rattle.definition.specs.Base.{if_then_else_, _>>=_ as bind, _or_, keep};
+ghost use Rattle.definition.specs.Field.{textIn};
+ghost use Rattle.definition.specs.Calendar.{nameOf};
+ghost use Rattle.definition.specs.Task.{Context, unlessMain};
+ghost use Rattle.definition.specs.Text.{Text};
+ghost use Rattle.bits.specs.Steps.{Puts};
+ghost use Rattle.pack.specs.Value.{starredBy, nameMeaning};
+ghost use lib.Dec.{leb};
+ghost use lib.ListN.{length};
+ghost use Rattle.definition.specs.Format.{whole};
+ghost use Rattle.definition.specs.Pack.{resource};
+ghost use Rattle.definition.specs.Refusal.{mostElements};
+ghost use Rattle.definition.specs.Resource.{workResources, resourceOf, resourcesAfter, resources as resourcesOf};
+ghost use Rattle.tree.specs.Place.{elementAt, laterAt};
+ghost use Rattle.pack.specs.Writes.{WritesIf};
+ghost use Rattle.names.specs.Context.{contextAt, builtAt, textWithUid, calendarsBefore};
+ghost use Rattle.definition.specs.Calendar.{free};
+ghost use Rattle.assignments.specs.Section.{Wrote};
+ghost use Rattle.assignments.specs.Records.{isWork, wantedId, AddsResources};
+use crate::section::Done;
+use crate::section::more;
+use crate::section::records_of;
+use bits::PAST;
+use bits::Place;
+use model::records::Kind;
+use pack::NameAnswer;
+use pack::Records;
+use tree::Found;
+
+// ---- how many there are
+
+fn is_work(s: &[u8], at: usize) -> bool
+    ensures { λ r. ⌜ r ≡ isWork (elementAt (now (s .entry)) at) ⌝ }
+{
+    resources::is_resource(s, at) & !resources::is_cost(s, at)
+}
+
+// One more, as far as 5,000,001.
+fn counted(n: u32, more: bool) -> u32
+    ensures { λ r. ⌜ r ≡ if (more && leb n mostElements) then suc n else n ⌝ }
+{
+    if more & (n <= 5000000) { n + 1 } else { n }
+}
+
+// How many of a Resource and its later siblings, as far as 5,000,001.
+fn count_from(s: &[u8], first: usize) -> u32
+    ensures { λ r. ⌜ r ≡ min (length (keep isWork (elementAt (now (s .entry)) first ∷ laterAt (now (s .entry)) (bytes "Resource") first))) (suc mostElements) ⌝ }
+{
+    let mut at = first;
+    let mut n: u32 = 0;
+    loop {
+        n = counted(n, is_work(s, at));
+        let Found::At(next) = tree::next_child(s, at, b"Resource") else {
+            return n;
+        };
+        at = next;
+    }
+}
+
+// Whether there are at most 5,000,000.
+fn few(s: &[u8], root: usize) -> bool
+    ensures { λ r. ⌜ r ≡ leb (length (workResources (elementAt (now (s .entry)) root))) mostElements ⌝ }
+{
+    match rows::first_in(s, root, b"Resources", b"Resource") {
+        Found::Nothing => true,
+        Found::At(first) => count_from(s, first) <= 5000000,
+    }
+}
+
+// ---- what a Resource says
+
+// Its ID, else its UID.
+fn wanted_id<'a>(s: &'a [u8], at: usize) -> &'a [u8]
+    ensures { λ r. ⌜ now r ≡ wantedId (elementAt (now (s .entry)) at) ⌝ }
+{
+    if fields::given(s, at, b"ID") {
+        tree::text_of(s, at, b"ID")
+    } else {
+        tree::text_of(s, at, b"UID")
+    }
+}
+
+// Its calendar's name, beside the text of that UID, unless it is the main one's.
+fn calendar_of(out: &[u8], c: Place, s: &[u8], root: usize, at: usize) -> NameAnswer
+    ensures { λ r. ⌜ nameMeaning (textWithUid (elementAt (now (s .entry)) root) (textIn (elementAt (now (s .entry)) at) "CalendarUID" or [])) r ≡ bind (bind (textIn (elementAt (now (s .entry)) at) "CalendarUID") (nameOf (contextAt (now (out .entry)) c (elementAt (now (s .entry)) root) .built))) (unlessMain (contextAt (now (out .entry)) c (elementAt (now (s .entry)) root))) ⌝ }
+{
+    if !fields::given(s, at, b"CalendarUID") {
+        return NameAnswer::Absent;
+    }
+    names::calendar_named(out, c, s, root, tree::text_of(s, at, b"CalendarUID"))
+}
+
+// ---- one after another
+
+// The values that need no other record.
+fn put_said(
+    out: &mut [u8],
+    p: Place,
+    s: &[u8],
+    at: usize,
+    stars: u32,
+    calendar: &[u8],
+    named: NameAnswer,
+) -> Place
+    ensures { λ r. ⌜ ((x : Context) (ids : List Text) → starredBy (wantedId (elementAt (now (s .entry)) at)) stars ≡ free ids (wantedId (elementAt (now (s .entry)) at)) → nameMeaning (now (calendar .entry)) named ≡ bind (bind (textIn (elementAt (now (s .entry)) at) "CalendarUID") (nameOf (x .built))) (unlessMain x) → Puts (whole resource) (resourceOf x ids (elementAt (now (s .entry)) at)) (now (out .entry)) p (now (out .exit)) r) ⌝ }
+{
+    let id = wanted_id(s, at);
+    let name = tree::text_of(s, at, b"Name");
+    let kind = resources::resource_kind(s, at);
+    let unit = tree::text_of(s, at, b"MaterialLabel");
+    let units = resources::max_units(s, at);
+    let price = resources::price(s, at);
+    pack::put_resource(out, p, id, stars, name, kind, unit, units, calendar, named, price)
+}
+
+// That of one element, where it is a work resource.
+fn put_one(
+    out: &mut [u8],
+    start: Place,
+    done: Done,
+    s: &[u8],
+    root: usize,
+    at: usize,
+    c: Place,
+) -> Done
+    ensures { λ r. ⌜ AddsResources c start (elementAt (now (s .entry)) root) (elementAt (now (s .entry)) at ∷ []) (now (out .entry)) done (now (out .exit)) r ⌝ }
+{
+    if !is_work(s, at) {
+        return done;
+    }
+    let id = wanted_id(s, at);
+    let count = (done.count % 4294967296) as u32;
+    let stars = names::free_stars(out, start, Kind::Resources, count, id);
+    let uid = tree::text_of(s, at, b"CalendarUID");
+    let calendar = names::calendar_text(s, root, uid, b"Calendar");
+    let named = calendar_of(out, c, s, root, at);
+    let p = done.next;
+    let next = put_said(out, p, s, at, stars, calendar, named);
+    more(done, next)
+}
+
+// Those of a Resource and its later siblings.
+fn put_from(out: &mut [u8], p: Place, s: &[u8], root: usize, first: usize, c: Place) -> Done
+    ensures { λ r. ⌜ (calendarsBefore (now (out .entry)) c (elementAt (now (s .entry)) root) p ≡ true → length (keep isWork (elementAt (now (s .entry)) first ∷ laterAt (now (s .entry)) (bytes "Resource") first)) ≤ mostElements → Wrote (whole resource) true (resourcesAfter (contextAt (now (out .entry)) c (elementAt (now (s .entry)) root)) [] (keep isWork (elementAt (now (s .entry)) first ∷ laterAt (now (s .entry)) (bytes "Resource") first))) (now (out .entry)) p (now (out .exit)) r) ⌝ }
+{
+    let mut done = Done { count: 0, next: p };
+    let mut at = first;
+    loop {
+        done = put_one(out, p, done, s, root, at, c);
+        let Found::At(next) = tree::next_child(s, at, b"Resource") else {
+            return done;
+        };
+        at = next;
+    }
+}
+
+// The work resources, one after another; none where there are more than 5,000,000. The calendars stand at c in the same buffer, before p; else nothing is
+// written.
+pub fn put_resources(out: &mut [u8], p: Place, s: &[u8], root: usize, c: Place) -> Records
+    ensures { λ r. ⌜ WritesIf (leb (length (workResources (elementAt (now (s .entry)) root))) mostElements && calendarsBefore (now (out .entry)) c (elementAt (now (s .entry)) root) p) (whole resource) (resourcesOf (contextAt (now (out .entry)) c (elementAt (now (s .entry)) root)) (elementAt (now (s .entry)) root)) (now (out .entry)) p (now (out .exit)) r ⌝ }
+{
+    if !(few(s, root) & names::calendars_before(out, c, s, root, p)) {
+        return Records {
+            count: 0,
+            next: PAST,
+        };
+    }
+    match rows::first_in(s, root, b"Resources", b"Resource") {
+        Found::Nothing => Records { count: 0, next: p },
+        Found::At(first) => records_of(put_from(out, p, s, root, first, c)),
+    }
+}
