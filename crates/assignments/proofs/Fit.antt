@@ -15,7 +15,7 @@ use Rattle.definition.specs.Model.{Resource, Expense}
 use Rattle.definition.specs.Calendar.{Named}
 use Rattle.definition.specs.Refusal.{mostElements}
 use Rattle.definition.specs.Task.{Context, contextOf, keptTasks, rowOf}
-use Rattle.definition.specs.Resource.{isResource, isCost, costOf, taskRow, expenseOf, sameExpense, firsts, resourceOf, resourcesAfter}
+use Rattle.definition.specs.Resource.{isResource, isCost, costOf, taskRow, expenseFrom, expenseOf, sameExpense, firsts, resourceOf, resourcesAfter}
 use Rattle.laws.specs.Bits.{Bytes}
 use Rattle.laws.specs.Each.{Each, empty, next, each-append, each-drop}
 use Rattle.laws.specs.FitRecords.{Short, FitsResourceBy, FitsExpenseBy}
@@ -45,7 +45,8 @@ cost-small {root} a h = perhaps-any {P = Small} (textIn a "ResourceUID") (λ u. 
 pub expense-fits : {root : Element} (a : Element) → Small root → Perhaps (FitsExpenseBy Short) (expenseOf (contextOf root) root a)
 unfolding expenseOf contextOf
 expense-fits {root} a h =
-    perhaps-bind (perhaps-any {P = λ n. n < 2 ^ 32} _ (λ u. row-most root u)) (λ t k. perhaps-bind (cost-small a h) (λ r i. there (fit-expense slim-texts t a i k)))
+    perhaps-bind {f = λ t. costOf root a >>= λ r. some (expenseFrom t r a)} (perhaps-any {P = λ n. n < 2 ^ 32} {f = rowOf (keptTasks root)} (textIn a "TaskUID") (row-most root))
+    (λ t k. perhaps-bind {f = λ r. some (expenseFrom t r a)} (cost-small a h) (λ r i. there {a = expenseFrom t r a} (fit-expense slim-texts t a i k)))
 
 -- those so far fit, and are not more than the bytes before
 pub record FineExpenses (s : Text) (at : ℕ) (xs : List Expense) : Type 0 where

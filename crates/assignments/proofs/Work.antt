@@ -199,3 +199,6 @@ all-resources x root = ap (resourcesAfter x []) (work-kept root)
 pub most-work : (root : Element) (l : List Element) → allIn (child root (bytes "Resources")) (bytes "Resource") ≡ l → leb (length (workResources root)) mostElements ≡ true
     → length (keep isWork l) ≤ mostElements
 most-work root l e h = subst (λ (k : List Element). length k ≤ mostElements) (work-kept root ∙ ap (keep isWork) e) (leb-true _ _ h)
+
+pub both-are : {a b c d : Bool} → a ≡ c → b ≡ d → (a && b) ≡ (c && d)
+both-are e h = λ i. e i && h i

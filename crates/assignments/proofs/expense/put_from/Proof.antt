@@ -19,7 +19,7 @@ use Rattle.assignments.proofs.expense.put_from.Statement.{statement}
 use Rattle.assignments.proofs.expense.put_from.Tie as tie
 
 abbrev Inv-loop : tie.InvT-loop
-Inv-loop out₀ p s root first done₀ at₀ t9 out done at = (length out ≡ length out₀) × Going (whole expense) false (expensesAfter (elementAt s root)) (FineExpenses s at) (elementAt s first ∷ laterAt s (bytes "Assignment") first) (elementAt s at ∷ laterAt s (bytes "Assignment") at) out₀ (done₀ .next) out done
+Inv-loop out₀ p s root first done₀ at₀ t9 out done at = (length out ≡ length out₀) × Going (whole expense) false (expensesAfter (elementAt s root)) (FineExpenses s at) (elementAt s first ∷ laterAt s (bytes "Assignment") first) (elementAt s at ∷ laterAt s (bytes "Assignment") at) out₀ p out done
 
 abbrev μ-loop : tie.MeasureT-loop
 μ-loop out₀ p s root first done₀ at₀ t9 out done at = length s - at
@@ -60,7 +60,7 @@ loop-again c =
     let s = c .before .before .before .before .before .before .before .before .before .before .before .before .args .s .now in
     let root = elementAt s (c .before .before .before .before .before .before .before .before .before .before .before .before .args .root) in
     let small : length s < 2 ^ 63 = omega (arith, c .before .before .before .before .before .before .before .before .before .before .before .before .good) in
-    let b = bytes-of s (c .before .before .before .before .before .before .before .before .before .before .shared-slice-known .given) in
+    let b = bytes-of s (λ i. omega (arith, c .before .before .before .before .before .before .before .before .before .before .shared-slice-known .given i)) in
     (c .before .before .before .before .before .before .before .put-one .kept .0 ∙ c .before .before .before .before .before .before .before .before .before .loop .inv .0,
     going-more (c .before .before .before .before .before .before .before .before .before .loop .inv .1) (c .before .before .before .before .before .before .before .put-one .ensures) (λ xs f. (f .fit, omega (arith, f .most))) (more-expenses root (elementAt s (c .before .before .before .before .before .before .before .before .before .loop .at)) (laterAt s (bytes "Assignment") (c .before .before .before .before .before .before .before .before .before .loop .at))) (found-list (c .before .before .before .next-child .ensures) (c .before .next .given .1)) (λ xs f. fine-more (found-on (c .before .before .before .next-child .ensures) (c .before .next .given .1)) (expense-fits (elementAt s (c .before .before .before .before .before .before .before .before .before .loop .at)) (small-at s b (c .before .before .before .before .before .before .before .before .before .before .before .before .args .root))) xs f))
 
