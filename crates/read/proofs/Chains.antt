@@ -102,7 +102,7 @@ section-if {A} {test} {f} {ys} xs {d} {p} {d'} {r} w h = by-tests (inside (lengt
     by-tests false true e k = record { put = any (times (length xs) f) xs (w .writes k .puts) e; counted = λ i. differ _ i e }
     by-tests false false e k =
         let (same, far) = w .refuses k in
-        record { put = none-put (times (length xs) f) xs same far e; counted = λ i. differ _ i e }
+        record { put = none-put (times (length xs) f) xs same (ap (λ (x : Records). x .next) far) e; counted = λ i. differ _ i e }
 
 if-same : {A : Type 0} {test : Bool} {f : Format A} {xs : List A} {d : List ℕ} {p : Place} {d' : List ℕ} {r : Records} → WritesIf test f xs d p d' r → length d' ≡ length d
 if-same {test = test} {d = d} {d' = d'} w = by-test test refl
