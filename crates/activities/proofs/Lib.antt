@@ -1,4 +1,3 @@
 pub mod Values
-pub mod Owed
 pub mod Loop
 pub mod Turn

@@ -1,9 +1,9 @@
 -- Activities put one after another: each from the ids and the levels of those before it. Assumes nothing.
-use Prim.Native.Nat.{ℕ, _+_, _%_, _^_, _<_}
+use Prim.Native.Nat.{ℕ, _+_, _^_, _<_}
 use native.Mathlib.Omega.{arith}
 use mathlib.Core.Path.{_≡_, refl, sym, ap, _∙_}
 use mathlib.Core.Bool.{Bool, true, false}
-use mathlib.Core.List.{List, [], _∷_, _++_, map, append-assoc}
+use mathlib.Core.List.{List, [], _∷_, _++_, map, append-assoc, map-append}
 use lib.ListN.{length, take, length-append}
 use lib.Seq.{take-at}
 use Rattle.definition.specs.Format.{times, whole}
@@ -18,10 +18,6 @@ use Rattle.bits.specs.Steps.{Puts, put-no, put-more, put-same}
 use Rattle.bits.specs.declared.Place.{Place}
 use Rattle.pack.specs.Writes.{Writes, put-any}
 use Rattle.pack.specs.declared.record.Records.{Records}
-
-map-more : {A B : Type 0} (f : A → B) (xs : List A) (x : A) → map f (xs ++ (x ∷ [])) ≡ map f xs ++ (f x ∷ [])
-map-more f [] x = refl
-map-more f (y ∷ xs) x = ap (λ l. f y ∷ l) (map-more f xs x)
 
 abbrev pub idsOf : List Activity → List Text
 idsOf = map (λ (a : Activity). a .id)
@@ -87,7 +83,7 @@ module _ {Fits : Activity → Type 0} {x : Context} {entered : ℕ → Bool} {d�
             split = append-assoc (w .before) (t ∷ []) us ∙ ap (λ (us : List Element). w .before ++ (t ∷ us)) (sym z) ∙ w .split;
             tasks-are = length-append (w .before) (t ∷ []) ∙ ap (λ (n : ℕ). n + 1) (w .tasks-are);
             done-are = length-append (w .done) (new ∷ []) ∙ ap (λ (n : ℕ). n + 1) (w .done-are);
-            rest = (λ j. activitiesAfter x entered (w .done ++ (new ∷ [])) (map-more levelOf (w .before) t j) (sym z j)) ∙ w .rest;
+            rest = (λ j. activitiesAfter x entered (w .done ++ (new ∷ [])) (map-append levelOf (w .before) (t ∷ []) j) (sym z j)) ∙ w .rest;
             puts = put-more (length (activities x entered)) (w .puts) h;
             fits = each-append (w .fits) (next f empty);
           }

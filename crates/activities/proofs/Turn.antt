@@ -15,6 +15,7 @@ use Rattle.laws.specs.FitRecords.{Short, FitsActivityBy}
 use Rattle.laws.specs.FitTrees.{Small, slim-texts}
 use Rattle.bits.specs.Steps.{Puts}
 use Rattle.bits.specs.declared.Place.{Place}
+use Rattle.links.specs.Entered.{entered-is}
 use Rattle.links.specs.Fates.{isEntered}
 use Rattle.model.specs.declared.records.Kind.the-variants.{Activities}
 use Rattle.names.specs.Carried.{context-carried}
@@ -23,7 +24,6 @@ use Rattle.names.specs.Records.{texts-activities}
 use Rattle.names.specs.Short.{built-short}
 use Rattle.names.specs.Texts.{textsAt}
 use Rattle.activities.proofs.Loop.{Written, written-more, next-put, tasks-before, idsOf}
-use Rattle.activities.proofs.Owed.{entered-row}
 
 -- the activities of some tasks are put, and those of ts are left
 abbrev pub Goes : List ℕ → Place → Element → Place → List ℕ → Place → ℕ → List Element → Type 0
@@ -34,7 +34,7 @@ module _ {d₀ : List ℕ} (c : Place) (root : Element) {p : Place} (stand : cal
   pub goes-on : {d' : List ℕ} {r : Place}
       → Puts (whole activity) (activityOf (contextAt d c root) (textsAt Activities d p row) (map levelOf (take row (keptTasks root))) (isEntered (keptTasks root) t) t) d q d' r
       → row ≤ mostTasks → Small t → {us : List Element} → ts ≡ us → Goes d₀ c root p d' r (row + 1) us
-  unfolding contextAt
+  unfolding contextAt contextOf
   goes-on h n s z =
       let li : length (idsOf (w .done)) ≤ 5000000 = rw (length-map) (omega (arith, w .done-are)) in
       let ll : length (map levelOf (w .before)) ≤ 2 ^ 32 = rw (length-map) (omega (arith, w .tasks-are)) in
@@ -42,5 +42,5 @@ module _ {d₀ : List ℕ} (c : Place) (root : Element) {p : Place} (stand : cal
       (next-put w (contextAt d c root) _ _ _ h
       (λ i. (context-carried (w .puts .step) c root stand, ap (textsAt Activities d p) (sym (w .done-are)) ∙ texts-activities _ (w .puts) i (w .fits)))
       (ap (map levelOf) (tasks-before w))
-      (sym (entered-row root (w .before) t ts (w .split)) ∙ ap (entered (links (contextOf root))) (w .tasks-are ∙ sym (w .done-are))))
+      (sym (entered-is (contextOf root) (w .before) t ts (sym (w .split))) ∙ ap (entered (links (contextOf root))) (w .tasks-are ∙ sym (w .done-are))))
       z

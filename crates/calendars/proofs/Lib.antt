@@ -6,3 +6,16 @@ pub mod Copies
 pub mod Keys
 pub mod Times
 pub mod PlainCalendars
+pub mod Runs
+pub mod RuleDays
+pub mod Going
+pub mod Changes
+pub mod Bases
+pub mod BaseDays
+pub mod Elements
+pub mod Loops
+pub mod Overs
+pub mod WeekHours
+pub mod Orders
+pub mod Turning
+pub mod Builts

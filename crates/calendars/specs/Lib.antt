@@ -3,3 +3,8 @@ pub mod Places
 pub mod Inserts
 pub mod Hours
 pub mod Plain
+pub mod Exceptions
+pub mod Days
+pub mod Base
+pub mod Record
+pub mod Built

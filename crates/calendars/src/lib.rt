@@ -1,8 +1,13 @@
 // Calendars written: their lists, kept rising while they are the last thing written, their hours, and the two calendars that no file gives.
+mod base;
 mod built;
+mod dates;
+mod days;
+mod exceptions;
 mod hours;
 mod list;
 mod plain;
+mod record;
 
 pub use built::put_calendars;
 pub use hours::put_periods;

@@ -1,11 +1,11 @@
 -- Link elements: what becomes of one, and the kept ones written one after another. Assumes nothing.
 use Prim.Native.Nat.{ℕ, _+_, _%_, _^_}
-use mathlib.Core.Path.{_≡_, refl, sym, ap, subst, _∙_}
-use mathlib.Core.Bool.{Bool, true, false, not, false≢true}
+use mathlib.Core.Path.{_≡_, sym, ap, _∙_}
+use mathlib.Core.Bool.{Bool, true, false, not}
 use mathlib.Core.List.{List, [], _∷_}
-use mathlib.Core.Option.{Option, some, none}
+use mathlib.Core.Option.{Option}
+use borrow.Author.Tests.{not-true, not-false}
 use Rattle.definition.specs.Base.{_>>=_, _or_, given}
-use Rattle.definition.specs.Answer.{rowMeaning}
 use Rattle.definition.specs.Ascii.{bytes}
 use Rattle.definition.specs.Text.{Text}
 use Rattle.definition.specs.Tree.{Element, all}
@@ -16,13 +16,13 @@ use Rattle.definition.specs.Pack.{link}
 use Rattle.definition.specs.Task.{contextOf, keptTasks, rowOf, perDayOf}
 use Rattle.definition.specs.Link as D
 use Rattle.definition.specs.Link.{linkLag, linkKind, linkOf, links}
-use Rattle.definition.specs.declared.RowAnswer.{RowAnswer}
 use Rattle.bits.specs.Steps.{Puts, put-same}
 use Rattle.bits.specs.declared.Place.{Place}
 use Rattle.tasks.specs.Link.{lagMeans}
 use Rattle.tasks.specs.declared.link.Lag.{Lag}
 use Rattle.pack.specs.Record.{linkBy}
 use Rattle.pack.specs.declared.record.Records.{Records}
+use Rattle.rows.specs.Turns.{text-given, text-missing}
 use Rattle.links.specs.Fates.{fateByRow, fateFor, keptFate, isKeptLink, dayOnly, linksBy, linksIn, linksFrom}
 use Rattle.links.specs.Entered.{kept-is, links-are}
 use Rattle.links.specs.More.{More, more-none, more-one, more-as, Left, left-all, left-next, left-end}
@@ -30,14 +30,6 @@ use Rattle.links.specs.declared.fate.LinkFate.{LinkFate}
 use Rattle.links.specs.declared.fate.LinkFate.the-variants.{Across, Dangling, Kept}
 
 -- ---- what becomes of one
-
-uid-none : {A : Type 0} (o : Option Text) (f : Text → Option A) {g : Bool} → g ≡ given o → not g ≡ true → (o >>= f) ≡ none
-uid-none none f e h = refl
-uid-none (some t) f e h = absurd (false≢true (ap not (sym e) ∙ h))
-
-uid-some : {A : Type 0} (o : Option Text) (f : Text → Option A) {g : Bool} → g ≡ given o → not g ≡ false → {t : Text} → t ≡ (o or []) → (o >>= f) ≡ f t
-uid-some none f e h i = absurd (false≢true (sym (ap not (sym e) ∙ h)))
-uid-some (some t) f e h i = ap f (sym i)
 
 module _ (tasks : List Element) (l : Element) where
   pub fate-across : yesIn l "CrossProject" ≡ true → Across ≡ fateFor tasks l
@@ -47,12 +39,12 @@ module _ (tasks : List Element) (l : Element) where
   module _ (e : yesIn l "CrossProject" ≡ false) {g : Bool} (i : g ≡ given (textIn l "PredecessorUID")) where
     pub fate-none : not g ≡ true → Dangling ≡ fateFor tasks l
     unfolding fateFor
-    fate-none h = rw (e, uid-none (textIn l "PredecessorUID") (rowOf tasks) i h)
+    fate-none h = rw (e, ← text-missing (textIn l "PredecessorUID") (rowOf tasks) (sym i ∙ not-true g h))
 
     pub fate-row : not g ≡ false → {t : Text} → t ≡ (textIn l "PredecessorUID" or []) → {a : Option ℕ} → a ≡ rowOf tasks t → {r : LinkFate} → r ≡ fateByRow a → r ≡ fateFor tasks l
     unfolding fateFor
     fate-row h {t} j {a} k m =
-        let z : a ≡ (textIn l "PredecessorUID" >>= rowOf tasks) = k ∙ sym (uid-some (textIn l "PredecessorUID") (rowOf tasks) i h j) in
+        let z : a ≡ (textIn l "PredecessorUID" >>= rowOf tasks) = k ∙ text-given (textIn l "PredecessorUID") (rowOf tasks) (sym i ∙ not-false g h) j in
         rw e (m ∙ ap (λ (o : Option ℕ). fateByRow o) z)
 
   pub fate-kept : {f : LinkFate} {b v : Bool} → f ≡ fateFor tasks l → b ≡ keptFate f → b ≡ v → isKeptLink tasks l ≡ v

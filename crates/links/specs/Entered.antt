@@ -15,7 +15,7 @@ use Rattle.definition.specs.Model.{Link}
 use Rattle.definition.specs.Tree.{Element, all}
 use Rattle.definition.specs.Task.{Context, rowOf}
 use Rattle.definition.specs.Link.{Fate, linkOf, fateBy, fateOf, fates, keptOf, links, entered}
-use Rattle.links.specs.Fates.{fateByRow, fateFor, keptFate, isKeptLink, isEntered, dayOnly, linksBy, linksIn, linksFrom}
+use Rattle.links.specs.Fates.{fateByRow, fateFor, keptFate, isKeptLink, isEntered, linksBy, linksIn, linksFrom}
 use Rattle.links.specs.declared.fate.LinkFate.{LinkFate}
 use Rattle.links.specs.declared.fate.LinkFate.the-variants.{Across, Dangling, Kept}
 

@@ -12,7 +12,7 @@ use Rattle.definition.specs.Field.{textIn, yesIn}
 use Rattle.definition.specs.Model.{Link}
 use Rattle.definition.specs.Calendar.{defaultCalendar}
 use Rattle.definition.specs.Task.{Context, rowOf}
-use Rattle.definition.specs.Link.{linkOf, fates, links, isDangling, isAcross}
+use Rattle.definition.specs.Link.{linkOf, fates, isDangling, isAcross}
 use Rattle.links.specs.declared.Fates.{Fates}
 use Rattle.links.specs.declared.fate.LinkFate.{LinkFate}
 use Rattle.links.specs.declared.fate.LinkFate.the-variants.{Across, Dangling, Kept}

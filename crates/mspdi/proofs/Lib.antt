@@ -1,3 +1,4 @@
 pub mod Left
 pub mod Natural
 pub mod OutlineLeft
+pub mod ReadLeft

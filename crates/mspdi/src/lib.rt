@@ -4,15 +4,18 @@ ghost use mathlib.Core.List.{List};
 ghost use Prim.Native.Nat.{ℕ};
 ghost use lib.ListN.{length, replicate};
 ghost use Rattle.number.specs.Written.{refusalOf, writtenOf};
-ghost use Rattle.definition.specs.Refusal.{checkAnswer, durationAnswer, timeAnswer, outlineAnswer, daySheetAnswer};
+ghost use Rattle.definition.specs.Refusal.{readAnswer, checkAnswer, durationAnswer, timeAnswer, outlineAnswer, daySheetAnswer};
 ghost use Rattle.outline.specs.Answers.{refusalOf as outlineRefusal, countOf as outlineCount};
 ghost use Rattle.day_sheet.specs.Answer.{sheetNumber, sheetLength};
+ghost use Rattle.read.specs.Answers.{refusalOf as readRefusal, lengthOf as readLength};
 ghost use Rattle.mspdi.specs.Outcome.{leaves, fromZero};
 ghost use Rattle.mspdi.specs.Outlines.{outlineLeaves};
+ghost use Rattle.mspdi.specs.Reads.{readLeaves};
 use day_sheet::SheetAnswer;
 use definition::Date;
 use number::TextAnswer;
 use outline::OutlineAnswer;
+use read::ReadAnswer;
 
 // n, or the largest number where n is below 0.
 fn from_zero(n: i64) -> u64
@@ -143,4 +146,34 @@ pub extern "C" fn mspdi_day_sheet(
     let a = day_sheet::day_sheet(model, calendar, Date(date), sheet);
     *written = sheet_length(a);
     sheet_number(a)
+}
+
+// The number of a read's answer, and the length of the model.
+fn read_told(a: ReadAnswer, written: &mut u64) -> u32
+    ensures { λ r. ⌜ (r ≡ readRefusal a) × (now (written .exit) ≡ readLength a) ⌝ }
+{
+    match a {
+        ReadAnswer::Written(n) => {
+            *written = n as u64;
+            0
+        }
+        ReadAnswer::Refused(n) => {
+            *written = 0;
+            n
+        }
+    }
+}
+
+// The model of a tree: 0, or 1 to 5 or 9. The work slice may have any length; it is zeros at exit.
+#[no_mangle]
+pub extern "C" fn mspdi_read(
+    tree: &[u8],
+    model: &mut [u8],
+    work: &mut [u32],
+    written: &mut u64,
+) -> u32
+    ensures { λ r. ⌜ (r, now (model .exit), now (work .exit), now (written .exit)) ≡ readLeaves (length (now (model .entry))) (length (now (work .entry))) (readAnswer (now (tree .entry)) (length (now (model .entry)))) ⌝ }
+{
+    let a = read::read(tree, model, work);
+    read_told(a, written)
 }

@@ -1,9 +1,9 @@
 -- The names of the calendars, as they stand in a buffer, are short. Assumes nothing.
-use Prim.Native.Nat.{ℕ, suc, _+_, _-_, _^_, _<_}
+use Prim.Native.Nat.{ℕ, suc, _-_, _^_, _<_}
 use native.Mathlib.Omega.{arith}
 use mathlib.Core.Path.{refl}
 use mathlib.Core.Bool.{not}
-use mathlib.Core.List.{List, []}
+use mathlib.Core.List.{List}
 use lib.ListN.{length, length-append, length-replicate}
 use Rattle.definition.specs.Ascii.{bytes}
 use Rattle.definition.specs.Base.{given, every?, numbered}

@@ -16,10 +16,14 @@ pub record Writes {A : Type 0} (f : Format A) (xs : List A) (d : List ℕ) (p : 
   pub puts : Puts (times (length xs) f) xs d p d' (r .next)
   pub counts : r .count ≡ length xs % 2 ^ 32
 
--- where a test holds; else nothing is written, and the place is past every end
+-- no records, at the place past every end
+abbrev pub noRecords : Records
+noRecords = record { count = 0; next = past }
+
+-- where a test holds; else nothing is written
 pub record WritesIf {A : Type 0} (test : Bool) (f : Format A) (xs : List A) (d : List ℕ) (p : Place) (d' : List ℕ) (r : Records) : Type 0 where
   pub writes : test ≡ true → Writes f xs d p d' r
-  pub refuses : test ≡ false → (d' ≡ d) × (r .next ≡ past)
+  pub refuses : test ≡ false → (d' ≡ d) × (r ≡ noRecords)
 
 -- ---- laws
 
@@ -31,5 +35,5 @@ module _ {A : Type 0} {test : Bool} (f : Format A) {xs : List A} {d : List ℕ} 
   pub writes-if : {d' : List ℕ} {r : Records} → test ≡ true → Writes f xs d p d' r → WritesIf test f xs d p d' r
   writes-if e w = record { writes = λ t. w; refuses = λ t. absurd (true≢false (sym e ∙ t)) }
 
-  pub writes-not : {r : Records} → test ≡ false → r .next ≡ past → WritesIf test f xs d p d r
+  pub writes-not : {r : Records} → test ≡ false → r ≡ noRecords → WritesIf test f xs d p d r
   writes-not e n = record { writes = λ t. absurd (true≢false (sym t ∙ e)); refuses = λ t. (refl, n) }

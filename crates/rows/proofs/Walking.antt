@@ -2,12 +2,13 @@
 use Prim.Native.Nat.{ℕ, zero, suc, _+_, _-_, _≤_, _<_}
 use native.Mathlib.Omega.{arith}
 use mathlib.Core.Path.{_≡_, refl, sym, ap, _∙_}
-use mathlib.Core.Bool.{Bool, true, false, _&&_, not, false≢true}
-use mathlib.Core.List.{List, [], _∷_, _++_, cons-ne-nil}
+use mathlib.Core.Bool.{Bool, true, false, _&&_, not}
+use mathlib.Core.List.{List, [], _∷_, cons-ne-nil}
 use mathlib.Core.Option.{Option, some, none}
 use lib.ListN.{length, take}
 use lib.Seq.{take-nil}
-use Rattle.definition.specs.Base.{if_then_else_, _>>=_, _or_, _orElse_, given, keep, first, numbered}
+use borrow.Author.Tests.{not-true}
+use Rattle.definition.specs.Base.{if_then_else_, _orElse_, given, keep, first, numbered}
 use Rattle.definition.specs.Ascii.{bytes}
 use Rattle.definition.specs.Text.{Text}
 use Rattle.definition.specs.Tree.{Element, child, all, allIn}
@@ -167,10 +168,6 @@ keep-head q (y ∷ l) {x} {k} h = by (q y) refl h (keep-head q l)
     by true e i more = let z : y ≡ x = cc in rw (← z) e
     by false e i more = more i
 
-not-true : (t : Bool) → not t ≡ true → t ≡ false
-not-true true h = absurd (false≢true h)
-not-true false h = refl
-
 derived-room : (s : Text) (l : List Element) {from : ℕ} (r : Found) → Picks s (bytes "Calendar") Derived l from r → orderRoom s r < suc (suc (length s) - from)
 unfolding pickedBy orderRoom passes Past
 derived-room s l Nothing h = omega arith
@@ -217,14 +214,6 @@ module _ {s : Text} (root : Element) where
     order-plain g h a = let o = a .go (laterAt s (bytes "Calendar") p) (p + 1) h in rw g (record { is = o .is; on = omega (arith, o .on) })
 
 -- ---- the main calendar
-
-pub uid-given : {A : Type 0} (o : Option Text) (f : Text → Option A) {t : Text} {a : Option A} → given o ≡ true → t ≡ (o or []) → a ≡ f t → a ≡ (o >>= f)
-uid-given none f g e h = absurd (false≢true g)
-uid-given (some u) f g e h = h ∙ ap f e
-
-pub uid-none : {A : Type 0} (o : Option Text) (f : Text → Option A) → given o ≡ false → none ≡ (o >>= f)
-uid-none none f g = refl
-uid-none (some u) f g = absurd (false≢true (sym g))
 
 pub first-row : {s : Text} {root : Element} {n : ℕ} (c : Found) → Orders s root (inOrder root) n c → calendarMeaning s (rowZero c) ≡ first (numbered 0 (inOrder root))
 unfolding calendarMeaning orderBy numbered first

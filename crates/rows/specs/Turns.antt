@@ -2,10 +2,11 @@
 use Prim.Native.Nat.{ℕ, suc, _+_, _-_, _≤_, _<_}
 use native.Mathlib.Omega.{arith}
 use mathlib.Core.Path.{_≡_, refl, sym, ap, _∙_}
-use mathlib.Core.Bool.{Bool, true, false, _&&_, _||_, not}
+use mathlib.Core.Bool.{Bool, true, false, _&&_, not, false≢true}
 use mathlib.Core.List.{List, [], _∷_}
+use mathlib.Core.Option.{Option, some, none}
 use lib.ListN.{length, take}
-use Rattle.definition.specs.Base.{if_then_else_, given, keep, some?}
+use Rattle.definition.specs.Base.{if_then_else_, _>>=_, _or_, given, keep, some?}
 use Rattle.definition.specs.Ascii.{bytes}
 use Rattle.definition.specs.Text.{Text}
 use Rattle.definition.specs.Tree.{Element, child, allIn}
@@ -137,3 +138,13 @@ module _ {A : Type 0} {p : A → Bool} {t : Bool} {l : List A} (h : AnyIn p t l)
     pub any-on : p x ≡ false → {k' : List A} → k ≡ k' → AnyIn p t k'
     unfolding some?
     any-on j z = record { is = h .is ∙ rw (i, j, z) }
+
+-- ---- a text that may be missing
+
+pub text-given : {A : Type 0} (o : Option Text) (f : Text → Option A) → given o ≡ true → {t : Text} → t ≡ (o or []) → f t ≡ (o >>= f)
+text-given none f g e = absurd (false≢true g)
+text-given (some u) f g e = ap f e
+
+pub text-missing : {A : Type 0} (o : Option Text) (f : Text → Option A) → given o ≡ false → none ≡ (o >>= f)
+text-missing none f g = refl
+text-missing (some u) f g = absurd (false≢true (sym g))

@@ -85,8 +85,8 @@ pub fn task_row(s: &[u8], root: usize, uid: &[u8]) -> RowAnswer
         let KeptAnswer::Is(at, left) = task else {
             return found;
         };
-        let here = row_when(fields::text_is(s, at, b"UID", uid), row);
-        found = or_row(here, found);
+        let named = row_when(fields::text_is(s, at, b"UID", uid), row);
+        found = or_row(named, found);
         row += 1;
         task = next_kept(s, at, left);
     }
@@ -103,8 +103,8 @@ pub fn parent_row(s: &[u8], root: usize, row: u32, level: u64) -> RowAnswer
         let KeptAnswer::Is(at, left) = task else {
             return found;
         };
-        let here = row_when(tasks::level_of(s, at) < level, n);
-        found = or_row(here, found);
+        let lower = row_when(tasks::level_of(s, at) < level, n);
+        found = or_row(lower, found);
         n += 1;
         task = next_kept(s, at, left);
     }

@@ -28,8 +28,8 @@ pub fn resource_row(s: &[u8], root: usize, uid: &[u8]) -> RowAnswer
         let Found::At(at) = e else {
             return found;
         };
-        let here = row_when(fields::text_is(s, at, b"UID", uid), row);
-        found = or_row(here, found);
+        let named = row_when(fields::text_is(s, at, b"UID", uid), row);
+        found = or_row(named, found);
         row = std::num::wrapping_add_u32(row, 1);
         e = next_which(s, at, b"Resource", Which::Work);
     }

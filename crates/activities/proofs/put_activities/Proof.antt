@@ -25,7 +25,7 @@ same-length-2 c = search needs
 returns-2 : tie.Need-returns-2
 returns-2 c =
     let k = c .before .before in
-    let i = k .before in
+    let i = k .before .before in
     let e = sym (i .before .calendars-before .ensures) ∙ not-false _ (i .if1 .left) in
     writes-if (whole activity) e (k .put-tasks .ensures e)
 

@@ -10,6 +10,7 @@ use Rattle.laws.specs.Each.{each-drop}
 use Rattle.laws.specs.FitTrees.{small-element}
 use Rattle.names.specs.Seen.{bytes-of}
 use Rattle.names.specs.Context.{contextAt, calendarsBefore}
+use Rattle.rows.specs.Turns.{kept-end, kept-at, room-at}
 use Rattle.rows.specs.Walks.{keptBy, room}
 use Rattle.activities.proofs.Loop.{written-none, written-all}
 use Rattle.activities.proofs.Turn.{Goes, goes-on}
@@ -40,33 +41,29 @@ same-length : tie.Need-same-length Inv-loop μ-loop
 same-length c = c .before .before .loop .inv .0
 
 returns : tie.Need-returns Inv-loop μ-loop
-unfolding keptBy
 returns c =
     let l = c .before .before in
-    λ h. written-all refl refl (omega (arith, l .loop .inv .1 .0)) (ap (keptBy _) (c .enum-told .given .1)) (l .loop .inv .1 .1 h)
+    λ h. written-all refl refl (omega (arith, l .loop .inv .1 .0)) (kept-end _ (c .enum-told .given .1)) (l .loop .inv .1 .1 h)
 
 put-task-requires : tie.Need-put-task-requires Inv-loop μ-loop
 put-task-requires c κs = search needs
 
 add-row : tie.Need-add-row Inv-loop μ-loop
-unfolding room
 add-row c =
     let t = c .before .before .before .before .before in
-    let k = ap room (t .task .given .1) in
+    let k = room-at (t .task .given .1) in
     record { fits = omega (arith, k, t .before .before .loop .inv .1 .0) }
 
 next-kept-requires : tie.Need-next-kept-requires Inv-loop μ-loop
 next-kept-requires c κs = search needs
 
 loop-less : tie.Need-loop-less Inv-loop μ-loop
-unfolding room
 loop-less c =
     let t = c .before .before .before .before .before .before in
-    let k = ap room (t .task .given .1) in
+    let k = room-at (t .task .given .1) in
     omega (arith, k, c .next-kept .ensures .on)
 
 loop-again : tie.Need-loop-again Inv-loop μ-loop
-unfolding keptBy room
 loop-again c =
     let u = c .before .before .before in
     let t = u .before .before .before in
@@ -74,9 +71,9 @@ loop-again c =
     let b = l .before .before in
     let a = b .before .before .args in
     let root = elementAt (now (a .s)) (a .root) in
-    let k = ap room (t .task .given .1) in
+    let k = room-at (t .task .given .1) in
     let bytes = bytes-of (now (a .s)) (λ i. omega (arith, b .shared-slice-known .given i)) in
-    let e = ap (keptBy (now (a .s))) (t .task .given .1) in (
+    let e = kept-at (now (a .s)) (t .task .given .1) in (
       u .put-task .kept .0 ∙ l .loop .inv .0,
       (
         omega (arith, k, l .loop .inv .1 .0, c .next-kept .ensures .on),

@@ -2,10 +2,8 @@ use mathlib.Core.Path.{_≡_, refl, sym, ap, _∙_}
 use mathlib.Core.Bool.{true, false}
 use denote.Ref.{now}
 use Rattle.definition.specs.Task.{isElapsed}
-use Rattle.definition.specs.Text.{Text}
 use Rattle.bits.specs.Steps.{put-same}
 use Rattle.names.specs.Context.{contextAt, textWithUid}
-use Rattle.pack.specs.Value.{nameMeaning}
 use Rattle.tree.specs.Place.{elementAt}
 use Rattle.activities.proofs.Values.{activity-of, named-elapsed, named-own}
 use borrow.Author.Needs.{needs}

@@ -1,4 +1,3 @@
-use mathlib.Core.Path.{sym, _∙_}
 use Rattle.definition.specs.Ascii.{bytes}
 use Rattle.definition.specs.Task.{keptTasks}
 use Rattle.definition.specs.Tree.{all}

@@ -1,4 +1,4 @@
-use mathlib.Core.Path.{sym, ap, _∙_}
+use mathlib.Core.Path.{sym, _∙_}
 use Rattle.tree.specs.Place.{elementAt}
 use Rattle.links.proofs.Links.{fate-across, fate-none, fate-row}
 use borrow.Author.Needs.{needs}

@@ -1,11 +1,9 @@
-use mathlib.Core.Path.{sym, _∙_}
 use Rattle.definition.specs.Ascii.{bytes}
 use Rattle.definition.specs.Task.{keptTasks}
 use Rattle.tree.specs.Place.{elementAt, listOf}
 use Rattle.rows.specs.Walks.{ahead}
 use Rattle.rows.specs.Turns.{list-end, list-at, ahead-less, AnyIn, any-begin, any-end, any-here, any-on}
 use Rattle.links.specs.Fates.{isKeptLink, isEntered}
-use Rattle.links.specs.Entered.{kept-is}
 use Rattle.links.proofs.Links.{fate-kept}
 use borrow.Author.Needs.{needs}
 use Rattle.links.proofs.fate.is_entered.Statement.{statement}

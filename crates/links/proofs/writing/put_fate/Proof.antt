@@ -1,8 +1,3 @@
-use mathlib.Core.Path.{sym, ap}
-use Rattle.tree.specs.Place.{elementAt}
-use Rattle.links.specs.Fates.{linksBy}
-use Rattle.links.specs.More.{more-none, more-as}
-use Rattle.links.specs.declared.fate.LinkFate.{LinkFate}
 use Rattle.links.proofs.Links.{put-across, put-dangling, put-fate}
 use borrow.Author.Needs.{needs}
 use Rattle.links.proofs.writing.put_fate.Statement.{statement}

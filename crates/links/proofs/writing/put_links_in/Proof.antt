@@ -9,7 +9,7 @@ use Rattle.tree.specs.Place.{elementAt, listOf}
 use Rattle.rows.specs.Walks.{ahead}
 use Rattle.rows.specs.Turns.{list-end, list-next, ahead-less}
 use Rattle.links.specs.Fates.{linksIn}
-use Rattle.links.specs.More.{Left, left-all, left-end}
+use Rattle.links.specs.More.{Left}
 use Rattle.links.proofs.Links.{in-begin, in-next, in-end}
 use borrow.Author.Needs.{needs}
 use Rattle.links.proofs.writing.put_links_in.Statement.{statement}

@@ -2,7 +2,7 @@ use mathlib.Core.Path.{sym, _∙_}
 use Rattle.tree.specs.Place.{elementAt}
 use Rattle.definition.specs.Field.{textIn}
 use Rattle.rows.specs.Rows.{withUidIn, calendarMeaning}
-use Rattle.rows.proofs.Walking.{uid-given, uid-none}
+use Rattle.rows.specs.Turns.{text-given, text-missing}
 use borrow.Author.Needs.{needs}
 use Rattle.rows.proofs.built.named_calendar.Statement.{statement}
 use Rattle.rows.proofs.built.named_calendar.Tie as tie
@@ -28,14 +28,14 @@ returns c =
     let i = t .before .before in
     let g = i .before in
     let a = g .before .before .before .args in
-    uid-given (textIn (elementAt (a .s .now) (a .root)) "CalendarUID") (withUidIn (elementAt (a .s .now) (a .root))) (sym (g .given .ensures) ∙ i .if1 .taken) (t .text-of .ensures) (c .calendar-with .ensures)
+    c .calendar-with .ensures ∙ text-given (textIn (elementAt (a .s .now) (a .root)) "CalendarUID") (withUidIn (elementAt (a .s .now) (a .root))) (sym (g .given .ensures) ∙ i .if1 .taken) (t .text-of .ensures)
 
 returns-2 : tie.Need-returns-2
 unfolding calendarMeaning
 returns-2 c =
     let g = c .before in
     let a = g .before .before .before .args in
-    uid-none (textIn (elementAt (a .s .now) (a .root)) "CalendarUID") (withUidIn (elementAt (a .s .now) (a .root))) (sym (g .given .ensures) ∙ c .if1 .left)
+    text-missing (textIn (elementAt (a .s .now) (a .root)) "CalendarUID") (withUidIn (elementAt (a .s .now) (a .root))) (sym (g .given .ensures) ∙ c .if1 .left)
 
 pub named-calendar-spec : {M : Type 1} → statement M
 named-calendar-spec =

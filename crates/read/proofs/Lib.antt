@@ -1,0 +1,5 @@
+pub mod Evens
+pub mod Closing
+pub mod Whole
+pub mod Chains
+pub mod Projects

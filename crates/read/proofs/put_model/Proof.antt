@@ -1,0 +1,48 @@
+use mathlib.Core.Path.{sym, _∙_}
+use native.Mathlib.Omega.{arith}
+use borrow.Author.Tests.{not-true, not-false}
+use Rattle.read.proofs.Whole.{fills-short, fills-written}
+use borrow.Author.Needs.{needs}
+use Rattle.read.proofs.put_model.Statement.{statement}
+use Rattle.read.proofs.put_model.Tie as tie
+
+put-all-requires : tie.Need-put-all-requires
+put-all-requires c κs = search needs
+
+inside-requires : tie.Need-inside-requires
+inside-requires c κs = search needs
+
+clear-requires : tie.Need-clear-requires
+clear-requires c κs = search needs
+
+same-length : tie.Need-same-length
+same-length c = search needs
+
+returns : tie.Need-returns
+returns c = fills-short (c .before .before .before .before .before .before .before .before .before .put-all .ensures) (sym (c .before .before .before .before .before .inside .ensures) ∙ not-true _ (c .before .before .before .before .if1 .taken)) (c .before .before .clear .ensures)
+
+close-counts-requires : tie.Need-close-counts-requires
+close-counts-requires c κs = search needs
+
+clear-from-requires : tie.Need-clear-from-requires
+clear-from-requires c κs = search needs
+
+same-length-2 : tie.Need-same-length-2
+same-length-2 c = search needs
+
+returns-2 : tie.Need-returns-2
+returns-2 c = fills-written (c .before .before .before .before .before .before .before .before .before .before .before .before .before .before .put-all .ensures) (sym (c .before .before .before .before .before .before .before .before .before .before .inside .ensures) ∙ not-false _ (c .before .before .before .before .before .before .before .before .before .if1 .left)) (c .before .before .before .before .before .before .close-counts .ensures) (λ i. omega (arith, c .before .before .before .before .slice-known4 .given i)) (c .before .before .clear-from .ensures)
+
+pub put-model-spec : {M : Type 1} → statement M
+put-model-spec =
+    tie.close
+    (tie.spec
+    put-all-requires
+    inside-requires
+    clear-requires
+    same-length
+    returns
+    close-counts-requires
+    clear-from-requires
+    same-length-2
+    returns-2)

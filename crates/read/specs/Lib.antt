@@ -1,0 +1,3 @@
+pub mod Project
+pub mod Sections
+pub mod Answers

@@ -1,0 +1,60 @@
+// The project's own record: what its element says, and how many exceptions and links were left out.
+ghost use mathlib.Core.Path.{_≡_};
+ghost use mathlib.Core.List.{[]};
+ghost use Rattle.definition.specs.Base.{_or_, _orElse_};
+ghost use Rattle.definition.specs.Date.{epoch};
+ghost use Rattle.definition.specs.Field.{textIn, dateIn};
+ghost use Rattle.definition.specs.Format.{whole};
+ghost use Rattle.definition.specs.Pack.{project};
+ghost use Rattle.definition.specs.Read.{projectOf};
+ghost use Rattle.definition.specs.Task.{contextOf};
+ghost use Rattle.tree.specs.Place.{elementAt};
+ghost use Rattle.bits.specs.Steps.{Puts};
+ghost use Rattle.pack.specs.Value.{dateBy};
+ghost use Rattle.read.specs.Project.{Skipped};
+use bits::Place;
+use definition::Date;
+use definition::DateAnswer;
+use pack::Skips;
+
+// The title, else the name.
+fn project_name<'a>(s: &'a [u8], root: usize) -> &'a [u8]
+    ensures { λ r. ⌜ now r ≡ ((textIn (elementAt (now (s .entry)) root) "Title" orElse textIn (elementAt (now (s .entry)) root) "Name") or []) ⌝ }
+{
+    if fields::given(s, root, b"Title") {
+        return tree::text_of(s, root, b"Title");
+    }
+    tree::text_of(s, root, b"Name")
+}
+
+// 1 January 1970 where no start is given.
+fn start_of(s: &[u8], root: usize) -> Date
+    ensures { λ r. ⌜ dateBy (r .0) ≡ (dateIn (elementAt (now (s .entry)) root) "StartDate" or epoch) ⌝ }
+{
+    match fields::date_in(s, root, b"StartDate") {
+        DateAnswer::Is(d) => d,
+        DateAnswer::Absent => Date(0),
+    }
+}
+
+fn skips_of(s: &[u8], root: usize) -> Skips
+    ensures { λ r. ⌜ Skipped (elementAt (now (s .entry)) root) r ⌝ }
+{
+    let fates = links::count_fates(s, root);
+    Skips {
+        skipped: calendar::skipped(s, root),
+        dangling: fates.dangling,
+        across: fates.across,
+    }
+}
+
+pub(crate) fn put_project(out: &mut [u8], p: Place, s: &[u8], root: usize) -> Place
+    ensures { λ r. ⌜ Puts (whole project) (projectOf (contextOf (elementAt (now (s .entry)) root)) (elementAt (now (s .entry)) root)) (now (out .entry)) p (now (out .exit)) r ⌝ }
+{
+    let name = project_name(s, root);
+    let start = start_of(s, root);
+    let currency = tree::text_of(s, root, b"CurrencySymbol");
+    let skips = skips_of(s, root);
+    let status = fields::date_in(s, root, b"StatusDate");
+    pack::put_project(out, p, name, start, currency, skips, status)
+}

@@ -1,0 +1,65 @@
+// The six sections, one after another, and their counts.
+ghost use Rattle.tree.specs.Place.{elementAt};
+ghost use Rattle.read.specs.Sections.{SectionsPut, AllPut, Closes};
+use crate::project::put_project;
+use bits::Place;
+use pack::Counts;
+
+// How many records of each kind were put, and the place behind the last.
+pub(crate) struct Sections {
+    pub counts: Counts,
+    pub next: Place,
+}
+
+// The calendars stand at p; activities and resources read their names there.
+fn put_sections(out: &mut [u8], p: Place, s: &[u8], root: usize) -> Sections
+    ensures { λ r. ⌜ SectionsPut (now (s .entry)) root (now (out .entry)) p (now (out .exit)) r ⌝ }
+{
+    let a = calendars::put_calendars(out, p, s, root);
+    let b = activities::put_activities(out, a.next, s, root, p);
+    let c = links::put_links(out, b.next, s, root);
+    let d = assignments::put_resources(out, c.next, s, root, p);
+    let e = assignments::put_assignments(out, d.next, s, root);
+    let f = assignments::put_expenses(out, e.next, s, root);
+    let next = f.next;
+    Sections {
+        counts: Counts {
+            calendars: a.count,
+            activities: b.count,
+            links: c.count,
+            resources: d.count,
+            assignments: e.count,
+            expenses: f.count,
+        },
+        next,
+    }
+}
+
+// All from the first byte on, the six counts left open.
+pub(crate) fn put_all(out: &mut [u8], s: &[u8], root: usize) -> Sections
+    ensures { λ r. ⌜ AllPut (now (s .entry)) root (now (out .entry)) (now (out .exit)) r ⌝ }
+{
+    let open = Counts {
+        calendars: 0,
+        activities: 0,
+        links: 0,
+        resources: 0,
+        assignments: 0,
+        expenses: 0,
+    };
+    let p = pack::put_counts(out, Place { byte: 0, bit: 0 }, open);
+    let q = put_project(out, p, s, root);
+    put_sections(out, q, s, root)
+}
+
+// The six counts put in their places.
+pub(crate) fn close_counts(out: &mut [u8], n: Counts)
+    ensures { λ _. ⌜ Closes n (now (out .entry)) (now (out .exit)) ⌝ }
+{
+    let a = bits::overwrite(out, Place { byte: 0, bit: 0 }, 32, n.calendars as u64);
+    let b = bits::overwrite(out, a, 32, n.activities as u64);
+    let c = bits::overwrite(out, b, 32, n.links as u64);
+    let d = bits::overwrite(out, c, 32, n.resources as u64);
+    let e = bits::overwrite(out, d, 32, n.assignments as u64);
+    bits::overwrite(out, e, 32, n.expenses as u64);
+}
