@@ -84,19 +84,19 @@ module _ {d : List ℕ} {p : Place} {n activity : ℕ} {name : Text} where
   seeks-all = record { seeks = λ ts end l e h. (rw (sub-zero n) h, refl) }
 
   module _ {q r : Place} {i : ℕ} (h : Seeks d p n activity name q i) (lt : i < n) (k : Passes (recordOf false Expenses) d q r) where
-    pub seeks-more : isExpenseAt d q activity name ≡ false → Seeks d p n activity name r (i + 1)
-    seeks-more e = record {
+    pub seeks-more : {b : Bool} → b ≡ isExpenseAt d q activity name → b ≡ false → Seeks d p n activity name r (i + 1)
+    seeks-more is e = record {
       seeks = λ ts end l z w.
           let (a, b) = h .seeks ts end l z w in
           let s = one n i ts lt k z a in
-          (s .on, b ∙ first-key activity name false e s);
+          (s .on, b ∙ first-key activity name false (sym is ∙ e) s);
     }
 
-    pub seeks-found : isExpenseAt d q activity name ≡ true → Tells d p n activity name true
-    seeks-found e = record {
+    pub seeks-found : {b : Bool} → b ≡ isExpenseAt d q activity name → b ≡ true → Tells d p n activity name true
+    seeks-found is e = record {
       tells = λ ts end l z w.
           let (a, b) = h .seeks ts end l z w in
-          sym (b ∙ first-key activity name true e (one n i ts lt k z a));
+          sym (b ∙ first-key activity name true (sym is ∙ e) (one n i ts lt k z a));
     }
 
   pub seeks-none : {q : Place} {i : ℕ} → Seeks d p n activity name q i → n ≤ i → Tells d p n activity name false

@@ -24,7 +24,7 @@ use Rattle.definition.specs.Refusal.{mostElements}
 use Rattle.definition.specs.Task.{Context, unlessMain}
 use Rattle.definition.specs.Resource.{isResource, isCost, workResources, resourceKind, maxUnits, priceOf, resourceOf, resourcesAfter, resources}
 use Rattle.laws.specs.FitTrees.{Small}
-use Rattle.bits.specs.Places.{inside, past}
+use Rattle.bits.specs.Places.{inside}
 use Rattle.bits.specs.Steps.{Puts}
 use Rattle.bits.specs.declared.Place.{Place}
 use Rattle.model.specs.declared.records.Kind.the-variants.{Resources}
@@ -33,7 +33,7 @@ use Rattle.text.specs.declared.I64Answer.{I64Answer}
 use Rattle.pack.specs.Value.{starredBy, nameMeaning}
 use Rattle.pack.specs.Record.{resourceBy}
 use Rattle.pack.specs.declared.stars.NameAnswer.{NameAnswer}
-use Rattle.pack.specs.Writes.{WritesIf, put-any, writes-if, writes-not}
+use Rattle.pack.specs.Writes.{noRecords, WritesIf, put-any, writes-if, writes-not}
 use Rattle.pack.specs.declared.record.Records.{Records}
 use Rattle.names.specs.Texts.{textsAt}
 use Rattle.names.specs.Context.{contextAt, textWithUid, calendarsBefore}
@@ -245,7 +245,7 @@ module _ (d : List ℕ) (c : Place) (root : Element) (p : Place) {t u : Bool} (e
   tested : (t && u) ≡ Tested d c root p
   tested = λ i. et i && eu i
 
-  pub resources-not : not (t && u) ≡ true → {n : ℕ} → WritesIf (Tested d c root p) (whole resource) (resources (contextAt d c root) root) d p d (record { count = n; next = past })
+  pub resources-not : not (t && u) ≡ true → WritesIf (Tested d c root p) (whole resource) (resources (contextAt d c root) root) d p d noRecords
   resources-not h = writes-not (whole resource) (sym tested ∙ not-true (t && u) h) refl
 
   module _ (h : not (t && u) ≡ false) where

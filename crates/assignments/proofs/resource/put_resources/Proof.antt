@@ -15,7 +15,10 @@ same-length : tie.Need-same-length
 same-length c = search needs
 
 returns : tie.Need-returns
-returns c = resources-not (c .before .before .before .before .before .before .args .out .now) (c .before .before .before .before .before .before .args .c) (elementAt (c .before .before .before .before .before .before .args .s .now) (c .before .before .before .before .before .before .args .root)) (c .before .before .before .before .before .before .args .p) (c .before .before .before .few .ensures) (c .before .calendars-before .ensures) (c .if1 .taken)
+returns c =
+    let k = c .before .before .before in
+    let l = k .before .before .before in
+    resources-not (l .args .out .now) (l .args .c) (elementAt (l .args .s .now) (l .args .root)) (l .args .p) (k .few .ensures) (c .before .calendars-before .ensures) (c .if1 .taken)
 
 slice-aggregate-first-in : tie.Need-slice-aggregate-first-in
 slice-aggregate-first-in c = search needs
@@ -42,13 +45,26 @@ same-length-2 : tie.Need-same-length-2
 same-length-2 c = search needs
 
 returns-2 : tie.Need-returns-2
-returns-2 c = resources-none (c .before .before .before .before .before .before .before .before .before .before .before .args .out .now) (c .before .before .before .before .before .before .before .before .before .before .before .args .c) (elementAt (c .before .before .before .before .before .before .before .before .before .before .before .args .s .now) (c .before .before .before .before .before .before .before .before .before .before .before .args .root)) (c .before .before .before .before .before .before .before .before .before .before .before .args .p) (c .before .before .before .before .before .before .before .before .few .ensures) (c .before .before .before .before .before .before .calendars-before .ensures) (c .before .before .before .before .before .if1 .left) (none-list (c .before .before .first-in .ensures) (c .enum-told .given .1))
+returns-2 c =
+    let k = c .before .before .before .before .before in
+    let l = k .before in
+    let m = l .before .before in
+    let n = m .before .before .before in
+    resources-none (n .args .out .now) (n .args .c) (elementAt (n .args .s .now) (n .args .root)) (n .args .p) (m .few .ensures) (l .calendars-before .ensures) (k .if1 .left) (none-list (c .before .before .first-in .ensures) (c .enum-told .given .1))
 
 same-length-3 : tie.Need-same-length-3
 same-length-3 c = search needs
 
 returns-3 : tie.Need-returns-3
-returns-3 c = resources-all (c .before .before .before .before .before .before .before .before .before .before .before .before .before .before .before .before .before .args .out .now) (c .before .before .before .before .before .before .before .before .before .before .before .before .before .before .before .before .before .args .c) (elementAt (c .before .before .before .before .before .before .before .before .before .before .before .before .before .before .before .before .before .args .s .now) (c .before .before .before .before .before .before .before .before .before .before .before .before .before .before .before .before .before .args .root)) (c .before .before .before .before .before .before .before .before .before .before .before .before .before .before .before .before .before .args .p) (c .before .before .before .before .before .before .before .before .before .before .before .before .before .before .few .ensures) (c .before .before .before .before .before .before .before .before .before .before .before .before .calendars-before .ensures) (c .before .before .before .before .before .before .before .before .before .before .before .if1 .left) (found-list (c .before .before .before .before .before .before .before .before .first-in .ensures) (c .before .before .before .before .before .before .first .given .1)) (c .before .before .before .put-from .ensures) (c .records-of .ensures)
+returns-3 c =
+    let k = c .before .before .before in
+    let l = k .before .before .before in
+    let m = l .before .before in
+    let n = m .before .before .before in
+    let o = n .before in
+    let q = o .before .before in
+    let u = q .before .before .before in
+    resources-all (u .args .out .now) (u .args .c) (elementAt (u .args .s .now) (u .args .root)) (u .args .p) (q .few .ensures) (o .calendars-before .ensures) (n .if1 .left) (found-list (m .first-in .ensures) (l .first .given .1)) (k .put-from .ensures) (c .records-of .ensures)
 
 pub put-resources-spec : {M : Type 1} → statement M
 put-resources-spec = tie.close (tie.spec few-requires calendars-before-requires same-length returns slice-aggregate-first-in slice-aggregate-first-in-2 first-in-requires enum-told enum-known-first put-from-requires records-of-requires same-length-2 returns-2 same-length-3 returns-3)
