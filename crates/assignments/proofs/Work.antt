@@ -161,7 +161,7 @@ no-resources x xs = refl
 
 module _ (c : Place) (root : Element) {start : Place} {d : List ℕ} {r : Done} {d' : List ℕ} {q : Place} {r' : Done} (a : Element) (t : isWork a ≡ true)
     (puts : (x : Context) (ids : List Text) → free (textsAt Resources d start (r .count % 2 ^ 32)) (wantedId a) ≡ free ids (wantedId a) → contextAt d c root ≡ x
-        → Puts (whole resource) (resourceOf x ids a) d (r .next) d' q)
+    → Puts (whole resource) (resourceOf x ids a) d (r .next) d' q)
     (n : (r' .count ≡ (r .count + 1) % 2 ^ 64) × (r' .next ≡ q)) where
   pub adds-work : AddsResources c start root (a ∷ []) d r d' r'
   adds-work = record { goes = λ d₀ xs ok w. wrote-as (one-work (contextAt d₀ c root) xs a t) (wrote-more w (by-end d₀ xs ok w (inside (length d) (r .next)) refl) n) }

@@ -76,14 +76,7 @@ fn put_new(
 }
 
 // That of one element, where its task and its cost resource are there.
-fn put_one(
-    out: &mut [u8],
-    start: Place,
-    done: Done,
-    s: &[u8],
-    root: usize,
-    at: usize,
-) -> Done
+fn put_one(out: &mut [u8], start: Place, done: Done, s: &[u8], root: usize, at: usize) -> Done
     ensures { λ r. ⌜ AddsExpense start (expenseOf (contextOf (elementAt (now (s .entry)) root)) (elementAt (now (s .entry)) root) (elementAt (now (s .entry)) at)) (now (out .entry)) done (now (out .exit)) r ⌝ }
 {
     let RowAnswer::Is(activity) = task_of(s, root, at) else {

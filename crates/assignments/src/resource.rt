@@ -116,7 +116,19 @@ fn put_said(
     let unit = tree::text_of(s, at, b"MaterialLabel");
     let units = resources::max_units(s, at);
     let price = resources::price(s, at);
-    pack::put_resource(out, p, id, stars, name, kind, unit, units, calendar, named, price)
+    pack::put_resource(
+        out,
+        p,
+        id,
+        stars,
+        name,
+        kind,
+        unit,
+        units,
+        calendar,
+        named,
+        price,
+    )
 }
 
 // That of one element, where it is a work resource.

@@ -55,9 +55,10 @@ loop-less c = omega (arith, found-on (c .before .before .before .next-child .ens
 loop-again : tie.Need-loop-again Inv-loop μ-loop
 loop-again c =
     let s = c .before .before .before .before .before .before .before .before .before .before .before .before .args .s .now in
-    let root = elementAt s (c .before .before .before .before .before .before .before .before .before .before .before .before .args .root) in
-    (c .before .before .before .before .before .before .before .put-one .kept .0 ∙ c .before .before .before .before .before .before .before .before .before .loop .inv .0,
-    going-more (c .before .before .before .before .before .before .before .before .before .loop .inv .1) (c .before .before .before .before .before .before .before .put-one .ensures _) (λ xs u. tt) (more-assignments root (elementAt s (c .before .before .before .before .before .before .before .before .before .loop .at)) (laterAt s (bytes "Assignment") (c .before .before .before .before .before .before .before .before .before .loop .at))) (found-list (c .before .before .before .next-child .ensures) (c .before .next .given .1)) (λ xs u. tt))
+    let root = elementAt s (c .before .before .before .before .before .before .before .before .before .before .before .before .args .root) in (
+      c .before .before .before .before .before .before .before .put-one .kept .0 ∙ c .before .before .before .before .before .before .before .before .before .loop .inv .0,
+      going-more (c .before .before .before .before .before .before .before .before .before .loop .inv .1) (c .before .before .before .before .before .before .before .put-one .ensures _) (λ xs u. tt) (more-assignments root (elementAt s (c .before .before .before .before .before .before .before .before .before .loop .at)) (laterAt s (bytes "Assignment") (c .before .before .before .before .before .before .before .before .before .loop .at))) (found-list (c .before .before .before .next-child .ensures) (c .before .next .given .1)) (λ xs u. tt),
+    )
 
 pub put-from-spec : {M : Type 1} → statement M
 put-from-spec = tie.close (tie.spec Inv-loop μ-loop loop-holds put-one-requires slice-aggregate-next-child next-child-requires enum-known-next enum-told same-length returns loop-less loop-again)

@@ -60,9 +60,10 @@ loop-again c =
     let s = c .before .before .before .before .before .before .before .before .before .before .before .before .args .s .now in
     let root = elementAt s (c .before .before .before .before .before .before .before .before .before .before .before .before .args .root) in
     let small : length s < 2 ^ 63 = omega (arith, c .before .before .before .before .before .before .before .before .before .before .before .before .good) in
-    let b = bytes-of s (λ i. omega (arith, c .before .before .before .before .before .before .before .before .before .before .shared-slice-known .given i)) in
-    (c .before .before .before .before .before .before .before .put-one .kept .0 ∙ c .before .before .before .before .before .before .before .before .before .loop .inv .0,
-    going-more (c .before .before .before .before .before .before .before .before .before .loop .inv .1) (c .before .before .before .before .before .before .before .put-one .ensures) (λ xs f. (f .fit, omega (arith, f .most))) (more-expenses root (elementAt s (c .before .before .before .before .before .before .before .before .before .loop .at)) (laterAt s (bytes "Assignment") (c .before .before .before .before .before .before .before .before .before .loop .at))) (found-list (c .before .before .before .next-child .ensures) (c .before .next .given .1)) (λ xs f. fine-more (found-on (c .before .before .before .next-child .ensures) (c .before .next .given .1)) (expense-fits (elementAt s (c .before .before .before .before .before .before .before .before .before .loop .at)) (small-at s b (c .before .before .before .before .before .before .before .before .before .before .before .before .args .root))) xs f))
+    let b = bytes-of s (λ i. omega (arith, c .before .before .before .before .before .before .before .before .before .before .shared-slice-known .given i)) in (
+      c .before .before .before .before .before .before .before .put-one .kept .0 ∙ c .before .before .before .before .before .before .before .before .before .loop .inv .0,
+      going-more (c .before .before .before .before .before .before .before .before .before .loop .inv .1) (c .before .before .before .before .before .before .before .put-one .ensures) (λ xs f. (f .fit, omega (arith, f .most))) (more-expenses root (elementAt s (c .before .before .before .before .before .before .before .before .before .loop .at)) (laterAt s (bytes "Assignment") (c .before .before .before .before .before .before .before .before .before .loop .at))) (found-list (c .before .before .before .next-child .ensures) (c .before .next .given .1)) (λ xs f. fine-more (found-on (c .before .before .before .next-child .ensures) (c .before .next .given .1)) (expense-fits (elementAt s (c .before .before .before .before .before .before .before .before .before .loop .at)) (small-at s b (c .before .before .before .before .before .before .before .before .before .before .before .before .args .root))) xs f),
+    )
 
 pub put-from-spec : {M : Type 1} → statement M
 put-from-spec = tie.close (tie.spec Inv-loop μ-loop loop-holds put-one-requires slice-aggregate-next-child next-child-requires enum-known-next enum-told same-length returns loop-less loop-again)

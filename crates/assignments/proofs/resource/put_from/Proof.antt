@@ -67,9 +67,10 @@ loop-again c = let s = c .before .before .before .before .before .before .before
     let d = c .before .before .before .before .before .before .before .before .before .before .before .before .args .out .now in
     let x = contextAt d (c .before .before .before .before .before .before .before .before .before .before .before .before .args .c) root in
     let small = small-at s (bytes-of s (λ i. omega (arith, c .before .before .before .before .before .before .before .before .before .before .shared-slice-known .given i))) in
-    let z = found-list (c .before .before .before .next-child .ensures) (c .before .next .given .1) in
-    (c .before .before .before .before .before .before .before .put-one .kept .0 ∙ c .before .before .before .before .before .before .before .before .before .loop .inv .0,
-    λ b h. going-more (c .before .before .before .before .before .before .before .before .before .loop .inv .1 b h) (c .before .before .before .before .before .before .before .put-one .ensures) (fine-few _ _ _ b) (more-resources x (elementAt s (c .before .before .before .before .before .before .before .before .before .loop .at)) (laterAt s (bytes "Resource") (c .before .before .before .before .before .before .before .before .before .loop .at))) z (λ xs f. subst (λ (l : List Element). FineResources l (resourcesAfter x xs (keep isWork (elementAt s (c .before .before .before .before .before .before .before .before .before .loop .at) ∷ [])))) z (fine-on x (built-short d (c .before .before .before .before .before .before .before .before .before .before .before .before .args .c) (small (c .before .before .before .before .before .before .before .before .before .before .before .before .args .root))) (laterAt s (bytes "Resource") (c .before .before .before .before .before .before .before .before .before .loop .at)) (small (c .before .before .before .before .before .before .before .before .before .loop .at)) xs f)))
+    let z = found-list (c .before .before .before .next-child .ensures) (c .before .next .given .1) in (
+      c .before .before .before .before .before .before .before .put-one .kept .0 ∙ c .before .before .before .before .before .before .before .before .before .loop .inv .0,
+      λ b h. going-more (c .before .before .before .before .before .before .before .before .before .loop .inv .1 b h) (c .before .before .before .before .before .before .before .put-one .ensures) (fine-few _ _ _ b) (more-resources x (elementAt s (c .before .before .before .before .before .before .before .before .before .loop .at)) (laterAt s (bytes "Resource") (c .before .before .before .before .before .before .before .before .before .loop .at))) z (λ xs f. subst (λ (l : List Element). FineResources l (resourcesAfter x xs (keep isWork (elementAt s (c .before .before .before .before .before .before .before .before .before .loop .at) ∷ [])))) z (fine-on x (built-short d (c .before .before .before .before .before .before .before .before .before .before .before .before .args .c) (small (c .before .before .before .before .before .before .before .before .before .before .before .before .args .root))) (laterAt s (bytes "Resource") (c .before .before .before .before .before .before .before .before .before .loop .at)) (small (c .before .before .before .before .before .before .before .before .before .loop .at)) xs f)),
+    )
 
 pub put-from-spec : {M : Type 1} → statement M
 put-from-spec = tie.close (tie.spec Inv-loop μ-loop loop-holds put-one-requires slice-aggregate-next-child next-child-requires enum-known-next enum-told same-length returns loop-less loop-again)
