@@ -33,6 +33,7 @@ use Rattle.pack.specs.Writes.{Writes, WritesIf}
 use Rattle.pack.specs.Record.{countsBy}
 use Rattle.pack.specs.declared.record.Records.{Records}
 use Rattle.pack.specs.declared.record.Counts as P
+use Rattle.assignments.specs.Section.{WritesIn}
 use Rattle.names.specs.Context.{contextAt, calendarsBefore}
 use Rattle.names.specs.Carried.{context-carried, before-carried}
 use Rattle.names.specs.Turned.{calendars-stand, same-activities, same-resources}
@@ -119,7 +120,7 @@ module _ (e : Element) {d d1 d2 d3 d4 d5 d6 : List ℕ} {p : Place} {r1 r2 r3 r4
     (w3 : Writes (whole link) (links (contextOf e)) d2 (r2 .next) d3 r3)
     (w4 : WritesIf (leb (length (workResources e)) mostElements && calendarsBefore d3 p e (r3 .next)) (whole resource) (resources (contextAt d3 p e) e) d3 (r3 .next) d4 r4)
     (w5 : Writes (whole assignment) (assignments (contextOf e) e) d4 (r4 .next) d5 r5)
-    (w6 : Writes (whole expense) (expenses (contextOf e) e) d5 (r5 .next) d6 r6)
+    (w6 : WritesIn (whole expense) (expenses (contextOf e) e) d5 (r5 .next) d6 r6)
   where
     pub six-same : length d6 ≡ length d
     six-same = w6 .puts .step .same ∙ w5 .puts .step .same ∙ if-same w4 ∙ w3 .puts .step .same ∙ if-same w2 ∙ if-same w1
@@ -149,24 +150,21 @@ module _ (e : Element) {d d1 d2 d3 d4 d5 d6 : List ℕ} {p : Place} {r1 r2 r3 r4
       s5 : Section (whole assignment) (assignments x e) d4 (r4 .next) d5 r5
       s5 = section w5
 
-      s6 : Section (whole expense) (expenses x e) d5 (r5 .next) d6 r6
-      s6 = section w6
-
       pub six-put : Puts (listed (countsOf (modelOf e))) (listedOf (modelOf e)) d p d6 (r6 .next)
       unfolding modelOf
-      six-put = put-⊗ (s1 .put) (put-⊗ (s2 .put) (put-⊗ (s3 .put) (put-⊗ (s4 .put) (put-⊗ (s5 .put) (s6 .put)))))
+      six-put = put-⊗ (s1 .put) (put-⊗ (s2 .put) (put-⊗ (s3 .put) (put-⊗ (s4 .put) (put-⊗ (s5 .put) (w6 .puts)))))
 
       pub six-counted : inside (length d6) (r6 .next) ≡ true
           → (r1 .count, (r2 .count, (r3 .count, (r4 .count, (r5 .count, r6 .count))))) ≡ low (countsOf (modelOf e))
       unfolding modelOf
       six-counted i6 =
-          let i5 = began (s6 .put) i6 in
+          let i5 = began (w6 .puts) i6 in
           let i4 = began (s5 .put) i5 in
           let i3 = began (s4 .put) i4 in
           let i2 = began (s3 .put) i3 in
           let i1 = began (s2 .put) i2 in
           let i0 = began (s1 .put) i1 in
-          λ i. (s1 .counted i0 i, (s2 .counted i1 i, (s3 .counted i2 i, (s4 .counted i3 i, (s5 .counted i4 i, s6 .counted i5 i)))))
+          λ i. (s1 .counted i0 i, (s2 .counted i1 i, (s3 .counted i2 i, (s4 .counted i3 i, (s5 .counted i4 i, w6 .counts i6 i)))))
 
 -- ---- the counts and the project before them
 
