@@ -166,7 +166,7 @@ put-plain n [] = refl
 put-plain n (c ∷ cs) = ap (λ (b : Bits). whole calendar .put n c ++ b) (put-plain (n + length (whole calendar .put n c)) cs)
 
 module _ (k : ℕ) {cs : List Calendar} {d₀ : List ℕ} {p : Place} {d : List ℕ} {q : Place} (h : Puts (times k (whole calendar)) cs d₀ p d q) (i : inside (length d) q ≡ true) (fit : Each (FitsCalendarBy Short) cs)
-         (begins : at p % 8 ≡ 0) where
+    (begins : at p % 8 ≡ 0) where
   row-place : (us vs : List Calendar) → cs ≡ us ++ vs → Offset d p (length (recs us)) (placeOfRow Calendars d p (length us))
   row-place us vs e =
       let all : Lies plainCalendars (CalendarParts Short) d p (map calendarFields us ++ map calendarFields vs) q = rw (e, map-append calendarFields us vs) at (calendars-lie k h i fit) in
@@ -221,7 +221,7 @@ size-at : (d₀ : List ℕ) (p : Place) {w : ℕ} → Fits (length d₀) p w →
 size-at d₀ p f = ap sizeOf (view-in d₀ p f) ∙ length-before d₀ (at p) (omega (arith, f .ends))
 
 module _ (k row : ℕ) {cs : List Calendar} {d₀ : List ℕ} {p : Place} {d : List ℕ} {q : Place} (h : Puts (times k (whole calendar)) cs d₀ p d q) (fit : Each (FitsCalendarBy Short) cs) (begins : p .bit % 8 ≡ 0)
-         {c : Calendar} (g : getElem? cs row ≡ some c) {d' : List ℕ} (t : Rotates p (placeOfRow Calendars d p row) (placeOfRow Calendars d p (suc row)) d d') where
+    {c : Calendar} (g : getElem? cs row ≡ some c) {d' : List ℕ} (t : Rotates p (placeOfRow Calendars d p row) (placeOfRow Calendars d p (suc row)) d d') where
   turned-in : inside (length d) q ≡ true → Puts (times k (whole calendar)) (turned cs row c) d₀ p d' q
   unfolding times
   turned-in i =

@@ -214,12 +214,16 @@ module _ {day : ℕ} {hours : Place} {d : List ℕ} {from to p : Place} {d' : Li
 module _ {day : ℕ} {d : List ℕ} {p : Place} {d' : List ℕ} {q : Place} where
   pub base-hours-at : {r : CalendarPlaces} → CopiesHours day (r .hours) d p d' q → BaseHours (At r) day d p d' q
   unfolding BaseIs
-  base-hours-at {r} h = record { puts = λ lt. record { puts = λ c k. h .puts lt (c .hours) (r .holidays) (λ e.
-      let i = k e in
-      let (f5, (l5, i5)) = read-from (good-list byDate (good-date & good-periods)) (i .exceptions) (i .inner) in
-      let (f4, (l4, i4)) = read-from good-dates (i .extra) i5 in
-      let (f3, (l3, i3)) = read-from good-dates (i .holidays) i4 in
-      (i .hours, (i3, omega (arith, l3, l4, l5, i .before)))) } }
+  base-hours-at {r} h = record {
+    puts = λ lt. record {
+      puts = λ c k. h .puts lt (c .hours) (r .holidays) (λ e.
+          let i = k e in
+          let (f5, (l5, i5)) = read-from (good-list byDate (good-date & good-periods)) (i .exceptions) (i .inner) in
+          let (f4, (l4, i4)) = read-from good-dates (i .extra) i5 in
+          let (f3, (l3, i3)) = read-from good-dates (i .holidays) i4 in
+          (i .hours, (i3, omega (arith, l3, l4, l5, i .before))));
+    };
+  }
 
   pub base-hours-default : Puts periods [] d p d' q → BaseHours Default day d p d' q
   unfolding BaseIs defaultCalendar

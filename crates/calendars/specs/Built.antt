@@ -27,7 +27,6 @@ use Rattle.rows.specs.declared.CalendarAnswer.the-variants.{Is, Absent}
 use Rattle.calendars.specs.declared.base.Base.{Base}
 use Rattle.calendars.specs.Base.{BaseIs}
 
-
 -- calendars stand from a place on, one after another, up to q; so many
 pub record Stand (cs : List Calendar) (d₀ : List ℕ) (start : Place) (d : List ℕ) (r : Records) : Type 0 where
   pub puts : Puts (times (length cs) (whole calendar)) cs d₀ start d (r .next)

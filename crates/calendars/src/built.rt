@@ -35,7 +35,13 @@ use tree::Found;
 fn stars_of(out: &[u8], start: Place, count: u32, s: &[u8], at: usize) -> u32
     ensures { λ r. ⌜ starredBy (wantedName (elementAt (now (s .entry)) at)) r ≡ free (textsAt Calendars (now (out .entry)) start count) (wantedName (elementAt (now (s .entry)) at)) ⌝ }
 {
-    names::free_stars(out, start, Kind::Calendars, count, names::wanted_name(s, at, b"Calendar"))
+    names::free_stars(
+        out,
+        start,
+        Kind::Calendars,
+        count,
+        names::wanted_name(s, at, b"Calendar"),
+    )
 }
 
 // The calendar of a row, if it is built.
