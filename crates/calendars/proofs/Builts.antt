@@ -22,7 +22,7 @@ use Rattle.definition.specs.Task.{contextOf, keptTasks, isElapsed}
 use Rattle.definition.specs.Calendar.{Named, baseOf, withUid, build, builtCalendars, mainCalendar, calendarElements, calendarOf, renamed, free, defaultCalendar, elapsedCalendar}
 use Rattle.laws.specs.Bools.{both}
 use Rattle.laws.specs.Each.{Each, empty, next, each-append, each-front, each-back}
-use Rattle.bits.specs.Places.{at, place, past, inside, room-fits}
+use Rattle.bits.specs.Places.{at, place, inside, room-fits}
 use Rattle.bits.specs.Reads.{Reads, rest-in}
 use Rattle.bits.specs.Steps.{Puts, put-same, put-no, put-more}
 use Rattle.bits.specs.declared.Place.{Place}
@@ -32,7 +32,7 @@ use Rattle.model.specs.Splits.{split-⊗}
 use Rattle.model.specs.declared.parts.CalendarPlaces.{CalendarPlaces}
 use Rattle.model.specs.declared.records.Kind.the-variants.{Calendars}
 use Rattle.pack.specs.Value.{starredBy}
-use Rattle.pack.specs.Writes.{Writes, WritesIf, writes-if, writes-not}
+use Rattle.pack.specs.Writes.{Writes, WritesIf, noRecords, put-any, writes-if, writes-not}
 use Rattle.pack.specs.declared.record.Records.{Records}
 use Rattle.rows.specs.Rows.{inOrder, mainIn, calendarMeaning, withUidIn}
 use Rattle.rows.specs.declared.CalendarAnswer.{CalendarAnswer}
@@ -49,9 +49,8 @@ use Rattle.names.specs.Records.{CalendarFields, calendarFields, plainCalendars,
 use Rattle.calendars.specs.declared.base.Base.{Base}
 use Rattle.calendars.specs.declared.base.Base.the-variants.{At, Default}
 use Rattle.calendars.specs.Base.{Based, BaseIs}
-use Rattle.calendars.proofs.Overs.{any-out}
 use Rattle.calendars.specs.Record.{named, PutsCalendar}
-use Rattle.calendars.proofs.Orders.{get-out, get-in, built-in-order, built-more, made, build-length, of-length, found-base, base-given, no-base, main-row, main-none}
+use Rattle.calendars.proofs.Orders.{get-out, get-in, built-in-order, built-more, made, of-length, found-base, base-given, no-base, main-row, main-none}
 use Rattle.calendars.proofs.Turning.{put-times}
 use Rattle.calendars.specs.Built.{Stand, builtOf, rowOr, foundOr, Finds, BaseFound, baseIn, BaseIn, Adds, AddsAll, orDefault, AddsDefault, PutsBuilt, turned, Turns, TurnsMain, elapsedIn, AddsElapsed}
 
@@ -159,7 +158,7 @@ adds-one {root} {e} {start} {d} {r} stars {b} {d'} {r'} st base put n = record {
   where
     next-put : {d₀ : List ℕ} (done todo : List Element) → inOrder root ≡ done ++ ((e ∷ []) ++ todo) → Each (FitsCalendarBy Short) (builtOf done) → Stand (builtOf done) d₀ start d r → (t : Bool) → inside (length d) (r .next) ≡ t
         → Puts (whole calendar) (made done e) d (r .next) d' (r' .next)
-    next-put done todo z fit s false i = any-out (whole calendar) (made done e) i (put .puts (baseIn done e) (λ j. absurd (true≢false (sym j ∙ i))))
+    next-put done todo z fit s false i = put-any (made done e) i (put .puts (baseIn done e) (λ j. absurd (true≢false (sym j ∙ i))))
     next-put {d₀} done todo z fit s true i =
         let c = baseIn done e in
         let names : textsAt Calendars d start (r .count) ≡ namesIn (build [] done) = ap (textsAt Calendars d start) (s .counts) ∙ texts-calendars (length (builtOf done)) (s .puts) i fit ∙ names-are (build [] done) in
@@ -303,6 +302,6 @@ module _ (s : Text) (root : Element) {d : List ℕ} {p : Place} {n : ℕ} (is : 
       let (few, begins) = both (leb (length (calendarElements root)) mostElements) (eqb (p .bit % 8) 0) e' in
       writes-if (whole calendar) e' (calendars-written s root found m small (leb-true _ _ few) (eqb-true _ _ begins) built t el)
 
-  pub calendars-not : (leb n 5000000 && eqb (p .bit % 8) 0) ≡ false → {r : Records} → r .next ≡ past
+  pub calendars-not : (leb n 5000000 && eqb (p .bit % 8) 0) ≡ false → {r : Records} → r ≡ noRecords
       → WritesIf (leb (length (calendarElements root)) mostElements && eqb (p .bit % 8) 0) (whole calendar) (calendarsOf (contextOf root)) d p d r
   calendars-not e z = let e' : (leb (length (calendarElements root)) mostElements && eqb (p .bit % 8) 0) ≡ false = rw is at e in writes-not (whole calendar) e' z

@@ -5,6 +5,7 @@ use mathlib.Core.Bool.{Bool, true, false, true≢false, not}
 use mathlib.Core.List.{List, [], _∷_, _++_, map, append-assoc, append-nil, map-append}
 use mathlib.Core.Option.{Option, some, none}
 use Prim.Native.Nat.{ℕ, zero, suc, _+_, _≤_, _<_}
+use native.Mathlib.Nat.{zero-add}
 use native.Mathlib.Omega.{arith}
 use lib.ListN.{length, getElem?, length-append, length-map}
 use Rattle.definition.specs.Base.{if_then_else_, _>>=_, _or_, _orElse_, when, given, keep, find, first, numbered, same}
@@ -18,8 +19,8 @@ use Rattle.laws.specs.Options.{never}
 use Rattle.rows.specs.Rows.{hasUid, inOrder, withUidIn, mainIn, calendarMeaning}
 use Rattle.rows.specs.declared.CalendarAnswer.{CalendarAnswer}
 use Rattle.rows.specs.declared.CalendarAnswer.the-variants.{Is, Absent}
-use Rattle.calendars.specs.Built.{builtOf, rowOr, foundOr, baseIn, orDefault}
-use Rattle.laws.specs.FitNames.{calendarsIn, namesIn}
+use Rattle.calendars.specs.Built.{builtOf, foundOr, baseIn}
+use Rattle.laws.specs.FitNames.{calendarsIn, namesIn, build-length}
 
 -- ---- one after another
 
@@ -53,11 +54,11 @@ unfolding build
 uids-build built [] = sym (append-nil (uidsIn built))
 uids-build built (e ∷ es) = uids-build _ es ∙ ap (λ (l : List Text). l ++ map uidOf es) (map-append _ built _) ∙ append-assoc (uidsIn built) _ _
 
-pub build-length : (es : List Element) → length (build [] es) ≡ length es
-build-length es = sym (length-map (build [] es) _) ∙ ap length (uids-build [] es) ∙ length-map es uidOf
+size-of : (es : List Element) → length (build [] es) ≡ length es
+size-of es = build-length [] es ∙ zero-add (length es)
 
 pub of-length : (es : List Element) → length (builtOf es) ≡ length es
-of-length es = length-map (build [] es) _ ∙ build-length es
+of-length es = length-map (build [] es) _ ∙ size-of es
 
 -- ---- rows
 
@@ -181,7 +182,7 @@ module _ (root : Element) where
   by-first : (row : ℕ) (e : Element) (o : Option Calendar) → o ≡ none → first (numbered 0 (inOrder root)) ≡ some (row, e)
       → getElem? (calendarsIn whole) row ≡ some ((o orElse (first whole >>= λ x. some (x .1))) or defaultCalendar)
   by-first row e o z f =
-      let (c, (a, b)) = first-row (inOrder root) whole (build-length (inOrder root)) row e f in
+      let (c, (a, b)) = first-row (inOrder root) whole (size-of (inOrder root)) row e f in
       b ∙ rw (z, a)
 
   pub main-row : (row : ℕ) (e : Element) → mainIn root ≡ some (row, e) → getElem? (calendarsIn whole) row ≡ some (mainCalendar root whole)

@@ -1,24 +1,23 @@
 -- Parts of a calendar over its base, put one after another: what stands before a place still does behind what was put. Assumes nothing.
-use mathlib.Core.Path.{_≡_, refl, sym, ap, _∙_}
+use mathlib.Core.Path.{_≡_, refl, ap}
 use mathlib.Core.Bool.{Bool, true, false}
-use mathlib.Core.List.{List, [], _∷_}
-use Prim.Native.Nat.{ℕ, _+_, _*_, _≤_}
+use mathlib.Core.List.{List}
+use Prim.Native.Nat.{ℕ, _≤_}
 use native.Mathlib.Omega.{arith}
-use lib.Dec.{ltb}
 use lib.ListN.{length}
-use Rattle.definition.specs.Format.{Format, _⊗_, whole, times, flag, date, dates, periods, listOf, Period}
+use Rattle.definition.specs.Format.{Format, _⊗_, whole, date, dates, periods, listOf, Period}
 use Rattle.definition.specs.Date.{Date}
 use Rattle.definition.specs.Model.{Calendar}
 use Rattle.definition.specs.Calendar.{byDate, defaultCalendar}
-use Rattle.laws.specs.Buf.{full, _▷_, sizeOf, ▷-full}
 use Rattle.laws.specs.Formats.{Good, _&_, good-times, good-list}
 use Rattle.laws.specs.Fields.{good-periods, good-date, good-dates}
 use Rattle.laws.specs.FitRecords.{good-week}
 use Rattle.bits.specs.Places.{at, inside, Fits, fits-room}
 use Rattle.bits.specs.Reads.{Reads}
 use Rattle.bits.specs.Round.{put-stood, stood-before}
-use Rattle.bits.specs.Steps.{view, puts, Puts, Pads, said, view-out, put-⊗, put-whole}
+use Rattle.bits.specs.Steps.{Puts, Pads, put-⊗, put-whole}
 use Rattle.bits.specs.declared.Place.{Place}
+use Rattle.pack.specs.Writes.{put-any}
 use Rattle.model.specs.declared.parts.CalendarPlaces.{CalendarPlaces}
 use Rattle.names.specs.Kept.{Kept, there-at, reads-there, reads-kept}
 use Rattle.calendars.specs.declared.base.Base.{Base}
@@ -26,14 +25,7 @@ use Rattle.calendars.specs.declared.base.Base.the-variants.{At, Default}
 use Rattle.calendars.specs.Days.{Holds, HoldsFrom, BaseHolidays, BaseExtraDays, BaseExceptions, PutsOver}
 use Rattle.calendars.specs.Base.{Based, BaseIs, Over}
 
--- ---- past the end
-
--- from a place past the end whatever was put may be said to be another value
-pub any-out : {A B : Type 0} {f : Format A} (g : Format B) {a : A} (b : B) {d : List ℕ} {p : Place} {d' : List ℕ} {q : Place} → inside (length d) p ≡ false → Puts f a d p d' q → Puts g b d p d' q
-any-out {f = f} g {a} b {d} {p} h x = record { step = said (x .step) (puts g b) (fulls f a ∙ sym (fulls g b)) }
-  where
-    fulls : {C : Type 0} (k : Format C) (c : C) → puts k c (view d p) ≡ full (8 * length d)
-    fulls k c = ap (λ v. v ▷ k .put (sizeOf (view d p)) c) (view-out d p h) ∙ ▷-full (8 * length d) (k .put (sizeOf (view d p)) c)
+-- ---- where there is room
 
 -- behind what was put there is room only where there was before
 pub put-inside : {A : Type 0} {f : Format A} {a : A} {d : List ℕ} {p : Place} {d' : List ℕ} {q : Place} → Puts f a d p d' q → inside (length d') q ≡ true → inside (length d) p ≡ true
@@ -92,7 +84,7 @@ module _ {A : Type 0} {f : Format A} {b : Base} {d : List ℕ} {p : Place} {d1 :
     where
       by-room : (c : Calendar) → (inside (length d) p ≡ true → BaseIs b d p c) → (t : Bool) → inside (length d) p ≡ t → Puts f (to c) d p d1 p1
       by-room c k true z = rw (← e c (k z)) (h .puts c k)
-      by-room c k false z = any-out f (to c) z (h .puts c k)
+      by-room c k false z = put-any (to c) z (h .puts c k)
 
   pub over-⊗ : {B : Type 0} {g : Format B} {to : Calendar → B} {d2 : List ℕ} {p2 : Place} → Over f b of d p d1 p1 → Over g b to d1 p1 d2 p2 → Over (f ⊗ g) b (λ c. (of c, to c)) d p d2 p2
   over-⊗ h i = record { puts = λ c k. let x = h .puts c k in put-⊗ x (i .puts c (λ e. base-still x e b c k)) }
