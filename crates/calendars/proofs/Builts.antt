@@ -3,17 +3,17 @@ use mathlib.Core.Path.{_≡_, refl, sym, ap, subst, _∙_}
 use mathlib.Core.Bool.{Bool, true, false, true≢false, not, _&&_}
 use mathlib.Core.List.{List, [], _∷_, _++_, map, append-assoc, append-nil, map-append}
 use mathlib.Core.Option.{Option, some, none}
-use Prim.Native.Nat.{ℕ, zero, suc, _+_, _%_, _^_, _≤_, _<_}
+use Prim.Native.Nat.{ℕ, suc, _+_, _%_, _^_, _≤_, _<_}
 use native.Mathlib.Omega.{arith}
 use lib.Dec.{leb, eqb}
 use borrow.Author.Tests.{leb-true, eqb-true}
 use lib.ListN.{length, take, drop, getElem?, length-append, length-map}
-use Rattle.definition.specs.Base.{if_then_else_, _>>=_, _or_, _orElse_, given, keep, first, find, same, some?}
+use Rattle.definition.specs.Base.{if_then_else_, _>>=_, _or_, _orElse_, given, keep, first, same, some?}
 use Rattle.definition.specs.Bits.{pad}
 use Rattle.definition.specs.Text.{Text}
 use Rattle.definition.specs.Field.{textIn}
-use Rattle.definition.specs.Tree.{Element, child, allIn}
-use Rattle.definition.specs.Format.{times, whole}
+use Rattle.definition.specs.Tree.{Element}
+use Rattle.definition.specs.Format.{whole}
 use Rattle.definition.specs.Model.{Calendar}
 use Rattle.definition.specs.Pack.{calendar}
 use Rattle.definition.specs.Read.{calendarsOf}
@@ -21,7 +21,7 @@ use Rattle.definition.specs.Refusal.{mostElements}
 use Rattle.definition.specs.Task.{contextOf, keptTasks, isElapsed}
 use Rattle.definition.specs.Calendar.{Named, baseOf, withUid, build, builtCalendars, mainCalendar, calendarElements, calendarOf, renamed, free, defaultCalendar, elapsedCalendar}
 use Rattle.laws.specs.Bools.{both}
-use Rattle.laws.specs.Each.{Each, empty, next, each-append, each-front, each-back}
+use Rattle.laws.specs.Each.{Each, empty, next, each-append, each-front}
 use Rattle.bits.specs.Places.{at, place, inside, room-fits}
 use Rattle.bits.specs.Reads.{Reads, rest-in}
 use Rattle.bits.specs.Steps.{Puts, put-same, put-no, put-more}
@@ -45,14 +45,14 @@ use Rattle.laws.specs.FitTrees.{Small, holds-calendars, slim-texts}
 use Rattle.laws.specs.FitNames.{Distinct, calendarsIn, namesIn, keep-both, built-distinct, names-are, others}
 use Rattle.laws.specs.FitCalendars.{FitsNamedBy, fit-build}
 use Rattle.names.specs.Kept.{There, there-at, there-inside, there-split, there-reads, reads-there}
-use Rattle.names.specs.Records.{CalendarFields, calendarFields, plainCalendars, plain-calendars, good-raw, parted, calendars-lie, Lies, row-reads, texts-calendars}
+use Rattle.names.specs.Records.{calendarFields, plainCalendars, plain-calendars, good-raw, parted, calendars-lie, Lies, row-reads, texts-calendars}
 use Rattle.calendars.specs.declared.base.Base.{Base}
 use Rattle.calendars.specs.declared.base.Base.the-variants.{At, Default}
 use Rattle.calendars.specs.Base.{Based, BaseIs}
-use Rattle.calendars.specs.Record.{named, PutsCalendar}
+use Rattle.calendars.specs.Record.{PutsCalendar}
 use Rattle.calendars.proofs.Orders.{get-out, get-in, built-in-order, built-more, made, of-length, found-base, base-given, no-base, main-row, main-none}
 use Rattle.calendars.proofs.Turning.{put-times}
-use Rattle.calendars.specs.Built.{Stand, builtOf, rowOr, foundOr, Finds, BaseFound, baseIn, BaseIn, Adds, AddsAll, orDefault, AddsDefault, PutsBuilt, turned, Turns, TurnsMain, elapsedIn, AddsElapsed}
+use Rattle.calendars.specs.Built.{Stand, builtOf, rowOr, foundOr, Finds, BaseFound, baseIn, BaseIn, Adds, AddsAll, orDefault, AddsDefault, PutsBuilt, turned, TurnsMain, elapsedIn, AddsElapsed}
 
 -- ---- what is built fits
 

@@ -22,7 +22,7 @@ use Rattle.model.specs.declared.parts.CalendarPlaces.{CalendarPlaces}
 use Rattle.names.specs.Kept.{Kept, there-at, reads-there, reads-kept}
 use Rattle.calendars.specs.declared.base.Base.{Base}
 use Rattle.calendars.specs.declared.base.Base.the-variants.{At, Default}
-use Rattle.calendars.specs.Days.{Holds, HoldsFrom, BaseHolidays, BaseExtraDays, BaseExceptions, PutsOver}
+use Rattle.calendars.specs.Days.{BaseHolidays, BaseExtraDays, BaseExceptions, PutsOver}
 use Rattle.calendars.specs.Base.{Based, BaseIs, Over}
 
 -- ---- where there is room

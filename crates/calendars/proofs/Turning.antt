@@ -2,35 +2,31 @@
 use mathlib.Core.Path.{_≡_, refl, sym, ap, _∙_}
 use mathlib.Core.Bool.{Bool, true, false, true≢false}
 use mathlib.Core.List.{List, [], _∷_, _++_, append-assoc, append-nil, map, map-append}
-use mathlib.Core.Option.{Option, some, none}
+use mathlib.Core.Option.{Option, some}
 use Prim.Native.Nat.{ℕ, zero, suc, _+_, _-_, _*_, _%_, _≤_, _<_}
 use native.Mathlib.Omega.{arith}
 use lib.ListN.{length, take, drop, getElem?, replicate, length-append, length-map}
 use lib.Seq.{take-at}
-use Rattle.definition.specs.Base.{_>>=_, if_then_else_}
 use Rattle.definition.specs.Bits.{Bits, enc, bitsOf, gap, pad}
-use Rattle.definition.specs.Date.{Date}
-use Rattle.definition.specs.Format.{Format, _⊗_, via, field, whole, times, putAll, count, flag, time, text, date, dates, period, periods, listOf, earlier}
+use Rattle.definition.specs.Format.{Format, _⊗_, via, field, whole, times, putAll, flag, time, text, date, dates, period, periods, listOf, earlier}
 use Rattle.definition.specs.Model.{Calendar}
 use Rattle.definition.specs.Calendar.{byDate}
 use Rattle.definition.specs.Pack.{calendar}
-use Rattle.laws.specs.Bits.{length-bits}
-use Rattle.laws.specs.Buf.{Buf, full, holds, _▷_, sizeOf, ▷-full}
+use Rattle.laws.specs.Buf.{Buf, full, _▷_, sizeOf, ▷-full}
 use Rattle.laws.specs.Each.{Each}
 use Rattle.laws.specs.Formats.{fills-whole}
 use Rattle.laws.specs.FitRecords.{Short, FitsCalendarBy, CalendarParts}
 use Rattle.bits.specs.Moves.{Rotates, rotated, rotate-parts, rotates-kept, ordered, order}
-use Rattle.bits.specs.Places.{at, place, inside, room, Fits, room-fits, fits-room, at-place, place-at, next-fits, Before, before-up}
-use Rattle.bits.specs.Reads.{Reads}
-use Rattle.bits.specs.Round.{Stood, stood, overran, put-stood, stood-all}
-use Rattle.bits.specs.Steps.{view, before, puts, Step, Puts, said, view-in, view-out, ▷-fits, ▷-short, length-before, before-in, before-out, past-out}
+use Rattle.bits.specs.Places.{at, place, inside, room, Fits, room-fits, fits-room, at-place, next-fits, before-up}
+use Rattle.bits.specs.Round.{stood, overran, put-stood, stood-all}
+use Rattle.bits.specs.Steps.{view, before, puts, Step, Puts, said, view-in, view-out, ▷-fits, ▷-short, length-before, before-in}
 use Rattle.bits.specs.declared.Place.{Place}
 use Rattle.model.specs.Parts.{calendarParts, raw}
 use Rattle.model.specs.declared.records.Kind.the-variants.{Calendars}
 use Rattle.pack.specs.declared.record.Records.{Records}
 use Rattle.names.specs.Kept.{there-at, there-inside}
 use Rattle.names.specs.Texts.{placeOfRow}
-use Rattle.names.specs.Records.{CalendarFields, calendarFields, plainCalendars, plain-calendars, calendars-lie, Lies, lies-front}
+use Rattle.names.specs.Records.{calendarFields, plainCalendars, plain-calendars, calendars-lie, Lies, lies-front}
 use Rattle.calendars.specs.Built.{Stand, turned, Turns}
 
 -- ---- bits that go by the place modulo 8

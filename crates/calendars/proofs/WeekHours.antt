@@ -3,33 +3,33 @@ use mathlib.Core.Path.{_≡_, refl, sym, ap, _∙_}
 use mathlib.Core.Bool.{Bool, true, false}
 use mathlib.Core.List.{List, [], _∷_, _++_, map, flatMap}
 use mathlib.Core.Option.{Option, some, none}
-use Prim.Native.Nat.{ℕ, zero, suc, _+_, _-_, _*_, _^_, _≤_, _<_}
+use Prim.Native.Nat.{ℕ, suc, _+_, _-_, _≤_, _<_}
 use native.Mathlib.Omega.{arith}
 use borrow.Author.Tests.{eqb-true, eqb-false}
 use lib.Dec.{eqb, ltb}
-use lib.ListN.{length, getD, set, take, drop, replicate, length-map, length-set, getD-replicate}
+use lib.ListN.{length, getD, set, take, drop, length-map, length-set, getD-replicate}
 use lib.Seq.{take-at, take-suc, take-all, getD-drop, getD-set-same, getD-set-other}
 use Rattle.definition.specs.Base.{if_then_else_, _>>=_, _or_, _orElse_, when, findLast}
-use Rattle.definition.specs.Bits.{Bits, enc, dec, bitsOf}
+use Rattle.definition.specs.Bits.{Bits, enc, dec}
 use Rattle.definition.specs.Ascii.{bytes}
 use Rattle.definition.specs.Text.{Text}
 use Rattle.definition.specs.Date.{Date}
-use Rattle.definition.specs.Format.{Format, Period, count, _⊗_, field, via, flag, bit, times, putAll, text, date, dates, periods, listOf, whole}
+use Rattle.definition.specs.Format.{Period, count, _⊗_, field, via, flag, bit, times, putAll, text, date, dates, periods, listOf}
 use Rattle.definition.specs.Model.{Calendar}
 use Rattle.definition.specs.Field.{textIn, yesIn}
 use Rattle.definition.specs.Pack.{calendar}
 use Rattle.definition.specs.Tree.{Element}
-use Rattle.definition.specs.Calendar.{byDate, placeOf, periodsOf, weekDays, weekBy, hoursBy, exceptionsOf, daysOff, daysOn, daysWithHours, insertAll, calendarOf, renamed, defaultCalendar}
+use Rattle.definition.specs.Calendar.{byDate, placeOf, periodsOf, weekDays, weekBy, hoursBy, exceptionsOf, daysOff, daysOn, daysWithHours, insertAll, calendarOf, defaultCalendar}
 use Rattle.laws.specs.Each.{empty, next}
 use Rattle.laws.specs.Bits.{Binary, length-enc, enc-dec}
-use Rattle.laws.specs.Formats.{Good, good-times, good-list, _&_}
+use Rattle.laws.specs.Formats.{good-times, good-list, _&_}
 use Rattle.laws.specs.FitRecords.{good-week}
 use Rattle.laws.specs.Fields.{good-periods, good-date, good-dates}
 use Rattle.bits.specs.Moves.{Copies}
 use Rattle.bits.specs.Places.{at, inside, Fits, room-fits}
 use Rattle.bits.specs.Reads.{rest-in, Reads, takeAt, take-whole}
 use Rattle.bits.specs.Round.{stood-from}
-use Rattle.bits.specs.Steps.{Puts, Pads, put-same, put-no, put-more, put-⊗}
+use Rattle.bits.specs.Steps.{Puts, Pads, put-same, put-no, put-more}
 use Rattle.bits.specs.declared.Place.{Place}
 use Rattle.calendar.specs.Week.{flagsIn, wordOf, placeMeaning}
 use Rattle.calendar.specs.declared.week.PlaceAnswer.{PlaceAnswer}

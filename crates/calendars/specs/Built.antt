@@ -2,7 +2,7 @@
 use mathlib.Core.Path.{_≡_}
 use mathlib.Core.Bool.{true}
 use mathlib.Core.List.{List, [], _∷_, _++_}
-use mathlib.Core.Option.{Option, some}
+use mathlib.Core.Option.{some}
 use Prim.Native.Nat.{ℕ, suc, _%_, _≤_}
 use lib.ListN.{length, take, drop, getElem?}
 use Rattle.definition.specs.Base.{if_then_else_, _>>=_, _or_, some?}

@@ -4,16 +4,15 @@ use mathlib.Core.Bool.{Bool, true, false}
 use mathlib.Core.List.{List, []}
 use mathlib.Core.Option.{Option, some, none}
 use Prim.Native.Nat.{ℕ, _≤_, _<_}
-use lib.Dec.{eqb, ltb}
+use lib.Dec.{eqb}
 use lib.ListN.{length, getD}
 use Rattle.definition.specs.Base.{if_then_else_, _>>=_, _or_}
-use Rattle.definition.specs.Date.{Date}
 use Rattle.definition.specs.Tree.{Element}
 use Rattle.definition.specs.Field.{yesIn}
 use Rattle.definition.specs.Format.{Period, periods, times, whole}
 use Rattle.definition.specs.Model.{Calendar}
 use Rattle.definition.specs.Pack.{calendar}
-use Rattle.definition.specs.Calendar.{placeOf, periodsOf, weekDays, hoursBy, calendarOf, renamed}
+use Rattle.definition.specs.Calendar.{placeOf, periodsOf, hoursBy, calendarOf, renamed}
 use Rattle.bits.specs.Places.{at, inside}
 use Rattle.bits.specs.Reads.{Reads}
 use Rattle.bits.specs.Steps.{Puts}

@@ -1,6 +1,6 @@
 // All calendars. What is right is said in the crate definition, specs/Calendar.antt and specs/Read.antt.
 ghost use mathlib.Core.Path.{_≡_};
-ghost use mathlib.Core.List.{List, [], _∷_};
+ghost use mathlib.Core.List.{[], _∷_};
 ghost use mathlib.Core.Bool.{_&&_};
 ghost use Prim.Native.Nat.{_%_};
 ghost use lib.Dec.{leb, eqb};

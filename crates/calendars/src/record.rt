@@ -1,6 +1,6 @@
 // One calendar over its base. What is right is said in the crate definition, specs/Calendar.antt.
 ghost use mathlib.Core.Path.{_≡_};
-ghost use mathlib.Core.List.{List, _∷_};
+ghost use mathlib.Core.List.{_∷_};
 ghost use Rattle.definition.specs.Base.{findLast};
 ghost use Rattle.definition.specs.Ascii.{bytes};
 ghost use Rattle.definition.specs.Format.{periods};
