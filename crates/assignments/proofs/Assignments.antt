@@ -1,6 +1,7 @@
 -- Assignments, one after another. The row of a resource is put as 32 bits hold it: these bits are the row's own. Assumes nothing.
 use Prim.Native.Nat.{ℕ, _+_, _%_, _^_}
 use mathlib.Core.Path.{_≡_, refl, sym, ap, _∙_}
+use mathlib.Core.Bool.{true}
 use mathlib.Core.List.{List, [], _∷_, _++_, map, append-nil, append-assoc}
 use mathlib.Core.Option.{Option, some, none}
 use Rattle.definition.specs.Base.{_>>=_, present}
@@ -27,10 +28,12 @@ use Rattle.rows.specs.Rows.{foundMeaning}
 use Rattle.resources.specs.Assignment.{Means}
 use Rattle.resources.specs.declared.assignment.Amounts.{Amounts}
 use Rattle.pack.specs.Record.{assignmentBy}
+use Rattle.pack.specs.Writes.{Writes}
+use Rattle.pack.specs.declared.record.Records.{Records}
 use Rattle.assignments.specs.declared.section.Done.{Done}
-use Rattle.assignments.specs.Section.{Goes}
+use Rattle.assignments.specs.Section.{Wrote, Goes}
 use Rattle.assignments.specs.Records.{assignmentsIn, AddsAssignment}
-use Rattle.assignments.proofs.Turns.{wrote-more, wrote-as}
+use Rattle.assignments.proofs.Turns.{wrote-more, wrote-as, writes, writes-none, Going, going-all, going-more, going-last}
 
 -- ---- the bits of one
 
@@ -108,7 +111,7 @@ module _ (s : Text) {f : Found} (root a : Element) (e : foundMeaning s f ≡ cos
 
 -- ---- one after another
 
-pub more-assignments : (root e : Element) (fs : List Element) (xs : List Assignment)
+more-assignments : (root e : Element) (fs : List Element) (xs : List Assignment)
     → xs ++ assignmentsIn root (e ∷ fs) ≡ (xs ++ present (assignmentOf (contextOf root) root e ∷ [])) ++ assignmentsIn root fs
 unfolding present
 more-assignments root e fs xs = by (assignmentOf (contextOf root) root e)
@@ -117,10 +120,34 @@ more-assignments root e fs xs = by (assignmentOf (contextOf root) root e)
     by none = sym (ap (λ (ys : List Assignment). ys ++ assignmentsIn root fs) (append-nil xs))
     by (some x) = sym (append-assoc xs (x ∷ []) (assignmentsIn root fs))
 
-pub no-assignments : (root : Element) (xs : List Assignment) → xs ++ assignmentsIn root [] ≡ xs
+no-assignments : (root : Element) (xs : List Assignment) → xs ++ assignmentsIn root [] ≡ xs
 unfolding present
 no-assignments root xs = append-nil xs
 
-pub all-assignments : (root : Element) → assignments (contextOf root) root ≡ assignmentsIn root (assignmentElements root)
-unfolding assignments
-all-assignments root = refl
+-- some are done, and those of fs are left
+abbrev pub GoingOn : Element → List Element → List Element → List ℕ → Place → List ℕ → Done → Type 0
+GoingOn root = Going (whole assignment) true (λ xs es. xs ++ assignmentsIn root es) (λ xs. Unit {0})
+
+module _ (root : Element) {es : List Element} {d : List ℕ} {p : Place} where
+  pub go-all : GoingOn root es es d p d (record { count = 0; next = p })
+  go-all = going-all tt
+
+  module _ {e : Element} {fs : List Element} {d1 : List ℕ} {r1 : Done} {d2 : List ℕ} {r2 : Done} (g : GoingOn root es (e ∷ fs) d p d1 r1)
+      (h : AddsAssignment (assignmentOf (contextOf root) root e) d1 r1 d2 r2) where
+    pub go-more : {gs : List Element} → fs ≡ gs → GoingOn root es gs d p d2 r2
+    go-more z = going-more g (h p) (λ xs u. tt) (more-assignments root e fs) z (λ xs u. tt)
+
+    pub go-last : fs ≡ [] → Wrote (whole assignment) true (assignmentsIn root es) d p d2 r2
+    go-last z = going-last g (h p) (λ xs u. tt) (more-assignments root e fs) z (no-assignments root)
+
+-- ---- all
+
+module _ (root : Element) {d : List ℕ} {p : Place} where
+  pub assignments-none : assignmentElements root ≡ [] → Writes (whole assignment) (assignments (contextOf root) root) d p d (record { count = 0; next = p })
+  unfolding assignments
+  assignments-none e = writes-none (ap (assignmentsIn root) e ∙ no-assignments root [])
+
+  pub assignments-all : {es : List Element} → assignmentElements root ≡ es → {d' : List ℕ} {r : Done} {w : Records} → Wrote (whole assignment) true (assignmentsIn root es) d p d' r
+      → (w .count ≡ r .count % 2 ^ 32) × (w .next ≡ r .next) → Writes (whole assignment) (assignments (contextOf root) root) d p d' w
+  unfolding assignments
+  assignments-all e h n = writes (wrote-as (ap (assignmentsIn root) (sym e)) h) n

@@ -20,6 +20,7 @@ use Rattle.definition.specs.Pack.{expense}
 use Rattle.definition.specs.Task.{contextOf}
 use Rattle.definition.specs.Resource.{moneyIn, accrualOf, taskRow, costOf, expenseFrom, expenseOf, sameExpense, firsts, expenses, assignmentElements}
 use Rattle.definition.specs.declared.RowAnswer.{RowAnswer}
+use Rattle.laws.specs.FitTrees.{Small}
 use Rattle.bits.specs.Places.{inside, room-fits}
 use Rattle.bits.specs.Reads.{rest, rest-in, Reads, takeAt, read-field}
 use Rattle.bits.specs.Steps.{Puts, put-same}
@@ -37,11 +38,13 @@ use Rattle.rows.specs.Rows.{foundMeaning}
 use Rattle.resources.specs.Assignment.{Means}
 use Rattle.resources.specs.declared.assignment.Amounts.{Amounts}
 use Rattle.pack.specs.Record.{expenseBy}
+use Rattle.pack.specs.declared.record.Records.{Records}
 use Rattle.names.specs.Records.{ExpenseFields, expenseFields, plainExpenses, plain-expenses, run-expenses}
 use Rattle.assignments.specs.declared.section.Done.{Done}
-use Rattle.assignments.specs.Section.{Wrote, Goes}
+use Rattle.assignments.specs.Section.{WritesIn, Wrote, Goes}
 use Rattle.assignments.specs.Records.{expensesAfter, isExpenseAt, isKey, Tells, FewExpenses, AddsExpense}
-use Rattle.assignments.proofs.Turns.{wrote-more, wrote-as, wrote-still, wrote-past}
+use Rattle.assignments.proofs.Turns.{wrote-more, wrote-as, wrote-still, wrote-past, writes-in, writes-in-none, Going, going-all, going-more, going-last}
+use Rattle.assignments.proofs.Fit.{FineExpenses, fine-none, fine-more, expense-fits}
 
 -- ---- the expense at a place
 
@@ -81,19 +84,19 @@ module _ {d : List ℕ} {p : Place} {n activity : ℕ} {name : Text} where
   seeks-all = record { seeks = λ ts end l e h. (rw (sub-zero n) h, refl) }
 
   module _ {q r : Place} {i : ℕ} (h : Seeks d p n activity name q i) (lt : i < n) (k : Passes (recordOf false Expenses) d q r) where
-    pub seeks-more : isExpenseAt d q activity name ≡ false → Seeks d p n activity name r (i + 1)
-    seeks-more e = record {
+    pub seeks-more : {b : Bool} → b ≡ isExpenseAt d q activity name → b ≡ false → Seeks d p n activity name r (i + 1)
+    seeks-more is e = record {
       seeks = λ ts end l z w.
           let (a, b) = h .seeks ts end l z w in
           let s = one n i ts lt k z a in
-          (s .on, b ∙ first-key activity name false e s);
+          (s .on, b ∙ first-key activity name false (sym is ∙ e) s);
     }
 
-    pub seeks-found : isExpenseAt d q activity name ≡ true → Tells d p n activity name true
-    seeks-found e = record {
+    pub seeks-found : {b : Bool} → b ≡ isExpenseAt d q activity name → b ≡ true → Tells d p n activity name true
+    seeks-found is e = record {
       tells = λ ts end l z w.
           let (a, b) = h .seeks ts end l z w in
-          sym (b ∙ first-key activity name true e (one n i ts lt k z a));
+          sym (b ∙ first-key activity name true (sym is ∙ e) (one n i ts lt k z a));
     }
 
   pub seeks-none : {q : Place} {i : ℕ} → Seeks d p n activity name q i → n ≤ i → Tells d p n activity name false
@@ -192,7 +195,7 @@ module _ {task : RowAnswer} (root a : Element) (et : rowMeaning task ≡ taskRow
 
 -- ---- one after another
 
-pub more-expenses : (root e : Element) (fs : List Element) (xs : List Expense)
+more-expenses : (root e : Element) (fs : List Element) (xs : List Expense)
     → expensesAfter root xs (e ∷ fs) ≡ expensesAfter root (firsts xs (present (expenseOf (contextOf root) root e ∷ []))) fs
 unfolding present firsts
 more-expenses root e fs xs = by (expenseOf (contextOf root) root e)
@@ -201,10 +204,37 @@ more-expenses root e fs xs = by (expenseOf (contextOf root) root e)
     by none = refl
     by (some x) = refl
 
-pub no-expenses : (root : Element) (xs : List Expense) → expensesAfter root xs [] ≡ xs
+no-expenses : (root : Element) (xs : List Expense) → expensesAfter root xs [] ≡ xs
 unfolding present firsts
 no-expenses root xs = refl
 
-pub all-expenses : (root : Element) → expenses (contextOf root) root ≡ expensesAfter root [] (assignmentElements root)
-unfolding expenses
-all-expenses root = refl
+-- some are done, and those of fs are left
+abbrev pub GoingOn : Text → ℕ → Element → List Element → List Element → List ℕ → Place → List ℕ → Done → Type 0
+GoingOn s at root = Going (whole expense) false (expensesAfter root) (FineExpenses s at)
+
+module _ {s : Text} (root : Element) {es : List Element} {d : List ℕ} {p : Place} where
+  pub go-all : {at : ℕ} → GoingOn s at root es es d p d (record { count = 0; next = p })
+  go-all = going-all fine-none
+
+  module _ (few : length s < 2 ^ 63) {at : ℕ} {e : Element} {fs : List Element} {d1 : List ℕ} {r1 : Done} {d2 : List ℕ} {r2 : Done} (g : GoingOn s at root es (e ∷ fs) d p d1 r1)
+      (h : AddsExpense p (expenseOf (contextOf root) root e) d1 r1 d2 r2) where
+    ok : (xs : List Expense) → FineExpenses s at xs → FewExpenses d xs
+    ok xs f = (f .fit, omega (arith, f .most))
+
+    pub go-more : {gs : List Element} → fs ≡ gs → {on : ℕ} → (at + 1 ≤ on) × (on < length s) → Small root → GoingOn s on root es gs d p d2 r2
+    go-more z o m = going-more g h ok (more-expenses root e fs) z (λ xs f. fine-more o (expense-fits e m) xs f)
+
+    pub go-last : fs ≡ [] → Wrote (whole expense) false (expensesAfter root [] es) d p d2 r2
+    go-last z = going-last g h ok (more-expenses root e fs) z (no-expenses root)
+
+-- ---- all
+
+module _ (root : Element) {d : List ℕ} {p : Place} where
+  pub expenses-none : assignmentElements root ≡ [] → WritesIn (whole expense) (expenses (contextOf root) root) d p d (record { count = 0; next = p })
+  unfolding expenses
+  expenses-none e = writes-in-none (ap (expensesAfter root []) e ∙ no-expenses root [])
+
+  pub expenses-all : {es : List Element} → assignmentElements root ≡ es → {d' : List ℕ} {r : Done} {w : Records} → Wrote (whole expense) false (expensesAfter root [] es) d p d' r
+      → (w .count ≡ r .count % 2 ^ 32) × (w .next ≡ r .next) → WritesIn (whole expense) (expenses (contextOf root) root) d p d' w
+  unfolding expenses
+  expenses-all e h n = writes-in (wrote-as (ap (expensesAfter root []) (sym e)) h) n

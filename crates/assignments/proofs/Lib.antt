@@ -1,6 +1,6 @@
 pub mod Given
 pub mod Turns
+pub mod Fit
 pub mod Assignments
 pub mod Work
 pub mod Expenses
-pub mod Fit

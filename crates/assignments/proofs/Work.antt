@@ -3,14 +3,14 @@ use Prim.Native.Nat.{ℕ, suc, _+_, _%_, _^_, _≤_, _<_, min}
 use native.Mathlib.Nat.{zero-add, mod-eq-of-lt}
 use native.Mathlib.Omega.{arith}
 use mathlib.Core.Path.{_≡_, refl, sym, ap, subst, _∙_}
-use mathlib.Core.Bool.{Bool, true, false, true≢false, _&&_, not}
+use mathlib.Core.Bool.{Bool, true, false, true≢false, _&&_, not, and-eq-true-iff}
 use mathlib.Core.List.{List, [], _∷_, _++_, map}
 use mathlib.Core.Option.{Option, some, none}
 use lib.Dec.{leb}
 use lib.Pow.{mod-mod-pow}
 use lib.IntN.{ℤ}
 use lib.ListN.{length}
-use borrow.Author.Tests.{leb-true, leb-false, le-leb, lt-leb}
+use borrow.Author.Tests.{leb-true, leb-false, le-leb, lt-leb, not-true, not-false}
 use Rattle.definition.specs.Base.{if_then_else_, _>>=_, _or_, _orElse_, keep}
 use Rattle.definition.specs.Ascii.{bytes}
 use Rattle.definition.specs.Text.{Text}
@@ -23,6 +23,7 @@ use Rattle.definition.specs.Calendar.{nameOf, free}
 use Rattle.definition.specs.Refusal.{mostElements}
 use Rattle.definition.specs.Task.{Context, unlessMain}
 use Rattle.definition.specs.Resource.{isResource, isCost, workResources, resourceKind, maxUnits, priceOf, resourceOf, resourcesAfter, resources}
+use Rattle.laws.specs.FitTrees.{Small}
 use Rattle.bits.specs.Places.{inside}
 use Rattle.bits.specs.Steps.{Puts}
 use Rattle.bits.specs.declared.Place.{Place}
@@ -32,15 +33,18 @@ use Rattle.text.specs.declared.I64Answer.{I64Answer}
 use Rattle.pack.specs.Value.{starredBy, nameMeaning}
 use Rattle.pack.specs.Record.{resourceBy}
 use Rattle.pack.specs.declared.stars.NameAnswer.{NameAnswer}
-use Rattle.pack.specs.Writes.{put-any}
+use Rattle.pack.specs.Writes.{noRecords, WritesIf, put-any, writes-if, writes-not}
+use Rattle.pack.specs.declared.record.Records.{Records}
 use Rattle.names.specs.Texts.{textsAt}
-use Rattle.names.specs.Context.{contextAt}
+use Rattle.names.specs.Context.{contextAt, textWithUid, calendarsBefore}
 use Rattle.names.specs.Records.{texts-resources}
 use Rattle.names.specs.Carried.{context-carried}
+use Rattle.names.specs.Short.{built-short}
 use Rattle.assignments.specs.declared.section.Done.{Done}
 use Rattle.assignments.specs.Section.{Wrote}
 use Rattle.assignments.specs.Records.{isWork, wantedId, FewResources, AddsResources}
-use Rattle.assignments.proofs.Turns.{wrote-more, wrote-as}
+use Rattle.assignments.proofs.Turns.{wrote-more, wrote-as, writes, writes-none, Going, going-all, going-more, going-last}
+use Rattle.assignments.proofs.Fit.{FineResources, fine-all, fine-on, fine-few}
 
 -- ---- which they are
 
@@ -128,11 +132,11 @@ resource-is x ids r calendar stars named price a b c d e f g h = rw (ap (λ (t :
 
 -- ---- one after another
 
-pub no-work : (x : Context) (xs : List Resource) (e : Element) → isWork e ≡ false → xs ≡ resourcesAfter x xs (keep isWork (e ∷ []))
+no-work : (x : Context) (xs : List Resource) (e : Element) → isWork e ≡ false → xs ≡ resourcesAfter x xs (keep isWork (e ∷ []))
 unfolding keep resourcesAfter
 no-work x xs e h = rw h
 
-pub one-work : (x : Context) (xs : List Resource) (e : Element) → isWork e ≡ true → xs ++ (resourceOf x (map (λ (d : Resource). d .id) xs) e ∷ []) ≡ resourcesAfter x xs (keep isWork (e ∷ []))
+one-work : (x : Context) (xs : List Resource) (e : Element) → isWork e ≡ true → xs ++ (resourceOf x (map (λ (d : Resource). d .id) xs) e ∷ []) ≡ resourcesAfter x xs (keep isWork (e ∷ []))
 unfolding keep resourcesAfter
 one-work x xs e h = rw h
 
@@ -149,11 +153,11 @@ kept-parts e l = by (isWork e)
     by true = refl
     by false = refl
 
-pub more-resources : (x : Context) (e : Element) (l : List Element) (xs : List Resource)
+more-resources : (x : Context) (e : Element) (l : List Element) (xs : List Resource)
     → resourcesAfter x xs (keep isWork (e ∷ l)) ≡ resourcesAfter x (resourcesAfter x xs (keep isWork (e ∷ []))) (keep isWork l)
 more-resources x e l xs = ap (resourcesAfter x xs) (kept-parts e l) ∙ after-both x xs (keep isWork (e ∷ [])) (keep isWork l)
 
-pub no-resources : (x : Context) (xs : List Resource) → resourcesAfter x xs (keep isWork []) ≡ xs
+no-resources : (x : Context) (xs : List Resource) → resourcesAfter x xs (keep isWork []) ≡ xs
 unfolding resourcesAfter keep
 no-resources x xs = refl
 
@@ -163,7 +167,7 @@ module _ (c : Place) (root : Element) {start : Place} {d : List ℕ} {r : Done} 
     (puts : (x : Context) (ids : List Text) → free (textsAt Resources d start (r .count % 2 ^ 32)) (wantedId a) ≡ free ids (wantedId a) → contextAt d c root ≡ x
     → Puts (whole resource) (resourceOf x ids a) d (r .next) d' q)
     (n : (r' .count ≡ (r .count + 1) % 2 ^ 64) × (r' .next ≡ q)) where
-  pub adds-work : AddsResources c start root (a ∷ []) d r d' r'
+  adds-work : AddsResources c start root (a ∷ []) d r d' r'
   adds-work = record { goes = λ d₀ xs ok w. wrote-as (one-work (contextAt d₀ c root) xs a t) (wrote-more w (by-end d₀ xs ok w (inside (length d) (r .next)) refl) n) }
     where
       by-end : (d₀ : List ℕ) (xs : List Resource) → FewResources c root start d₀ xs → Wrote (whole resource) true xs d₀ start d r → (i : Bool) → inside (length d) (r .next) ≡ i
@@ -181,24 +185,80 @@ adds-other c root a t = record { goes = λ d₀ xs ok w. wrote-as (no-work (cont
 
 -- ---- what the callees say, about the element's own texts
 
-pub stars-said : {id w : Text} (stars : ℕ) (ids : List Text) → id ≡ w → starredBy id stars ≡ free ids id → starredBy w stars ≡ free ids w
+stars-said : {id w : Text} (stars : ℕ) (ids : List Text) → id ≡ w → starredBy id stars ≡ free ids id → starredBy w stars ≡ free ids w
 stars-said stars ids e h = subst (λ (t : Text). starredBy t stars ≡ free ids t) e h
 
-pub calendar-said : {x y : Context} (a : Element) {calendar uid : Text} (named : NameAnswer) (f : Text → Text) → calendar ≡ f uid → uid ≡ (textIn a "CalendarUID" or [])
+calendar-said : {x y : Context} (a : Element) {calendar uid : Text} (named : NameAnswer) (f : Text → Text) → calendar ≡ f uid → uid ≡ (textIn a "CalendarUID" or [])
     → nameMeaning (f (textIn a "CalendarUID" or [])) named ≡ (textIn a "CalendarUID" >>= nameOf (x .built) >>= unlessMain x) → x ≡ y
     → nameMeaning calendar named ≡ (textIn a "CalendarUID" >>= nameOf (y .built) >>= unlessMain y)
 calendar-said a named f e u h z =
     ap (λ (t : Text). nameMeaning t named) (e ∙ ap f u) ∙ h ∙ ap (λ (x : Context). textIn a "CalendarUID" >>= nameOf (x .built) >>= unlessMain x) z
 
+-- a work resource is put
+pub adds-said : (c : Place) (root : Element) {start : Place} {d : List ℕ} {r : Done} {d' : List ℕ} {q : Place} {r' : Done} (a : Element) → isWork a ≡ true
+    → {id : Text} (stars : ℕ) → id ≡ wantedId a → starredBy id stars ≡ free (textsAt Resources d start (r .count % 2 ^ 32)) id
+    → {calendar uid : Text} (named : NameAnswer) → calendar ≡ textWithUid root uid → uid ≡ (textIn a "CalendarUID" or [])
+    → nameMeaning (textWithUid root (textIn a "CalendarUID" or [])) named ≡ (textIn a "CalendarUID" >>= nameOf (contextAt d c root .built) >>= unlessMain (contextAt d c root))
+    → ((x : Context) (ids : List Text) → starredBy (wantedId a) stars ≡ free ids (wantedId a)
+    → nameMeaning calendar named ≡ (textIn a "CalendarUID" >>= nameOf (x .built) >>= unlessMain x) → Puts (whole resource) (resourceOf x ids a) d (r .next) d' q)
+    → (r' .count ≡ (r .count + 1) % 2 ^ 64) × (r' .next ≡ q) → AddsResources c start root (a ∷ []) d r d' r'
+adds-said c root {start} {d} {r} a t stars ei es named ec eu en puts n =
+    adds-work c root a t (λ x ids e z. puts x ids (stars-said stars (textsAt Resources d start (r .count % 2 ^ 32)) ei es ∙ e) (calendar-said a named (textWithUid root) ec eu en z)) n
+
+-- ---- a loop over elements
+
+-- some are done, and those of fs are left
+abbrev pub GoingOn : Context → Element → List Element → List Element → List ℕ → Place → List ℕ → Done → Type 0
+GoingOn x root es fs = Going (whole resource) true (λ xs es. resourcesAfter x xs (keep isWork es)) (FineResources fs) es fs
+
+-- in a buffer in which the calendars stand
+pub record Going-in (c : Place) (root : Element) (es fs : List Element) (d : List ℕ) (p : Place) (d' : List ℕ) (r : Done) : Type 0 where
+  pub going : calendarsBefore d c root p ≡ true → length (keep isWork es) ≤ mostElements → GoingOn (contextAt d c root) root es fs d p d' r
+
+module _ (c : Place) (root : Element) {es : List Element} {d : List ℕ} {p : Place} where
+  pub go-all : Going-in c root es es d p d (record { count = 0; next = p })
+  go-all = record { going = λ b h. going-all (fine-all es h) }
+
+  module _ {e : Element} {fs : List Element} {d1 : List ℕ} {r1 : Done} {d2 : List ℕ} {r2 : Done} (g : Going-in c root es (e ∷ fs) d p d1 r1) (h : AddsResources c p root (e ∷ []) d1 r1 d2 r2) where
+    pub go-more : {gs : List Element} → fs ≡ gs → Small root → Small e → Going-in c root es gs d p d2 r2
+    unfolding contextAt
+    go-more z m s = record {
+      going = λ b n.
+          let x = contextAt d c root in
+          going-more (g .going b n) h (fine-few c root p b) (more-resources x e fs) z
+          (λ xs f. subst (λ (l : List Element). FineResources l (resourcesAfter x xs (keep isWork (e ∷ [])))) z (fine-on x (built-short d c m) fs s xs f));
+    }
+
+    pub go-last : fs ≡ [] → calendarsBefore d c root p ≡ true → length (keep isWork es) ≤ mostElements → Wrote (whole resource) true (resourcesAfter (contextAt d c root) [] (keep isWork es)) d p d2 r2
+    go-last z b n = going-last (g .going b n) h (fine-few c root p b) (more-resources (contextAt d c root) e fs) z (no-resources (contextAt d c root))
+
 -- ---- all
 
-pub all-resources : (x : Context) (root : Element) → resources x root ≡ resourcesAfter x [] (keep isWork (allIn (child root (bytes "Resources")) (bytes "Resource")))
+all-resources : (x : Context) (root : Element) {es : List Element} → allIn (child root (bytes "Resources")) (bytes "Resource") ≡ es → resources x root ≡ resourcesAfter x [] (keep isWork es)
 unfolding resources
-all-resources x root = ap (resourcesAfter x []) (work-kept root)
+all-resources x root e = ap (resourcesAfter x []) (work-kept root ∙ ap (keep isWork) e)
 
-pub most-work : (root : Element) (l : List Element) → allIn (child root (bytes "Resources")) (bytes "Resource") ≡ l → leb (length (workResources root)) mostElements ≡ true
-    → length (keep isWork l) ≤ mostElements
-most-work root l e h = subst (λ (k : List Element). length k ≤ mostElements) (work-kept root ∙ ap (keep isWork) e) (leb-true _ _ h)
+abbrev Tested : List ℕ → Place → Element → Place → Bool
+Tested d c root p = leb (length (workResources root)) mostElements && calendarsBefore d c root p
 
-pub both-are : {a b c d : Bool} → a ≡ c → b ≡ d → (a && b) ≡ (c && d)
-both-are e h = λ i. e i && h i
+module _ (d : List ℕ) (c : Place) (root : Element) (p : Place) {t u : Bool} (et : t ≡ leb (length (workResources root)) mostElements) (eu : u ≡ calendarsBefore d c root p) where
+  tested : (t && u) ≡ Tested d c root p
+  tested = λ i. et i && eu i
+
+  pub resources-not : not (t && u) ≡ true → WritesIf (Tested d c root p) (whole resource) (resources (contextAt d c root) root) d p d noRecords
+  resources-not h = writes-not (whole resource) (sym tested ∙ not-true (t && u) h) refl
+
+  module _ (h : not (t && u) ≡ false) where
+    holds : Tested d c root p ≡ true
+    holds = sym tested ∙ not-false (t && u) h
+
+    pub resources-none : allIn (child root (bytes "Resources")) (bytes "Resource") ≡ [] → WritesIf (Tested d c root p) (whole resource) (resources (contextAt d c root) root) d p d (record { count = 0; next = p })
+    resources-none e = let x = contextAt d c root in writes-if (whole resource) holds (writes-none (all-resources x root e ∙ no-resources x []))
+
+    pub resources-all : {es : List Element} → allIn (child root (bytes "Resources")) (bytes "Resource") ≡ es → {d' : List ℕ} {r : Done} {w : Records}
+        → (calendarsBefore d c root p ≡ true → length (keep isWork es) ≤ mostElements → Wrote (whole resource) true (resourcesAfter (contextAt d c root) [] (keep isWork es)) d p d' r)
+        → (w .count ≡ r .count % 2 ^ 32) × (w .next ≡ r .next) → WritesIf (Tested d c root p) (whole resource) (resources (contextAt d c root) root) d p d' w
+    resources-all {es} e k n =
+        let (most, stand) = and-eq-true-iff (leb (length (workResources root)) mostElements) (calendarsBefore d c root p) .0 holds in
+        let few : length (keep isWork es) ≤ mostElements = subst (λ (l : List Element). length l ≤ mostElements) (work-kept root ∙ ap (keep isWork) e) (leb-true _ _ most) in
+        writes-if (whole resource) holds (writes (wrote-as (sym (all-resources (contextAt d c root) root e)) (k stand few)) n)

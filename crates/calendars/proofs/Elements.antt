@@ -2,7 +2,7 @@
 use mathlib.Core.Path.{_≡_, refl, sym, ap, subst, _∙_}
 use mathlib.Core.Bool.{Bool, true, false, not}
 use mathlib.Core.List.{List, [], _∷_}
-use mathlib.Core.Option.{Option, some, none}
+use mathlib.Core.Option.{Option}
 use Prim.Native.Nat.{ℕ, _+_, _≤_, _<_}
 use native.Mathlib.Omega.{arith}
 use lib.ListN.{length, drop}
@@ -36,13 +36,6 @@ module _ {s n : Text} where
   starts-none : Starts s n [] 0 Nothing
   unfolding listOf Past
   starts-none = record { is = refl; on = tt }
-
-  -- below a child, if there is one
-  pub none-in : (o : Text) (e : Element) → child e o ≡ none → Starts s n (allIn (child e o) n) 0 Nothing
-  none-in o e h = rw h starts-none
-
-  pub found-in : (o : Text) (e : Element) {x : Element} {m : ℕ} {r : Found} → child e o ≡ some x → Starts s n (all x n) m r → Starts s n (allIn (child e o) n) 0 r
-  found-in o e h x = rw h (starts-from 0 (omega arith) x)
 
   -- the next one
   pub on-at : {f r : Found} {p m : ℕ} → f ≡ At p → Starts s n (laterAt s n p) m r → On s n f r
@@ -82,13 +75,13 @@ module _ {s n : Text} where
 -- ---- by the kind of element
 
 module _ {s : Text} {o : Bool} where
-  pub old-first : (e : Element) {r : Found} → o ≡ true → Starts s (bytes "WeekDay") (weekDays e) 0 r → Starts s (nameOf o) (itemsOf o e) 0 r
+  pub old-first : (e : Element) {m : ℕ} {r : Found} → o ≡ true → Starts s (bytes "WeekDay") (weekDays e) m r → Starts s (nameOf o) (itemsOf o e) 0 r
   unfolding nameOf itemsOf
-  old-first e h x = rw h x
+  old-first e h x = rw h (starts-from 0 (omega arith) x)
 
-  pub new-first : (e : Element) {r : Found} → o ≡ false → Starts s (bytes "Exception") (recurring e) 0 r → Starts s (nameOf o) (itemsOf o e) 0 r
+  pub new-first : (e : Element) {m : ℕ} {r : Found} → o ≡ false → Starts s (bytes "Exception") (recurring e) m r → Starts s (nameOf o) (itemsOf o e) 0 r
   unfolding nameOf itemsOf
-  new-first e h x = rw h x
+  new-first e h x = rw h (starts-from 0 (omega arith) x)
 
   pub old-next : (p : ℕ) {m : ℕ} {r : Found} → o ≡ true → Starts s (bytes "WeekDay") (laterAt s (bytes "WeekDay") p) m r → Starts s (nameOf o) (laterAt s (nameOf o) p) m r
   unfolding nameOf

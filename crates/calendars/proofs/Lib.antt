@@ -14,3 +14,8 @@ pub mod Bases
 pub mod BaseDays
 pub mod Elements
 pub mod Loops
+pub mod Overs
+pub mod WeekHours
+pub mod Orders
+pub mod Turning
+pub mod Builts

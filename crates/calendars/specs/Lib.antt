@@ -5,3 +5,6 @@ pub mod Hours
 pub mod Plain
 pub mod Exceptions
 pub mod Days
+pub mod Base
+pub mod Record
+pub mod Built

@@ -7,7 +7,6 @@ ghost use Prim.Native.Nat.{_+_};
 ghost use lib.ListN.{length, drop};
 ghost use Rattle.definition.specs.Base.{given, some?};
 ghost use Rattle.definition.specs.Ascii.{bytes};
-ghost use Rattle.definition.specs.Tree.{child, allIn};
 ghost use Rattle.definition.specs.Calendar.{periodsOf, isEmpty};
 ghost use Rattle.tree.specs.Place.{elementAt, laterAt, Starts};
 ghost use Rattle.calendar.specs.Hours.{workingMeaning};
@@ -25,24 +24,14 @@ use tree::Found;
 
 // ---- the elements
 
-// The first element of a name below the child of another.
-fn first_in(s: &[u8], at: usize, outer: &[u8], name: &[u8]) -> Found
-    ensures { λ r. ⌜ Starts (now (s .entry)) (now (name .entry)) (allIn (child (elementAt (now (s .entry)) at) (now (outer .entry))) (now (name .entry))) 0 r ⌝ }
-{
-    match tree::child(s, at, outer) {
-        Found::Nothing => Found::Nothing,
-        Found::At(p) => tree::child(s, p, name),
-    }
-}
-
 // The first WeekDay or Exception of a Calendar.
 pub(crate) fn first_of(s: &[u8], at: usize, old: bool) -> Found
     ensures { λ r. ⌜ Starts (now (s .entry)) (nameOf «old») (itemsOf «old» (elementAt (now (s .entry)) at)) 0 r ⌝ }
 {
     if old {
-        return first_in(s, at, b"WeekDays", b"WeekDay");
+        return rows::first_in(s, at, b"WeekDays", b"WeekDay");
     }
-    first_in(s, at, b"Exceptions", b"Exception")
+    rows::first_in(s, at, b"Exceptions", b"Exception")
 }
 
 pub(crate) fn next_of(s: &[u8], at: usize, old: bool) -> Found
@@ -180,7 +169,7 @@ fn any_time(s: &[u8], first: usize) -> bool
 pub(crate) fn has_periods(s: &[u8], at: usize) -> bool
     ensures { λ r. ⌜ r ≡ not (isEmpty (periodsOf (elementAt (now (s .entry)) at))) ⌝ }
 {
-    match first_in(s, at, b"WorkingTimes", b"WorkingTime") {
+    match rows::first_in(s, at, b"WorkingTimes", b"WorkingTime") {
         Found::Nothing => false,
         Found::At(first) => any_time(s, first),
     }

@@ -7,6 +7,7 @@ mod exceptions;
 mod hours;
 mod list;
 mod plain;
+mod record;
 
 pub use built::put_calendars;
 pub use hours::put_periods;

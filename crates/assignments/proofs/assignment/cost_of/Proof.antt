@@ -16,7 +16,9 @@ given-requires c κs = search needs
 
 returns : tie.Need-returns
 unfolding foundMeaning
-returns c = look-not (textIn (elementAt (c .before .before .before .before .args .s .now) (c .before .before .before .before .args .at)) "ResourceUID") (c .before .given .ensures) _ (c .if1 .taken)
+returns c =
+    let k = c .before .before .before .before in
+    look-not (textIn (elementAt (k .args .s .now) (k .args .at)) "ResourceUID") (c .before .given .ensures) _ (c .if1 .taken)
 
 slice-aggregate-text-of : tie.Need-slice-aggregate-text-of
 slice-aggregate-text-of c = search needs
@@ -28,7 +30,11 @@ cost-resource-requires : tie.Need-cost-resource-requires
 cost-resource-requires c κs = search needs
 
 returns-2 : tie.Need-returns-2
-returns-2 c = look-up (textIn (elementAt (c .before .before .before .before .before .before .before .args .s .now) (c .before .before .before .before .before .before .before .args .at)) "ResourceUID") (c .before .before .before .before .given .ensures) (λ u. findLast (hasUid u) (costResources (elementAt (c .before .before .before .before .before .before .before .args .s .now) (c .before .before .before .before .before .before .before .args .root)))) (c .before .before .before .if1 .left) (c .before .text-of .ensures) (c .cost-resource .ensures)
+returns-2 c =
+    let k = c .before .before .before in
+    let l = k .before in
+    let m = l .before .before .before in
+    look-up (textIn (elementAt (m .args .s .now) (m .args .at)) "ResourceUID") (l .given .ensures) (λ u. findLast (hasUid u) (costResources (elementAt (m .args .s .now) (m .args .root)))) (k .if1 .left) (c .before .text-of .ensures) (c .cost-resource .ensures)
 
 pub cost-of-spec : {M : Type 1} → statement M
 cost-of-spec = tie.close (tie.spec slice-aggregate-given given-requires returns slice-aggregate-text-of text-of-requires cost-resource-requires returns-2)

@@ -24,16 +24,23 @@ put-rows-requires : tie.Need-put-rows-requires
 put-rows-requires c κs = search needs
 
 returns : tie.Need-returns
-returns c = cost-wins (c .before .before .before .before .before .args .s .now) (elementAt (c .before .before .before .before .before .args .s .now) (c .before .before .before .before .before .args .root)) (elementAt (c .before .before .before .before .before .args .s .now) (c .before .before .before .before .before .args .at)) (c .before .before .cost-of .ensures) (c .enum-told .given .1)
+returns c =
+    let k = c .before .before .before .before .before in
+    cost-wins (k .args .s .now) (elementAt (k .args .s .now) (k .args .root)) (elementAt (k .args .s .now) (k .args .at)) (c .before .before .cost-of .ensures) (c .enum-told .given .1)
 
 same-length : tie.Need-same-length
 same-length c = search needs
 
 returns-2 : tie.Need-returns-2
 returns-2 c =
-    let root = elementAt (c .before .before .before .before .before .before .before .before .before .before .before .args .s .now) (c .before .before .before .before .before .before .before .before .before .before .before .args .root) in
-    let a = elementAt (c .before .before .before .before .before .before .before .before .before .before .before .args .s .now) (c .before .before .before .before .before .before .before .before .before .before .before .args .at) in
-    no-cost (c .before .before .before .before .before .before .before .before .before .before .before .args .s .now) root a (c .before .before .before .before .before .before .before .before .cost-of .ensures) (c .before .before .before .before .before .before .enum-told2 .given .1) (c .before .before .before .before .before .task-of .ensures) (c .before .before .put-rows .ensures (resourceRow root a) (c .before .before .before .resource-of .ensures))
+    let k = c .before .before .before in
+    let l = k .before .before in
+    let m = l .before in
+    let n = m .before .before in
+    let o = n .before .before .before in
+    let root = elementAt (o .args .s .now) (o .args .root) in
+    let a = elementAt (o .args .s .now) (o .args .at) in
+    no-cost (o .args .s .now) root a (n .cost-of .ensures) (m .enum-told2 .given .1) (l .task-of .ensures) (c .before .before .put-rows .ensures (resourceRow root a) (k .resource-of .ensures))
 
 pub put-one-spec : {M : Type 1} → statement M
 put-one-spec = tie.close (tie.spec cost-of-requires enum-told enum-told-2 task-of-requires resource-of-requires put-rows-requires returns same-length returns-2)

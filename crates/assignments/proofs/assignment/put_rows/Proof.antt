@@ -11,7 +11,9 @@ enum-told : tie.Need-enum-told
 enum-told c = search needs
 
 returns : tie.Need-returns
-returns c = λ row e. adds-no-task (c .before .before .before .before .args .task) row (elementAt (c .before .before .before .before .args .s .now) (c .before .before .before .before .args .at)) (c .enum-told .given .1)
+returns c =
+    let k = c .before .before .before .before in
+    λ row e. adds-no-task (k .args .task) row (elementAt (k .args .s .now) (k .args .at)) (c .enum-told .given .1)
 
 enum-known-resource : tie.Need-enum-known-resource
 enum-known-resource c = search needs
@@ -20,7 +22,9 @@ enum-told-2 : tie.Need-enum-told-2
 enum-told-2 c = search needs
 
 returns-2 : tie.Need-returns-2
-returns-2 c = λ row e. adds-no-row (c .before .before .before .before .before .before .before .args .task) row (elementAt (c .before .before .before .before .before .before .before .args .s .now) (c .before .before .before .before .before .before .before .args .at)) (c .enum-told2 .given .1) e
+returns-2 c =
+    let k = c .before .before .before .before .before .before .before in
+    λ row e. adds-no-row (k .args .task) row (elementAt (k .args .s .now) (k .args .at)) (c .enum-told2 .given .1) e
 
 work-requires : tie.Need-work-requires
 work-requires c κs = search needs
@@ -38,7 +42,14 @@ same-length : tie.Need-same-length
 same-length c = search needs
 
 returns-3 : tie.Need-returns-3
-returns-3 c = λ row e. adds-rows (c .before .before .before .before .before .before .before .before .before .before .before .before .before .before .before .before .args .task) row (elementAt (c .before .before .before .before .before .before .before .before .before .before .before .before .before .before .before .before .args .s .now) (c .before .before .before .before .before .before .before .before .before .before .before .before .before .before .before .before .args .at)) (c .before .before .before .before .before .before .before .work .result) (c .before .before .before .before .before .before .rate .result) (c .before .before .before .before .before .before .before .before .before .before .before .before .task .given .1) (c .before .before .before .before .before .before .before .before .before .resource .given .1) (c .before .before .before .before .before .before .before .work .ensures) (c .before .before .before .before .before .before .rate .ensures) (c .before .before .before .put-assignment .ensures) (c .more .ensures) e
+returns-3 c =
+    let k = c .before .before .before in
+    let l = k .before .before .before in
+    let m = l .before in
+    let n = m .before .before in
+    let o = n .before .before .before in
+    let q = o .before .before .before .before in
+    λ row e. adds-rows (q .args .task) row (elementAt (q .args .s .now) (q .args .at)) (m .work .result) (l .rate .result) (o .task .given .1) (n .resource .given .1) (m .work .ensures) (l .rate .ensures) (k .put-assignment .ensures) (c .more .ensures) e
 
 pub put-rows-spec : {M : Type 1} → statement M
 put-rows-spec = tie.close (tie.spec enum-known-task enum-told returns enum-known-resource enum-told-2 returns-2 work-requires rate-requires put-assignment-requires more-requires same-length returns-3)

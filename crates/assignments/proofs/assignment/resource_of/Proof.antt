@@ -18,7 +18,9 @@ given-requires c κs = search needs
 
 returns : tie.Need-returns
 unfolding rowMeaning
-returns c = then-not (textIn (elementAt (c .before .before .before .before .args .s .now) (c .before .before .before .before .args .at)) "ResourceUID") (c .before .given .ensures) (rowOf (workResources (elementAt (c .before .before .before .before .args .s .now) (c .before .before .before .before .args .root)))) (λ n. some (n % 2 ^ 32)) (c .if1 .taken)
+returns c =
+    let k = c .before .before .before .before in
+    then-not (textIn (elementAt (k .args .s .now) (k .args .at)) "ResourceUID") (c .before .given .ensures) (rowOf (workResources (elementAt (k .args .s .now) (k .args .root)))) (λ n. some (n % 2 ^ 32)) (c .if1 .taken)
 
 slice-aggregate-text-of : tie.Need-slice-aggregate-text-of
 slice-aggregate-text-of c = search needs
@@ -30,7 +32,11 @@ resource-row-requires : tie.Need-resource-row-requires
 resource-row-requires c κs = search needs
 
 returns-2 : tie.Need-returns-2
-returns-2 c = then-look (textIn (elementAt (c .before .before .before .before .before .before .before .args .s .now) (c .before .before .before .before .before .before .before .args .at)) "ResourceUID") (c .before .before .before .before .given .ensures) (rowOf (workResources (elementAt (c .before .before .before .before .before .before .before .args .s .now) (c .before .before .before .before .before .before .before .args .root)))) (λ n. some (n % 2 ^ 32)) (c .before .before .before .if1 .left) (c .before .text-of .ensures) (c .resource-row .ensures)
+returns-2 c =
+    let k = c .before .before .before in
+    let l = k .before in
+    let m = l .before .before .before in
+    then-look (textIn (elementAt (m .args .s .now) (m .args .at)) "ResourceUID") (l .given .ensures) (rowOf (workResources (elementAt (m .args .s .now) (m .args .root)))) (λ n. some (n % 2 ^ 32)) (k .if1 .left) (c .before .text-of .ensures) (c .resource-row .ensures)
 
 pub resource-of-spec : {M : Type 1} → statement M
 resource-of-spec = tie.close (tie.spec slice-aggregate-given given-requires returns slice-aggregate-text-of text-of-requires resource-row-requires returns-2)

@@ -15,7 +15,9 @@ given-requires c κs = search needs
 
 returns : tie.Need-returns
 unfolding rowMeaning
-returns c = look-not (textIn (elementAt (c .before .before .before .before .args .s .now) (c .before .before .before .before .args .at)) "TaskUID") (c .before .given .ensures) _ (c .if1 .taken)
+returns c =
+    let k = c .before .before .before .before in
+    look-not (textIn (elementAt (k .args .s .now) (k .args .at)) "TaskUID") (c .before .given .ensures) _ (c .if1 .taken)
 
 slice-aggregate-text-of : tie.Need-slice-aggregate-text-of
 slice-aggregate-text-of c = search needs
@@ -28,7 +30,11 @@ task-row-requires c κs = search needs
 
 returns-2 : tie.Need-returns-2
 unfolding contextOf
-returns-2 c = look-up (textIn (elementAt (c .before .before .before .before .before .before .before .args .s .now) (c .before .before .before .before .before .before .before .args .at)) "TaskUID") (c .before .before .before .before .given .ensures) (rowOf (keptTasks (elementAt (c .before .before .before .before .before .before .before .args .s .now) (c .before .before .before .before .before .before .before .args .root)))) (c .before .before .before .if1 .left) (c .before .text-of .ensures) (c .task-row .ensures)
+returns-2 c =
+    let k = c .before .before .before in
+    let l = k .before in
+    let m = l .before .before .before in
+    look-up (textIn (elementAt (m .args .s .now) (m .args .at)) "TaskUID") (l .given .ensures) (rowOf (keptTasks (elementAt (m .args .s .now) (m .args .root)))) (k .if1 .left) (c .before .text-of .ensures) (c .task-row .ensures)
 
 pub task-of-spec : {M : Type 1} → statement M
 task-of-spec = tie.close (tie.spec slice-aggregate-given given-requires returns slice-aggregate-text-of text-of-requires task-row-requires returns-2)

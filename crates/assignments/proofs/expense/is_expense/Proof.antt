@@ -13,7 +13,10 @@ same-requires : tie.Need-same-requires
 same-requires c κs = search needs
 
 returns : tie.Need-returns
-returns c = expense-at (c .before .before .before .before .before .before .before .args .out .now) (c .before .before .before .before .before .before .before .args .p) (c .before .before .before .before .before .before .before .args .activity) (c .before .before .before .before .before .before .before .args .name .now) (c .before .before .before .before .take .ensures) (c .before .raw-text .ensures) (c .same .ensures)
+returns c =
+    let k = c .before .before .before .before in
+    let l = k .before .before .before in
+    expense-at (l .args .out .now) (l .args .p) (l .args .activity) (l .args .name .now) (k .take .ensures) (c .before .raw-text .ensures) (c .same .ensures)
 
 pub is-expense-spec : {M : Type 1} → statement M
 is-expense-spec = tie.close (tie.spec take-requires raw-text-requires same-requires returns)

@@ -1,7 +1,6 @@
 use borrow.Author.Needs.{needs}
 use Prim.Native.Nat.{_-_}
 use native.Mathlib.Omega.{arith}
-use mathlib.Core.Path.{sym, _∙_}
 use Rattle.assignments.proofs.Expenses.{Seeks, seeks-all, seeks-more, seeks-found, seeks-none}
 use Rattle.assignments.proofs.expense.is_there.Statement.{statement}
 use Rattle.assignments.proofs.expense.is_there.Tie as tie
@@ -22,16 +21,26 @@ is-expense-requires : tie.Need-is-expense-requires Inv-loop μ-loop
 is-expense-requires c κs = search needs
 
 returns : tie.Need-returns Inv-loop μ-loop
-returns c = seeks-found (c .before .before .before .before .loop .inv) (c .before .before .before .loop-test .taken) (c .before .before .skip-record .ensures .0) (sym (c .before .is-expense .ensures) ∙ c .if1 .taken)
+returns c =
+    let k = c .before .before .before in
+    let l = k .before in
+    seeks-found (l .loop .inv) (k .loop-test .taken) (c .before .before .skip-record .ensures .0) (c .before .is-expense .ensures) (c .if1 .taken)
 
 add-i : tie.Need-add-i Inv-loop μ-loop
-add-i c = omega (arith, c .before .before .before .loop-test .taken)
+add-i c =
+    let k = c .before .before .before in
+    omega (arith, k .loop-test .taken)
 
 loop-less : tie.Need-loop-less Inv-loop μ-loop
-loop-less c = omega (arith, c .before .before .before .loop-test .taken)
+loop-less c =
+    let k = c .before .before .before in
+    omega (arith, k .loop-test .taken)
 
 loop-again : tie.Need-loop-again Inv-loop μ-loop
-loop-again c = seeks-more (c .before .before .before .before .loop .inv) (c .before .before .before .loop-test .taken) (c .before .before .skip-record .ensures .0) (sym (c .before .is-expense .ensures) ∙ c .if1 .left)
+loop-again c =
+    let k = c .before .before .before in
+    let l = k .before in
+    seeks-more (l .loop .inv) (k .loop-test .taken) (c .before .before .skip-record .ensures .0) (c .before .is-expense .ensures) (c .if1 .left)
 
 returns-2 : tie.Need-returns-2 Inv-loop μ-loop
 returns-2 c = seeks-none (c .before .loop .inv) (c .loop-test .left)

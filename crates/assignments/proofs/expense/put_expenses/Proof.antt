@@ -1,11 +1,7 @@
 use borrow.Author.Needs.{needs}
-use mathlib.Core.Path.{sym, ap, _∙_}
-use mathlib.Core.List.{[]}
 use Rattle.tree.specs.Place.{elementAt}
 use Rattle.tree.specs.Answer.{found-list, none-list}
-use Rattle.assignments.specs.Records.{expensesAfter}
-use Rattle.assignments.proofs.Turns.{wrote-as, writes-in, writes-in-none}
-use Rattle.assignments.proofs.Expenses.{no-expenses, all-expenses}
+use Rattle.assignments.proofs.Expenses.{expenses-none, expenses-all}
 use Rattle.assignments.proofs.expense.put_expenses.Statement.{statement}
 use Rattle.assignments.proofs.expense.put_expenses.Tie as tie
 
@@ -32,16 +28,19 @@ records-of-requires c κs = search needs
 
 returns : tie.Need-returns
 returns c =
-    let root = elementAt (c .before .before .before .before .before .before .before .args .s .now) (c .before .before .before .before .before .before .before .args .root) in
-    writes-in-none (all-expenses root ∙ ap (expensesAfter root []) (none-list (c .before .before .first-in .ensures) (c .enum-told .given .1)) ∙ no-expenses root [])
+    let k = c .before .before .before .before .before .before .before in
+    expenses-none (elementAt (k .args .s .now) (k .args .root)) (none-list (c .before .before .first-in .ensures) (c .enum-told .given .1))
 
 same-length : tie.Need-same-length
 same-length c = search needs
 
 returns-2 : tie.Need-returns-2
 returns-2 c =
-    let root = elementAt (c .before .before .before .before .before .before .before .before .before .before .before .before .before .args .s .now) (c .before .before .before .before .before .before .before .before .before .before .before .before .before .args .root) in
-    writes-in (wrote-as (sym (all-expenses root ∙ ap (expensesAfter root []) (found-list (c .before .before .before .before .before .before .before .before .first-in .ensures) (c .before .before .before .before .before .before .first .given .1)))) (c .before .before .before .put-from .ensures)) (c .records-of .ensures)
+    let k = c .before .before .before in
+    let l = k .before .before .before in
+    let m = l .before .before in
+    let n = m .before .before .before .before .before in
+    expenses-all (elementAt (n .args .s .now) (n .args .root)) (found-list (m .first-in .ensures) (l .first .given .1)) (k .put-from .ensures) (c .records-of .ensures)
 
 pub put-expenses-spec : {M : Type 1} → statement M
 put-expenses-spec = tie.close (tie.spec slice-aggregate-first-in slice-aggregate-first-in-2 first-in-requires enum-told enum-known-first put-from-requires records-of-requires returns same-length returns-2)

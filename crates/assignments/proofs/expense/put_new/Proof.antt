@@ -23,8 +23,10 @@ same-length c = search needs
 
 returns : tie.Need-returns
 returns c =
-    let s = c .before .before .before .before .before .before .before .args .s .now in
-    adds-known (expenseFrom (c .before .before .before .before .before .before .before .args .activity) (elementAt s (c .before .before .before .before .before .before .before .args .resource)) (elementAt s (c .before .before .before .before .before .before .before .args .at))) (tells-as (elementAt (c .before .before .before .before .before .before .before .args .s .now) (c .before .before .before .before .before .before .before .args .at)) (elementAt (c .before .before .before .before .before .before .before .args .s .now) (c .before .before .before .before .before .before .before .args .resource)) (c .before .before .before .text-of .ensures) (c .before .is-there .ensures)) (c .if1 .taken)
+    let k = c .before .before .before in
+    let l = k .before .before .before .before in
+    let s = l .args .s .now in
+    adds-known (expenseFrom (l .args .activity) (elementAt s (l .args .resource)) (elementAt s (l .args .at))) (tells-as (elementAt (l .args .s .now) (l .args .at)) (elementAt (l .args .s .now) (l .args .resource)) (k .text-of .ensures) (c .before .is-there .ensures)) (c .if1 .taken)
 
 cost-requires : tie.Need-cost-requires
 cost-requires c κs = search needs
@@ -43,10 +45,17 @@ same-length-2 c = search needs
 
 returns-2 : tie.Need-returns-2
 returns-2 c =
-    let s = c .before .before .before .before .before .before .before .before .before .before .before .before .before .before .before .args .s .now in
-    let r = elementAt s (c .before .before .before .before .before .before .before .before .before .before .before .before .before .before .before .args .resource) in
-    let a = elementAt s (c .before .before .before .before .before .before .before .before .before .before .before .before .before .before .before .args .at) in
-    adds-new (expenseFrom (c .before .before .before .before .before .before .before .before .before .before .before .before .before .before .before .args .activity) r a) (tells-as (elementAt (c .before .before .before .before .before .before .before .before .before .before .before .before .before .before .before .args .s .now) (c .before .before .before .before .before .before .before .before .before .before .before .before .before .before .before .args .at)) (elementAt (c .before .before .before .before .before .before .before .before .before .before .before .before .before .before .before .args .s .now) (c .before .before .before .before .before .before .before .before .before .before .before .before .before .before .before .args .resource)) (c .before .before .before .before .before .before .before .before .before .before .before .text-of .ensures) (c .before .before .before .before .before .before .before .before .before .is-there .ensures)) (c .before .before .before .before .before .before .before .before .if1 .left) (put-same (expense-is (c .before .before .before .before .before .before .before .before .before .before .before .before .before .before .before .args .activity) r a (c .before .before .before .before .before .before .before .cost .result) (c .before .before .before .before .before .before .before .before .before .before .before .text-of .ensures) (c .before .before .before .before .before .before .before .cost .ensures) (c .before .before .before .before .before .before .accrual .ensures)) (c .before .before .before .put-expense .ensures)) (c .more .ensures)
+    let k = c .before .before .before in
+    let l = k .before .before .before in
+    let m = l .before in
+    let n = m .before in
+    let o = n .before in
+    let q = o .before .before in
+    let u = q .before .before .before .before in
+    let s = u .args .s .now in
+    let r = elementAt s (u .args .resource) in
+    let a = elementAt s (u .args .at) in
+    adds-new (expenseFrom (u .args .activity) r a) (tells-as (elementAt (u .args .s .now) (u .args .at)) (elementAt (u .args .s .now) (u .args .resource)) (q .text-of .ensures) (o .is-there .ensures)) (n .if1 .left) (put-same (expense-is (u .args .activity) r a (m .cost .result) (q .text-of .ensures) (m .cost .ensures) (l .accrual .ensures)) (k .put-expense .ensures)) (c .more .ensures)
 
 pub put-new-spec : {M : Type 1} → statement M
 put-new-spec = tie.close (tie.spec slice-aggregate-text-of text-of-requires is-there-requires same-length returns cost-requires accrual-requires put-expense-requires more-requires same-length-2 returns-2)

@@ -17,7 +17,9 @@ given-requires c κs = search needs
 
 returns : tie.Need-returns
 unfolding nameMeaning
-returns c = then-not (textIn (elementAt (c .before .before .before .before .before .args .s .now) (c .before .before .before .before .before .args .at)) "CalendarUID") (c .before .given .ensures) _ _ (c .if1 .taken)
+returns c =
+    let k = c .before .before .before .before .before in
+    then-not (textIn (elementAt (k .args .s .now) (k .args .at)) "CalendarUID") (c .before .given .ensures) _ _ (c .if1 .taken)
 
 slice-aggregate-text-of : tie.Need-slice-aggregate-text-of
 slice-aggregate-text-of c = search needs
@@ -30,9 +32,13 @@ calendar-named-requires c κs = search needs
 
 returns-2 : tie.Need-returns-2
 unfolding contextAt
-returns-2 c = let root = elementAt (c .before .before .before .before .before .before .before .before .args .s .now) (c .before .before .before .before .before .before .before .before .args .root) in
-    let d = c .before .before .before .before .before .before .before .before .args .out .now in
-    then-up (textIn (elementAt (c .before .before .before .before .before .before .before .before .args .s .now) (c .before .before .before .before .before .before .before .before .args .at)) "CalendarUID") (c .before .before .before .before .given .ensures) (nameOf (builtAt d (c .before .before .before .before .before .before .before .before .args .c) root)) (unlessMain (contextAt d (c .before .before .before .before .before .before .before .before .args .c) root)) (λ t. nameMeaning (textWithUid root t) (c .calendar-named .result)) (c .before .before .before .if1 .left) (c .before .text-of .ensures) (c .calendar-named .ensures)
+returns-2 c =
+    let k = c .before .before .before in
+    let l = k .before in
+    let m = l .before .before .before .before in
+    let root = elementAt (m .args .s .now) (m .args .root) in
+    let d = m .args .out .now in
+    then-up (textIn (elementAt (m .args .s .now) (m .args .at)) "CalendarUID") (l .given .ensures) (nameOf (builtAt d (m .args .c) root)) (unlessMain (contextAt d (m .args .c) root)) (λ t. nameMeaning (textWithUid root t) (c .calendar-named .result)) (k .if1 .left) (c .before .text-of .ensures) (c .calendar-named .ensures)
 
 pub calendar-of-spec : {M : Type 1} → statement M
 calendar-of-spec = tie.close (tie.spec slice-aggregate-given given-requires returns slice-aggregate-text-of text-of-requires calendar-named-requires returns-2)

@@ -40,13 +40,24 @@ enum-told : tie.Need-enum-told Inv-loop μ-loop
 enum-told c = search needs
 
 returns : tie.Need-returns Inv-loop μ-loop
-returns c = counted-last _ _ (c .before .before .before .before .before .is-work .ensures) (c .before .before .before .before .counted .ensures) (c .before .before .before .before .before .before .loop .inv) (none-list (c .before .before .next-child .ensures) (c .enum-told .given .1))
+returns c =
+    let k = c .before .before .before .before in
+    let l = k .before in
+    let m = l .before in
+    counted-last _ _ (l .is-work .ensures) (k .counted .ensures) (m .loop .inv) (none-list (c .before .before .next-child .ensures) (c .enum-told .given .1))
 
 loop-less : tie.Need-loop-less Inv-loop μ-loop
-loop-less c = omega (arith, found-on (c .before .before .before .next-child .ensures) (c .before .next .given .1))
+loop-less c =
+    let k = c .before .before .before in
+    omega (arith, found-on (k .next-child .ensures) (c .before .next .given .1))
 
 loop-again : tie.Need-loop-again Inv-loop μ-loop
-loop-again c = counted-more _ _ (c .before .before .before .before .before .before .is-work .ensures) (c .before .before .before .before .before .counted .ensures) (c .before .before .before .before .before .before .before .loop .inv) (found-list (c .before .before .before .next-child .ensures) (c .before .next .given .1))
+loop-again c =
+    let k = c .before .before .before in
+    let l = k .before .before in
+    let m = l .before in
+    let n = m .before in
+    counted-more _ _ (m .is-work .ensures) (l .counted .ensures) (n .loop .inv) (found-list (k .next-child .ensures) (c .before .next .given .1))
 
 pub count-from-spec : {M : Type 1} → statement M
 count-from-spec = tie.close (tie.spec Inv-loop μ-loop loop-holds is-work-requires counted-requires slice-aggregate-next-child next-child-requires enum-known-next enum-told returns loop-less loop-again)

@@ -33,13 +33,16 @@ count-from-requires c κs = search needs
 
 returns : tie.Need-returns
 returns c =
-    let root = elementAt (c .before .before .before .before .before .before .args .s .now) (c .before .before .before .before .before .before .args .root) in
+    let k = c .before .before .before .before .before .before in
+    let root = elementAt (k .args .s .now) (k .args .root) in
     few-none _ (none-list (c .before .before .first-in .ensures) (c .enum-told .given .1)) ∙ sym (ap (λ (l : List Element). leb (length l) mostElements) (work-kept root))
 
 returns-2 : tie.Need-returns-2
 returns-2 c =
-    let root = elementAt (c .before .before .before .before .before .before .before .before .args .s .now) (c .before .before .before .before .before .before .before .before .args .root) in
-    few-is _ _ (c .count-from .ensures) ∙ sym (ap (λ (l : List Element). leb (length l) mostElements) (work-kept root ∙ ap (keep isWork) (found-list (c .before .before .before .before .first-in .ensures) (c .before .before .first .given .1))))
+    let k = c .before .before .before .before in
+    let l = k .before .before .before .before in
+    let root = elementAt (l .args .s .now) (l .args .root) in
+    few-is _ _ (c .count-from .ensures) ∙ sym (ap (λ (l : List Element). leb (length l) mostElements) (work-kept root ∙ ap (keep isWork) (found-list (k .first-in .ensures) (c .before .before .first .given .1))))
 
 pub few-spec : {M : Type 1} → statement M
 few-spec = tie.close (tie.spec slice-aggregate-first-in slice-aggregate-first-in-2 first-in-requires enum-told enum-known-first count-from-requires returns returns-2)

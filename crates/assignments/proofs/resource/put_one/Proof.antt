@@ -2,11 +2,7 @@ use borrow.Author.Needs.{needs}
 use mathlib.Core.Path.{sym, _∙_}
 use borrow.Author.Tests.{not-true, not-false}
 use Rattle.tree.specs.Place.{elementAt}
-use Prim.Native.Nat.{_%_, _^_}
-use Rattle.model.specs.declared.records.Kind.the-variants.{Resources}
-use Rattle.names.specs.Texts.{textsAt}
-use Rattle.names.specs.Context.{textWithUid}
-use Rattle.assignments.proofs.Work.{adds-work, adds-other, stars-said, calendar-said}
+use Rattle.assignments.proofs.Work.{adds-said, adds-other}
 use Rattle.assignments.proofs.resource.put_one.Statement.{statement}
 use Rattle.assignments.proofs.resource.put_one.Tie as tie
 
@@ -14,7 +10,9 @@ is-work-requires : tie.Need-is-work-requires
 is-work-requires c κs = search needs
 
 returns : tie.Need-returns
-returns c = adds-other (c .before .before .before .before .args .c) (elementAt (c .before .before .before .before .args .s .now) (c .before .before .before .before .args .root)) (elementAt (c .before .before .before .before .args .s .now) (c .before .before .before .before .args .at)) (sym (c .before .is-work .ensures) ∙ not-true _ (c .if1 .taken))
+returns c =
+    let k = c .before .before .before .before in
+    adds-other (k .args .c) (elementAt (k .args .s .now) (k .args .root)) (elementAt (k .args .s .now) (k .args .at)) (sym (c .before .is-work .ensures) ∙ not-true _ (c .if1 .taken))
 
 wanted-id-requires : tie.Need-wanted-id-requires
 wanted-id-requires c κs = search needs
@@ -51,11 +49,18 @@ same-length c = search needs
 
 returns-2 : tie.Need-returns-2
 returns-2 c =
-    let root = elementAt (c .before .before .before .before .before .before .before .before .before .before .before .before .before .before .before .before .before .before .before .before .args .s .now) (c .before .before .before .before .before .before .before .before .before .before .before .before .before .before .before .before .before .before .before .before .args .root) in
-    let a = elementAt (c .before .before .before .before .before .before .before .before .before .before .before .before .before .before .before .before .before .before .before .before .args .s .now) (c .before .before .before .before .before .before .before .before .before .before .before .before .before .before .before .before .before .before .before .before .args .at) in
-    adds-work (c .before .before .before .before .before .before .before .before .before .before .before .before .before .before .before .before .before .before .before .before .args .c) root a (sym (c .before .before .before .before .before .before .before .before .before .before .before .before .before .before .before .before .before .is-work .ensures) ∙ not-false _ (c .before .before .before .before .before .before .before .before .before .before .before .before .before .before .before .before .if1 .left))
-    (λ x ids e z. c .before .before .before .put-said .ensures x ids (stars-said (c .before .before .before .before .before .before .before .before .before .before .before .before .free-stars .result) (textsAt Resources (c .before .before .before .before .before .before .before .before .before .before .before .before .before .before .before .before .before .before .before .before .args .out .now) (c .before .before .before .before .before .before .before .before .before .before .before .before .before .before .before .before .before .before .before .before .args .start) (c .before .before .before .before .before .before .before .before .before .before .before .before .before .before .before .before .before .before .before .before .args .done .count % 2 ^ 32)) (c .before .before .before .before .before .before .before .before .before .before .before .before .before .before .before .wanted-id .ensures) (c .before .before .before .before .before .before .before .before .before .before .before .before .free-stars .ensures) ∙ e) (calendar-said a _ (textWithUid root) (c .before .before .before .before .before .before .before .before .calendar-text .ensures) (c .before .before .before .before .before .before .before .before .before .before .text-of .ensures) (c .before .before .before .before .before .before .calendar-of .ensures) z))
-    (c .more .ensures)
+    let k = c .before .before .before in
+    let l = k .before .before .before in
+    let m = l .before .before in
+    let n = m .before .before in
+    let o = n .before .before in
+    let q = o .before .before .before in
+    let u = q .before in
+    let v = u .before in
+    let w = v .before .before .before in
+    let root = elementAt (w .args .s .now) (w .args .root) in
+    let a = elementAt (w .args .s .now) (w .args .at) in
+    adds-said (w .args .c) root a (sym (v .is-work .ensures) ∙ not-false _ (u .if1 .left)) (o .free-stars .result) (q .wanted-id .ensures) (o .free-stars .ensures) (l .calendar-of .result) (m .calendar-text .ensures) (n .text-of .ensures) (l .calendar-of .ensures) (k .put-said .ensures) (c .more .ensures)
 
 pub put-one-spec : {M : Type 1} → statement M
 put-one-spec = tie.close (tie.spec is-work-requires returns wanted-id-requires cast-count free-stars-requires slice-aggregate-text-of text-of-requires slice-aggregate-calendar-text calendar-text-requires calendar-of-requires put-said-requires more-requires same-length returns-2)

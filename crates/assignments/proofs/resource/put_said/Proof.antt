@@ -39,7 +39,15 @@ same-length : tie.Need-same-length
 same-length c = search needs
 
 returns : tie.Need-returns
-returns c = λ x ids e i. put-same (resource-is x ids (elementAt (c .before .before .before .before .before .before .before .before .before .before .before .before .before .before .before .args .s .now) (c .before .before .before .before .before .before .before .before .before .before .before .before .before .before .before .args .at)) (c .before .before .before .before .before .before .before .before .before .before .before .before .before .before .before .args .calendar .now) (c .before .before .before .before .before .before .before .before .before .before .before .before .before .before .before .args .stars) (c .before .before .before .before .before .before .before .before .before .before .before .before .before .before .before .args .named) (c .before .before .before .before .price .result) (c .before .before .before .before .before .before .before .before .before .before .before .wanted-id .ensures) e (c .before .before .before .before .before .before .before .before .before .text-of .ensures) (c .before .before .before .before .before .before .before .before .resource-kind .ensures) (c .before .before .before .before .before .before .text-of2 .ensures) (toZ-ofZ w64 (c .before .before .before .before .before .max-units .result) (record { sfits = c .before .before .before .before .before .max-units .ok }) ∙ c .before .before .before .before .before .max-units .ensures) i (c .before .before .before .before .price .ensures)) (c .before .before .put-resource .ensures)
+returns c =
+    let k = c .before .before .before .before in
+    let l = k .before in
+    let m = l .before in
+    let n = m .before .before in
+    let o = n .before in
+    let q = o .before .before in
+    let u = q .before .before .before .before in
+    λ x ids e i. put-same (resource-is x ids (elementAt (u .args .s .now) (u .args .at)) (u .args .calendar .now) (u .args .stars) (u .args .named) (k .price .result) (q .wanted-id .ensures) e (o .text-of .ensures) (n .resource-kind .ensures) (m .text-of2 .ensures) (toZ-ofZ w64 (l .max-units .result) (record { sfits = l .max-units .ok }) ∙ l .max-units .ensures) i (k .price .ensures)) (c .before .before .put-resource .ensures)
 
 pub put-said-spec : {M : Type 1} → statement M
 put-said-spec = tie.close (tie.spec wanted-id-requires slice-aggregate-text-of text-of-requires resource-kind-requires slice-aggregate-text-of-2 text-of-requires-2 max-units-requires price-requires put-resource-requires same-length returns)

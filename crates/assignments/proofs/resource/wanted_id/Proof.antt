@@ -25,10 +25,16 @@ text-of-requires-2 : tie.Need-text-of-requires-2
 text-of-requires-2 c κs = search needs
 
 returns : tie.Need-returns
-returns c = c .text-of .ensures ∙ first-given (textIn (elementAt (c .before .before .before .before .before .before .args .s .now) (c .before .before .before .before .before .before .args .at)) "ID") (textIn (elementAt (c .before .before .before .before .before .before .args .s .now) (c .before .before .before .before .before .before .args .at)) "UID") (c .before .before .before .given .ensures) (c .before .before .if1 .taken)
+returns c =
+    let k = c .before .before .before in
+    let l = k .before .before .before in
+    c .text-of .ensures ∙ first-given (textIn (elementAt (l .args .s .now) (l .args .at)) "ID") (textIn (elementAt (l .args .s .now) (l .args .at)) "UID") (k .given .ensures) (c .before .before .if1 .taken)
 
 returns-2 : tie.Need-returns-2
-returns-2 c = c .text-of2 .ensures ∙ second-given (textIn (elementAt (c .before .before .before .before .before .before .args .s .now) (c .before .before .before .before .before .before .args .at)) "ID") (textIn (elementAt (c .before .before .before .before .before .before .args .s .now) (c .before .before .before .before .before .before .args .at)) "UID") (c .before .before .before .given .ensures) (c .before .before .if1 .left)
+returns-2 c =
+    let k = c .before .before .before in
+    let l = k .before .before .before in
+    c .text-of2 .ensures ∙ second-given (textIn (elementAt (l .args .s .now) (l .args .at)) "ID") (textIn (elementAt (l .args .s .now) (l .args .at)) "UID") (k .given .ensures) (c .before .before .if1 .left)
 
 pub wanted-id-spec : {M : Type 1} → statement M
 wanted-id-spec = tie.close (tie.spec slice-aggregate-given given-requires slice-aggregate-text-of text-of-requires slice-aggregate-text-of-2 text-of-requires-2 returns returns-2)
