@@ -20,7 +20,8 @@ fn put_model(tree: &[u8], model: &mut [u8]) -> ReadAnswer
 {
     let n = put_all(model, tree, 0);
     let end = n.next;
-    if !bits::inside(model.len(), end) {
+    let room = model.len();
+    if !bits::inside(room, end) {
         bits::clear(model);
         return ReadAnswer::Refused(9);
     }
