@@ -28,11 +28,7 @@ pub fn limit_tree(name: &str) -> Option<Vec<u8>> {
             rule("6", "2026-01-01", "2026-01-02", "5001"),
             rule("4", "2026-01-31", "", "5000"),
         ]),
-        "days-of-a-rule" => exceptions(&[
-            rule("6", "1950-06-15", "2050-08-26", ""),
-            rule("6", "1950-06-16", "2050-08-29", ""),
-            rule("1", "1950-06-15", "2500-01-01", ""),
-        ]),
+        "days-of-a-rule" => exceptions(&[century("16"), century("32"), rule("1", "1950-06-15", "2500-01-01", "")]),
         "days-of-a-week-day" => week_days(),
         "last-year" => exceptions(&[
             rule("1", "9999-12-01", "9999-12-31", ""),
@@ -93,6 +89,12 @@ fn rule(kind: &str, from: &str, to: &str, occurrences: &str) -> Node {
     let x = Node::new("Exception", "").field("Type", kind).field("DaysOfWeek", "127").field("MonthDay", "31").field("MonthItem", "3");
     let x = x.field("MonthPosition", "4").child(period);
     if occurrences.is_empty() { x } else { x.field("EnteredByOccurrences", "1").field("Occurrences", occurrences) }
+}
+
+/// A weekday of every second week from a Sunday on: Thursday (16) falls on the last day that counts, 36,600 after the first, and Friday (32) a day later.
+fn century(weekday: &str) -> Node {
+    let period = Node::new("TimePeriod", "").field("FromDate", "1950-06-18").field("ToDate", "2060-01-01");
+    Node::new("Exception", "").field("Type", "6").field("Period", "2").field("DaysOfWeek", weekday).child(period)
 }
 
 fn hours() -> Node {
