@@ -5,5 +5,6 @@ pub mod Outlines
 pub mod Packing
 pub mod Reading
 pub mod Texts
+pub mod Told
 pub mod Utf8
 pub mod Whole
