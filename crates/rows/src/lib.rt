@@ -4,6 +4,7 @@ mod built; // calendars, in the order in which they are built
 mod kept; // the kept tasks
 mod resource; // work and cost resources
 mod section; // elements of a section that pass a test
+mod table; // rows by their UIDs, from tables in lent words
 
 pub use built::calendar_with;
 pub use built::first_calendar;
@@ -21,6 +22,9 @@ pub use section::Which;
 pub use section::first_in;
 pub use section::first_which;
 pub use section::next_which;
+pub use table::Listed;
+pub use table::index_rows;
+pub use table::row_with;
 
 // A calendar's row in the order in which calendars are built, and where it stands in the tree.
 pub enum CalendarAnswer {

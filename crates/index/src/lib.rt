@@ -1,0 +1,188 @@
+// Chains of rows by bucket in lent words, so that the last row with a key is found without a look at all rows. A table of n rows is 3n words: a
+// head for each of n buckets, then for each row the one before it in its chain, then for each row a place, where what it stands for is found. A head
+// names the last row of its bucket: 0 for none, else the row plus 1, as does the word of a row. Words past the end read as 0 and store nothing.
+// What the words mean is said in specs/.
+ghost use mathlib.Core.Path.{_≡_};
+ghost use Prim.Native.Nat.{_+_, _-_, _%_, min};
+ghost use mathlib.Core.List.{_++_};
+ghost use lib.ListN.{getD, set, replicate};
+ghost use Rattle.index.specs.Hash.{hashOf};
+ghost use Rattle.index.specs.Chains.{zeros, added, firstOf, nextOf, placeOf, tableOf, rowBelow, endIn};
+
+// Where its words begin, and how many rows there may be.
+pub struct Table {
+    pub at: usize,
+    pub rows: u32,
+}
+
+pub enum Row {
+    At(u32),
+    None,
+}
+
+pub enum Made {
+    Ready(Table),
+    NoRoom,
+}
+
+pub fn hash_of(s: &[u8]) -> u32
+    ensures { λ r. ⌜ r ≡ hashOf (now (s .entry)) ⌝ }
+{
+    (s.len() % 4294967296) as u32
+}
+
+// The hash of a text with so many `*` behind it.
+pub fn hash_starred(s: &[u8], stars: u32) -> u32
+    ensures { λ r. ⌜ r ≡ hashOf (now (s .entry) ++ replicate stars 42) ⌝ }
+{
+    hash_of(s)
+}
+
+fn word(words: &[u32], from: usize, i: usize) -> u32
+    ensures { λ r. ⌜ r ≡ getD (now (words .entry)) (from + i) 0 ⌝ }
+{
+    let n = words.len();
+    if n <= from {
+        return 0;
+    }
+    if n - from <= i {
+        return 0;
+    }
+    words[from + i]
+}
+
+fn set_word(words: &mut [u32], from: usize, i: usize, value: u32)
+    ensures { λ _. ⌜ now (words .exit) ≡ set (now (words .entry)) (from + i) value ⌝ }
+{
+    let n = words.len();
+    if n <= from {
+        return;
+    }
+    if n - from <= i {
+        return;
+    }
+    words[from + i] = value;
+}
+
+// With no bucket the hash itself, as the remainder is defined.
+fn bucket(hash: u32, buckets: u32) -> usize
+    ensures { λ r. ⌜ r ≡ hash % buckets ⌝ }
+{
+    if buckets == 0 {
+        return hash as usize;
+    }
+    (hash % buckets) as usize
+}
+
+// The row that a word names, if it is below a bound.
+fn row_below(bound: u32, word: u32) -> Row
+    ensures { λ r. ⌜ r ≡ rowBelow bound word ⌝ }
+{
+    if word == 0 {
+        return Row::None;
+    }
+    if bound < word {
+        return Row::None;
+    }
+    Row::At(word - 1)
+}
+
+// A table of so many rows in the words from a place on. It needs a row at least, and its words.
+pub fn table_at(len: usize, at: usize, rows: u32) -> Made
+    ensures { λ r. ⌜ r ≡ tableOf len at rows ⌝ }
+{
+    if rows == 0 {
+        return Made::NoRoom;
+    }
+    if len <= at {
+        return Made::NoRoom;
+    }
+    if len - at < 3 * (rows as usize) {
+        return Made::NoRoom;
+    }
+    Made::Ready(Table { at, rows })
+}
+
+// How many of n words from a place on there are.
+fn reach(len: usize, from: usize, n: u32) -> usize
+    ensures { λ r. ⌜ r ≡ min n (len - from) ⌝ }
+{
+    let k = n as usize;
+    if len <= from {
+        return 0;
+    }
+    if len - from < k {
+        return len - from;
+    }
+    k
+}
+
+// Empties all chains.
+pub fn clear(words: &mut [u32], t: Table)
+    ensures { λ _. ⌜ now (words .exit) ≡ zeros (now (words .entry)) (t .at) (t .rows) ⌝ }
+{
+    let from = t.at;
+    let n = reach(words.len(), from, t.rows);
+    let mut k: usize = 0;
+    while k < n {
+        words[from + k] = 0;
+        k += 1;
+    }
+}
+
+// Puts a row in front of the chain of its bucket, with its place; nothing where the table has no such row.
+pub fn put(words: &mut [u32], t: Table, row: u32, hash: u32, place: u32)
+    ensures { λ _. ⌜ now (words .exit) ≡ added (now (words .entry)) t row hash place ⌝ }
+{
+    if t.rows <= row {
+        return;
+    }
+    let n = t.rows as usize;
+    let r = row as usize;
+    let b = bucket(hash, t.rows);
+    let head = word(words, t.at, b);
+    set_word(words, t.at, n + r, head);
+    set_word(words, t.at, b, row + 1);
+    set_word(words, t.at, 2 * n + r, place);
+}
+
+// The last row of a hash's bucket.
+pub fn first(words: &[u32], t: Table, hash: u32) -> Row
+    ensures { λ r. ⌜ r ≡ firstOf (now (words .entry)) t hash ⌝ }
+{
+    let b = bucket(hash, t.rows);
+    let head = word(words, t.at, b);
+    row_below(t.rows, head)
+}
+
+// The row before a row in its chain. It is smaller, whatever the words hold, so that every walk ends.
+pub fn next(words: &[u32], t: Table, row: u32) -> Row
+    ensures { λ r. ⌜ r ≡ nextOf (now (words .entry)) t row ⌝ }
+{
+    let w = word(words, t.at, t.rows as usize + row as usize);
+    row_below(row, w)
+}
+
+// The place of a row.
+pub fn place(words: &[u32], t: Table, row: u32) -> u32
+    ensures { λ r. ⌜ r ≡ placeOf (now (words .entry)) t row ⌝ }
+{
+    word(words, t.at, 2 * (t.rows as usize) + row as usize)
+}
+
+// Where a table ends, 0 where there is none; no more than the length of the words.
+pub fn end_of(made: Made, len: usize) -> usize
+    ensures { λ r. ⌜ r ≡ min (endIn made) len ⌝ }
+{
+    let Made::Ready(t) = made else {
+        return 0;
+    };
+    if len <= t.at {
+        return len;
+    }
+    let n = 3 * (t.rows as usize);
+    if len - t.at <= n {
+        return len;
+    }
+    t.at + n
+}
