@@ -1,4 +1,5 @@
 pub mod Counts
+pub mod EveryRead
 pub mod LastRow
 pub mod Laws
 pub mod Leads

@@ -1,7 +1,7 @@
 -- Activities are made from the kept tasks, row by row: as many, each from its own task, and what stands before it is what was made before.
 -- Assumes nothing.
 use mathlib.Core.Path.{_≡_, refl, sym, ap, _∙_}
-use mathlib.Core.Bool.{Bool, true, false, true≢false, _&&_, not}
+use mathlib.Core.Bool.{Bool, true, false, true≢false}
 use mathlib.Core.List.{List, [], _∷_, _++_, map, append-nil, append-assoc}
 use mathlib.Core.Option.{Option, some, none, Option·some-injective}
 use Prim.Native.Nat.{ℕ, zero, suc, _+_}
@@ -9,7 +9,7 @@ use native.Mathlib.Omega.{arith}
 use lib.Dec.{leb}
 use lib.ListN.{length, take, getElem?, length-append}
 use lib.Seq.{take-at}
-use Rattle.definition.specs.Base.{if_then_else_, _or_, given, keep, same}
+use Rattle.definition.specs.Base.{if_then_else_, _or_, given, keep}
 use Rattle.definition.specs.Ascii.{bytes}
 use Rattle.definition.specs.Text.{Text}
 use Rattle.definition.specs.Tree.{Element, child, allIn}
@@ -23,11 +23,11 @@ use Rattle.laws.specs.Options.{never}
 use Rattle.laws.specs.FitNames.{free-shape}
 use Rattle.theorems.specs.Leads.{At}
 use Rattle.theorems.specs.Reading.{activities-length}
-use Rattle.theorems.specs.Told.{Starred, MadeFrom}
+use Rattle.theorems.specs.Told.{MadeFrom}
 
 -- ---- a kept task has a UID
 
-keep-at : {A : Type 0} (p : A → Bool) (l : List A) (i : ℕ) (x : A) → At (keep p l) i x → p x ≡ true
+pub keep-at : {A : Type 0} (p : A → Bool) (l : List A) (i : ℕ) (x : A) → At (keep p l) i x → p x ≡ true
 unfolding keep
 keep-at p [] i x e = never e
 keep-at {A} p (y ∷ l) i x e = by (p y) refl i e (keep-at p l)
@@ -49,7 +49,7 @@ kept-uid root row t e =
 
 -- ---- one after another
 
-get-seam : {A : Type 0} (front : List A) (x : A) (l : List A) → At (front ++ (x ∷ l)) (length front) x
+pub get-seam : {A : Type 0} (front : List A) (x : A) (l : List A) → At (front ++ (x ∷ l)) (length front) x
 get-seam [] x l = refl
 get-seam (y ∷ front) x l = get-seam front x l
 
