@@ -104,7 +104,7 @@ passing p (x ∷ l) h = go (p x) refl (passing p l) h
     go true e f k = record { row = 0; item = x; is = refl; holds = e }
     go false e f k = let t = f k in record { row = suc (t .row); item = t .item; is = t .is; holds = t .holds }
 
-some-at : {A : Type 0} (p : A → Bool) (l : List A) (i : ℕ) (x : A) → At l i x → p x ≡ true → some? p l ≡ true
+pub some-at : {A : Type 0} (p : A → Bool) (l : List A) (i : ℕ) (x : A) → At l i x → p x ≡ true → some? p l ≡ true
 unfolding some?
 some-at p [] i x e h = never e
 some-at p (y ∷ l) zero x e h = let z : y ≡ x = cc in ap (λ (b : Bool). b || some? p l) (ap p z ∙ h)

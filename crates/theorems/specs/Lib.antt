@@ -1,9 +1,14 @@
 pub mod Counts
+pub mod EveryRead
+pub mod LastRow
 pub mod Laws
 pub mod Leads
+pub mod LinkSums
+pub mod Made
 pub mod Outlines
 pub mod Packing
 pub mod Reading
+pub mod SameElements
 pub mod Texts
 pub mod Told
 pub mod Utf8

@@ -72,7 +72,7 @@ module _ (x : Context) (entered : ℕ → Bool) (names : Each (λ (n : Named). I
       (omega (arith, length-append done (activityOf x ids levels (entered (length done)) t ∷ [])))
       (omega (arith, length-append levels (levelOf t ∷ [])))
 
-activities-length : (x : Context) (entered : ℕ → Bool) (done : List Activity) (levels : List ℕ) (ts : List Element)
+pub activities-length : (x : Context) (entered : ℕ → Bool) (done : List Activity) (levels : List ℕ) (ts : List Element)
     → length (activitiesAfter x entered done levels ts) ≡ length done + length ts
 unfolding activitiesAfter
 activities-length x entered done levels [] = omega arith
@@ -334,7 +334,7 @@ abbrev isGiven : Answer → Bool
 isGiven (refused n) = false
 isGiven (gives l) = true
 
-unless-given : (n : ℕ) (a : Answer) (l : List ℕ) → unless n a ≡ gives l → (n ≡ 0) × (a ≡ gives l)
+pub unless-given : (n : ℕ) (a : Answer) (l : List ℕ) → unless n a ≡ gives l → (n ≡ 0) × (a ≡ gives l)
 unless-given n a l h = by (ltb 0 n) refl h
   where
     by : (t : Bool) → ltb 0 n ≡ t → (if t then refused n else a) ≡ gives l → (n ≡ 0) × (a ≡ gives l)
