@@ -3,6 +3,7 @@ pub mod Laws
 pub mod Leads
 pub mod Outlines
 pub mod Packing
+pub mod Parents
 pub mod Reading
 pub mod Texts
 pub mod Told

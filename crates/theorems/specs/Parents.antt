@@ -1,0 +1,210 @@
+-- The parent of each activity is the nearest earlier kept task of a lower level; it has none exactly where there is no such task. Assumes nothing.
+use mathlib.Core.Path.{_≡_, refl, sym, ap, _∙_}
+use mathlib.Core.Bool.{Bool, true, false}
+use mathlib.Core.List.{List, [], _∷_, _++_, map, map-append, append-nil, append-assoc}
+use mathlib.Core.Option.{Option, some, none}
+use Prim.Native.Nat.{ℕ, zero, suc, _+_, _≤_, _<_}
+use native.Mathlib.Omega.{arith}
+use borrow.Author.Tests.{ltb-true, ltb-false}
+use lib.Dec.{ltb}
+use lib.ListN.{length, getD, length-append, length-map, List·getD-append}
+use lib.Seq.{getD-append-seam}
+use Rattle.definition.specs.Base.{_>>=_, _orElse_, when, findLast, numbered}
+use Rattle.definition.specs.Tree.{Element}
+use Rattle.definition.specs.Model.{Activity}
+use Rattle.definition.specs.Task.{Context, levelOf, keptTasks, contextOf, parentOf, activityOf, activitiesAfter, activities}
+use Rattle.definition.specs.Link.{links, entered}
+use Rattle.definition.specs.Read.{modelOf}
+use Rattle.laws.specs.Options.{never}
+use Rattle.theorems.specs.Leads.{At, map-at, at-in, leads}
+use Rattle.theorems.specs.Told.{NoneLower, IsParent}
+
+-- ---- the last of a list that passes a test
+
+pub record IsLast {A : Type 0} (p : A → Bool) (l : List A) (row : ℕ) : Type 0 where
+  pub item : A
+  pub is : At l row item
+  pub holds : p item ≡ true
+  pub behind : (q : ℕ) (y : A) → row < q → At l q y → p y ≡ false
+
+abbrev pub NonePasses : {A : Type 0} → (A → Bool) → List A → Type 0
+NonePasses {A} p l = (q : ℕ) (y : A) → At l q y → p y ≡ false
+
+abbrev pub LastRow : {A : Type 0} → (A → Bool) → List A → Option ℕ → Type 0
+LastRow p l none = NonePasses p l
+LastRow p l (some r) = IsLast p l r
+
+module _ {A : Type 0} (p : A → Bool) where
+  -- counted from n
+  record LastFrom (n : ℕ) (l : List A) (r : ℕ) : Type 0 where
+    row : ℕ
+    counts : r ≡ n + row
+    last : IsLast p l row
+
+  abbrev FoundFrom : ℕ → List A → Option (ℕ × A) → Type 0
+  FoundFrom n l none = NonePasses p l
+  FoundFrom n l (some x) = LastFrom n l (x .0)
+
+  found-from : (n : ℕ) (l : List A) → FoundFrom n l (findLast (λ (x : ℕ × A). p (x .1)) (numbered n l))
+  unfolding findLast numbered
+  found-from n [] = λ q y h. never h
+  found-from n (x ∷ l) = by (findLast (λ (x : ℕ × A). p (x .1)) (numbered (suc n) l)) (found-from (suc n) l) (p x) refl
+    where
+      by : (o : Option (ℕ × A)) → FoundFrom (suc n) l o → (t : Bool) → p x ≡ t → FoundFrom n (x ∷ l) (o orElse when t (n, x))
+      by (some z) f t e =
+          record {
+            row = suc (f .row);
+            counts = omega (arith, f .counts);
+            last = record { item = f .last .item; is = f .last .is; holds = f .last .holds; behind = behind };
+          }
+        where
+          behind : (q : ℕ) (y : A) → suc (f .row) < q → At (x ∷ l) q y → p y ≡ false
+          behind zero y h k = absurd (omega arith)
+          behind (suc q) y h k = f .last .behind q y (omega arith) k
+      by none f true e = record { row = 0; counts = omega arith; last = record { item = x; is = refl; holds = e; behind = behind } }
+        where
+          behind : (q : ℕ) (y : A) → 0 < q → At (x ∷ l) q y → p y ≡ false
+          behind zero y h k = absurd (omega arith)
+          behind (suc q) y h k = f q y k
+      by none f false e = behind
+        where
+          behind : (q : ℕ) (y : A) → At (x ∷ l) q y → p y ≡ false
+          behind zero y k = let z : x ≡ y = cc in ap p (sym z) ∙ e
+          behind (suc q) y k = f q y k
+
+  pub last-row : (l : List A) → LastRow p l (findLast (λ (x : ℕ × A). p (x .1)) (numbered 0 l) >>= λ x. some (x .0))
+  last-row l = by (findLast (λ (x : ℕ × A). p (x .1)) (numbered 0 l)) (found-from 0 l)
+    where
+      by : (o : Option (ℕ × A)) → FoundFrom 0 l o → LastRow p l (o >>= λ x. some (x .0))
+      by none f = f
+      by (some x) f = let e : x .0 ≡ f .row = omega (arith, f .counts) in rw e (f .last)
+
+-- ---- parents by levels
+
+-- the nearest earlier row of a lower level
+pub record Closest (level : ℕ → ℕ) (row p : ℕ) : Type 0 where
+  pub earlier : p < row
+  pub lower : level p < level row
+  pub between : (q : ℕ) → p < q → q < row → level row ≤ level q
+
+abbrev pub ParentBy : (ℕ → ℕ) → ℕ → Option ℕ → Type 0
+ParentBy level row none = (q : ℕ) → q < row → level row ≤ level q
+ParentBy level row (some p) = Closest level row p
+
+-- those of rows of some levels that come after others
+abbrev pub parentsAfter : List ℕ → List ℕ → List (Option ℕ)
+parentsAfter before [] = []
+parentsAfter before (l ∷ ls) = parentOf before l ∷ parentsAfter (before ++ (l ∷ [])) ls
+
+at-getD : {A : Type 0} (l : List A) (i : ℕ) (d : A) → i < length l → At l i (getD l i d)
+at-getD [] i d h = absurd (omega arith)
+at-getD (x ∷ l) zero d h = refl
+at-getD (x ∷ l) (suc i) d h = at-getD l i d (omega arith)
+
+getD-at : {A : Type 0} (l : List A) (i : ℕ) (d x : A) → At l i x → getD l i d ≡ x
+getD-at l i d x h = let k = at-getD l i d (at-in l i x h) in cc
+
+parent-last : (levels : List ℕ) (l : ℕ) → LastRow (λ m. ltb m l) levels (parentOf levels l)
+unfolding parentOf
+parent-last levels l = last-row (λ m. ltb m l) levels
+
+module _ (all : List ℕ) where
+  abbrev at : ℕ → ℕ
+  at i = getD all i 0
+
+  parent-here : (before : List ℕ) (l : ℕ) (ls : List ℕ) → all ≡ before ++ (l ∷ ls) → (o : Option ℕ) → LastRow (λ m. ltb m l) before o → ParentBy at (length before) o
+  parent-here before l ls e = by
+    where
+      own : at (length before) ≡ l
+      own = ap (λ (s : List ℕ). getD s (length before) 0) e ∙ getD-append-seam before l ls 0
+
+      early : (q : ℕ) → q < length before → At before q (at q)
+      early q h = rw (e, List·getD-append before (l ∷ ls) 0 q h) (at-getD before q 0 h)
+
+      by : (o : Option ℕ) → LastRow (λ m. ltb m l) before o → ParentBy at (length before) o
+      by none f = λ q h. omega (arith, own, ltb-false (at q) l (f q (at q) (early q h)))
+      by (some p) f =
+          let h : p < length before = at-in before p (f .item) (f .is) in
+          let k : at p ≡ f .item = let z = early p h in cc (f .is) in
+          record {
+            earlier = h;
+            lower = omega (arith, own, ltb-true (f .item) l (f .holds));
+            between = λ q g i. omega (arith, own, ltb-false (at q) l (f .behind q (at q) g (early q i)));
+          }
+
+  parents-by : (before ls : List ℕ) (row r : ℕ) → all ≡ before ++ ls → r ≡ length before + row → row < length ls → ParentBy at r (getD (parentsAfter before ls) row none)
+  parents-by before [] row r e k h = absurd (omega arith)
+  parents-by before (l ∷ ls) zero r e k h =
+      let z : r ≡ length before = omega arith in
+      rw z (parent-here before l ls e (parentOf before l) (parent-last before l))
+  parents-by before (l ∷ ls) (suc row) r e k h =
+      parents-by (before ++ (l ∷ [])) ls row r (e ∙ sym (append-assoc before (l ∷ []) ls)) (omega (arith, length-append before (l ∷ []))) (omega arith)
+
+parents-length : (before ls : List ℕ) → length (parentsAfter before ls) ≡ length ls
+parents-length before [] = refl
+parents-length before (l ∷ ls) = ap suc (parents-length (before ++ (l ∷ [])) ls)
+
+-- ---- the activities
+
+abbrev pub parents : List Activity → List (Option ℕ)
+parents = map (λ (a : Activity). a .parent)
+
+parents-after : (x : Context) (entered : ℕ → Bool) (done : List Activity) (levels : List ℕ) (ts : List Element)
+    → parents (activitiesAfter x entered done levels ts) ≡ parents done ++ parentsAfter levels (map levelOf ts)
+unfolding activitiesAfter activityOf
+parents-after x entered done levels [] = sym (append-nil (parents done))
+parents-after x entered done levels (t ∷ ts) =
+    let a = activityOf x (map (λ (a : Activity). a .id) done) levels (entered (length done)) t in
+    parents-after x entered (done ++ (a ∷ [])) (levels ++ (levelOf t ∷ [])) ts
+    ∙ ap (λ (l : List (Option ℕ)). l ++ parentsAfter (levels ++ (levelOf t ∷ [])) (map levelOf ts)) (map-append (λ (a : Activity). a .parent) done (a ∷ []))
+    ∙ append-assoc (parents done) (a .parent ∷ []) (parentsAfter (levels ++ (levelOf t ∷ [])) (map levelOf ts))
+
+pub model-parents : (root : Element) → parents ((modelOf root) .activities) ≡ parentsAfter [] (map levelOf (keptTasks root))
+unfolding modelOf activities contextOf
+model-parents root = parents-after (contextOf root) (entered (links (contextOf root))) [] [] (keptTasks root)
+
+module _ (root : Element) where
+  -- the level of each row
+  abbrev pub levelAt : ℕ → ℕ
+  levelAt row = getD (map levelOf (keptTasks root)) row 0
+
+  level-at : (row : ℕ) (t : Element) → At (keptTasks root) row t → levelAt row ≡ levelOf t
+  level-at row t h = getD-at (map levelOf (keptTasks root)) row 0 (levelOf t) (map-at levelOf (keptTasks root) row t h)
+
+  pub as-many : length ((modelOf root) .activities) ≡ length (keptTasks root)
+  as-many =
+      sym (length-map ((modelOf root) .activities) (λ (a : Activity). a .parent))
+      ∙ ap length (model-parents root)
+      ∙ parents-length [] (map levelOf (keptTasks root))
+      ∙ length-map (keptTasks root) levelOf
+
+  pub parent-by : (row : ℕ) → row < length (keptTasks root) → ParentBy levelAt row (getD (parents ((modelOf root) .activities)) row none)
+  parent-by row h =
+      rw (model-parents root)
+      (parents-by (map levelOf (keptTasks root)) [] (map levelOf (keptTasks root)) row row refl (omega arith) (omega (arith, length-map (keptTasks root) levelOf)))
+
+  pub nearest-parent : (row : ℕ) (a : Activity) → At ((modelOf root) .activities) row a → IsParent (keptTasks root) row (a .parent)
+  nearest-parent row a h = by (a .parent) (rw own at (parent-by row (omega (arith, as-many, at-in ((modelOf root) .activities) row a h))))
+    where
+      own : getD (parents ((modelOf root) .activities)) row none ≡ a .parent
+      own = getD-at (parents ((modelOf root) .activities)) row none (a .parent) (map-at (λ (a : Activity). a .parent) ((modelOf root) .activities) row a h)
+
+      by : (o : Option ℕ) → ParentBy levelAt row o → IsParent (keptTasks root) row o
+      by none f = λ q t u k i j. omega (arith, f q k, level-at row t i, level-at q u j)
+      by (some p) f =
+          record {
+            earlier = f .earlier;
+            lower = λ t u i j. omega (arith, f .lower, level-at row t i, level-at p u j);
+            between = λ q t u k l i j. omega (arith, f .between q k l, level-at row t i, level-at q u j);
+          }
+
+  pub no-parent : (row : ℕ) (a : Activity) → At ((modelOf root) .activities) row a → NoneLower (keptTasks root) row → a .parent ≡ none
+  no-parent row a h f = by (a .parent) (nearest-parent row a h)
+    where
+      by : (o : Option ℕ) → IsParent (keptTasks root) row o → o ≡ none
+      by none g = refl
+      by (some p) g =
+          let r : row < length (keptTasks root) = omega (arith, as-many, at-in ((modelOf root) .activities) row a h) in
+          let t = leads (keptTasks root) row r in
+          let u = leads (keptTasks root) p (omega (arith, g .earlier)) in
+          absurd (omega (arith, g .lower (t .item) (u .item) (t .is) (u .is), f p (t .item) (u .item) (g .earlier) (t .is) (u .is)))
