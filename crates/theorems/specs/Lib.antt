@@ -1,6 +1,7 @@
 pub mod Counts
 pub mod Laws
 pub mod Leads
+pub mod Order
 pub mod Outlines
 pub mod Packing
 pub mod Parents

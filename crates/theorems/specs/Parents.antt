@@ -17,6 +17,7 @@ use Rattle.definition.specs.Link.{links, entered}
 use Rattle.definition.specs.Read.{modelOf}
 use Rattle.laws.specs.Options.{never}
 use Rattle.theorems.specs.Leads.{At, map-at, at-in, leads}
+use Rattle.theorems.specs.Outlines.{parentsOf}
 use Rattle.theorems.specs.Told.{NoneLower, IsParent}
 
 -- ---- the last of a list that passes a test
@@ -101,7 +102,7 @@ at-getD [] i d h = absurd (omega arith)
 at-getD (x ∷ l) zero d h = refl
 at-getD (x ∷ l) (suc i) d h = at-getD l i d (omega arith)
 
-getD-at : {A : Type 0} (l : List A) (i : ℕ) (d x : A) → At l i x → getD l i d ≡ x
+pub getD-at : {A : Type 0} (l : List A) (i : ℕ) (d x : A) → At l i x → getD l i d ≡ x
 getD-at l i d x h = let k = at-getD l i d (at-in l i x h) in cc
 
 parent-last : (levels : List ℕ) (l : ℕ) → LastRow (λ m. ltb m l) levels (parentOf levels l)
@@ -146,7 +147,7 @@ parents-length before (l ∷ ls) = ap suc (parents-length (before ++ (l ∷ []))
 
 -- ---- the activities
 
-abbrev pub parents : List Activity → List (Option ℕ)
+abbrev parents : List Activity → List (Option ℕ)
 parents = map (λ (a : Activity). a .parent)
 
 parents-after : (x : Context) (entered : ℕ → Bool) (done : List Activity) (levels : List ℕ) (ts : List Element)
@@ -159,7 +160,7 @@ parents-after x entered done levels (t ∷ ts) =
     ∙ ap (λ (l : List (Option ℕ)). l ++ parentsAfter (levels ++ (levelOf t ∷ [])) (map levelOf ts)) (map-append (λ (a : Activity). a .parent) done (a ∷ []))
     ∙ append-assoc (parents done) (a .parent ∷ []) (parentsAfter (levels ++ (levelOf t ∷ [])) (map levelOf ts))
 
-pub model-parents : (root : Element) → parents ((modelOf root) .activities) ≡ parentsAfter [] (map levelOf (keptTasks root))
+pub model-parents : (root : Element) → parentsOf (modelOf root) ≡ parentsAfter [] (map levelOf (keptTasks root))
 unfolding modelOf activities contextOf
 model-parents root = parents-after (contextOf root) (entered (links (contextOf root))) [] [] (keptTasks root)
 
@@ -178,7 +179,7 @@ module _ (root : Element) where
       ∙ parents-length [] (map levelOf (keptTasks root))
       ∙ length-map (keptTasks root) levelOf
 
-  pub parent-by : (row : ℕ) → row < length (keptTasks root) → ParentBy levelAt row (getD (parents ((modelOf root) .activities)) row none)
+  pub parent-by : (row : ℕ) → row < length (keptTasks root) → ParentBy levelAt row (getD (parentsOf (modelOf root)) row none)
   parent-by row h =
       rw (model-parents root)
       (parents-by (map levelOf (keptTasks root)) [] (map levelOf (keptTasks root)) row row refl (omega arith) (omega (arith, length-map (keptTasks root) levelOf)))
@@ -186,8 +187,8 @@ module _ (root : Element) where
   pub nearest-parent : (row : ℕ) (a : Activity) → At ((modelOf root) .activities) row a → IsParent (keptTasks root) row (a .parent)
   nearest-parent row a h = by (a .parent) (rw own at (parent-by row (omega (arith, as-many, at-in ((modelOf root) .activities) row a h))))
     where
-      own : getD (parents ((modelOf root) .activities)) row none ≡ a .parent
-      own = getD-at (parents ((modelOf root) .activities)) row none (a .parent) (map-at (λ (a : Activity). a .parent) ((modelOf root) .activities) row a h)
+      own : getD (parentsOf (modelOf root)) row none ≡ a .parent
+      own = getD-at (parentsOf (modelOf root)) row none (a .parent) (map-at (λ (a : Activity). a .parent) ((modelOf root) .activities) row a h)
 
       by : (o : Option ℕ) → ParentBy levelAt row o → IsParent (keptTasks root) row o
       by none f = λ q t u k i j. omega (arith, f q k, level-at row t i, level-at q u j)
