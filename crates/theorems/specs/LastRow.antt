@@ -20,7 +20,7 @@ pub data RowFound {A : Type 0} (p : A → Bool) (from : ℕ) (l : List A) : Opti
   nowhere : some? p l ≡ false → RowFound p from l none
   found : (k row : ℕ) → row ≡ from + k → some? p l ≡ true → LastAt p l k → RowFound p from l (some row)
 
-none-at : {A : Type 0} (p : A → Bool) (l : List A) → some? p l ≡ false → (i : ℕ) (x : A) → At l i x → p x ≡ false
+pub none-at : {A : Type 0} (p : A → Bool) (l : List A) → some? p l ≡ false → (i : ℕ) (x : A) → At l i x → p x ≡ false
 none-at p l h i x e = by (p x) refl
   where
     by : (t : Bool) → p x ≡ t → t ≡ false

@@ -70,17 +70,17 @@ numbered-at n [] i x e = never e
 numbered-at n (y ∷ l) zero x e = let z : y ≡ x = cc in let k : n ≡ n + 0 = omega arith in cc
 numbered-at n (y ∷ l) (suc i) x e = let k : suc n + i ≡ n + suc i = omega arith in rw (← k) (numbered-at (suc n) l i x e)
 
-map-at : {A B : Type 0} (f : A → B) (l : List A) (i : ℕ) (x : A) → At l i x → At (map f l) i (f x)
+pub map-at : {A B : Type 0} (f : A → B) (l : List A) (i : ℕ) (x : A) → At l i x → At (map f l) i (f x)
 map-at f [] i x e = never e
 map-at f (y ∷ l) zero x e = let z : y ≡ x = cc in ap (λ a. some (f a)) z
 map-at f (y ∷ l) (suc i) x e = map-at f l i x e
 
-at-in : {A : Type 0} (l : List A) (i : ℕ) (x : A) → At l i x → i < length l
+pub at-in : {A : Type 0} (l : List A) (i : ℕ) (x : A) → At l i x → i < length l
 at-in [] i x e = never e
 at-in (y ∷ l) zero x e = omega arith
 at-in (y ∷ l) (suc i) x e = omega (arith, at-in l i x e)
 
-leads : {A : Type 0} (l : List A) (i : ℕ) → i < length l → Leads l i
+pub leads : {A : Type 0} (l : List A) (i : ℕ) → i < length l → Leads l i
 leads [] i h = absurd (omega arith)
 leads (x ∷ l) zero h = record { inRange = h; item = x; is = refl }
 leads (x ∷ l) (suc i) h = let t = leads l i (omega arith) in record { inRange = h; item = t .item; is = t .is }

@@ -5,8 +5,10 @@ pub mod Laws
 pub mod Leads
 pub mod LinkSums
 pub mod Made
+pub mod Order
 pub mod Outlines
 pub mod Packing
+pub mod Parents
 pub mod Reading
 pub mod SameElements
 pub mod Texts

@@ -152,7 +152,7 @@ module _ (ps : List (Option ℕ)) where
     found (suc k) level l h = found-one k level (found k (suc level)) l h
 
     -- whoever stands in the outline stands after its parent
-    outline-after : 0 < stands c (outlineOf ps) → After p c (outlineOf ps)
+    pub outline-after : 0 < stands c (outlineOf ps) → After p c (outlineOf ps)
     unfolding outlineOf
     outline-after h = go (found (length ps) 1 (topRows ps) h)
       where
@@ -161,14 +161,14 @@ module _ (ps : List (Option ℕ)) where
         go (below a) = a
 
   -- a row with no parent at level 1
-  outline-top : (c : ℕ) → c < length ps → parentAt ps c ≡ none → At c 1 (outlineOf ps)
+  pub outline-top : (c : ℕ) → c < length ps → parentAt ps c ≡ none → At c 1 (outlineOf ps)
   unfolding outlineOf
   outline-top c l h =
       let e : length ps ≡ suc (length ps - 1) = omega arith in
       rw e (at-level c (length ps - 1) 1 (topRows ps) (omega (arith, top-times ps c l h)))
 
   -- where each parent is above its child, all stand
-  all-stand : ((c p : ℕ) → parentAt ps c ≡ some p → p < c) → (k level c : ℕ) → c < k → c < length ps → stands c (all ps k level (topRows ps)) ≡ 1
+  pub all-stand : ((c p : ℕ) → parentAt ps c ≡ some p → p < c) → (k level c : ℕ) → c < k → c < length ps → stands c (all ps k level (topRows ps)) ≡ 1
   all-stand up zero level c h l = absurd (omega arith)
   all-stand up (suc k) level c h l = go (parentAt ps c) refl (all-stand up k (suc level))
     where
@@ -209,7 +209,7 @@ checked-all m h = go (distinct same (map (λ (a : Activity). a .id) (m .activiti
 checked : (m : Model) → keepsList m ≡ true → (r p : ℕ) → getD (parentsOf m) r none ≡ some p → p < r
 checked m h r p e = omega (arith, checked-rows m 0 (m .activities) (checked-all m h) r p e)
 
-parent-counts : (ps : List (Option ℕ)) (c p : ℕ) → getD ps c none ≡ some p → p < c → c < length ps → parentAt ps c ≡ some p
+pub parent-counts : (ps : List (Option ℕ)) (c p : ℕ) → getD ps c none ≡ some p → p < c → c < length ps → parentAt ps c ≡ some p
 unfolding parentAt
 parent-counts ps c p e h l =
     let t : ltb p (length ps) && not (eqb p c) ≡ true = rw (lt-ltb p (length ps) (omega arith), ne-eqb p c (λ q. omega arith)) in
