@@ -47,10 +47,6 @@ row-in es u = perhaps-bind (each-last (λ (x : ℕ × Element). same (textIn (x 
     row : (n : ℕ) → n < 0 + length es → n < length es
     row n h = omega arith
 
-perhaps-less : {A : Type 0} {P Q : A → Type 0} {o : Option A} → ((a : A) → P a → Q a) → Perhaps P o → Perhaps Q o
-perhaps-less f missing = missing
-perhaps-less f (there {a = a} h) = there (f a h)
-
 present-most : {A : Type 0} (l : List (Option A)) → length (present l) ≤ length l
 unfolding present
 present-most [] = omega arith
@@ -82,36 +78,39 @@ activities-length x entered done levels (t ∷ ts) =
 
 -- ---- links
 
-abbrev FitsFate : Fate → Type 0
-FitsFate across = Unit {0}
-FitsFate dangling = Unit {0}
-FitsFate (kept l) = FitsLink l
+-- what holds of the link, where it is kept
+abbrev FateIs : (Link → Type 0) → Fate → Type 0
+FateIs P across = Unit {0}
+FateIs P dangling = Unit {0}
+FateIs P (kept l) = P l
 
-fate-fits : (x : Context) (row : ℕ) (l : Element) → row < 0 + length (x .tasks) → length (x .tasks) ≤ 100000 → FitsFate (fateOf x row l)
-unfolding fateOf
-fate-fits x row l h m = by (yesIn l "CrossProject")
-  where
-    found : {o : Option ℕ} → Perhaps (λ n. n < length (x .tasks)) o → FitsFate (fateBy x row l o)
-    found missing = tt
-    found (there {a = p} k) = fit-link x p row l (omega arith) (omega arith)
-
-    by : (t : Bool) → FitsFate (if t then across else fateBy x row l (textIn l "PredecessorUID" >>= rowOf (x .tasks)))
-    by true = tt
-    by false = found (perhaps-any (textIn l "PredecessorUID") (row-in (x .tasks)))
-
-fates-fit : (x : Context) → length (x .tasks) ≤ 100000 → Each FitsFate (fates x)
-unfolding fates
-fates-fit x m =
-    each-flat (λ (p : ℕ × Element). map (fateOf x (p .0)) (all (p .1) (bytes "PredecessorLink")))
-    (λ p h. each-map-any (fateOf x (p .0)) (λ l. fate-fits x (p .0) l h m) (all (p .1) (bytes "PredecessorLink")))
-    (each-row 0 (x .tasks))
-
-kept-fit : {l : List Fate} → Each FitsFate l → Each FitsLink (keptOf l)
+kept-each : {P : Link → Type 0} {l : List Fate} → Each (FateIs P) l → Each P (keptOf l)
 unfolding keptOf
-kept-fit empty = empty
-kept-fit (next {x = across} h hs) = kept-fit hs
-kept-fit (next {x = dangling} h hs) = kept-fit hs
-kept-fit (next {x = kept l} h hs) = next h (kept-fit hs)
+kept-each empty = empty
+kept-each (next {x = across} h hs) = kept-each hs
+kept-each (next {x = dangling} h hs) = kept-each hs
+kept-each (next {x = kept l} h hs) = next h (kept-each hs)
+
+module _ (P : Link → Type 0) (x : Context) (is : (p row : ℕ) (l : Element) → p < length (x .tasks) → row < length (x .tasks) → P (linkOf x p row l)) where
+  fate-is : (row : ℕ) (l : Element) → row < 0 + length (x .tasks) → FateIs P (fateOf x row l)
+  unfolding fateOf
+  fate-is row l h = by (yesIn l "CrossProject")
+    where
+      found : {o : Option ℕ} → Perhaps (λ n. n < length (x .tasks)) o → FateIs P (fateBy x row l o)
+      found missing = tt
+      found (there {a = p} k) = is p row l k (omega arith)
+
+      by : (t : Bool) → FateIs P (if t then across else fateBy x row l (textIn l "PredecessorUID" >>= rowOf (x .tasks)))
+      by true = tt
+      by false = found (perhaps-any (textIn l "PredecessorUID") (row-in (x .tasks)))
+
+  pub links-each : Each P (links x)
+  unfolding links fates
+  links-each =
+      kept-each
+      (each-flat (λ (p : ℕ × Element). map (fateOf x (p .0)) (all (p .1) (bytes "PredecessorLink")))
+      (λ p h. each-map-any (fateOf x (p .0)) (λ l. fate-is (p .0) l h) (all (p .1) (bytes "PredecessorLink")))
+      (each-row 0 (x .tasks)))
 
 kept-most : (l : List Fate) → length (keptOf l) ≤ length l
 unfolding keptOf
@@ -139,29 +138,6 @@ resources-length x done (r ∷ rs) =
     let a = resourceOf x (map (λ (d : Resource). d .id) done) r in
     resources-length x (done ++ (a ∷ [])) rs ∙ omega (arith, length-append done (a ∷ []))
 
-module _ (x : Context) (root : Element) (few : length (x .tasks) ≤ 100000) where
-  task-in : (a : Element) → Perhaps (λ n. n < 2 ^ 32) (taskRow x a)
-  task-in a = perhaps-less row (perhaps-any (textIn a "TaskUID") (row-in (x .tasks)))
-    where
-      row : (n : ℕ) → n < length (x .tasks) → n < 2 ^ 32
-      row n h = omega arith
-
-  assignment-fits : length (workResources root) ≤ 5000000 → (a : Element) → Perhaps FitsAssignment (assignmentOf x root a)
-  unfolding assignmentOf
-  assignment-fits m a =
-      perhaps-if (given (costOf root a)) missing
-      (perhaps-bind (task-in a)
-      (λ t h. perhaps-bind (perhaps-any (textIn a "ResourceUID") (row-in (workResources root))) (λ r k. there (fit-assignment t r a h (row r k)))))
-    where
-      row : (n : ℕ) → n < length (workResources root) → n < 2 ^ 32
-      row n h = omega arith
-
-  expense-fits : Each (Holds Neat) (costResources root) → (a : Element) → Perhaps FitsExpense (expenseOf x root a)
-  unfolding expenseOf
-  expense-fits c a =
-      perhaps-bind (task-in a)
-      (λ t h. perhaps-bind (perhaps-any (textIn a "ResourceUID") (λ u. each-last (λ r. same (textIn r "UID" or []) u) c)) (λ r k. there (fit-expense neat-texts t a k h)))
-
 firsts-fit : {P : Expense → Type 0} {done es : List Expense} → Each P done → Each P es → Each P (firsts done es)
 unfolding firsts
 firsts-fit d empty = d
@@ -170,6 +146,28 @@ firsts-fit {P} {done} d (next {x = e} h hs) = firsts-fit (by (some? (sameExpense
     by : (t : Bool) → Each P (if t then done else done ++ (e ∷ []))
     by true = d
     by false = each-append d (next h empty)
+
+module _ (x : Context) (root : Element) where
+  pub assignments-each : {P : Assignment → Type 0}
+      → ((t r : ℕ) (a : Element) → t < length (x .tasks) → r < length (workResources root) → P (assignmentFrom t r a)) → Each P (assignments x root)
+  unfolding assignments assignmentOf
+  assignments-each {P} is = each-present (each-map-any (assignmentOf x root) one (assignmentElements root))
+    where
+      one : (a : Element) → Perhaps P (assignmentOf x root a)
+      one a =
+          perhaps-if (given (costOf root a)) missing
+          (perhaps-bind (perhaps-any (textIn a "TaskUID") (row-in (x .tasks)))
+          (λ t h. perhaps-bind (perhaps-any (textIn a "ResourceUID") (row-in (workResources root))) (λ r k. there (is t r a h k))))
+
+  pub expenses-each : {P : Expense → Type 0} {Q : Element → Type 0} → Each Q (costResources root)
+      → ((t : ℕ) (r a : Element) → t < length (x .tasks) → Q r → P (expenseFrom t r a)) → Each P (expenses x root)
+  unfolding expenses expenseOf
+  expenses-each {P} c is = firsts-fit empty (each-present (each-map-any (expenseOf x root) one (assignmentElements root)))
+    where
+      one : (a : Element) → Perhaps P (expenseOf x root a)
+      one a =
+          perhaps-bind (perhaps-any (textIn a "TaskUID") (row-in (x .tasks)))
+          (λ t h. perhaps-bind (perhaps-any (textIn a "ResourceUID") (λ u. each-last (λ r. same (textIn r "UID" or []) u) c)) (λ r k. there (is t r a h k)))
 
 firsts-most : (done es : List Expense) → length (firsts done es) ≤ length done + length es
 unfolding firsts
@@ -229,6 +227,9 @@ module _ (rs : List Rec) (few : length rs ≤ 5000000) (h : Holds Neat (element 
   unfolding contextOf
   tasks-few = tasks-most root
 
+  few-tasks : (n : ℕ) → n < length (context .tasks) → n < 2 ^ 32
+  few-tasks n h = omega (arith, tasks-few)
+
   calendars-few : length (calendarElements root) ≤ 5000000
   calendars-few = omega (arith, calendars-most rs)
 
@@ -257,7 +258,7 @@ module _ (rs : List Rec) (few : length rs ≤ 5000000) (h : Holds Neat (element 
 
   links-rows : Rows FitsLink (links context)
   unfolding links
-  links-rows = (omega (arith, kept-most (fates context), fates-few), kept-fit (fates-fit context tasks-few))
+  links-rows = (omega (arith, kept-most (fates context), fates-few), links-each FitsLink context (λ p row l h k. fit-link context p row l (few-tasks p h) (few-tasks row k)))
 
   work-few : length (workResources root) ≤ 5000000
   work-few = omega (arith, resources-most rs)
@@ -274,7 +275,7 @@ module _ (rs : List Rec) (few : length rs ≤ 5000000) (h : Holds Neat (element 
   assignments-rows =
       let es = assignmentElements root in (
         omega (arith, present-most (map (assignmentOf context root) es), length-map es (assignmentOf context root), assignments-most rs),
-        each-present (each-map-any (assignmentOf context root) (assignment-fits context root tasks-few work-few) es),
+        assignments-each context root (λ t r a h k. fit-assignment t r a (few-tasks t h) (omega (arith, work-few))),
       )
 
   expenses-rows : Rows FitsExpense (expenses context root)
@@ -283,7 +284,7 @@ module _ (rs : List Rec) (few : length rs ≤ 5000000) (h : Holds Neat (element 
       let es = assignmentElements root in
       let l = present (map (expenseOf context root) es) in (
         omega (arith, firsts-most [] l, present-most (map (expenseOf context root) es), length-map es (expenseOf context root), assignments-most rs),
-        firsts-fit empty (each-present (each-map-any (expenseOf context root) (expense-fits context root tasks-few (holds-costs h)) es)),
+        expenses-each context root (holds-costs h) (λ t r a h k. fit-expense neat-texts t a k (few-tasks t h)),
       )
 
   pub model-fits : FitsModel (modelOf root)

@@ -1,0 +1,64 @@
+-- Tests of lists: some item passes, each does, no two are the same. Assumes nothing.
+use mathlib.Core.Path.{_≡_, refl, ap, _∙_}
+use mathlib.Core.Bool.{Bool, true, false, true≢false, _&&_, _||_, not, or-true}
+use mathlib.Core.List.{List, [], _∷_, _++_, map}
+use borrow.Author.Tests.{not-true}
+use Rattle.definition.specs.Base.{if_then_else_, keep, some?, every?}
+use Rattle.definition.specs.Check.{distinct}
+use Rattle.laws.specs.Bools.{both}
+use Rattle.laws.specs.Each.{Each, empty, next}
+
+pub or-false : (a b : Bool) → (a || b) ≡ false → (a ≡ false) × (b ≡ false)
+or-false true b h = absurd (true≢false h)
+or-false false b h = (refl, h)
+
+module _ {A : Type 0} (p : A → Bool) where
+  pub some-both : (k l : List A) → some? p (k ++ l) ≡ (some? p k || some? p l)
+  unfolding some?
+  some-both [] l = refl
+  some-both (x ∷ k) l = by (p x) (some-both k l)
+    where
+      by : (t : Bool) → some? p (k ++ l) ≡ (some? p k || some? p l) → (t || some? p (k ++ l)) ≡ (t || some? p k || some? p l)
+      by true h = refl
+      by false h = h
+
+  pub some-map : {B : Type 0} (f : B → A) (l : List B) → some? p (map f l) ≡ some? (λ x. p (f x)) l
+  unfolding some?
+  some-map f [] = refl
+  some-map f (x ∷ l) = ap (λ (t : Bool). p (f x) || t) (some-map f l)
+
+  pub some-keep : (test : A → Bool) (l : List A) → some? p (keep test l) ≡ some? (λ x. test x && p x) l
+  unfolding some? keep
+  some-keep test [] = refl
+  some-keep test (x ∷ l) = by (test x) (some-keep test l)
+    where
+      by : (t : Bool) → some? p (keep test l) ≡ some? (λ x. test x && p x) l
+          → some? p (if t then x ∷ keep test l else keep test l) ≡ (t && p x || some? (λ x. test x && p x) l)
+      by true h = ap (λ (b : Bool). p x || b) h
+      by false h = h
+
+  pub each-passes : {l : List A} → Each (λ x. p x ≡ true) l → every? p l ≡ true
+  unfolding every?
+  each-passes empty = refl
+  each-passes (next h hs) = rw (h, each-passes hs)
+
+-- where an item of the list passes, some item does
+pub each-some : {A : Type 0} (l : List A) → Each (λ x. (p : A → Bool) → p x ≡ true → some? p l ≡ true) l
+unfolding some?
+each-some [] = empty
+each-some {A} (x ∷ l) = next {x = x} (λ p h. rw h) (later (each-some l))
+  where
+    later : {k : List A} → Each (λ y. (p : A → Bool) → p y ≡ true → some? p l ≡ true) k → Each (λ y. (p : A → Bool) → p y ≡ true → (p x || some? p l) ≡ true) k
+    later empty = empty
+    later (next {x = y} h hs) = next {x = y} (λ p e. rw (h p e) (or-true (p x))) (later hs)
+
+-- one more that is none of them
+pub distinct-add : {A : Type 0} (eq : A → A → Bool) → ((x y : A) → eq x y ≡ eq y x) → (l : List A) (x : A) → distinct eq l ≡ true → some? (eq x) l ≡ false
+    → distinct eq (l ++ (x ∷ [])) ≡ true
+unfolding distinct some?
+distinct-add eq turned [] x d f = refl
+distinct-add eq turned (y ∷ l) x d f =
+    let (u, v) = or-false (eq x y) (some? (eq x) l) f in
+    let (a, b) = both (not (some? (eq y) l)) (distinct eq l) d in
+    let z : some? (eq y) (l ++ (x ∷ [])) ≡ false = some-both (eq y) l (x ∷ []) ∙ rw (not-true (some? (eq y) l) a, turned y x, u) in
+    rw (z, distinct-add eq turned l x b v)
