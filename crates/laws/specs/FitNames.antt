@@ -22,7 +22,7 @@ use Rattle.definition.specs.Read.{calendarsOf}
 use Rattle.laws.specs.Options.{never}
 use Rattle.laws.specs.Same.{same-refl, same-eq}
 use Rattle.laws.specs.Formats.{got}
-use Rattle.laws.specs.Tests.{or-false, some-both}
+use Rattle.laws.specs.Tests.{or-false, some-both, turned}
 
 -- ---- a name with stars
 
@@ -42,13 +42,7 @@ same-longer a b h = by (same a b) refl
     by true e = absurd (h (ap length (same-eq a b e)))
 
 pub same-turned : (a b : Text) → same a b ≡ same b a
-same-turned a b = by (same a b) (same b a) refl refl
-  where
-    by : (t u : Bool) → same a b ≡ t → same b a ≡ u → t ≡ u
-    by true true e f = refl
-    by false false e f = refl
-    by true false e f = absurd (true≢false (sym (same-refl b) ∙ ap (same b) (sym (same-eq a b e)) ∙ f))
-    by false true e f = absurd (true≢false (sym (same-refl a) ∙ ap (same a) (sym (same-eq b a f)) ∙ e))
+same-turned = turned same (λ a b e. rw (same-eq a b e) (same-refl b))
 
 -- how many names have a length of n at least
 abbrev many : ℕ → List Text → ℕ

@@ -1,4 +1,5 @@
 pub mod Counts
+pub mod Keeping
 pub mod Laws
 pub mod Leads
 pub mod Outlines

@@ -1,24 +1,24 @@
 -- The model of a tree that is not refused fits its fields, so the bytes that reading gives decode to that model. Assumes nothing.
-use mathlib.Core.Path.{_≡_, refl, sym, ap, _∙_, subst}
+use mathlib.Core.Path.{_≡_, refl, sym, ap, _∙_}
 use mathlib.Core.Bool.{Bool, true, false, true≢false, not}
 use mathlib.Core.List.{List, [], _∷_, _++_, map}
 use mathlib.Core.Option.{Option, some, none}
-use Prim.Native.Nat.{ℕ, zero, suc, _+_, _^_, _≤_, _<_}
+use Prim.Native.Nat.{ℕ, suc, _+_, _^_, _≤_, _<_}
 use native.Mathlib.Omega.{arith}
 use borrow.Author.Tests.{ltb-false}
 use lib.Dec.{ltb, leb}
 use lib.ListN.{length, length-append, length-map}
-use Rattle.definition.specs.Base.{if_then_else_, _>>=_, _or_, _orElse_, given, keep, every?, some?, findLast, present, numbered, same}
+use Rattle.definition.specs.Base.{if_then_else_, _>>=_, _or_, given, keep, every?, some?, present, same}
 use Rattle.definition.specs.Ascii.{bytes}
 use Rattle.definition.specs.Text.{Text}
 use Rattle.definition.specs.Date.{epoch}
 use Rattle.definition.specs.Tree.{Rec, records, layout, belowRoot, Element, element, all}
-use Rattle.definition.specs.Field.{textIn, yesIn, dateIn}
-use Rattle.definition.specs.Model.{Calendar, Activity, Link, Resource, Assignment, Expense, Model}
-use Rattle.definition.specs.Calendar.{Named, calendarElements, builtCalendars, elapsedCalendar, skipped}
-use Rattle.definition.specs.Task.{Context, contextOf, keptTasks, levelOf, rowOf, activityOf, activitiesAfter, activities, isElapsed}
+use Rattle.definition.specs.Field.{textIn, yesIn}
+use Rattle.definition.specs.Model.{Calendar, Activity, Link, Resource, Assignment, Expense}
+use Rattle.definition.specs.Calendar.{Named, calendarElements, elapsedCalendar, skipped}
+use Rattle.definition.specs.Task.{Context, contextOf, levelOf, rowOf, activityOf, activitiesAfter, activities, isElapsed}
 use Rattle.definition.specs.Link.{Fate, across, dangling, kept, linkOf, fateBy, fateOf, fates, keptOf, isDangling, isAcross, links, entered}
-use Rattle.definition.specs.Resource.{workResources, costResources, resourceOf, resourcesAfter, resources, assignmentElements, taskRow, costOf, resourceRow, assignmentFrom, assignmentOf, assignments, expenseFrom, expenseOf, sameExpense, firsts, expenses}
+use Rattle.definition.specs.Resource.{workResources, costResources, resourceOf, resourcesAfter, resources, assignmentElements, costOf, assignmentFrom, assignmentOf, assignments, expenseFrom, expenseOf, sameExpense, firsts, expenses}
 use Rattle.definition.specs.Read.{projectOf, calendarsOf, modelOf}
 use Rattle.definition.specs.Pack.{encode, decode}
 use Rattle.definition.specs.Refusal.{Answer, refused, gives, inRoom, mostElements, utf8?, project?, tooLong, treeRefusal, unless, readAnswer}
@@ -26,26 +26,23 @@ use Rattle.laws.specs.Bits.{Bytes}
 use Rattle.laws.specs.Each.{Each, empty, next, each-append}
 use Rattle.laws.specs.Formats.{IsText}
 use Rattle.laws.specs.Fields.{InYears}
-use Rattle.laws.specs.FitRecords.{FitsProject, FitsCalendar, FitsActivity, FitsLink, FitsResource, FitsAssignment, FitsExpense}
-use Rattle.laws.specs.FitLists.{each-flat, Perhaps, missing, there, is-given, perhaps-or, perhaps-else, perhaps-if, perhaps-bind, perhaps-any, each-present, each-last, each-row}
-use Rattle.laws.specs.FitTrees.{Holds, Texts, says, holds-tasks, holds-work, holds-costs, keep-most, calendars-most, resources-most, assignments-most, tasks-most}
+use Rattle.laws.specs.FitRecords.{FitsProject, FitsActivity, FitsLink, FitsResource, FitsAssignment, FitsExpense}
+use Rattle.laws.specs.FitLists.{each-flat, Perhaps, missing, there, is-given, perhaps-or, perhaps-else, perhaps-if, perhaps-bind, perhaps-any, each-present, each-last, each-row, last-row}
+use Rattle.laws.specs.FitTrees.{Holds, says, holds-tasks, holds-work, holds-costs, keep-most, calendars-most, resources-most, assignments-most, tasks-most}
 use Rattle.laws.specs.FitNames.{built-length, calendarsIn}
 use Rattle.laws.specs.FitFields.{each-map-any, date-in}
 use Rattle.laws.specs.FitCalendars.{text-none, text-is, fit-names, fit-built, fit-calendars}
 use Rattle.laws.specs.FitActivities.{text-in, fit-activity, fit-link}
 use Rattle.laws.specs.FitResources.{fit-resource, fit-expense, fit-assignment}
 use Rattle.theorems.specs.Utf8.{Neat, neat-texts, neat-element}
-use Rattle.theorems.specs.Counts.{below, root-most, skipped-most, fates-most}
+use Rattle.theorems.specs.Counts.{root-most, skipped-most, fates-most}
 use Rattle.theorems.specs.Packing.{Rows, FitsModel, decode-encode}
 
 -- ---- rows
 
 row-in : (es : List Element) (u : Text) → Perhaps (λ n. n < length es) (rowOf es u)
 unfolding rowOf
-row-in es u = perhaps-bind (each-last (λ (x : ℕ × Element). same (textIn (x .1) "UID" or []) u) (each-row 0 es)) (λ x h. there (row (x .0) h))
-  where
-    row : (n : ℕ) → n < 0 + length es → n < length es
-    row n h = omega arith
+row-in es u = last-row (λ (x : ℕ × Element). same (textIn (x .1) "UID" or []) u) es
 
 present-most : {A : Type 0} (l : List (Option A)) → length (present l) ≤ length l
 unfolding present
@@ -68,7 +65,7 @@ module _ (x : Context) (entered : ℕ → Bool) (names : Each (λ (n : Named). I
       (omega (arith, length-append done (activityOf x ids levels (entered (length done)) t ∷ [])))
       (omega (arith, length-append levels (levelOf t ∷ [])))
 
-activities-length : (x : Context) (entered : ℕ → Bool) (done : List Activity) (levels : List ℕ) (ts : List Element)
+pub activities-length : (x : Context) (entered : ℕ → Bool) (done : List Activity) (levels : List ℕ) (ts : List Element)
     → length (activitiesAfter x entered done levels ts) ≡ length done + length ts
 unfolding activitiesAfter
 activities-length x entered done levels [] = omega arith
@@ -131,7 +128,7 @@ module _ (x : Context) (names : Each (λ (n : Named). IsText (n .1 .name)) (x .b
       let i : length ids ≤ 5000000 = omega (arith, length-map done (λ (d : Resource). d .id)) in
       resources-fit (each-append d (next (fit-resource neat-texts x ids h names i) empty)) hs (omega (arith, length-append done (resourceOf x ids r ∷ [])))
 
-resources-length : (x : Context) (done : List Resource) (rs : List Element) → length (resourcesAfter x done rs) ≡ length done + length rs
+pub resources-length : (x : Context) (done : List Resource) (rs : List Element) → length (resourcesAfter x done rs) ≡ length done + length rs
 unfolding resourcesAfter
 resources-length x done [] = omega arith
 resources-length x done (r ∷ rs) =
