@@ -11,6 +11,10 @@ pub each-append : {A : Type 0} {P : A → Type 0} {s t : List A} → Each P s �
 each-append empty k = k
 each-append (next h f) k = next h (each-append f k)
 
+pub each-less : {A : Type 0} {P Q : A → Type 0} → ((x : A) → P x → Q x) → {l : List A} → Each P l → Each Q l
+each-less f empty = empty
+each-less f (next {x = x} h hs) = next (f x h) (each-less f hs)
+
 pub each-front : {A : Type 0} {P : A → Type 0} (s t : List A) → Each P (s ++ t) → Each P s
 each-front [] t h = empty
 each-front (x ∷ s) t (next h f) = next h (each-front s t f)

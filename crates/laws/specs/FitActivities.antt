@@ -3,7 +3,7 @@ use mathlib.Core.Path.{_≡_, refl, sym, ap}
 use mathlib.Core.Bool.{Bool, true, false, not}
 use mathlib.Core.List.{List, []}
 use mathlib.Core.Option.{Option, some, none}
-use Prim.Native.Nat.{ℕ, _+_, _%_, _^_, _≤_, _<_}
+use Prim.Native.Nat.{ℕ, _%_, _^_, _≤_, _<_}
 use Prim.Native.String.{String}
 use native.Mathlib.Omega.{arith}
 use lib.Dec.{ltb, eqb}
@@ -23,7 +23,7 @@ use Rattle.laws.specs.Each.{Each}
 use Rattle.laws.specs.Formats.{IfGiven}
 use Rattle.laws.specs.Fields.{InYears}
 use Rattle.laws.specs.FitRecords.{IsCount, IsNumber, IsConstraint, IsLagKind, FitsActivityBy, FitsLink}
-use Rattle.laws.specs.FitLists.{Perhaps, missing, there, is-given, perhaps-or, perhaps-else, perhaps-when, perhaps-if, perhaps-bind, perhaps-any, each-last, each-row}
+use Rattle.laws.specs.FitLists.{Perhaps, missing, there, is-given, perhaps-or, perhaps-else, perhaps-when, perhaps-if, perhaps-bind, perhaps-any, perhaps-less, last-row}
 use Rattle.laws.specs.FitTrees.{Holds, Texts, says}
 use Rattle.laws.specs.FitFields.{date-in}
 use Rattle.laws.specs.FitCalendars.{ascii, text-none, text-is, text-free, name-of}
@@ -67,9 +67,9 @@ constraint-in k (there {a = d} h) = by (eqb k 1) refl
 
 parent-in : (levels : List ℕ) (l : ℕ) → length levels ≤ 2 ^ 32 → Perhaps IsCount (parentOf levels l)
 unfolding parentOf
-parent-in levels l h = perhaps-bind (each-last (λ (x : ℕ × ℕ). ltb (x .1) l) (each-row 0 levels)) (λ x k. there (row (x .0) k))
+parent-in levels l h = perhaps-less row (last-row (λ (x : ℕ × ℕ). ltb (x .1) l) levels)
   where
-    row : (n : ℕ) → n < 0 + length levels → IsCount n
+    row : (n : ℕ) → n < length levels → IsCount n
     row n k = omega arith
 
 -- ---- an activity

@@ -89,6 +89,10 @@ module _ {A : Type 0} {P : A → Type 0} where
   perhaps-any none g = missing
   perhaps-any (some b) g = g b
 
+  pub perhaps-less : {Q : A → Type 0} {o : Option A} → ((a : A) → P a → Q a) → Perhaps P o → Perhaps Q o
+  perhaps-less f missing = missing
+  perhaps-less f (there {a = a} h) = there (f a h)
+
   pub each-present : {l : List (Option A)} → Each (Perhaps P) l → Each P (present l)
   unfolding present
   each-present empty = empty
@@ -134,6 +138,13 @@ each-row n [] = empty
 each-row {A} n (x ∷ l) =
     let e : suc n + length l ≡ n + suc (length l) = omega arith in
     next {x = (n, x)} (omega arith) (subst (λ (m : ℕ). Each (λ (y : ℕ × A). y .0 < m) (numbered (suc n) l)) e (each-row (suc n) l))
+
+-- the row of the last that passes a test
+pub last-row : {A : Type 0} (test : ℕ × A → Bool) (l : List A) → Perhaps (λ n. n < length l) (findLast test (numbered 0 l) >>= λ x. some (x .0))
+last-row test l = perhaps-bind (each-last test (each-row 0 l)) (λ x h. there (row (x .0) h))
+  where
+    row : (n : ℕ) → n < 0 + length l → n < length l
+    row n h = omega arith
 
 -- ---- lists that rise by a number
 

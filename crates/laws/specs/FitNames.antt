@@ -22,16 +22,13 @@ use Rattle.definition.specs.Read.{calendarsOf}
 use Rattle.laws.specs.Options.{never}
 use Rattle.laws.specs.Same.{same-refl, same-eq}
 use Rattle.laws.specs.Formats.{got}
+use Rattle.laws.specs.Tests.{or-false, some-both, turned}
 
 -- ---- a name with stars
 
 -- none of some names
 abbrev pub Fresh : Text → List Text → Type 0
 Fresh n names = some? (same n) names ≡ false
-
-or-false : (a b : Bool) → (a || b) ≡ false → (a ≡ false) × (b ≡ false)
-or-false true b h = absurd (true≢false h)
-or-false false b h = (refl, h)
 
 false-or : (a b : Bool) → a ≡ false → b ≡ false → (a || b) ≡ false
 false-or a b h k = rw (h, k)
@@ -45,13 +42,7 @@ same-longer a b h = by (same a b) refl
     by true e = absurd (h (ap length (same-eq a b e)))
 
 pub same-turned : (a b : Text) → same a b ≡ same b a
-same-turned a b = by (same a b) (same b a) refl refl
-  where
-    by : (t u : Bool) → same a b ≡ t → same b a ≡ u → t ≡ u
-    by true true e f = refl
-    by false false e f = refl
-    by true false e f = absurd (true≢false (sym (same-refl b) ∙ ap (same b) (sym (same-eq a b e)) ∙ f))
-    by false true e f = absurd (true≢false (sym (same-refl a) ∙ ap (same a) (sym (same-eq b a f)) ∙ e))
+same-turned = turned same (λ a b e. rw (same-eq a b e) (same-refl b))
 
 -- how many names have a length of n at least
 abbrev many : ℕ → List Text → ℕ
@@ -140,19 +131,12 @@ pub data Distinct : List Text → Type 0 where
   empty : Distinct []
   next : {n : Text} {l : List Text} → Fresh n l → Distinct l → Distinct (n ∷ l)
 
-some-append : {A : Type 0} (p : A → Bool) (a b : List A) → some? p a ≡ false → some? p b ≡ false → some? p (a ++ b) ≡ false
-unfolding some?
-some-append p [] b h k = k
-some-append p (x ∷ a) b h k =
-    let (u, v) = or-false (p x) (some? p a) h in
-    false-or (p x) (some? p (a ++ b)) u (some-append p a b v k)
-
 pub distinct-end : {l : List Text} (n : Text) → Distinct l → Fresh n l → Distinct (l ++ (n ∷ []))
 unfolding some?
 distinct-end n empty f = next refl empty
 distinct-end n (next {n = m} {l = l} h d) f =
     let (u, v) = or-false (same n m) (some? (same n) l) f in
-    next (some-append (same m) l (n ∷ []) h (false-or (same m n) false (same-turned m n ∙ u) refl)) (distinct-end n d v)
+    next (some-both (same m) l (n ∷ []) ∙ rw (h, same-turned m n, u)) (distinct-end n d v)
 
 pub free-distinct : {names : List Text} (n : Text) → Distinct names → Distinct (names ++ (free names n ∷ []))
 free-distinct {names = names} n d = distinct-end (free names n) d (free-new names n)

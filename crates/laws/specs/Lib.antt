@@ -20,3 +20,4 @@ pub mod Options
 pub mod Outlines
 pub mod Rows
 pub mod Same
+pub mod Tests

@@ -1,28 +1,25 @@
--- What is told of every model that was read holds of each: document 01's third demand. Takes as arguments the laws of the check, of parents and of the
--- outline's order; assumes nothing else.
+-- What is told of every model that was read holds of each: document 01's third demand. Assumes nothing.
 use mathlib.Core.Path.{_≡_, refl}
-use mathlib.Core.Bool.{true}
-use mathlib.Core.List.{List, map}
-use mathlib.Core.Option.{some, none}
-use Prim.Native.Nat.{ℕ, suc, _*_, _≤_}
+use mathlib.Core.List.{List}
+use mathlib.Core.Option.{some}
+use Prim.Native.Nat.{ℕ, _*_, _≤_}
 use lib.ListN.{length}
 use borrow.Author.Tests.{le-ltb}
-use Rattle.definition.specs.Base.{count}
 use Rattle.definition.specs.Text.{Text}
-use Rattle.definition.specs.Tree.{Element}
-use Rattle.definition.specs.Model.{Activity, Model}
-use Rattle.definition.specs.Task.{keptTasks}
+use Rattle.definition.specs.Model.{Model}
 use Rattle.definition.specs.Read.{modelOf}
 use Rattle.definition.specs.Pack.{encode, decode}
-use Rattle.definition.specs.Check.{keepsList}
 use Rattle.definition.specs.Outline.{outline}
-use Rattle.definition.specs.Refusal.{gives, inRoom, treeRefusal, readAnswer, rowWords, checkAnswer, outlineAnswer}
+use Rattle.definition.specs.Refusal.{gives, inRoom, treeRefusal, readAnswer, rowWords, outlineAnswer}
 use Rattle.laws.specs.Bits.{Bytes}
-use Rattle.theorems.specs.Leads.{At, leads-somewhere, is-distinct}
+use Rattle.theorems.specs.Keeping.{keeps-list, read-passes}
+use Rattle.theorems.specs.Leads.{leads-somewhere, is-distinct}
 use Rattle.theorems.specs.LinkSums.{links-many, link, dangling-many, across-many, links-sum}
 use Rattle.theorems.specs.Made.{as-many, made}
+use Rattle.theorems.specs.Order.{in-order, level-top, level-under}
+use Rattle.theorems.specs.Parents.{nearest-parent, no-parent}
 use Rattle.theorems.specs.Reading.{unless-given, read-fits, answer-decodes}
-use Rattle.theorems.specs.Told.{rootOf, IsParent, NoneLower, OfEveryRead}
+use Rattle.theorems.specs.Told.{rootOf, OfEveryRead}
 
 -- an answer that gives is of a tree that is not refused
 pub not-refused : (tree : Text) (room : ℕ) (l : List ℕ) → readAnswer tree room ≡ gives l → treeRefusal tree ≡ 0
@@ -35,40 +32,30 @@ pub outline-given : (l : List ℕ) (m : Model) → decode l ≡ some m → (rows
 unfolding outlineAnswer
 outline-given l m d rows work r w = rw (d, le-ltb rows (2 * length (m .activities)) r, le-ltb work (4 * length (m .activities)) w)
 
-module _
-    (keeps-list : (root : Element) → keepsList (modelOf root) ≡ true)
-    (read-passes : (s : Text) (room : ℕ) (l : List ℕ) → Bytes s → readAnswer s room ≡ gives l → checkAnswer l ≡ 0)
-    (nearest-parent : (root : Element) (row : ℕ) (a : Activity) → At (modelOf root .activities) row a → IsParent (keptTasks root) row (a .parent))
-    (no-parent : (root : Element) (row : ℕ) (a : Activity) → At (modelOf root .activities) row a → NoneLower (keptTasks root) row → a .parent ≡ none)
-    (in-order : (root : Element) → map (λ (x : ℕ × ℕ). x .0) (outline (modelOf root)) ≡ count 0 (length (modelOf root .activities)))
-    (level-top : (root : Element) (row : ℕ) (a : Activity) → At (modelOf root .activities) row a → a .parent ≡ none → At (outline (modelOf root)) row (row, 1))
-    (level-under : (root : Element) (row p level : ℕ) (a : Activity) → At (modelOf root .activities) row a → a .parent ≡ some p → At (outline (modelOf root)) p (p, level)
-    → At (outline (modelOf root)) row (row, suc level))
-  where
-    pub of-every-read : (tree : Text) (room : ℕ) (l : List ℕ) → Bytes tree → readAnswer tree room ≡ gives l → OfEveryRead tree l
-    of-every-read tree room l b h =
-        let root = rootOf tree in
-        let m = modelOf root in
-        let d : decode l ≡ some m = answer-decodes tree room l b h in
-        record {
-          model = m;
-          ofTree = refl;
-          decodes = d;
-          fits = read-fits tree b (not-refused tree room l h);
-          passes = read-passes tree room l b h;
-          leads = leads-somewhere m (keeps-list root);
-          differs = is-distinct m (keeps-list root);
-          asMany = as-many root;
-          made = made root;
-          parent = nearest-parent root;
-          orphan = no-parent root;
-          order = in-order root;
-          top = level-top root;
-          under = level-under root;
-          outlined = outline-given l m d;
-          linksMany = links-many root;
-          link = link root;
-          dangling = dangling-many root;
-          across = across-many root;
-          sum = links-sum root;
-        }
+pub of-every-read : (tree : Text) (room : ℕ) (l : List ℕ) → Bytes tree → readAnswer tree room ≡ gives l → OfEveryRead tree l
+of-every-read tree room l b h =
+    let root = rootOf tree in
+    let m = modelOf root in
+    let d : decode l ≡ some m = answer-decodes tree room l b h in
+    record {
+      model = m;
+      ofTree = refl;
+      decodes = d;
+      fits = read-fits tree b (not-refused tree room l h);
+      passes = read-passes tree room l b h;
+      leads = leads-somewhere m (keeps-list root);
+      differs = is-distinct m (keeps-list root);
+      asMany = as-many root;
+      made = made root;
+      parent = nearest-parent root;
+      orphan = no-parent root;
+      order = in-order root;
+      top = level-top root;
+      under = level-under root;
+      outlined = outline-given l m d;
+      linksMany = links-many root;
+      link = link root;
+      dangling = dangling-many root;
+      across = across-many root;
+      sum = links-sum root;
+    }

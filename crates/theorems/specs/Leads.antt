@@ -127,13 +127,13 @@ distinct-at {A} eq (z ∷ l) h (suc i) zero x y e f k k' =
     let u : z ≡ y = cc in absurd (alone eq z l h (some-at (eq z) l i x e (ap (λ (a : A). eq a x) u ∙ k')))
 distinct-at eq (z ∷ l) h (suc i) (suc j) x y e f k k' = ap suc (distinct-at eq l (and-right (not (some? (eq z) l)) (distinct eq l) h) i j x y e f k k')
 
-same-if : {a b : Text} → a ≡ b → same a b ≡ true
+pub same-if : {a b : Text} → a ≡ b → same a b ≡ true
 same-if {a} e = ap (same a) (sym e) ∙ same-refl a
 
 one-id : {A : Type 0} (f : A → Text) (l : List A) → distinct same (map f l) ≡ true → (i j : ℕ) (a b : A) → At l i a → At l j b → f a ≡ f b → i ≡ j
 one-id f l h i j a b e g k = distinct-at same (map f l) h i j (f a) (f b) (map-at f l i a e) (map-at f l j b g) (same-if k) (same-if (sym k))
 
-expense-if : (a b : Expense) → a .activity ≡ b .activity → a .name ≡ b .name → sameExpense a b ≡ true
+pub expense-if : (a b : Expense) → a .activity ≡ b .activity → a .name ≡ b .name → sameExpense a b ≡ true
 expense-if a b k n = rw (eq-eqb (a .activity) (b .activity) k) (same-if n)
 
 -- ---- the check's list, taken apart

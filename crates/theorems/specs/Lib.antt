@@ -1,5 +1,6 @@
 pub mod Counts
 pub mod EveryRead
+pub mod Keeping
 pub mod LastRow
 pub mod Laws
 pub mod Leads

@@ -1,24 +1,24 @@
 -- The model of a tree that is not refused fits its fields, so the bytes that reading gives decode to that model. Assumes nothing.
-use mathlib.Core.Path.{_≡_, refl, sym, ap, _∙_, subst}
+use mathlib.Core.Path.{_≡_, refl, sym, ap, _∙_}
 use mathlib.Core.Bool.{Bool, true, false, true≢false, not}
 use mathlib.Core.List.{List, [], _∷_, _++_, map}
 use mathlib.Core.Option.{Option, some, none}
-use Prim.Native.Nat.{ℕ, zero, suc, _+_, _^_, _≤_, _<_}
+use Prim.Native.Nat.{ℕ, suc, _+_, _^_, _≤_, _<_}
 use native.Mathlib.Omega.{arith}
 use borrow.Author.Tests.{ltb-false}
 use lib.Dec.{ltb, leb}
 use lib.ListN.{length, length-append, length-map}
-use Rattle.definition.specs.Base.{if_then_else_, _>>=_, _or_, _orElse_, given, keep, every?, some?, findLast, present, numbered, same}
+use Rattle.definition.specs.Base.{if_then_else_, _>>=_, _or_, given, keep, every?, some?, present, same}
 use Rattle.definition.specs.Ascii.{bytes}
 use Rattle.definition.specs.Text.{Text}
 use Rattle.definition.specs.Date.{epoch}
 use Rattle.definition.specs.Tree.{Rec, records, layout, belowRoot, Element, element, all}
-use Rattle.definition.specs.Field.{textIn, yesIn, dateIn}
-use Rattle.definition.specs.Model.{Calendar, Activity, Link, Resource, Assignment, Expense, Model}
-use Rattle.definition.specs.Calendar.{Named, calendarElements, builtCalendars, elapsedCalendar, skipped}
-use Rattle.definition.specs.Task.{Context, contextOf, keptTasks, levelOf, rowOf, activityOf, activitiesAfter, activities, isElapsed}
+use Rattle.definition.specs.Field.{textIn, yesIn}
+use Rattle.definition.specs.Model.{Calendar, Activity, Link, Resource, Assignment, Expense}
+use Rattle.definition.specs.Calendar.{Named, calendarElements, elapsedCalendar, skipped}
+use Rattle.definition.specs.Task.{Context, contextOf, levelOf, rowOf, activityOf, activitiesAfter, activities, isElapsed}
 use Rattle.definition.specs.Link.{Fate, across, dangling, kept, linkOf, fateBy, fateOf, fates, keptOf, isDangling, isAcross, links, entered}
-use Rattle.definition.specs.Resource.{workResources, costResources, resourceOf, resourcesAfter, resources, assignmentElements, taskRow, costOf, resourceRow, assignmentFrom, assignmentOf, assignments, expenseFrom, expenseOf, sameExpense, firsts, expenses}
+use Rattle.definition.specs.Resource.{workResources, costResources, resourceOf, resourcesAfter, resources, assignmentElements, costOf, assignmentFrom, assignmentOf, assignments, expenseFrom, expenseOf, sameExpense, firsts, expenses}
 use Rattle.definition.specs.Read.{projectOf, calendarsOf, modelOf}
 use Rattle.definition.specs.Pack.{encode, decode}
 use Rattle.definition.specs.Refusal.{Answer, refused, gives, inRoom, mostElements, utf8?, project?, tooLong, treeRefusal, unless, readAnswer}
@@ -26,30 +26,23 @@ use Rattle.laws.specs.Bits.{Bytes}
 use Rattle.laws.specs.Each.{Each, empty, next, each-append}
 use Rattle.laws.specs.Formats.{IsText}
 use Rattle.laws.specs.Fields.{InYears}
-use Rattle.laws.specs.FitRecords.{FitsProject, FitsCalendar, FitsActivity, FitsLink, FitsResource, FitsAssignment, FitsExpense}
-use Rattle.laws.specs.FitLists.{each-flat, Perhaps, missing, there, is-given, perhaps-or, perhaps-else, perhaps-if, perhaps-bind, perhaps-any, each-present, each-last, each-row}
-use Rattle.laws.specs.FitTrees.{Holds, Texts, says, holds-tasks, holds-work, holds-costs, keep-most, calendars-most, resources-most, assignments-most, tasks-most}
+use Rattle.laws.specs.FitRecords.{FitsProject, FitsActivity, FitsLink, FitsResource, FitsAssignment, FitsExpense}
+use Rattle.laws.specs.FitLists.{each-flat, Perhaps, missing, there, is-given, perhaps-or, perhaps-else, perhaps-if, perhaps-bind, perhaps-any, each-present, each-last, each-row, last-row}
+use Rattle.laws.specs.FitTrees.{Holds, says, holds-tasks, holds-work, holds-costs, keep-most, calendars-most, resources-most, assignments-most, tasks-most}
 use Rattle.laws.specs.FitNames.{built-length, calendarsIn}
 use Rattle.laws.specs.FitFields.{each-map-any, date-in}
 use Rattle.laws.specs.FitCalendars.{text-none, text-is, fit-names, fit-built, fit-calendars}
 use Rattle.laws.specs.FitActivities.{text-in, fit-activity, fit-link}
 use Rattle.laws.specs.FitResources.{fit-resource, fit-expense, fit-assignment}
 use Rattle.theorems.specs.Utf8.{Neat, neat-texts, neat-element}
-use Rattle.theorems.specs.Counts.{below, root-most, skipped-most, fates-most}
+use Rattle.theorems.specs.Counts.{root-most, skipped-most, fates-most}
 use Rattle.theorems.specs.Packing.{Rows, FitsModel, decode-encode}
 
 -- ---- rows
 
 row-in : (es : List Element) (u : Text) → Perhaps (λ n. n < length es) (rowOf es u)
 unfolding rowOf
-row-in es u = perhaps-bind (each-last (λ (x : ℕ × Element). same (textIn (x .1) "UID" or []) u) (each-row 0 es)) (λ x h. there (row (x .0) h))
-  where
-    row : (n : ℕ) → n < 0 + length es → n < length es
-    row n h = omega arith
-
-perhaps-less : {A : Type 0} {P Q : A → Type 0} {o : Option A} → ((a : A) → P a → Q a) → Perhaps P o → Perhaps Q o
-perhaps-less f missing = missing
-perhaps-less f (there {a = a} h) = there (f a h)
+row-in es u = last-row (λ (x : ℕ × Element). same (textIn (x .1) "UID" or []) u) es
 
 present-most : {A : Type 0} (l : List (Option A)) → length (present l) ≤ length l
 unfolding present
@@ -82,36 +75,39 @@ activities-length x entered done levels (t ∷ ts) =
 
 -- ---- links
 
-abbrev FitsFate : Fate → Type 0
-FitsFate across = Unit {0}
-FitsFate dangling = Unit {0}
-FitsFate (kept l) = FitsLink l
+-- what holds of the link, where it is kept
+abbrev FateIs : (Link → Type 0) → Fate → Type 0
+FateIs P across = Unit {0}
+FateIs P dangling = Unit {0}
+FateIs P (kept l) = P l
 
-fate-fits : (x : Context) (row : ℕ) (l : Element) → row < 0 + length (x .tasks) → length (x .tasks) ≤ 100000 → FitsFate (fateOf x row l)
-unfolding fateOf
-fate-fits x row l h m = by (yesIn l "CrossProject")
-  where
-    found : {o : Option ℕ} → Perhaps (λ n. n < length (x .tasks)) o → FitsFate (fateBy x row l o)
-    found missing = tt
-    found (there {a = p} k) = fit-link x p row l (omega arith) (omega arith)
-
-    by : (t : Bool) → FitsFate (if t then across else fateBy x row l (textIn l "PredecessorUID" >>= rowOf (x .tasks)))
-    by true = tt
-    by false = found (perhaps-any (textIn l "PredecessorUID") (row-in (x .tasks)))
-
-fates-fit : (x : Context) → length (x .tasks) ≤ 100000 → Each FitsFate (fates x)
-unfolding fates
-fates-fit x m =
-    each-flat (λ (p : ℕ × Element). map (fateOf x (p .0)) (all (p .1) (bytes "PredecessorLink")))
-    (λ p h. each-map-any (fateOf x (p .0)) (λ l. fate-fits x (p .0) l h m) (all (p .1) (bytes "PredecessorLink")))
-    (each-row 0 (x .tasks))
-
-kept-fit : {l : List Fate} → Each FitsFate l → Each FitsLink (keptOf l)
+kept-each : {P : Link → Type 0} {l : List Fate} → Each (FateIs P) l → Each P (keptOf l)
 unfolding keptOf
-kept-fit empty = empty
-kept-fit (next {x = across} h hs) = kept-fit hs
-kept-fit (next {x = dangling} h hs) = kept-fit hs
-kept-fit (next {x = kept l} h hs) = next h (kept-fit hs)
+kept-each empty = empty
+kept-each (next {x = across} h hs) = kept-each hs
+kept-each (next {x = dangling} h hs) = kept-each hs
+kept-each (next {x = kept l} h hs) = next h (kept-each hs)
+
+module _ (P : Link → Type 0) (x : Context) (is : (p row : ℕ) (l : Element) → p < length (x .tasks) → row < length (x .tasks) → P (linkOf x p row l)) where
+  fate-is : (row : ℕ) (l : Element) → row < 0 + length (x .tasks) → FateIs P (fateOf x row l)
+  unfolding fateOf
+  fate-is row l h = by (yesIn l "CrossProject")
+    where
+      found : {o : Option ℕ} → Perhaps (λ n. n < length (x .tasks)) o → FateIs P (fateBy x row l o)
+      found missing = tt
+      found (there {a = p} k) = is p row l k (omega arith)
+
+      by : (t : Bool) → FateIs P (if t then across else fateBy x row l (textIn l "PredecessorUID" >>= rowOf (x .tasks)))
+      by true = tt
+      by false = found (perhaps-any (textIn l "PredecessorUID") (row-in (x .tasks)))
+
+  pub links-each : Each P (links x)
+  unfolding links fates
+  links-each =
+      kept-each
+      (each-flat (λ (p : ℕ × Element). map (fateOf x (p .0)) (all (p .1) (bytes "PredecessorLink")))
+      (λ p h. each-map-any (fateOf x (p .0)) (λ l. fate-is (p .0) l h) (all (p .1) (bytes "PredecessorLink")))
+      (each-row 0 (x .tasks)))
 
 kept-most : (l : List Fate) → length (keptOf l) ≤ length l
 unfolding keptOf
@@ -132,35 +128,12 @@ module _ (x : Context) (names : Each (λ (n : Named). IsText (n .1 .name)) (x .b
       let i : length ids ≤ 5000000 = omega (arith, length-map done (λ (d : Resource). d .id)) in
       resources-fit (each-append d (next (fit-resource neat-texts x ids h names i) empty)) hs (omega (arith, length-append done (resourceOf x ids r ∷ [])))
 
-resources-length : (x : Context) (done : List Resource) (rs : List Element) → length (resourcesAfter x done rs) ≡ length done + length rs
+pub resources-length : (x : Context) (done : List Resource) (rs : List Element) → length (resourcesAfter x done rs) ≡ length done + length rs
 unfolding resourcesAfter
 resources-length x done [] = omega arith
 resources-length x done (r ∷ rs) =
     let a = resourceOf x (map (λ (d : Resource). d .id) done) r in
     resources-length x (done ++ (a ∷ [])) rs ∙ omega (arith, length-append done (a ∷ []))
-
-module _ (x : Context) (root : Element) (few : length (x .tasks) ≤ 100000) where
-  task-in : (a : Element) → Perhaps (λ n. n < 2 ^ 32) (taskRow x a)
-  task-in a = perhaps-less row (perhaps-any (textIn a "TaskUID") (row-in (x .tasks)))
-    where
-      row : (n : ℕ) → n < length (x .tasks) → n < 2 ^ 32
-      row n h = omega arith
-
-  assignment-fits : length (workResources root) ≤ 5000000 → (a : Element) → Perhaps FitsAssignment (assignmentOf x root a)
-  unfolding assignmentOf
-  assignment-fits m a =
-      perhaps-if (given (costOf root a)) missing
-      (perhaps-bind (task-in a)
-      (λ t h. perhaps-bind (perhaps-any (textIn a "ResourceUID") (row-in (workResources root))) (λ r k. there (fit-assignment t r a h (row r k)))))
-    where
-      row : (n : ℕ) → n < length (workResources root) → n < 2 ^ 32
-      row n h = omega arith
-
-  expense-fits : Each (Holds Neat) (costResources root) → (a : Element) → Perhaps FitsExpense (expenseOf x root a)
-  unfolding expenseOf
-  expense-fits c a =
-      perhaps-bind (task-in a)
-      (λ t h. perhaps-bind (perhaps-any (textIn a "ResourceUID") (λ u. each-last (λ r. same (textIn r "UID" or []) u) c)) (λ r k. there (fit-expense neat-texts t a k h)))
 
 firsts-fit : {P : Expense → Type 0} {done es : List Expense} → Each P done → Each P es → Each P (firsts done es)
 unfolding firsts
@@ -170,6 +143,28 @@ firsts-fit {P} {done} d (next {x = e} h hs) = firsts-fit (by (some? (sameExpense
     by : (t : Bool) → Each P (if t then done else done ++ (e ∷ []))
     by true = d
     by false = each-append d (next h empty)
+
+module _ (x : Context) (root : Element) where
+  pub assignments-each : {P : Assignment → Type 0}
+      → ((t r : ℕ) (a : Element) → t < length (x .tasks) → r < length (workResources root) → P (assignmentFrom t r a)) → Each P (assignments x root)
+  unfolding assignments assignmentOf
+  assignments-each {P} is = each-present (each-map-any (assignmentOf x root) one (assignmentElements root))
+    where
+      one : (a : Element) → Perhaps P (assignmentOf x root a)
+      one a =
+          perhaps-if (given (costOf root a)) missing
+          (perhaps-bind (perhaps-any (textIn a "TaskUID") (row-in (x .tasks)))
+          (λ t h. perhaps-bind (perhaps-any (textIn a "ResourceUID") (row-in (workResources root))) (λ r k. there (is t r a h k))))
+
+  pub expenses-each : {P : Expense → Type 0} {Q : Element → Type 0} → Each Q (costResources root)
+      → ((t : ℕ) (r a : Element) → t < length (x .tasks) → Q r → P (expenseFrom t r a)) → Each P (expenses x root)
+  unfolding expenses expenseOf
+  expenses-each {P} c is = firsts-fit empty (each-present (each-map-any (expenseOf x root) one (assignmentElements root)))
+    where
+      one : (a : Element) → Perhaps P (expenseOf x root a)
+      one a =
+          perhaps-bind (perhaps-any (textIn a "TaskUID") (row-in (x .tasks)))
+          (λ t h. perhaps-bind (perhaps-any (textIn a "ResourceUID") (λ u. each-last (λ r. same (textIn r "UID" or []) u) c)) (λ r k. there (is t r a h k)))
 
 firsts-most : (done es : List Expense) → length (firsts done es) ≤ length done + length es
 unfolding firsts
@@ -229,6 +224,9 @@ module _ (rs : List Rec) (few : length rs ≤ 5000000) (h : Holds Neat (element 
   unfolding contextOf
   tasks-few = tasks-most root
 
+  few-tasks : (n : ℕ) → n < length (context .tasks) → n < 2 ^ 32
+  few-tasks n h = omega (arith, tasks-few)
+
   calendars-few : length (calendarElements root) ≤ 5000000
   calendars-few = omega (arith, calendars-most rs)
 
@@ -257,7 +255,7 @@ module _ (rs : List Rec) (few : length rs ≤ 5000000) (h : Holds Neat (element 
 
   links-rows : Rows FitsLink (links context)
   unfolding links
-  links-rows = (omega (arith, kept-most (fates context), fates-few), kept-fit (fates-fit context tasks-few))
+  links-rows = (omega (arith, kept-most (fates context), fates-few), links-each FitsLink context (λ p row l h k. fit-link context p row l (few-tasks p h) (few-tasks row k)))
 
   work-few : length (workResources root) ≤ 5000000
   work-few = omega (arith, resources-most rs)
@@ -274,7 +272,7 @@ module _ (rs : List Rec) (few : length rs ≤ 5000000) (h : Holds Neat (element 
   assignments-rows =
       let es = assignmentElements root in (
         omega (arith, present-most (map (assignmentOf context root) es), length-map es (assignmentOf context root), assignments-most rs),
-        each-present (each-map-any (assignmentOf context root) (assignment-fits context root tasks-few work-few) es),
+        assignments-each context root (λ t r a h k. fit-assignment t r a (few-tasks t h) (omega (arith, work-few))),
       )
 
   expenses-rows : Rows FitsExpense (expenses context root)
@@ -283,7 +281,7 @@ module _ (rs : List Rec) (few : length rs ≤ 5000000) (h : Holds Neat (element 
       let es = assignmentElements root in
       let l = present (map (expenseOf context root) es) in (
         omega (arith, firsts-most [] l, present-most (map (expenseOf context root) es), length-map es (expenseOf context root), assignments-most rs),
-        firsts-fit empty (each-present (each-map-any (expenseOf context root) (expense-fits context root tasks-few (holds-costs h)) es)),
+        expenses-each context root (holds-costs h) (λ t r a h k. fit-expense neat-texts t a k (few-tasks t h)),
       )
 
   pub model-fits : FitsModel (modelOf root)
