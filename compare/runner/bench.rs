@@ -11,6 +11,7 @@ use oracle::rng::Rng;
 use oracle::{check, model, outline, sheet};
 
 use crate::ours;
+use crate::words::check_words;
 
 const TEXTS: u64 = 1000;
 const RUNS: usize = 300;
@@ -156,10 +157,10 @@ pub fn models() {
         line("outline, with decoding", activities, 15, outlined, || assert_eq!(ours::outline(bytes, &mut rows, &mut work).0, 0));
         line("day sheet", activities, 15, || sheet::sheet(bytes, 3, 20_536), || assert_eq!(ours::day_sheet(bytes, 3, 20_536, &mut [0; 64]).0, 0));
         rows_alone(bytes, activities, &mut rows, &mut work);
+        let mut words = vec![0; check_words(bytes)];
+        line("check", activities, 15, || check::check(bytes), || assert_eq!(ours::check(bytes, &mut words), 0));
     }
-    let bytes = large_model(10_000).encode();
-    line("check", 10_000, 1, || check::check(&bytes), || assert_eq!(ours::check(&bytes, &mut []), 0));
-    println!("\nThe models have {} and {} bytes.", bytes.len(), large_model(100_000).encode().len());
+    println!("\nThe models have {} and {} bytes.", large_model(10_000).encode().len(), large_model(100_000).encode().len());
 }
 
 /// The rows of a model that is decoded before; ours by the difference from a call that is refused after its decoding.

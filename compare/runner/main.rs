@@ -8,6 +8,8 @@ mod ours;
 mod reads;
 mod shrink;
 mod trees;
+#[path = "../../host/src/words.rs"]
+mod words;
 mod written;
 
 use std::process::ExitCode;

@@ -56,7 +56,7 @@ struct Asked {
 impl Asked {
     fn any(rng: &mut Rng, model: Option<&Model>) -> Asked {
         Asked {
-            check_work: *rng.pick(&[&0, &1, &7, &64]),
+            check_work: rng.below(200),
             rows: Room::any(rng),
             work: Room::any(rng),
             sheets: std::array::from_fn(|_| any_sheet(rng, model)),

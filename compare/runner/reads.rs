@@ -2,12 +2,13 @@
 
 use std::time::{Duration, Instant};
 
-use oracle::bench::{bench_read, big_tree};
+use oracle::bench::{bench_read, big_tree, interleaved_tree, one_id_tree};
 use oracle::generate::{LIMITS, damaged, limit_tree, packed_tree};
 use oracle::rng::Rng;
 use oracle::{hex, read};
 
 use crate::trees::samples;
+use crate::words::work_words;
 use crate::{ours, shrink};
 
 /// At most so many differences are printed.
@@ -117,7 +118,9 @@ pub fn compare(seed: u64, count: u64) -> u64 {
         let tree = if k % 4 == 3 { damaged(&mut rng, &tree) } else { tree };
         // Mostly one that fits, and each other kind in turn.
         let room = ROOMS[if k % 3 == 0 { (k / 3 % 4) as usize } else { 2 }];
-        tally.run(&tree, &[room], (k % 40) as usize);
+        // Words of every number from none to more than the tables of a small tree need.
+        let most = work_words(&tree).min(2_000) + 8;
+        tally.run(&tree, &[room], (k as usize).wrapping_mul(7) % most);
     }
     let numbers: Vec<String> = (0..10).filter(|n| tally.numbers[*n] > 0).map(|n| format!("{n}: {}", tally.numbers[n])).collect();
     println!("reads: {} trees in {} calls ({}), {} differ", tally.trees, tally.calls, numbers.join(", "), tally.differ);
@@ -129,8 +132,8 @@ fn on_small_stack(tally: &mut Tally) {
     let trees = samples().into_iter().chain(LIMITS.iter().filter_map(|name| limit_tree(name)));
     for tree in trees {
         let answer = read::read_model(&tree);
-        for room in ROOMS {
-            let run = || differs(&tree, &answer, room, 64);
+        for (room, work) in ROOMS.into_iter().flat_map(|room| [(room, 64), (room, work_words(&tree))]) {
+            let run = || differs(&tree, &answer, room, work);
             let differ = std::thread::scope(|scope| {
                 let thread = std::thread::Builder::new().stack_size(256 * 1024).spawn_scoped(scope, run);
                 thread.expect("a thread").join().expect("the tree is read")
@@ -140,29 +143,48 @@ fn on_small_stack(tally: &mut Tally) {
             tally.numbers[expected(&answer, length, 0).number as usize] += 1;
             if differ.is_some() {
                 tally.differ += 1;
-                show(&tree, room, 64);
+                show(&tree, room, work);
             }
         }
         tally.trees += 1;
     }
 }
 
-/// Prints the table: plans of so many tasks with 60 fields, the Rust's whole read from the packed tree and ours, with no `work`.
+/// Prints the table: plans of so many tasks with 60 fields, tasks that all want one id, and a calendar of interleaved exceptions; the Rust's whole read from
+/// the packed tree and ours, on a thread of 256 KiB, with the `work` that serves best.
 pub fn bench() {
-    println!("\n| a plan read | bytes of its tree | the Rust, ms | ours, ms | ours / the Rust |\n|---|---|---|---|---|");
-    for tasks in [100, 1_000, 10_000] {
+    println!("\n| a plan read | bytes of its tree | the Rust, ms | ours, ms | ours / the Rust | ours a task, µs |\n|---|---|---|---|---|---|");
+    let line = |what: &str, tree: &[u8], tasks: usize, room: usize, runs: usize| {
+        let rust = bench_read(tree);
+        let ours = on_256_kib(tree, room, runs, 0);
+        println!("| {what} | {} | {:.2} | {:.2} | {:.2} | {:.2} |", tree.len(), ms(rust), ms(ours), ms(ours) / ms(rust), 1e3 * ms(ours) / tasks as f64);
+    };
+    for tasks in [100, 1_000, 10_000, 100_000] {
         let tree = big_tree(tasks, 60);
-        let mut model = vec![0; 2 * tree.len()];
-        let rust = bench_read(&tree);
-        let runs = if tasks > 1_000 { 1 } else { 5 };
-        let ours = (0..runs).map(|_| timed(&tree, &mut model)).min().unwrap_or_default();
-        let ms = |time: Duration| time.as_secs_f64() * 1e3;
-        println!("| {tasks} tasks | {} | {:.2} | {:.2} | {:.2} |", tree.len(), ms(rust), ms(ours), ms(ours) / ms(rust));
+        line(&format!("{tasks} tasks"), &tree, tasks, tree.len(), 5);
     }
+    line("1000 tasks that all want one id", &one_id_tree(1_000), 1_000, 1 << 22, 5);
+    line("a calendar of 1,000 exceptions, days interleaved", &interleaved_tree(), 1, 1 << 26, 3);
+    let ours = on_256_kib(&one_id_tree(100_000), 1 << 26, 1, 9);
+    println!("\n100,000 tasks that all want one id, in a room of 64 MiB: refused with 9 in {:.1} ms.", ms(ours));
 }
 
-fn timed(tree: &[u8], model: &mut [u8]) -> Duration {
+fn ms(time: Duration) -> f64 {
+    time.as_secs_f64() * 1e3
+}
+
+/// Our shortest time of some runs on a thread of 256 KiB, which all end with this number.
+fn on_256_kib(tree: &[u8], room: usize, runs: usize, number: u32) -> Duration {
+    let (mut model, mut work) = (vec![0; room], vec![0; work_words(tree)]);
+    let run = || (0..runs).map(|_| timed(tree, &mut model, &mut work, number)).min().unwrap_or_default();
+    std::thread::scope(|scope| {
+        let thread = std::thread::Builder::new().stack_size(256 * 1024).spawn_scoped(scope, run);
+        thread.expect("a thread").join().expect("the tree is read")
+    })
+}
+
+fn timed(tree: &[u8], model: &mut [u8], work: &mut [u32], number: u32) -> Duration {
     let start = Instant::now();
-    assert_eq!(std::hint::black_box(ours::read(std::hint::black_box(tree), model, &mut [])).0, 0);
+    assert_eq!(std::hint::black_box(ours::read(std::hint::black_box(tree), model, work)).0, number);
     start.elapsed()
 }

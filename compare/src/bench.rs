@@ -91,6 +91,40 @@ pub fn big_tree(tasks: usize, fields: usize) -> Vec<u8> {
     out
 }
 
+/// A packed tree of that many tasks that all want one id.
+pub fn one_id_tree(tasks: usize) -> Vec<u8> {
+    let mut out = Vec::new();
+    put_record(&mut out, 1, "Project", "");
+    put_record(&mut out, 2, "Tasks", "");
+    for uid in 1..=tasks {
+        put_record(&mut out, 3, "Task", "");
+        put_record(&mut out, 4, "UID", &uid.to_string());
+        put_record(&mut out, 4, "WBS", "1.2.3");
+    }
+    out
+}
+
+/// A packed tree with one calendar of 1,000 exceptions, each every 580th day from its own day on, 5,000 days at most, so that their days interleave.
+pub fn interleaved_tree() -> Vec<u8> {
+    let mut out = Vec::new();
+    put_record(&mut out, 1, "Project", "");
+    put_record(&mut out, 2, "Calendars", "");
+    put_record(&mut out, 3, "Calendar", "");
+    put_record(&mut out, 4, "UID", "1");
+    put_record(&mut out, 4, "Name", "Standard");
+    put_record(&mut out, 4, "Exceptions", "");
+    for k in 0..1_000 {
+        put_record(&mut out, 5, "Exception", "");
+        put_record(&mut out, 6, "DayWorking", "0");
+        put_record(&mut out, 6, "Type", "1");
+        put_record(&mut out, 6, "Period", "580");
+        put_record(&mut out, 6, "TimePeriod", "");
+        put_record(&mut out, 7, "FromDate", &format!("{:04}-{:02}-{:02}T00:00:00", 1970 + k / 336, k / 28 % 12 + 1, k % 28 + 1));
+        put_record(&mut out, 7, "ToDate", "9999-12-31T00:00:00");
+    }
+    out
+}
+
 /// The shortest of five runs.
 pub fn best_of_5(mut run: impl FnMut()) -> Duration {
     let timed = |_| {

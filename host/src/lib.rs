@@ -11,6 +11,7 @@ mod boundary;
 mod model;
 mod plan;
 mod tree;
+mod words;
 
 use std::fmt;
 
@@ -20,6 +21,7 @@ pub use plan::{
     ResourceKind,
 };
 pub use tree::{TreeBuilder, TreeError, read, read_into};
+pub use words::{check_words, work_words};
 
 use boundary::Outcome;
 

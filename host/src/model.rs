@@ -1,7 +1,7 @@
 //! What is asked of a packed model: the check, the outline, the sheet of a day. Any bytes may be given.
 
 use crate::bits::Reader;
-use crate::{Refusal, boundary};
+use crate::{Refusal, boundary, check_words};
 
 /// A row of the outline.
 #[derive(Debug, Clone, Copy, PartialEq, Eq, Hash)]
@@ -63,7 +63,8 @@ fn answer<T>(number: u32, result: impl FnOnce() -> T) -> Result<T, Refusal> {
 /// assert_eq!(mspdi::check(b"no model"), Err(mspdi::Refusal::NotModel));
 /// ```
 pub fn check(model: &[u8]) -> Result<(), Refusal> {
-    answer(boundary::check(model, &mut []), || ())
+    let mut work = vec![0; check_words(model)];
+    answer(boundary::check(model, &mut work), || ())
 }
 
 /// The least bytes that an activity has in a model: five texts' counts, its kind, its duration, its duration type and nine flags, in whole bytes

@@ -2,7 +2,7 @@
 
 use std::fmt;
 
-use crate::{Refusal, boundary};
+use crate::{Refusal, boundary, work_words};
 
 /// The longest model that [`read`] makes room for, 1 GiB.
 const MOST_ROOM: usize = 1 << 30;
@@ -48,7 +48,8 @@ pub fn read(tree: &[u8]) -> Result<Vec<u8>, Refusal> {
 ///
 /// As of [`read`]; [`Refusal::NoRoom`] where the model is longer than the room.
 pub fn read_into(tree: &[u8], model: &mut [u8]) -> Result<usize, Refusal> {
-    let outcome = boundary::read(tree, model, &mut []);
+    let mut work = vec![0; work_words(tree)];
+    let outcome = boundary::read(tree, model, &mut work);
     match outcome.number {
         0 => Ok(usize::try_from(outcome.written).map_or(model.len(), |n| n.min(model.len()))),
         n => Err(Refusal::of(n)),

@@ -1,0 +1,63 @@
+//! How many words of `work` serve best. Any number will do: with fewer, questions are answered by scans, and the answers are the same.
+
+/// The most kept tasks.
+const MOST_TASKS: usize = 100_000;
+
+/// The days of the years -9999 to 9999.
+const ALL_DAYS: usize = 7_304_484;
+
+/// With more exceptions than these a calendar's days are marked over all years.
+const MANY_EXCEPTIONS: usize = 32;
+
+/// What a packed tree holds, by the names of its elements, as far as its records are whole.
+#[derive(Default)]
+struct Elements {
+    tasks: usize,
+    resources: usize,
+    assignments: usize,
+    exceptions: usize,
+}
+
+impl Elements {
+    fn of(tree: &[u8]) -> Elements {
+        let mut n = Elements::default();
+        let mut rest = tree;
+        while let [first, second, high, low, behind @ ..] = rest {
+            let name_length = usize::from(first & 1) << 8 | usize::from(*second);
+            let length = name_length + (usize::from(*high) << 8 | usize::from(*low));
+            let Some((element, next)) = behind.split_at_checked(length) else { break };
+            match &element[..name_length] {
+                b"Task" => n.tasks += 1,
+                b"Resource" => n.resources += 1,
+                b"Assignment" => n.assignments += 1,
+                b"Exception" => n.exceptions += 1,
+                _ => (),
+            }
+            rest = next;
+        }
+        n
+    }
+}
+
+/// How many words of `work` serve best when a tree is read: a table of the kept tasks' UIDs (3 words a task), and behind it, one after the other, what the
+/// sections need: marks of a calendar's days, a task's place, its parent and its id (8 words a task), ids of resources, then tables of their UIDs and of
+/// the expenses.
+pub fn work_words(tree: &[u8]) -> usize {
+    let n = Elements::of(tree);
+    let tasks = n.tasks.min(MOST_TASKS);
+    let days = match n.exceptions {
+        0 => 0,
+        1..=MANY_EXCEPTIONS => ALL_DAYS / 100,
+        _ => ALL_DAYS,
+    };
+    let sections = [days, 8 * tasks, 6 * n.resources, 3 * (n.resources + n.assignments)];
+    3 * tasks + sections.into_iter().max().unwrap_or(0)
+}
+
+/// How many words of `work` serve best when a model is checked: a table of the calendars' names, 3 words each, or of the ids of activities or resources, or
+/// of the expenses, whichever is the largest. What the head says is held to what the bytes could hold.
+pub fn check_words(model: &[u8]) -> usize {
+    let said = |at: usize| model.get(at..at + 4).map_or(0, |bytes| bytes.iter().fold(0, |n, b| n * 256 + usize::from(*b)));
+    let most = model.len() / 8;
+    3 * [said(0), said(4), said(12), said(20)].into_iter().map(|n| n.min(most)).max().unwrap_or(0)
+}
