@@ -3,12 +3,12 @@ use Prim.Native.Nat.{ℕ, _+_, _-_, _%_, _^_, _≤_, _<_}
 use native.Mathlib.Nat.{sub-zero, mod-eq-of-lt}
 use native.Mathlib.Omega.{arith}
 use mathlib.Core.Path.{_≡_, refl, sym, ap, subst, _∙_}
-use mathlib.Core.Bool.{Bool, true, false, true≢false, _&&_, _||_}
+use mathlib.Core.Bool.{Bool, true, false, _&&_, _||_}
 use mathlib.Core.List.{List, [], _∷_, _++_, map, append-nil}
 use mathlib.Core.Option.{Option, some, none}
 use lib.Dec.{eqb}
 use lib.ListN.{length, drop, drop-of-length-le}
-use Rattle.definition.specs.Base.{if_then_else_, _>>=_, _or_, present, some?, same}
+use Rattle.definition.specs.Base.{if_then_else_, _or_, present, some?, same}
 use Rattle.definition.specs.Bits.{Bits}
 use Rattle.definition.specs.Text.{Text}
 use Rattle.definition.specs.Tree.{Element}
@@ -21,9 +21,10 @@ use Rattle.definition.specs.Task.{contextOf}
 use Rattle.definition.specs.Resource.{moneyIn, accrualOf, taskRow, costOf, expenseFrom, expenseOf, sameExpense, firsts, expenses, assignmentElements}
 use Rattle.definition.specs.declared.RowAnswer.{RowAnswer}
 use Rattle.laws.specs.FitTrees.{Small}
+use Rattle.laws.specs.Tests.{some-map}
 use Rattle.bits.specs.Places.{inside, room-fits}
 use Rattle.bits.specs.Reads.{rest, rest-in, Reads, takeAt, read-field}
-use Rattle.bits.specs.Steps.{Puts, put-same}
+use Rattle.bits.specs.Steps.{Puts}
 use Rattle.bits.specs.declared.Place.{Place}
 use Rattle.bits.specs.declared.Field.{Field}
 use Rattle.model.specs.Answers.{readAt}
@@ -41,7 +42,7 @@ use Rattle.pack.specs.Record.{expenseBy}
 use Rattle.pack.specs.declared.record.Records.{Records}
 use Rattle.names.specs.Records.{ExpenseFields, expenseFields, plainExpenses, plain-expenses, run-expenses}
 use Rattle.assignments.specs.declared.section.Done.{Done}
-use Rattle.assignments.specs.Section.{WritesIn, Wrote, Goes}
+use Rattle.assignments.specs.Section.{WritesIn, Wrote}
 use Rattle.assignments.specs.Records.{expensesAfter, isExpenseAt, isKey, Tells, FewExpenses, AddsExpense}
 use Rattle.assignments.proofs.Turns.{wrote-more, wrote-as, wrote-still, wrote-past, writes-in, writes-in-none, Going, going-all, going-more, going-last}
 use Rattle.assignments.proofs.Fit.{FineExpenses, fine-none, fine-more, expense-fits}
@@ -107,11 +108,6 @@ module _ {d : List ℕ} {p : Place} {n activity : ℕ} {name : Text} where
         let e : drop i ts ≡ [] = drop-of-length-le ts {i = i} (omega arith) in
         sym (h .seeks ts end l z w .1 ∙ ap (some? (isKey activity name)) e);
   }
-
-some-map : {A B : Type 0} (p : B → Bool) (f : A → B) (xs : List A) → some? p (map f xs) ≡ some? (λ x. p (f x)) xs
-unfolding some?
-some-map p f [] = refl
-some-map p f (x ∷ xs) = ap (λ (t : Bool). p (f x) || t) (some-map p f xs)
 
 -- what the search tells of the records that were written
 told-of : {xs : List Expense} {d₀ : List ℕ} {p : Place} {d : List ℕ} {r : Done} {t : Bool} (e : Expense) → FewExpenses d₀ xs → Wrote (whole expense) false xs d₀ p d r

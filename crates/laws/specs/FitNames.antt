@@ -22,7 +22,7 @@ use Rattle.definition.specs.Read.{calendarsOf}
 use Rattle.laws.specs.Options.{never}
 use Rattle.laws.specs.Same.{same-refl, same-eq}
 use Rattle.laws.specs.Formats.{got}
-use Rattle.laws.specs.Tests.{or-false, some-both, turned}
+use Rattle.laws.specs.Tests.{neither, some-both, turned}
 
 -- ---- a name with stars
 
@@ -135,7 +135,7 @@ pub distinct-end : {l : List Text} (n : Text) → Distinct l → Fresh n l → D
 unfolding some?
 distinct-end n empty f = next refl empty
 distinct-end n (next {n = m} {l = l} h d) f =
-    let (u, v) = or-false (same n m) (some? (same n) l) f in
+    let (u, v) = neither (same n m) (some? (same n) l) f in
     next (some-both (same m) l (n ∷ []) ∙ rw (h, same-turned m n, u)) (distinct-end n d v)
 
 pub free-distinct : {names : List Text} (n : Text) → Distinct names → Distinct (names ++ (free names n ∷ []))
@@ -217,17 +217,17 @@ keep-others : (n : Text) (l : List Calendar) → Fresh n (map nameIn l) → keep
 unfolding keep some?
 keep-others n [] h = refl
 keep-others n (c ∷ l) h =
-    let (u, v) = or-false (same n (c .name)) (some? (same n) (map nameIn l)) h in
+    let (u, v) = neither (same n (c .name)) (some? (same n) (map nameIn l)) h in
     rw (same-turned (c .name) n, u) (ap (λ (t : List Calendar). c ∷ t) (keep-others n l v))
 
 at-other : (n : Text) (l : List Calendar) (m : ℕ) (c : Calendar) → Fresh n (map nameIn l) → getElem? l m ≡ some c → same n (c .name) ≡ false
 unfolding some?
 at-other n [] m c h e = never e
 at-other n (d ∷ l) zero c h e =
-    let (u, v) = or-false (same n (d .name)) (some? (same n) (map nameIn l)) h in
+    let (u, v) = neither (same n (d .name)) (some? (same n) (map nameIn l)) h in
     got (λ c. same n (c .name) ≡ false) e u
 at-other n (d ∷ l) (suc m) c h e =
-    let (u, v) = or-false (same n (d .name)) (some? (same n) (map nameIn l)) h in
+    let (u, v) = neither (same n (d .name)) (some? (same n) (map nameIn l)) h in
     at-other n l m c v e
 
 -- without the mth

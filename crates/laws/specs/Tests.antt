@@ -8,9 +8,9 @@ use Rattle.definition.specs.Check.{distinct}
 use Rattle.laws.specs.Bools.{both}
 use Rattle.laws.specs.Each.{Each, empty, next, each-less}
 
-pub or-false : (a b : Bool) → (a || b) ≡ false → (a ≡ false) × (b ≡ false)
-or-false true b h = absurd (true≢false h)
-or-false false b h = (refl, h)
+pub neither : (a b : Bool) → (a || b) ≡ false → (a ≡ false) × (b ≡ false)
+neither true b h = absurd (true≢false h)
+neither false b h = (refl, h)
 
 module _ {A : Type 0} (p : A → Bool) where
   pub some-both : (k l : List A) → some? p (k ++ l) ≡ (some? p k || some? p l)
@@ -67,7 +67,7 @@ module _ {A : Type 0} (eq : A → A → Bool) (back : (x y : A) → eq x y ≡ t
   unfolding distinct some?
   distinct-add [] x d f = refl
   distinct-add (y ∷ l) x d f =
-      let (u, v) = or-false (eq x y) (some? (eq x) l) f in
+      let (u, v) = neither (eq x y) (some? (eq x) l) f in
       let (a, b) = both (not (some? (eq y) l)) (distinct eq l) d in
       let z : some? (eq y) (l ++ (x ∷ [])) ≡ false = some-both (eq y) l (x ∷ []) ∙ rw (not-true (some? (eq y) l) a, turned y x, u) in
       rw (z, distinct-add l x b v)

@@ -15,6 +15,7 @@ use Rattle.definition.specs.Model.{Link}
 use Rattle.definition.specs.Tree.{Element, all}
 use Rattle.definition.specs.Task.{Context, rowOf}
 use Rattle.definition.specs.Link.{Fate, linkOf, fateBy, fateOf, fates, keptOf, links, entered}
+use Rattle.laws.specs.Tests.{some-both}
 use Rattle.links.specs.Fates.{fateByRow, fateFor, keptFate, isKeptLink, isEntered, linksBy, linksIn, linksFrom}
 use Rattle.links.specs.declared.fate.LinkFate.{LinkFate}
 use Rattle.links.specs.declared.fate.LinkFate.the-variants.{Across, Dangling, Kept}
@@ -90,15 +91,6 @@ module _ (x : Context) where
 
 abbrev to : ℕ → Link → Bool
 to i l = eqb (l .successor) i
-
-some-both : (p : Link → Bool) (k l : List Link) → some? p (k ++ l) ≡ (some? p k || some? p l)
-unfolding some?
-some-both p [] l = refl
-some-both p (x ∷ k) l = by (p x) (some-both p k l)
-  where
-    by : (t : Bool) → some? p (k ++ l) ≡ (some? p k || some? p l) → (t || some? p (k ++ l)) ≡ (t || some? p k || some? p l)
-    by true h = refl
-    by false h = h
 
 module _ (perDay : ℕ) (tasks : List Element) where
   by-own : (row : ℕ) (l : Element) (f : LinkFate) → some? (to row) (linksBy perDay row l f) ≡ keptFate f

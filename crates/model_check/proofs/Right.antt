@@ -1,17 +1,16 @@
 -- The rules of each record, from what the readers of its parts answer. Assumes nothing.
-use mathlib.Core.Path.{_≡_, refl, sym, ap, _∙_}
-use mathlib.Core.Bool.{Bool, true, false, _&&_, not}
+use mathlib.Core.Path.{_≡_, refl, ap, _∙_}
+use mathlib.Core.Bool.{Bool, true, not}
 use mathlib.Core.List.{List, [], _∷_}
 use mathlib.Core.Option.{Option, none}
 use Prim.Native.Nat.{ℕ}
-use lib.Dec.{ltb, eqb}
-use borrow.Author.Tests.{eqb-true, eqb-false, eq-eqb, ne-eqb}
-use Rattle.definition.specs.Base.{some?, same}
+use Rattle.definition.specs.Base.{some?}
 use Rattle.definition.specs.Text.{Text}
 use Rattle.definition.specs.Format.{whole, row, text, optional}
 use Rattle.definition.specs.Model.{Model, Calendar, Link, Assignment}
 use Rattle.definition.specs.Pack.{link, assignment}
 use Rattle.definition.specs.Check.{ifGiven, isCalendar, linkRight, assignmentRight}
+use Rattle.laws.specs.FitNames.{same-turned}
 use Rattle.bits.specs.declared.Place.{Place}
 use Rattle.model.specs.Splits.{Stands, stands-or}
 use Rattle.model.specs.Sections.{Decoded}
@@ -32,17 +31,6 @@ parent-right h e = ap (λ (x : Option ℕ × Place). x .0) e ∙ stands-or h non
 
 -- ---- a calendar's name
 
-same-sym : (a b : Text) → same a b ≡ same b a
-unfolding same
-same-sym [] [] = refl
-same-sym [] (y ∷ b) = refl
-same-sym (x ∷ a) [] = refl
-same-sym (x ∷ a) (y ∷ b) = rw (same-sym a b) (ap (λ (t : Bool). t && same b a) (turned (eqb x y) refl))
-  where
-    turned : (t : Bool) → eqb x y ≡ t → eqb x y ≡ eqb y x
-    turned true e = e ∙ sym (eq-eqb y x (sym (eqb-true x y e)))
-    turned false e = e ∙ sym (ne-eqb y x (λ z. eqb-false x y e (sym z)))
-
 some-ext : {A : Type 0} {p q : A → Bool} → ((x : A) → p x ≡ q x) → (l : List A) → some? p l ≡ some? q l
 unfolding some?
 some-ext h [] = refl
@@ -55,7 +43,7 @@ module _ {s : List ℕ} {p : Place} {r : NameField} {o : Option Text} (m : Model
 
   pub a-name : (start len : ℕ) → r .name ≡ NameAnswer.At start len → some? (λ (c : Calendar). sameKey (0, textIn s (start, len)) (0, c .name)) (m .calendars) ≡ ifGiven (isCalendar m) o
   unfolding isCalendar nameMeaning
-  a-name start len g = some-ext (λ c. same-sym (textIn s (start, len)) (c .name)) (m .calendars) ∙ rw (e .text o h, g)
+  a-name start len g = some-ext (λ c. same-turned (textIn s (start, len)) (c .name)) (m .calendars) ∙ rw (e .text o h, g)
 
 -- ---- rows
 
