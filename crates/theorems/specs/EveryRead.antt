@@ -8,9 +8,9 @@ use borrow.Author.Tests.{le-ltb}
 use Rattle.definition.specs.Text.{Text}
 use Rattle.definition.specs.Model.{Model}
 use Rattle.definition.specs.Read.{modelOf}
-use Rattle.definition.specs.Pack.{encode, decode}
+use Rattle.definition.specs.Pack.{decode}
 use Rattle.definition.specs.Outline.{outline}
-use Rattle.definition.specs.Refusal.{gives, inRoom, treeRefusal, readAnswer, rowWords, outlineAnswer}
+use Rattle.definition.specs.Refusal.{gives, readAnswer, rowWords, outlineAnswer}
 use Rattle.laws.specs.Bits.{Bytes}
 use Rattle.theorems.specs.Keeping.{keeps-list, read-passes}
 use Rattle.theorems.specs.Leads.{leads-somewhere, is-distinct}
@@ -18,13 +18,9 @@ use Rattle.theorems.specs.LinkSums.{links-many, link, dangling-many, acr
 use Rattle.theorems.specs.Made.{as-many, made}
 use Rattle.theorems.specs.Order.{in-order, level-top, level-under}
 use Rattle.theorems.specs.Parents.{nearest-parent, no-parent}
-use Rattle.theorems.specs.Reading.{unless-given, read-fits, answer-decodes}
+use Rattle.theorems.specs.Accepted.{what-given}
+use Rattle.theorems.specs.Reading.{read-fits, answer-decodes}
 use Rattle.theorems.specs.Told.{rootOf, OfEveryRead}
-
--- an answer that gives is of a tree that is not refused
-pub not-refused : (tree : Text) (room : ℕ) (l : List ℕ) → readAnswer tree room ≡ gives l → treeRefusal tree ≡ 0
-unfolding readAnswer
-not-refused tree room l h = unless-given (treeRefusal tree) (inRoom room (encode (modelOf (rootOf tree)))) l h .0
 
 -- with room enough the outline is given
 pub outline-given : (l : List ℕ) (m : Model) → decode l ≡ some m → (rows work : ℕ) → 2 * length (m .activities) ≤ rows → 4 * length (m .activities) ≤ work
@@ -41,7 +37,7 @@ of-every-read tree room l b h =
       model = m;
       ofTree = refl;
       decodes = d;
-      fits = read-fits tree b (not-refused tree room l h);
+      fits = read-fits tree b (what-given tree room l h .0);
       passes = read-passes tree room l b h;
       leads = leads-somewhere m (keeps-list root);
       differs = is-distinct m (keeps-list root);

@@ -1,3 +1,4 @@
+pub mod Accepted
 pub mod Counts
 pub mod EveryRead
 pub mod Keeping
@@ -14,5 +15,6 @@ pub mod Reading
 pub mod SameElements
 pub mod Texts
 pub mod Told
+pub mod Trees
 pub mod Utf8
 pub mod Whole

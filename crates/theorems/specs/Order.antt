@@ -7,7 +7,6 @@ use Prim.Native.Nat.{ℕ, zero, suc, _+_, _≤_, _<_}
 use native.Mathlib.Omega.{arith}
 use native.Mathlib.Decide.{decLt}
 use borrow.Author.Tests.{eqb-true, ne-eqb}
-use lib.Dec.{eqb}
 use lib.ListN.{length, getD, getElem?, length-map}
 use Rattle.definition.specs.Base.{if_then_else_, keep, count}
 use Rattle.definition.specs.Tree.{Element}
