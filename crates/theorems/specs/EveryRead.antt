@@ -1,4 +1,4 @@
--- What is told of every model that was read holds of each: document 01's third demand. Assumes nothing.
+-- What document 01 asks of every model that was read holds of each. Assumes nothing.
 use mathlib.Core.Path.{_≡_, refl}
 use mathlib.Core.List.{List}
 use mathlib.Core.Option.{some}
@@ -12,6 +12,8 @@ use Rattle.definition.specs.Pack.{decode}
 use Rattle.definition.specs.Outline.{outline}
 use Rattle.definition.specs.Refusal.{gives, readAnswer, rowWords, outlineAnswer}
 use Rattle.laws.specs.Bits.{Bytes}
+use Rattle.theorems.specs.Calendars.{skipped-many, main-first, activity-other, resource-other}
+use Rattle.theorems.specs.KeptTasks.{are-kept}
 use Rattle.theorems.specs.Keeping.{keeps-list, read-passes}
 use Rattle.theorems.specs.Leads.{leads-somewhere, is-distinct}
 use Rattle.theorems.specs.LinkSums.{links-many, link, dangling-many, across-many, links-sum}
@@ -28,6 +30,7 @@ pub outline-given : (l : List ℕ) (m : Model) → decode l ≡ some m → (rows
 unfolding outlineAnswer
 outline-given l m d rows work r w = rw (d, le-ltb rows (2 * length (m .activities)) r, le-ltb work (4 * length (m .activities)) w)
 
+-- `Bytes tree` says that each number of the tree is below 256, as in a lent slice it always is
 pub of-every-read : (tree : Text) (room : ℕ) (l : List ℕ) → Bytes tree → readAnswer tree room ≡ gives l → OfEveryRead tree l
 of-every-read tree room l b h =
     let root = rootOf tree in
@@ -41,6 +44,7 @@ of-every-read tree room l b h =
       passes = read-passes tree room l b h;
       leads = leads-somewhere m (keeps-list root);
       differs = is-distinct m (keeps-list root);
+      tasks = are-kept root;
       asMany = as-many root;
       made = made root;
       parent = nearest-parent root;
@@ -54,4 +58,8 @@ of-every-read tree room l b h =
       dangling = dangling-many root;
       across = across-many root;
       sum = links-sum root;
+      skipped = skipped-many root;
+      main = main-first root;
+      activityOther = activity-other root;
+      resourceOther = resource-other root;
     }

@@ -89,13 +89,13 @@ leads-if : {A : Type 0} (l : List A) (i : ℕ) → ltb i (length l) ≡ true →
 leads-if l i h = leads l i (ltb-true i (length l) h)
 
 -- an item that passes a test
-record Passing {A : Type 0} (p : A → Bool) (l : List A) : Type 0 where
-  row : ℕ
-  item : A
-  is : At l row item
-  holds : p item ≡ true
+pub record Passing {A : Type 0} (p : A → Bool) (l : List A) : Type 0 where
+  pub row : ℕ
+  pub item : A
+  pub is : At l row item
+  pub holds : p item ≡ true
 
-passing : {A : Type 0} (p : A → Bool) (l : List A) → some? p l ≡ true → Passing p l
+pub passing : {A : Type 0} (p : A → Bool) (l : List A) → some? p l ≡ true → Passing p l
 unfolding some?
 passing p [] h = let z : _≡_ {A = ℕ} 0 1 = cc in absurd (omega arith)
 passing p (x ∷ l) h = go (p x) refl (passing p l) h

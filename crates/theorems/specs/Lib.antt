@@ -1,7 +1,9 @@
 pub mod Accepted
+pub mod Calendars
 pub mod Counts
 pub mod EveryRead
 pub mod Keeping
+pub mod KeptTasks
 pub mod LastRow
 pub mod Laws
 pub mod Leads
