@@ -2,4 +2,5 @@ pub mod Cases
 pub mod Dates
 pub mod Hand
 pub mod Open
+pub mod Plan
 pub mod Rules

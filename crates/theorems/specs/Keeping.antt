@@ -1,6 +1,6 @@
 -- The model of any element keeps the check's list, so what reading gives passes the check. Assumes nothing.
 use mathlib.Core.Path.{_≡_, refl, sym, ap, _∙_}
-use mathlib.Core.Bool.{Bool, true, false, _&&_, _||_, not, or-true, and-eq-true-iff}
+use mathlib.Core.Bool.{Bool, true, false, _&&_, _||_, not, or-true}
 use mathlib.Core.List.{List, [], _∷_, _++_, map, map-append}
 use mathlib.Core.Option.{Option, some}
 use Prim.Native.Nat.{ℕ, suc, _+_, _<_}
@@ -29,12 +29,8 @@ use Rattle.laws.specs.Tests.{some-both, some-map, some-keep, each-passes, OneOf
 use Rattle.laws.specs.FitLists.{Perhaps, missing, there, perhaps-when, perhaps-bind, perhaps-any, perhaps-less, last-row}
 use Rattle.laws.specs.FitNames.{calendarsIn, free-new}
 use Rattle.laws.specs.FitCalendars.{name-of}
-use Rattle.theorems.specs.Leads.{same-if, expense-if}
+use Rattle.theorems.specs.Leads.{_also_, same-if, expense-if}
 use Rattle.theorems.specs.Reading.{activities-length, resources-length, links-each, assignments-each, expenses-each, answer-decodes}
-
-infixr 6 _also_
-_also_ : {a b : Bool} → a ≡ true → b ≡ true → (a && b) ≡ true
-_also_ {a} {b} h k = and-eq-true-iff a b .1 (h, k)
 
 if-perhaps : {A : Type 0} (p : A → Bool) {o : Option A} → Perhaps (λ a. p a ≡ true) o → ifGiven p o ≡ true
 if-perhaps p missing = refl

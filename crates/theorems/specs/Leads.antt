@@ -1,14 +1,15 @@
 -- In a model that passes the check no row and no name leads nowhere: a parent is an activity above, link ends, assignments and expenses point at
--- rows that are there, and each calendar name used is some calendar's. Ids are distinct, and so are expenses by activity and name.
--- Assumes nothing.
+-- rows that are there, and each calendar name used is some calendar's. Ids are distinct, and so are expenses by activity and name. And a model that
+-- decodes and is so passes. Assumes nothing.
 use mathlib.Core.Path.{_≡_, refl, sym, ap, _∙_}
-use mathlib.Core.Bool.{Bool, true, false, _&&_, _||_, not, or-true}
+use mathlib.Core.Logic.{_↔_}
+use mathlib.Core.Bool.{Bool, true, false, _&&_, _||_, not, or-true, and-eq-true-iff}
 use mathlib.Core.List.{List, [], _∷_, map}
-use mathlib.Core.Option.{Option, some, none}
+use mathlib.Core.Option.{Option, some, none, Option·some-injective}
 use Prim.Native.Nat.{ℕ, zero, suc, _+_, _<_}
 use native.Mathlib.Omega.{arith}
-use borrow.Author.Tests.{ltb-true, eq-eqb, not-true}
-use lib.Dec.{ltb}
+use borrow.Author.Tests.{ltb-true, lt-ltb, eq-eqb, eqb-true, not-true}
+use lib.Dec.{ltb, eqb}
 use lib.ListN.{length, getElem?}
 use Rattle.definition.specs.Base.{if_then_else_, some?, every?, numbered, same}
 use Rattle.definition.specs.Text.{Text}
@@ -56,6 +57,12 @@ pub record IsDistinct (m : Model) : Type 0 where
   pub resources : (i j : ℕ) (a b : Resource) → At (m .resources) i a → At (m .resources) j b → a .id ≡ b .id → i ≡ j
   pub expenses : (i j : ℕ) (a b : Expense) → At (m .expenses) i a → At (m .expenses) j b → a .activity ≡ b .activity → a .name ≡ b .name → i ≡ j
 
+-- ---- tests
+
+infixr 6 _also_
+pub _also_ : {a b : Bool} → a ≡ true → b ≡ true → (a && b) ≡ true
+_also_ {a} {b} h k = and-eq-true-iff a b .1 (h, k)
+
 -- ---- lists
 
 every-at : {A : Type 0} (p : A → Bool) (l : List A) → every? p l ≡ true → (i : ℕ) (x : A) → At l i x → p x ≡ true
@@ -70,10 +77,28 @@ numbered-at n [] i x e = never e
 numbered-at n (y ∷ l) zero x e = let z : y ≡ x = cc in let k : n ≡ n + 0 = omega arith in cc
 numbered-at n (y ∷ l) (suc i) x e = let k : suc n + i ≡ n + suc i = omega arith in rw (← k) (numbered-at (suc n) l i x e)
 
+-- what holds row by row holds of all
+at-every : {A : Type 0} (p : A → Bool) (l : List A) → ((i : ℕ) (x : A) → At l i x → p x ≡ true) → every? p l ≡ true
+unfolding every?
+at-every p [] f = refl
+at-every p (y ∷ l) f = f 0 y refl also at-every p l (λ i. f (suc i))
+
+at-numbered : {A : Type 0} (p : ℕ × A → Bool) (n : ℕ) (l : List A) → ((i : ℕ) (x : A) → At l i x → p (n + i, x) ≡ true) → every? p (numbered n l) ≡ true
+unfolding numbered every?
+at-numbered p n [] f = refl
+at-numbered p n (y ∷ l) f =
+    let k : n + 0 ≡ n = omega arith in
+    (rw k at (f 0 y refl)) also at-numbered p (suc n) l (λ i x e. let k : n + suc i ≡ suc n + i = omega arith in rw k at (f (suc i) x e))
+
 pub map-at : {A B : Type 0} (f : A → B) (l : List A) (i : ℕ) (x : A) → At l i x → At (map f l) i (f x)
 map-at f [] i x e = never e
 map-at f (y ∷ l) zero x e = let z : y ≡ x = cc in ap (λ a. some (f a)) z
 map-at f (y ∷ l) (suc i) x e = map-at f l i x e
+
+at-map : {A B : Type 0} (f : A → B) (l : List A) (i : ℕ) (y : B) → At (map f l) i y → (x : A) × (At l i x × (f x ≡ y))
+at-map f [] i y e = never e
+at-map f (x ∷ l) zero y e = (x, (refl, Option·some-injective (f x) y e))
+at-map f (x ∷ l) (suc i) y e = at-map f l i y e
 
 pub at-in : {A : Type 0} (l : List A) (i : ℕ) (x : A) → At l i x → i < length l
 at-in [] i x e = never e
@@ -89,13 +114,13 @@ leads-if : {A : Type 0} (l : List A) (i : ℕ) → ltb i (length l) ≡ true →
 leads-if l i h = leads l i (ltb-true i (length l) h)
 
 -- an item that passes a test
-record Passing {A : Type 0} (p : A → Bool) (l : List A) : Type 0 where
-  row : ℕ
-  item : A
-  is : At l row item
-  holds : p item ≡ true
+pub record Passing {A : Type 0} (p : A → Bool) (l : List A) : Type 0 where
+  pub row : ℕ
+  pub item : A
+  pub is : At l row item
+  pub holds : p item ≡ true
 
-passing : {A : Type 0} (p : A → Bool) (l : List A) → some? p l ≡ true → Passing p l
+pub passing : {A : Type 0} (p : A → Bool) (l : List A) → some? p l ≡ true → Passing p l
 unfolding some?
 passing p [] h = let z : _≡_ {A = ℕ} 0 1 = cc in absurd (omega arith)
 passing p (x ∷ l) h = go (p x) refl (passing p l) h
@@ -127,11 +152,27 @@ distinct-at {A} eq (z ∷ l) h (suc i) zero x y e f k k' =
     let u : z ≡ y = cc in absurd (alone eq z l h (some-at (eq z) l i x e (ap (λ (a : A). eq a x) u ∙ k')))
 distinct-at eq (z ∷ l) h (suc i) (suc j) x y e f k k' = ap suc (distinct-at eq l (and-right (not (some? (eq z) l)) (distinct eq l) h) i j x y e f k k')
 
+at-distinct : {A : Type 0} (eq : A → A → Bool) (l : List A) → ((i j : ℕ) (x y : A) → At l i x → At l j y → eq x y ≡ true → i ≡ j) → distinct eq l ≡ true
+unfolding distinct
+at-distinct eq [] f = refl
+at-distinct eq (z ∷ l) f = other (some? (eq z) l) refl also at-distinct eq l (λ i j x y e g k. omega (arith, f (suc i) (suc j) x y e g k))
+  where
+    other : (t : Bool) → some? (eq z) l ≡ t → not t ≡ true
+    other false h = refl
+    other true h = let t = passing (eq z) l h in absurd (omega (arith, f 0 (suc (t .row)) z (t .item) refl (t .is) (t .holds)))
+
 pub same-if : {a b : Text} → a ≡ b → same a b ≡ true
 same-if {a} e = ap (same a) (sym e) ∙ same-refl a
 
 one-id : {A : Type 0} (f : A → Text) (l : List A) → distinct same (map f l) ≡ true → (i j : ℕ) (a b : A) → At l i a → At l j b → f a ≡ f b → i ≡ j
 one-id f l h i j a b e g k = distinct-at same (map f l) h i j (f a) (f b) (map-at f l i a e) (map-at f l j b g) (same-if k) (same-if (sym k))
+
+own-ids : {A : Type 0} (f : A → Text) (l : List A) → ((i j : ℕ) (a b : A) → At l i a → At l j b → f a ≡ f b → i ≡ j) → distinct same (map f l) ≡ true
+own-ids f l h =
+    at-distinct same (map f l) λ i j x y e g k.
+    let (a, (u, v)) = at-map f l i x e in
+    let (b, (w, z)) = at-map f l j y g in
+    h i j a b u w (v ∙ same-eq x y k ∙ sym z)
 
 pub expense-if : (a b : Expense) → a .activity ≡ b .activity → a .name ≡ b .name → sameExpense a b ≡ true
 expense-if a b k n = rw (eq-eqb (a .activity) (b .activity) k) (same-if n)
@@ -228,3 +269,52 @@ passes s h = by-model (decode s) refl h
     by-model : (o : Option Model) → decode s ≡ o → checkOf o ≡ 0 → Passed s
     by-model none d e = absurd (omega arith)
     by-model (some m) d e = by-list m d (keepsList m) refl e
+
+-- ---- and the other way
+
+given-if : {A : Type 0} (p : A → Bool) (o : Option A) → ((a : A) → o ≡ some a → p a ≡ true) → ifGiven p o ≡ true
+given-if p none f = refl
+given-if p (some a) f = f a refl
+
+named-calendar : (m : Model) (name : Text) → Named (m .calendars) name → isCalendar m name ≡ true
+unfolding isCalendar
+named-calendar m name t = some-at (λ (c : Calendar). same (c .name) name) (m .calendars) (t .row) (t .calendar) (t .is) (same-if (t .named))
+
+in-if : {A : Type 0} {l : List A} {i : ℕ} → Leads l i → ltb i (length l) ≡ true
+in-if {l = l} {i} t = lt-ltb i (length l) (t .inRange)
+
+-- a model in which all leads somewhere and what has to differ does keeps the list
+keeps : (m : Model) → LeadsSomewhere m → IsDistinct m → keepsList m ≡ true
+unfolding keepsList activityRight linkRight assignmentRight
+keeps m t d =
+    own-ids (λ (a : Activity). a .id) (m .activities) (d .activities)
+    also at-numbered (activityRight m) 0 (m .activities) right
+    also own-ids (λ (r : Resource). r .id) (m .resources) (d .resources)
+    also at-every (λ (r : Resource). ifGiven (isCalendar m) (r .calendar)) (m .resources) used
+    also at-every (linkRight m) (m .links) (λ i l e. in-if (t .predecessor i l e) also in-if (t .successor i l e))
+    also at-every (assignmentRight m) (m .assignments) (λ i a e. in-if (t .assigned i a e) also in-if (t .assignee i a e))
+    also at-every (λ (e : Expense). ltb (e .activity) (length (m .activities))) (m .expenses) (λ i x e. in-if (t .spent i x e))
+    also at-distinct sameExpense (m .expenses) once
+  where
+    right : (i : ℕ) (a : Activity) → At (m .activities) i a → activityRight m (0 + i, a) ≡ true
+    right i a e =
+        let z : 0 + i ≡ i = omega arith in
+        rw z
+        (given-if (λ p. ltb p i) (a .parent) (λ p g. lt-ltb p i (t .parent i p a e g .0))
+        also given-if (isCalendar m) (a .calendar) (λ n g. named-calendar m n (t .activityCalendar i a n e g)))
+
+    used : (i : ℕ) (r : Resource) → At (m .resources) i r → ifGiven (isCalendar m) (r .calendar) ≡ true
+    used i r e = given-if (isCalendar m) (r .calendar) (λ n g. named-calendar m n (t .resourceCalendar i r n e g))
+
+    once : (i j : ℕ) (a b : Expense) → At (m .expenses) i a → At (m .expenses) j b → sameExpense a b ≡ true → i ≡ j
+    once i j a b e f k =
+        let (p, q) = both (eqb (a .activity) (b .activity)) (same (a .name) (b .name)) k in
+        d .expenses i j a b e f (eqb-true (a .activity) (b .activity) p) (same-eq (a .name) (b .name) q)
+
+pub checks : (s : Text) (m : Model) → decode s ≡ some m → LeadsSomewhere m → IsDistinct m → checkAnswer s ≡ 0
+unfolding checkAnswer
+checks s m e t d = rw (e, keeps m t d)
+
+-- so the check passes exactly then
+pub passes-iff : (s : Text) → (checkAnswer s ≡ 0) ↔ Passed s
+passes-iff s = (passes s, λ p. checks s (p .model) (p .decodes) (p .leads) (p .distinct))

@@ -1,6 +1,9 @@
+pub mod Accepted
+pub mod Calendars
 pub mod Counts
 pub mod EveryRead
 pub mod Keeping
+pub mod KeptTasks
 pub mod LastRow
 pub mod Laws
 pub mod Leads
@@ -14,5 +17,6 @@ pub mod Reading
 pub mod SameElements
 pub mod Texts
 pub mod Told
+pub mod Trees
 pub mod Utf8
 pub mod Whole

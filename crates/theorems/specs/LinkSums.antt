@@ -21,7 +21,7 @@ use Rattle.laws.specs.Formats.{got}
 use Rattle.laws.specs.Same.{same-refl, same-eq}
 use Rattle.theorems.specs.Leads.{At}
 use Rattle.theorems.specs.LastRow.{LastAt, RowFound, nowhere, found, last-row}
-use Rattle.theorems.specs.Made.{kept-uid}
+use Rattle.theorems.specs.KeptTasks.{kept-uid}
 use Rattle.theorems.specs.Told.{linkElements, namesOne, goesAcross, dangles, stays, LastWith, Joins}
 
 -- ---- what becomes of one

@@ -1,51 +1,65 @@
 -- Activities are made from the kept tasks, row by row: as many, each from its own task, and what stands before it is what was made before.
 -- Assumes nothing.
 use mathlib.Core.Path.{_≡_, refl, sym, ap, _∙_}
-use mathlib.Core.Bool.{Bool, true, false, true≢false}
+use mathlib.Core.Bool.{Bool, true, false}
 use mathlib.Core.List.{List, [], _∷_, _++_, map, append-nil, append-assoc}
-use mathlib.Core.Option.{Option, some, none, Option·some-injective}
-use Prim.Native.Nat.{ℕ, zero, suc, _+_}
+use mathlib.Core.Option.{some, Option·some-injective}
+use Prim.Native.Nat.{ℕ, zero, suc, _+_, _<_}
 use native.Mathlib.Omega.{arith}
-use lib.Dec.{leb}
-use lib.ListN.{length, take, getElem?, length-append}
+use lib.ListN.{length, take, replicate, getElem?, length-append}
 use lib.Seq.{take-at}
-use Rattle.definition.specs.Base.{if_then_else_, _or_, given, keep}
+use Rattle.definition.specs.Base.{if_then_else_, some?, same}
 use Rattle.definition.specs.Ascii.{bytes}
 use Rattle.definition.specs.Text.{Text}
-use Rattle.definition.specs.Tree.{Element, child, allIn}
-use Rattle.definition.specs.Field.{textIn}
-use Rattle.definition.specs.Model.{Activity}
-use Rattle.definition.specs.Task.{Context, mostTasks, levelOf, ownUid, isKept, keptTasks, contextOf, wantedId, activityOf, activitiesAfter, activities}
+use Rattle.definition.specs.Tree.{Element}
+use Rattle.definition.specs.Model.{Activity, Model}
+use Rattle.definition.specs.Calendar.{starred, free}
+use Rattle.definition.specs.Task.{Context, levelOf, keptTasks, contextOf, wantedId, activityOf, activitiesAfter, activities}
 use Rattle.definition.specs.Link.{links, entered}
 use Rattle.definition.specs.Read.{modelOf}
-use Rattle.laws.specs.Bools.{and-left}
 use Rattle.laws.specs.Options.{never}
+use Rattle.laws.specs.Same.{same-eq}
+use Rattle.laws.specs.Tests.{some-map}
 use Rattle.laws.specs.FitNames.{free-shape}
-use Rattle.theorems.specs.Leads.{At}
+use Rattle.theorems.specs.Leads.{At, passing}
 use Rattle.theorems.specs.Reading.{activities-length}
-use Rattle.theorems.specs.Told.{MadeFrom}
+use Rattle.theorems.specs.KeptTasks.{take-in, kept-uid}
+use Rattle.theorems.specs.Told.{IdBefore, stars, MadeFrom}
 
--- ---- a kept task has a UID
+-- ---- ids with stars
 
-pub keep-at : {A : Type 0} (p : A → Bool) (l : List A) (i : ℕ) (x : A) → At (keep p l) i x → p x ≡ true
-unfolding keep
-keep-at p [] i x e = never e
-keep-at {A} p (y ∷ l) i x e = by (p y) refl i e (keep-at p l)
+stars-length : (k : ℕ) → length (stars k) ≡ k
+stars-length zero = refl
+stars-length (suc k) = ap suc (stars-length k)
+
+stars-are : (k : ℕ) → replicate k 42 ≡ stars k
+stars-are zero = refl
+stars-are (suc k) = ap (λ (s : Text). bytes "*" ++ s) (stars-are k)
+
+no-stars : (n : Text) (k j : ℕ) → n ≡ n ++ stars k → j < k → ⊥
+no-stars n k j e h = omega (arith, ap length e, length-append n (stars k), stars-length k)
+
+-- with fewer stars it is one of the names
+starred-taken : (k : ℕ) (names : List Text) (n : Text) (many : ℕ) → starred k names n ≡ n ++ stars many → (j : ℕ) → j < many → some? (same (n ++ stars j)) names ≡ true
+unfolding starred
+starred-taken zero names n many e j h = absurd (no-stars n many j e h)
+starred-taken (suc k) names n zero e j h = absurd (omega arith)
+starred-taken (suc k) names n (suc m) e j h = by (some? (same n) names) refl e (starred-taken k names (n ++ bytes "*") m) j h
   where
-    by : (t : Bool) → p y ≡ t → (i : ℕ) → At (if t then y ∷ keep p l else keep p l) i x → ((i : ℕ) (x : A) → At (keep p l) i x → p x ≡ true) → p x ≡ true
-    by true h zero e more = ap p (sym (Option·some-injective y x e)) ∙ h
-    by true h (suc i) e more = more i x e
-    by false h i e more = more i x e
+    by : (t : Bool) → some? (same n) names ≡ t → (if t then starred k names (n ++ bytes "*") else n) ≡ n ++ stars (suc m)
+        → (starred k names (n ++ bytes "*") ≡ (n ++ bytes "*") ++ stars m → (j : ℕ) → j < m → some? (same ((n ++ bytes "*") ++ stars j)) names ≡ true)
+        → (j : ℕ) → j < suc m → some? (same (n ++ stars j)) names ≡ true
+    by false i e more j h = absurd (no-stars n (suc m) j e h)
+    by true i e more zero h = rw (append-nil n) i
+    by true i e more (suc j) h = rw (append-assoc n (bytes "*") (stars j)) at (more (e ∙ sym (append-assoc n (bytes "*") (stars m))) j (omega arith))
 
-pub kept-uid : (root : Element) (row : ℕ) (t : Element) → At (keptTasks root) row t → textIn t "UID" ≡ some (textIn t "UID" or [])
-unfolding keptTasks
-kept-uid root row t e =
-    let k : isKept t ≡ true = keep-at isKept (take mostTasks (allIn (child root (bytes "Tasks")) (bytes "Task"))) row t e in
-    is (textIn t "UID") (and-left (given (textIn t "UID")) _ (and-left (ownUid t) (leb 1 (levelOf t)) k))
-  where
-    is : (o : Option Text) → given o ≡ true → o ≡ some (o or [])
-    is none h = absurd (true≢false (sym h))
-    is (some u) h = refl
+-- so it is the id of an activity before the row
+id-before : (m : Model) (row : ℕ) (id : Text) → some? (same id) (map (λ (a : Activity). a .id) (take row (m .activities))) ≡ true → IdBefore m row id
+id-before m row id h =
+    let p : Activity → Bool = λ a. same id (a .id) in
+    let t = passing p (take row (m .activities)) (sym (some-map (same id) (λ (a : Activity). a .id) (take row (m .activities))) ∙ h) in
+    let (b, e) = take-in row (m .activities) (t .row) (t .item) (t .is) in
+    record { earlier = t .row; before = b; activity = t .item; is = e; named = sym (same-eq id (t .item .id) (t .holds)) }
 
 -- ---- one after another
 
@@ -103,9 +117,18 @@ module _ (root : Element) where
       let w = after-at x (entered (links x)) [] [] (keptTasks root) row row t a (omega arith) e f in
       let ids = map (λ (b : Activity). b .id) (take row (modelOf root .activities)) in
       let s = free-shape ids (wantedId t) in
+      let f : free ids (wantedId t) ≡ wantedId t ++ stars (s .stars) = s .is ∙ ap (λ (l : Text). wantedId t ++ l) (stars-are (s .stars)) in
       record {
         whole = w;
         uid = kept-uid root row t e ∙ ap (λ (b : Activity). some (b .uid)) (sym w);
         name = ap (λ (b : Activity). b .name) w;
-        id = record { stars = s .stars; is = ap (λ (b : Activity). b .id) w ∙ s .is };
+        notes = ap (λ (b : Activity). b .notes) w;
+        deadline = ap (λ (b : Activity). b .deadline) w;
+        start = ap (λ (b : Activity). b .start) w;
+        finish = ap (λ (b : Activity). b .finish) w;
+        id = record {
+          many = s .stars;
+          is = ap (λ (b : Activity). b .id) w ∙ f;
+          taken = λ k h. id-before (modelOf root) row (wantedId t ++ stars k) (starred-taken (length ids) ids (wantedId t) (s .stars) f k h);
+        };
       }

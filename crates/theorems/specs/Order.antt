@@ -7,7 +7,6 @@ use Prim.Native.Nat.{ℕ, zero, suc, _+_, _≤_, _<_}
 use native.Mathlib.Omega.{arith}
 use native.Mathlib.Decide.{decLt}
 use borrow.Author.Tests.{eqb-true, ne-eqb}
-use lib.Dec.{eqb}
 use lib.ListN.{length, getD, getElem?, length-map}
 use Rattle.definition.specs.Base.{if_then_else_, keep, count}
 use Rattle.definition.specs.Tree.{Element}
@@ -19,7 +18,7 @@ use Rattle.laws.specs.Outlines.{stands, row-in}
 use Rattle.theorems.specs.Leads.{At, map-at, at-in}
 use Rattle.theorems.specs.Outlines.{After, parentsOf, all-stand, outline-top, outline-after, parent-counts}
 use Rattle.theorems.specs.Parents.{Closest, ParentBy, levelAt, parent-by, getD-at}
-use Rattle.theorems.specs.Made.{as-many}
+use Rattle.theorems.specs.Made.{get-seam, as-many}
 
 -- ---- rows that rise
 
@@ -203,14 +202,10 @@ placed a zero (y ∷ before) x behind e = let z : _≡_ {A = ℕ} 0 1 = cc in ab
 placed a (suc m) (y ∷ before) x behind e =
     let z : map (λ (y : ℕ × ℕ). y .0) (before ++ (x ∷ behind)) ≡ count (suc a) m = cc in omega (arith, placed (suc a) m before x behind z)
 
-at-seam : {A : Type 0} (before : List A) (x : A) (behind : List A) → At (before ++ (x ∷ behind)) (length before) x
-at-seam [] x behind = refl
-at-seam (y ∷ before) x behind = at-seam before x behind
-
 at-place : (l : List (ℕ × ℕ)) (m : ℕ) → map (λ (y : ℕ × ℕ). y .0) l ≡ count 0 m → (before : List (ℕ × ℕ)) (x : ℕ × ℕ) (behind : List (ℕ × ℕ)) → l ≡ before ++ (x ∷ behind) → At l (x .0) x
 at-place l m e before x behind s =
     let z : x .0 ≡ length before = omega (arith, placed 0 m before x behind (rw s at e)) in
-    ap (getElem? l) z ∙ ap (λ (k : List (ℕ × ℕ)). getElem? k (length before)) s ∙ at-seam before x behind
+    ap (getElem? l) z ∙ ap (λ (k : List (ℕ × ℕ)). getElem? k (length before)) s ∙ get-seam before x behind
 
 -- and what stands after its parent one level below it
 at-below : (l : List (ℕ × ℕ)) (m : ℕ) → map (λ (y : ℕ × ℕ). y .0) l ≡ count 0 m → (p c level : ℕ) → After p c l → At l p (p, level) → At l c (c, suc level)

@@ -1,18 +1,16 @@
 -- The model of a tree that is not refused fits its fields, so the bytes that reading gives decode to that model. Assumes nothing.
 use mathlib.Core.Path.{_≡_, refl, sym, ap, _∙_}
-use mathlib.Core.Bool.{Bool, true, false, true≢false, not}
+use mathlib.Core.Bool.{Bool, true, false, not}
 use mathlib.Core.List.{List, [], _∷_, _++_, map}
 use mathlib.Core.Option.{Option, some, none}
 use Prim.Native.Nat.{ℕ, suc, _+_, _^_, _≤_, _<_}
 use native.Mathlib.Omega.{arith}
-use borrow.Author.Tests.{ltb-false}
-use lib.Dec.{ltb, leb}
 use lib.ListN.{length, length-append, length-map}
-use Rattle.definition.specs.Base.{if_then_else_, _>>=_, _or_, given, keep, every?, some?, present, same}
+use Rattle.definition.specs.Base.{if_then_else_, _>>=_, _or_, given, keep, some?, present, same}
 use Rattle.definition.specs.Ascii.{bytes}
 use Rattle.definition.specs.Text.{Text}
 use Rattle.definition.specs.Date.{epoch}
-use Rattle.definition.specs.Tree.{Rec, records, layout, belowRoot, Element, element, all}
+use Rattle.definition.specs.Tree.{Rec, records, Element, element, all}
 use Rattle.definition.specs.Field.{textIn, yesIn}
 use Rattle.definition.specs.Model.{Calendar, Activity, Link, Resource, Assignment, Expense}
 use Rattle.definition.specs.Calendar.{Named, calendarElements, elapsedCalendar, skipped}
@@ -21,7 +19,7 @@ use Rattle.definition.specs.Link.{Fate, across, dangling, kept, linkOf, fateBy,
 use Rattle.definition.specs.Resource.{workResources, costResources, resourceOf, resourcesAfter, resources, assignmentElements, costOf, assignmentFrom, assignmentOf, assignments, expenseFrom, expenseOf, sameExpense, firsts, expenses}
 use Rattle.definition.specs.Read.{projectOf, calendarsOf, modelOf}
 use Rattle.definition.specs.Pack.{encode, decode}
-use Rattle.definition.specs.Refusal.{Answer, refused, gives, inRoom, mostElements, utf8?, project?, tooLong, treeRefusal, unless, readAnswer}
+use Rattle.definition.specs.Refusal.{gives, treeRefusal, readAnswer}
 use Rattle.laws.specs.Bits.{Bytes}
 use Rattle.laws.specs.Each.{Each, empty, next, each-append}
 use Rattle.laws.specs.Formats.{IsText}
@@ -37,6 +35,7 @@ use Rattle.laws.specs.FitResources.{fit-resource, fit-expense, fit-assignment}
 use Rattle.theorems.specs.Utf8.{Neat, neat-texts, neat-element}
 use Rattle.theorems.specs.Counts.{root-most, skipped-most, fates-most}
 use Rattle.theorems.specs.Packing.{Rows, FitsModel, decode-encode}
+use Rattle.theorems.specs.Accepted.{accepted, what-given}
 
 -- ---- rows
 
@@ -298,24 +297,6 @@ module _ (rs : List Rec) (few : length rs ≤ 5000000) (h : Holds Neat (element 
 
 -- ---- a tree that is not refused
 
-record Accepted (s : Text) : Type 0 where
-  utf8 : every? utf8? (records s) ≡ true
-  few : length (records s) ≤ 5000000
-
-accepted : (s : Text) → treeRefusal s ≡ 0 → Accepted s
-unfolding treeRefusal
-accepted s h = by (layout s) (every? utf8? (records s)) (ltb mostElements (length (records s))) refl refl h
-  where
-    rest : ℕ
-    rest = if not (project? (records s)) then 4 else if some? tooLong (belowRoot (records s)) then 5 else 0
-
-    by : (l u m : Bool) → every? utf8? (records s) ≡ u → ltb mostElements (length (records s)) ≡ m
-        → (if not l then 1 else if not u then 2 else if m then 3 else rest) ≡ 0 → Accepted s
-    by true true false e f k = record { utf8 = e; few = ltb-false mostElements (length (records s)) f }
-    by true true true e f k = absurd (omega arith)
-    by true false m e f k = absurd (omega arith)
-    by false u m e f k = absurd (omega arith)
-
 -- the model of a tree that is not refused fits
 pub read-fits : (s : Text) → Bytes s → treeRefusal s ≡ 0 → FitsModel (modelOf (element (records s)))
 read-fits s b h = let a = accepted s h in model-fits (records s) (a .few) (neat-element s b (a .utf8))
@@ -324,29 +305,8 @@ read-fits s b h = let a = accepted s h in model-fits (records s) (a .few) (neat-
 pub read-decodes : (s : Text) → Bytes s → treeRefusal s ≡ 0 → decode (encode (modelOf (element (records s)))) ≡ some (modelOf (element (records s)))
 read-decodes s b h = decode-encode (modelOf (element (records s))) (read-fits s b h)
 
-abbrev bytesIn : Answer → List ℕ
-bytesIn (refused n) = []
-bytesIn (gives l) = l
-
-abbrev isGiven : Answer → Bool
-isGiven (refused n) = false
-isGiven (gives l) = true
-
-pub unless-given : (n : ℕ) (a : Answer) (l : List ℕ) → unless n a ≡ gives l → (n ≡ 0) × (a ≡ gives l)
-unless-given n a l h = by (ltb 0 n) refl h
-  where
-    by : (t : Bool) → ltb 0 n ≡ t → (if t then refused n else a) ≡ gives l → (n ≡ 0) × (a ≡ gives l)
-    by true e k = absurd (true≢false (sym (ap isGiven k)))
-    by false e k = (omega (arith, ltb-false 0 n e), k)
-
-in-room : (t : Bool) (m l : List ℕ) → (if t then gives m else refused 9) ≡ gives l → m ≡ l
-in-room true m l h = ap bytesIn h
-in-room false m l h = absurd (true≢false (sym (ap isGiven h)))
-
 -- what reading gives decodes to the model of the tree
 pub answer-decodes : (s : Text) (room : ℕ) (l : List ℕ) → Bytes s → readAnswer s room ≡ gives l → decode l ≡ some (modelOf (element (records s)))
-unfolding readAnswer inRoom
 answer-decodes s room l b h =
-    let m = encode (modelOf (element (records s))) in
-    let (z, k) = unless-given (treeRefusal s) (if leb (length m) room then gives m else refused 9) l h in
-    ap decode (sym (in-room (leb (length m) room) m l k)) ∙ read-decodes s b z
+    let (z, k) = what-given s room l h in
+    ap decode (sym k) ∙ read-decodes s b z

@@ -1,4 +1,5 @@
--- Two trees with the same elements give the same model: what is read is the elements, and not the bytes. Assumes nothing.
+-- Two trees with the same elements give the same model. In a tree that is not refused the bytes of the first root's elements are fixed, so what this tells is
+-- that nothing behind the first root is read. Assumes nothing.
 use mathlib.Core.Path.{_≡_, refl, sym, ap}
 use mathlib.Core.List.{List, [], _∷_, _++_, nil≢cons, head-eq-of-cons-eq, tail-eq-of-cons-eq}
 use Prim.Native.Nat.{ℕ}
@@ -7,9 +8,11 @@ use lib.ListN.{length}
 use Rattle.definition.specs.Base.{same, some?, every?}
 use Rattle.definition.specs.Ascii.{bytes}
 use Rattle.definition.specs.Bits.{enc, dec, bitsOf}
-use Rattle.definition.specs.Text.{Text, following, utf8After, isUtf8}
+use Rattle.definition.specs.Text.{Text, following, utf8After, isUtf8, frontWidth, backWidth, strip, trimFront, trimBack, trim, before, after, digitsAfter, digits, signOf}
+use Rattle.definition.specs.Number.{decimalOf, short?, numberOf}
+use Rattle.definition.specs.Duration.{pieceOf, timeFigures, daysOf, figuresOf, durationOf}
 use Rattle.definition.specs.Tree.{Forest, nothing, one, Element, elements, element, level, records, recordsUpTo, recordOf, layout, right, size, deeper, belowRoot}
-use Rattle.definition.specs.Refusal.{utf8?, project?, longIn, tooLong, treeRefusal, readAnswer}
+use Rattle.definition.specs.Refusal.{utf8?, project?, long?, longIn, tooLong, treeRefusal, readAnswer}
 use Rattle.theorems.specs.Told.{rootOf}
 
 -- ---- the same elements
@@ -56,20 +59,29 @@ pub same-model : (s t : Text) (room : ℕ) → treeRefusal s ≡ 0 → treeRefus
 unfolding readAnswer
 same-model s t room h k e = rw (h, k, same-is (rootOf s) (rootOf t) e)
 
--- ---- an example: records from a second one of depth 1 on are not read
+-- ---- an example: records from a second one of depth 1 on are unread, by refusal 5 too
 
 -- a Project with a Title
-abbrev alone : Text
+abbrev pub alone : Text
 alone = 2 ∷ 7 ∷ 0 ∷ 0 ∷ bytes "Project" ++ (4 ∷ 5 ∷ 0 ∷ 1 ∷ bytes "Title" ++ bytes "X")
 
--- and a second root
-abbrev followed : Text
-followed = alone ++ (2 ∷ 1 ∷ 0 ∷ 0 ∷ bytes "A")
+-- a second Project, with a task whose Duration has 16 digits
+abbrev pub second : Text
+second = 2 ∷ 7 ∷ 0 ∷ 0 ∷ bytes "Project" ++ (4 ∷ 5 ∷ 0 ∷ 0 ∷ bytes "Tasks" ++ (6 ∷ 4 ∷ 0 ∷ 0 ∷ bytes "Task" ++ (8 ∷ 8 ∷ 0 ∷ 19 ∷ bytes "Duration" ++ bytes "PT1234567890123456H")))
 
-other-bytes : alone ≡ followed → ⊥
+abbrev pub followed : Text
+followed = alone ++ second
+
+pub other-bytes : alone ≡ followed → ⊥
 other-bytes h = omega (arith, ap length h)
 
-accepted : (treeRefusal alone ≡ 0) × (treeRefusal followed ≡ 0)
+-- alone it is refused
+pub second-refused : treeRefusal second ≡ 5
+unfolding treeRefusal layout records recordsUpTo recordOf right size bitsOf enc dec every? utf8? isUtf8 utf8After following project? same some? belowRoot deeper tooLong longIn long? trim trimFront trimBack strip frontWidth backWidth numberOf durationOf figuresOf daysOf timeFigures pieceOf decimalOf short? before after digits digitsAfter signOf
+second-refused = refl
+
+-- behind another it is not
+pub accepted : (treeRefusal alone ≡ 0) × (treeRefusal followed ≡ 0)
 unfolding treeRefusal layout records recordsUpTo recordOf right size bitsOf enc dec every? utf8? isUtf8 utf8After following project? same some? belowRoot deeper tooLong longIn
 accepted = (refl, refl)
 
@@ -77,5 +89,5 @@ same-roots : SameElement (rootOf alone) (rootOf followed)
 unfolding records recordsUpTo recordOf bitsOf enc dec element level elements
 same-roots = record { name = refl; text = refl; children = next refl refl empty empty }
 
-same-answers : (room : ℕ) → readAnswer alone room ≡ readAnswer followed room
+pub same-answers : (room : ℕ) → readAnswer alone room ≡ readAnswer followed room
 same-answers room = same-model alone followed room (accepted .0) (accepted .1) same-roots

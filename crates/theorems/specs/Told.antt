@@ -1,16 +1,20 @@
--- What is told of every model that was read, in words of the tree and of the model: document 01's third demand. Assumes nothing.
+-- What document 01 asks of every model that was read, in words of the tree and of the model. The lines ofTree and decodes fix the bytes; the others tell what
+-- that model is in words of the tree, so that a wrong definition would be seen. There are two kinds of level: a task's is its OutlineLevel (levelOf), which
+-- parents are found by; a row of the outline has its own, 1 without a parent and else one more than its parent's. Assumes nothing.
 use mathlib.Core.Path.{_≡_}
 use mathlib.Core.Bool.{Bool, false, _&&_, not}
 use mathlib.Core.List.{List, [], _++_, map, flatMap}
 use mathlib.Core.Option.{Option, some, none}
-use Prim.Native.Nat.{ℕ, suc, _+_, _*_, _≤_, _<_}
-use lib.ListN.{length, take, replicate}
-use Rattle.definition.specs.Base.{_or_, some?, keep, count, numbered, same}
+use Prim.Native.Nat.{ℕ, zero, suc, _+_, _*_, _≤_, _<_}
+use lib.ListN.{length, take}
+use Rattle.definition.specs.Base.{_or_, given, some?, keep, count, numbered, same}
 use Rattle.definition.specs.Ascii.{bytes}
 use Rattle.definition.specs.Text.{Text}
-use Rattle.definition.specs.Tree.{Element, records, element, all}
-use Rattle.definition.specs.Field.{textIn, yesIn}
-use Rattle.definition.specs.Model.{Activity, Link, Model}
+use Rattle.definition.specs.Tree.{Element, records, element, all, child, allIn}
+use Rattle.definition.specs.Field.{textIn, yesIn, dateIn}
+use Rattle.definition.specs.Recurrence.{ruleOf}
+use Rattle.definition.specs.Model.{Calendar, Activity, Link, Resource, Model}
+use Rattle.definition.specs.Calendar.{builtCalendars, mainCalendar}
 use Rattle.definition.specs.Task.{levelOf, keptTasks, contextOf, wantedId, activityOf}
 use Rattle.definition.specs.Link.{linkOf, entered}
 use Rattle.definition.specs.Read.{modelOf}
@@ -23,19 +27,60 @@ use Rattle.theorems.specs.Leads.{At, LeadsSomewhere, IsDistinct}
 abbrev pub rootOf : Text → Element
 rootOf tree = element (records tree)
 
+-- ---- the kept tasks
+
+-- all Task elements in Tasks
+abbrev pub taskElements : Element → List Element
+taskElements root = allIn (child root (bytes "Tasks")) (bytes "Task")
+
+-- it has a UID other than `0`, and a level of at least 1
+pub record IsTask (t : Element) : Type 0 where
+  pub uid : Text
+  pub has : textIn t "UID" ≡ some uid
+  pub other : uid ≡ bytes "0" → ⊥
+  pub level : 1 ≤ levelOf t
+
+-- the tasks are those of the first 100,000 elements that are so, in their order: each stands at a place there, later ones later, and none is left out
+pub record AreKept (elements tasks : List Element) : Type 0 where
+  pub place : ℕ → ℕ
+  pub stands : (row : ℕ) (t : Element) → At tasks row t → At elements (place row) t
+  pub early : (row : ℕ) (t : Element) → At tasks row t → place row < 100000
+  pub isTask : (row : ℕ) (t : Element) → At tasks row t → IsTask t
+  pub rising : (i j : ℕ) → i < j → j < length tasks → place i < place j
+  pub each : (i : ℕ) (t : Element) → i < 100000 → At elements i t → IsTask t → (row : ℕ) × ((place row ≡ i) × At tasks row t)
+
 -- ---- an activity and its task
 
--- with so many `*` behind it
-pub record Starred (wanted id : Text) : Type 0 where
-  pub stars : ℕ
-  pub is : id ≡ wanted ++ replicate stars 42
+-- the id of an activity before a row
+pub record IdBefore (m : Model) (row : ℕ) (id : Text) : Type 0 where
+  pub earlier : ℕ
+  pub before : earlier < row
+  pub activity : Activity
+  pub is : At (m .activities) earlier activity
+  pub named : activity .id ≡ id
 
--- the activity of a row is made from the task: each field from the task itself, the id free among those before it, the parent from the levels before it
+-- so many `*`
+abbrev pub stars : ℕ → Text
+stars zero = []
+stars (suc n) = bytes "*" ++ stars n
+
+-- the id that is wanted with so many `*` behind it; with fewer it is the id of an earlier activity
+pub record Starred (m : Model) (row : ℕ) (wanted id : Text) : Type 0 where
+  pub many : ℕ
+  pub is : id ≡ wanted ++ stars many
+  pub taken : (k : ℕ) → k < many → IdBefore m row (wanted ++ stars k)
+
+-- the activity of a row is made from its task. Most fields are the task's own. The id asks the ids before it, the parent the levels before it, the kind of a
+-- milestone whether a kept link enters the row, the duration MinutesPerDay of the Project, and the calendar the names of the calendars
 pub record MadeFrom (root : Element) (m : Model) (row : ℕ) (t : Element) (a : Activity) : Type 0 where
   pub whole : a ≡ activityOf (contextOf root) (map (λ (b : Activity). b .id) (take row (m .activities))) (map levelOf (take row (keptTasks root))) (entered (m .links) row) t
   pub uid : textIn t "UID" ≡ some (a .uid)
   pub name : a .name ≡ textIn t "Name" or []
-  pub id : Starred (wantedId t) (a .id)
+  pub notes : a .notes ≡ textIn t "Notes" or []
+  pub deadline : a .deadline ≡ dateIn t "Deadline"
+  pub start : a .start ≡ dateIn t "ActualStart"
+  pub finish : a .finish ≡ dateIn t "ActualFinish"
+  pub id : Starred m row (wantedId t) (a .id)
 
 -- ---- its parent
 
@@ -86,6 +131,19 @@ pub record Joins (root : Element) (x : ℕ × Element) (l : Link) : Type 0 where
   pub successor : l .successor ≡ x .0
   pub whole : l ≡ linkOf (contextOf root) (l .predecessor) (x .0) (x .1)
 
+-- ---- calendars
+
+-- all Exception elements in Exceptions of a Calendar in Calendars
+abbrev pub exceptionElements : Element → List Element
+exceptionElements root = flatMap (λ c. allIn (child c (bytes "Exceptions")) (bytes "Exception")) (allIn (child root (bytes "Calendars")) (bytes "Calendar"))
+
+abbrev pub givesNoRule : Element → Bool
+givesNoRule x = not (given (ruleOf x))
+
+-- that of the root's CalendarUID, else the first, else the default
+abbrev pub mainOf : Element → Calendar
+mainOf root = mainCalendar root (builtCalendars root)
+
 -- ---- all of it
 
 -- of the bytes l that were read from a tree
@@ -99,6 +157,8 @@ pub record OfEveryRead (tree : Text) (l : List ℕ) : Type 0 where
   -- so parents lie above, rows are in range, each calendar name used is some calendar's; ids are distinct, and so are expenses
   pub leads : LeadsSomewhere model
   pub differs : IsDistinct model
+  -- which tasks are kept
+  pub tasks : AreKept (taskElements (rootOf tree)) (keptTasks (rootOf tree))
   -- activities are the kept tasks in read order, as many
   pub asMany : length (model .activities) ≡ length (keptTasks (rootOf tree))
   pub made : (row : ℕ) (t : Element) (a : Activity) → At (keptTasks (rootOf tree)) row t → At (model .activities) row a → MadeFrom (rootOf tree) model row t a
@@ -117,3 +177,9 @@ pub record OfEveryRead (tree : Text) (l : List ℕ) : Type 0 where
   pub dangling : model .project .dangling ≡ length (keep (dangles (rootOf tree)) (linkElements (rootOf tree)))
   pub across : model .project .across ≡ length (keep goesAcross (linkElements (rootOf tree)))
   pub sum : length (model .links) + (model .project .dangling + model .project .across) ≡ length (linkElements (rootOf tree))
+  -- skipped is how many exceptions give no rule
+  pub skipped : model .project .skipped ≡ length (keep givesNoRule (exceptionElements (rootOf tree)))
+  -- the calendar of row 0 is the main one; no activity and no resource names it, so that no name means the main one
+  pub main : At (model .calendars) 0 (mainOf (rootOf tree))
+  pub activityOther : (row : ℕ) (a : Activity) → At (model .activities) row a → a .calendar ≡ some (mainOf (rootOf tree) .name) → ⊥
+  pub resourceOther : (row : ℕ) (r : Resource) → At (model .resources) row r → r .calendar ≡ some (mainOf (rootOf tree) .name) → ⊥

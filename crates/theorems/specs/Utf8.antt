@@ -4,11 +4,11 @@ use mathlib.Core.Path.{_≡_, refl, sym, ap, _∙_, subst}
 use mathlib.Core.Bool.{Bool, true, false, true≢false, _&&_, _||_}
 use mathlib.Core.List.{List, [], _∷_, _++_, reverse, reverse-cons, reverse-reverse, append-assoc}
 use mathlib.Core.Option.{Option, some, none}
-use Prim.Native.Nat.{ℕ, zero, suc, _+_, _^_, _≤_, _<_}
+use Prim.Native.Nat.{ℕ, zero, suc, _≤_, _<_}
 use native.Mathlib.Omega.{arith}
 use borrow.Author.Tests.{le-leb, lt-leb, eqb-true, ne-eqb}
 use lib.Dec.{leb, eqb}
-use lib.ListN.{length, drop, getD, replicate, length-append, length-replicate}
+use lib.ListN.{length, drop, getD, replicate}
 use Rattle.definition.specs.Base.{if_then_else_, when, within, every?}
 use Rattle.definition.specs.Text.{Text, tailByte, following, utf8After, isUtf8, white1, white2, white3, frontWidth, backWidth, strip, trimFront, trimBack, trim}
 use Rattle.definition.specs.Tree.{Rec, records, Forest, Element, element}
