@@ -1,17 +1,17 @@
 -- The rules of each record, from what the readers of its parts answer. Assumes nothing.
 use mathlib.Core.Path.{_≡_, refl, sym, ap, _∙_}
-use mathlib.Core.Bool.{Bool, true, false, _&&_, not}
-use mathlib.Core.List.{List, [], _∷_}
+use mathlib.Core.Bool.{Bool, true, not}
+use mathlib.Core.List.{List, [], _∷_, map}
 use mathlib.Core.Option.{Option, none}
 use Prim.Native.Nat.{ℕ}
-use lib.Dec.{ltb, eqb}
-use borrow.Author.Tests.{eqb-true, eqb-false, eq-eqb, ne-eqb}
-use Rattle.definition.specs.Base.{some?, same}
+use lib.Dec.{ltb}
+use Rattle.definition.specs.Base.{some?}
 use Rattle.definition.specs.Text.{Text}
 use Rattle.definition.specs.Format.{whole, row, text, optional}
 use Rattle.definition.specs.Model.{Model, Calendar, Link, Assignment}
 use Rattle.definition.specs.Pack.{link, assignment}
 use Rattle.definition.specs.Check.{ifGiven, isCalendar, linkRight, assignmentRight}
+use Rattle.laws.specs.FitNames.{same-turned}
 use Rattle.bits.specs.declared.Place.{Place}
 use Rattle.model.specs.Splits.{Stands, stands-or}
 use Rattle.model.specs.Sections.{Decoded}
@@ -24,6 +24,7 @@ use Rattle.model.specs.declared.records.Kind.{Kind}
 use Rattle.model_check.specs.Kinds.{Item}
 use Rattle.model_check.specs.Keys.{sameKey}
 use Rattle.model_check.specs.Rules.{rowsBelow, rightOf}
+use Rattle.model_check.proofs.Whole.{some-map}
 
 -- ---- a parent's row
 
@@ -32,30 +33,27 @@ parent-right h e = ap (λ (x : Option ℕ × Place). x .0) e ∙ stands-or h non
 
 -- ---- a calendar's name
 
-same-sym : (a b : Text) → same a b ≡ same b a
-unfolding same
-same-sym [] [] = refl
-same-sym [] (y ∷ b) = refl
-same-sym (x ∷ a) [] = refl
-same-sym (x ∷ a) (y ∷ b) = rw (same-sym a b) (ap (λ (t : Bool). t && same b a) (turned (eqb x y) refl))
-  where
-    turned : (t : Bool) → eqb x y ≡ t → eqb x y ≡ eqb y x
-    turned true e = e ∙ sym (eq-eqb y x (sym (eqb-true x y e)))
-    turned false e = e ∙ sym (ne-eqb y x (λ z. eqb-false x y e (sym z)))
-
 some-ext : {A : Type 0} {p q : A → Bool} → ((x : A) → p x ≡ q x) → (l : List A) → some? p l ≡ some? q l
 unfolding some?
 some-ext h [] = refl
 some-ext h (x ∷ l) = rw (h x, some-ext h l)
+
+module _ (m : Model) (n : Text) where
+  pub named : some? (λ (c : Calendar). sameKey (0, n) (0, c .name)) (m .calendars) ≡ isCalendar m n
+  unfolding isCalendar
+  named = some-ext (λ c. same-turned n (c .name)) (m .calendars)
+
+  pub named-in : some? (sameKey (0, n)) (map (λ (c : Calendar). (0, c .name)) (m .calendars)) ≡ isCalendar m n
+  named-in = sym (some-map (sameKey (0, n)) (λ (c : Calendar). (0, c .name)) (m .calendars)) ∙ named
 
 module _ {s : List ℕ} {p : Place} {r : NameField} {o : Option Text} (m : Model) (h : Stands (optional text) s p o) (e : NameTaken s p r) where
   pub no-name : r .name ≡ NameAnswer.Absent → true ≡ ifGiven (isCalendar m) o
   unfolding nameMeaning
   no-name g = rw (e .text o h, g)
 
-  pub a-name : (start len : ℕ) → r .name ≡ NameAnswer.At start len → some? (λ (c : Calendar). sameKey (0, textIn s (start, len)) (0, c .name)) (m .calendars) ≡ ifGiven (isCalendar m) o
-  unfolding isCalendar nameMeaning
-  a-name start len g = some-ext (λ c. same-sym (textIn s (start, len)) (c .name)) (m .calendars) ∙ rw (e .text o h, g)
+  pub a-name : (start len : ℕ) → r .name ≡ NameAnswer.At start len → isCalendar m (textIn s (start, len)) ≡ ifGiven (isCalendar m) o
+  unfolding nameMeaning
+  a-name start len g = rw (e .text o h, g)
 
 -- ---- rows
 

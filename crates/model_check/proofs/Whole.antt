@@ -15,7 +15,7 @@ use Rattle.model.specs.declared.Sections.{Sections}
 pub both : {a b c d : Bool} → a ≡ b → c ≡ d → a && c ≡ b && d
 both e f = rw (e, f)
 
-some-map : {A B : Type 0} (p : B → Bool) (key : A → B) (l : List A) → some? (λ x. p (key x)) l ≡ some? p (map key l)
+pub some-map : {A B : Type 0} (p : B → Bool) (key : A → B) (l : List A) → some? (λ x. p (key x)) l ≡ some? p (map key l)
 unfolding some?
 some-map p key [] = refl
 some-map p key (x ∷ l) = rw (some-map p key l)
