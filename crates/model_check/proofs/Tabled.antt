@@ -11,16 +11,14 @@ use borrow.Author.Tests.{eqb-true, eqb-false, eq-eqb, ne-eqb}
 use lib.Dec.{eqb}
 use lib.ListN.{length, getD, take, drop, length-map}
 use lib.Seq.{take-length}
-use Rattle.definition.specs.Base.{if_then_else_, given, keep, find, some?}
-use Rattle.definition.specs.Check.{distinct}
+use Rattle.definition.specs.Base.{if_then_else_, given, find, some?}
 use Rattle.index.specs.declared.Table.{Table}
 use Rattle.index.specs.declared.Row.{Row}
 use Rattle.index.specs.declared.Row.the-variants.{At, None}
 use Rattle.index.specs.declared.Made.{Made}
 use Rattle.index.specs.declared.Made.the-variants.{Ready}
 use Rattle.index.specs.Chains.{tableOf, zeros, added, firstOf, nextOf, placeOf, asRow, upTo, chain, chainOf}
-use Rattle.index.specs.Last.{lastBelow, down, last-none, last-yes, last-no, down-none, down-yes, down-no, find-down, find-none}
-use Rattle.index.specs.Law.{Indexed, Seeks, inBucket, table-placed, first-less, next-less, indexed-none, indexed-by, indexed-same, chain-none, chain-at, next-is, find-chain, seeks-none, seeks-here}
+use Rattle.index.specs.Law.{Seeks, table-placed, first-less, next-less, indexed-none, indexed-by, indexed-same, find-chain, find-next, seeks-none, seeks-here}
 use Rattle.bits.specs.declared.Place.{Place}
 use Rattle.model.specs.Answers.{rest-fits}
 use Rattle.model.specs.Parts.{recordOf}
@@ -64,7 +62,7 @@ grown-below g n v r h = rw (ne-eqb r n (omega arith))
 pub emptied : (w : List ℕ) {m : Made} {n : ℕ} {t : Table} {w₂ : List ℕ} → m ≡ tableOf (length w) 0 n → m ≡ Ready t → w₂ ≡ zeros w (t .at) (t .rows) → (t .rows ≡ n) × Emptied t w₂
 emptied w {n = n} e f z =
     let p = table-placed (length w) 0 n (sym f ∙ e) in
-    (ap (λ (t : Table). t .rows) (p .is), λ f g. rw z (indexed-none w (p .fits)))
+    (ap (λ (t : Table). t .rows) (p .is), λ f g. rw z (indexed-none f g w (p .fits)))
 
 module _ {kind : Kind} {s : List ℕ} {key : Item kind → Key} {xs : List (Item kind)} {end : ℕ} {t : Table} {w : List ℕ} {q : Place} where
   pub fill-starts : Run kind s q (t .rows) xs end → Emptied t w → Filling kind s key xs end t w q 0
@@ -98,8 +96,8 @@ module _ {kind : Kind} {s : List ℕ} {key : Item kind → Key} {xs : List (Item
           along = goes never true (f .along) u refl;
           keys = record {
             places = grown g i (q .byte);
-            indexed = indexed-by (indexed-same (f .keys .indexed) (λ r m. refl) (grown-below g i (q .byte))) l e (hash _ (k .first (u .stands)) ∙ ap hashKey (sym z))
-              (at-p ∙ mod-eq-of-lt (at-byte .1) ∙ grown-at g i (q .byte));
+            indexed = indexed-by (indexed-same (f .keys .indexed) (λ r m. refl) (grown-below g i (q .byte))) l (hash _ (k .first (u .stands)) ∙ ap hashKey (sym z))
+                (at-p ∙ mod-eq-of-lt (at-byte .1) ∙ grown-at g i (q .byte)) e;
             full = f .keys .full;
             stands = λ r m. by here r m (eqb r i) refl;
           };
@@ -132,31 +130,6 @@ module _ {w : List ℕ} {t : Table} {p : ℕ → Bool} {o : Option ℕ} {at : Ro
 
 pub row-in : {at : Row} {r n : ℕ} → at ≡ At r → upTo at ≤ n → r < n
 row-in e h = let z = ap upTo e in omega arith
-
--- ---- the rows before a row in its chain
-
-module _ {t : Table} {f g : ℕ → ℕ} {n : ℕ} {w : List ℕ} (x : Indexed t f g n w) where
-  chain-from : (b m : ℕ) → m ≤ n → chain w t (asRow (lastBelow (inBucket t f b) m)) ≡ keep (inBucket t f b) (down m)
-  chain-from b zero h = ap (λ (o : Option ℕ). chain w t (asRow o)) (last-none (inBucket t f b)) ∙ chain-none w t ∙ sym (down-none (inBucket t f b))
-  chain-from b (suc m) h = by (inBucket t f b m) refl (chain-from b m (omega arith))
-    where
-      by : (e : Bool) → inBucket t f b m ≡ e → chain w t (asRow (lastBelow (inBucket t f b) m)) ≡ keep (inBucket t f b) (down m)
-          → chain w t (asRow (lastBelow (inBucket t f b) (suc m))) ≡ keep (inBucket t f b) (down (suc m))
-      by true e before =
-          let z : f m % t .rows ≡ b = eqb-true (f m % t .rows) b e in
-          ap (λ (o : Option ℕ). chain w t (asRow o)) (last-yes (inBucket t f b) m e)
-          ∙ chain-at w t m
-          ∙ ap (λ (r : Row). m ∷ chain w t r) (next-is x m (omega arith) ∙ ap (λ (b : ℕ). asRow (lastBelow (inBucket t f b) m)) z)
-          ∙ ap (λ (l : List ℕ). m ∷ l) before
-          ∙ sym (down-yes (inBucket t f b) m e)
-      by false e before = ap (λ (o : Option ℕ). chain w t (asRow o)) (last-no (inBucket t f b) m e) ∙ before ∙ sym (down-no (inBucket t f b) m e)
-
-  pub find-next : (p : ℕ → Bool) (r : ℕ) → r < n → ((q : ℕ) → q < r → p q ≡ true → f q ≡ f r) → find p (chain w t (nextOf w t r)) ≡ lastBelow p r
-  find-next p r h only =
-      let b = f r % t .rows in
-      ap (λ (a : Row). find p (chain w t a)) (next-is x r h)
-      ∙ ap (find p) (chain-from b r (omega arith))
-      ∙ find-down p (inBucket t f b) r (λ q k e. eq-eqb (f q % t .rows) b (ap (λ (x : ℕ). x % t .rows) (only q k e)))
 
 -- ---- what a full table tells
 

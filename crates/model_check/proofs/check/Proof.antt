@@ -14,7 +14,7 @@ same-length : tie.Need-same-length
 same-length c = search needs
 
 returns : tie.Need-returns
-returns c = rw (c .before .before .before .before .before .before .answer .ensures, c .before .before .clear-words-from .ensures, cleared-all) ?
+returns c = rw (c .before .before .before .before .before .before .answer .ensures, c .before .before .clear-words-from .ensures, cleared-all, c .before .before .before .before .before .before .answer .kept .1 .0)
 
 pub check-spec : {M : Type 1} → statement M
 check-spec = tie.close (tie.spec answer-requires clear-words-from-requires same-length returns)

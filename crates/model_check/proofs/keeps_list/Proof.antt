@@ -37,7 +37,13 @@ all-distinct-requires-3 : tie.Need-all-distinct-requires-3
 all-distinct-requires-3 c κs = search needs
 
 same-length : tie.Need-same-length
-same-length c = search needs
+same-length c =
+    let d3 = c .before .before in
+    let d2 = d3 .before .before .before .before in
+    let d1 = d2 .before .before .before .before in
+    let r1 = d1 .before .before .before .before .before .before .before .before .before .before in
+    let n = r1 .before .before .before .before in
+    d3 .all-distinct3 .kept .1 .1 .1 .0 ∙ d2 .all-distinct2 .kept .1 .1 .1 .0 ∙ d1 .all-distinct .kept .1 .1 .1 .0 ∙ n .index-keys .kept .1 .1 .1 .0
 
 returns : tie.Need-returns
 unfolding keepsList

@@ -46,11 +46,12 @@ loop-again c =
     let p = c .before .before .before in
     let h = p .before .before .before in
     let l = h .before .before .before in
-    let v = l .loop .inv in
-    (omega arith,
+    let v = l .loop .inv in (
+      omega arith,
       p .put .kept .0 ∙ v .1,
       c .skip-record .ensures .1,
-      λ small e key k xs end r. fill-goes (v .3 small e key k xs end r) k small (v .2) (omega arith) (h .hash-at .ensures) refl (p .put .ensures) (c .skip-record .ensures .0))
+      λ small e key k xs end r. fill-goes (v .3 small e key k xs end r) k small (v .2) (omega arith) (h .hash-at .ensures) refl (p .put .ensures) (c .skip-record .ensures .0),
+    )
 
 same-length : tie.Need-same-length Inv-loop μ-loop
 same-length c = c .before .before .loop .inv .1
