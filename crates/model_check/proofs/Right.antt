@@ -4,7 +4,6 @@ use mathlib.Core.Bool.{Bool, true, not}
 use mathlib.Core.List.{List, [], _∷_, map}
 use mathlib.Core.Option.{Option, none}
 use Prim.Native.Nat.{ℕ}
-use lib.Dec.{ltb}
 use Rattle.definition.specs.Base.{some?}
 use Rattle.definition.specs.Text.{Text}
 use Rattle.definition.specs.Format.{whole, row, text, optional}

@@ -3,9 +3,8 @@ use mathlib.Core.Path.{_≡_, refl, sym, ap, _∙_}
 use mathlib.Core.Bool.{Bool, true, false}
 use mathlib.Core.List.{List, [], _∷_, map}
 use mathlib.Core.Option.{Option, some, none}
-use Prim.Native.Nat.{ℕ, zero, suc, _+_, _-_, _%_, _^_, _≤_, _<_}
+use Prim.Native.Nat.{ℕ, zero, suc, _+_, _%_, _^_, _≤_, _<_}
 use native.Mathlib.Nat.{mod-eq-of-lt}
-use native.Mathlib.Numerals.{add-one}
 use native.Mathlib.Omega.{arith}
 use borrow.Author.Tests.{eqb-true, eqb-false, eq-eqb, ne-eqb}
 use lib.Dec.{eqb}
@@ -17,7 +16,7 @@ use Rattle.index.specs.declared.Row.{Row}
 use Rattle.index.specs.declared.Row.the-variants.{At, None}
 use Rattle.index.specs.declared.Made.{Made}
 use Rattle.index.specs.declared.Made.the-variants.{Ready}
-use Rattle.index.specs.Chains.{tableOf, zeros, added, firstOf, nextOf, placeOf, asRow, upTo, chain, chainOf}
+use Rattle.index.specs.Chains.{tableOf, zeros, added, firstOf, nextOf, placeOf, asRow, upTo, chain}
 use Rattle.index.specs.Law.{Seeks, table-placed, first-less, next-less, indexed-none, indexed-by, indexed-same, find-chain, find-next, seeks-none, seeks-here}
 use Rattle.bits.specs.declared.Place.{Place}
 use Rattle.model.specs.Answers.{rest-fits}

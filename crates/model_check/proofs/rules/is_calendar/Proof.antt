@@ -2,7 +2,6 @@
 use mathlib.Core.Path.{_∙_}
 use Rattle.definition.specs.Model.{Calendar}
 use Rattle.model_check.specs.Kinds.{run}
-use Rattle.model_check.specs.Keys.{sameKey}
 use Rattle.model_check.proofs.Keyed.{calendar-key}
 use Rattle.model_check.proofs.Right.{named, named-in}
 use borrow.Author.Needs.{needs}

@@ -1,7 +1,6 @@
 -- `model_check::tables::hash_key` meets its contract. Assumes nothing.
 use Prim.Native.Nat.{ℕ, _+_, _*_, _%_, _^_}
 use mathlib.Core.Path.{ap}
-use native.Mathlib.Omega.{arith}
 use Rattle.model_check.specs.Keys.{hashKey}
 use borrow.Author.Needs.{needs}
 use Rattle.model_check.proofs.tables.hash_key.Statement.{statement}

@@ -1,12 +1,7 @@
 -- `model_check::tables::table_distinct` meets its contract. The invariant: no key of a row that was looked at has a twin before it. Assumes nothing.
-use mathlib.Core.Path.{_≡_, refl, sym, ap, _∙_}
-use mathlib.Core.Bool.{Bool}
 use mathlib.Core.List.{List}
-use Prim.Native.Nat.{ℕ, _-_, _≤_}
 use native.Mathlib.Omega.{arith}
-use lib.ListN.{length, take}
-use Rattle.definition.specs.Check.{distinct}
-use Rattle.model_check.specs.Keys.{Key, sameKey, leadOf}
+use Rattle.model_check.specs.Keys.{Key, leadOf}
 use Rattle.model_check.specs.Tables.{KeyTable}
 use Rattle.model_check.proofs.Twins.{Looked, all-left, no-twin, a-twin, none-left}
 use borrow.Author.Needs.{needs}
