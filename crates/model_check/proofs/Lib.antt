@@ -1,4 +1,6 @@
 pub mod Scan
 pub mod Keyed
-pub mod Right
 pub mod Whole
+pub mod Right
+pub mod Twins
+pub mod Tabled

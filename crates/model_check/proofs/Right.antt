@@ -1,7 +1,7 @@
 -- The rules of each record, from what the readers of its parts answer. Assumes nothing.
-use mathlib.Core.Path.{_≡_, refl, ap, _∙_}
+use mathlib.Core.Path.{_≡_, refl, sym, ap, _∙_}
 use mathlib.Core.Bool.{Bool, true, not}
-use mathlib.Core.List.{List, [], _∷_}
+use mathlib.Core.List.{List, [], _∷_, map}
 use mathlib.Core.Option.{Option, none}
 use Prim.Native.Nat.{ℕ}
 use Rattle.definition.specs.Base.{some?}
@@ -23,6 +23,7 @@ use Rattle.model.specs.declared.records.Kind.{Kind}
 use Rattle.model_check.specs.Kinds.{Item}
 use Rattle.model_check.specs.Keys.{sameKey}
 use Rattle.model_check.specs.Rules.{rowsBelow, rightOf}
+use Rattle.model_check.proofs.Whole.{some-map}
 
 -- ---- a parent's row
 
@@ -36,14 +37,22 @@ unfolding some?
 some-ext h [] = refl
 some-ext h (x ∷ l) = rw (h x, some-ext h l)
 
+module _ (m : Model) (n : Text) where
+  pub named : some? (λ (c : Calendar). sameKey (0, n) (0, c .name)) (m .calendars) ≡ isCalendar m n
+  unfolding isCalendar
+  named = some-ext (λ c. same-turned n (c .name)) (m .calendars)
+
+  pub named-in : some? (sameKey (0, n)) (map (λ (c : Calendar). (0, c .name)) (m .calendars)) ≡ isCalendar m n
+  named-in = sym (some-map (sameKey (0, n)) (λ (c : Calendar). (0, c .name)) (m .calendars)) ∙ named
+
 module _ {s : List ℕ} {p : Place} {r : NameField} {o : Option Text} (m : Model) (h : Stands (optional text) s p o) (e : NameTaken s p r) where
   pub no-name : r .name ≡ NameAnswer.Absent → true ≡ ifGiven (isCalendar m) o
   unfolding nameMeaning
   no-name g = rw (e .text o h, g)
 
-  pub a-name : (start len : ℕ) → r .name ≡ NameAnswer.At start len → some? (λ (c : Calendar). sameKey (0, textIn s (start, len)) (0, c .name)) (m .calendars) ≡ ifGiven (isCalendar m) o
-  unfolding isCalendar nameMeaning
-  a-name start len g = some-ext (λ c. same-turned (textIn s (start, len)) (c .name)) (m .calendars) ∙ rw (e .text o h, g)
+  pub a-name : (start len : ℕ) → r .name ≡ NameAnswer.At start len → isCalendar m (textIn s (start, len)) ≡ ifGiven (isCalendar m) o
+  unfolding nameMeaning
+  a-name start len g = rw (e .text o h, g)
 
 -- ---- rows
 

@@ -1,11 +1,12 @@
 -- Keys by which records are told apart: a row and a text. A record with no row before the text has 0 for it. Assumes nothing.
 use mathlib.Core.Bool.{Bool, _&&_}
-use mathlib.Core.List.{List}
-use Prim.Native.Nat.{ℕ}
+use mathlib.Core.List.{List, []}
+use Prim.Native.Nat.{ℕ, _+_, _*_, _%_, _^_}
 use lib.Dec.{eqb}
 use Rattle.definition.specs.Base.{same}
 use Rattle.definition.specs.Text.{Text}
 use Rattle.definition.specs.Format.{field, whole, text}
+use Rattle.index.specs.Hash.{hashOf}
 use Rattle.bits.specs.declared.Place.{Place}
 use Rattle.model.specs.Passes.{Passes}
 use Rattle.model.specs.Splits.{Stands}
@@ -18,6 +19,14 @@ Key = ℕ × Text
 
 abbrev pub sameKey : Key → Key → Bool
 sameKey k l = eqb (k .0) (l .0) && same (k .1) (l .1)
+
+-- what stands for a key past the end of a list
+abbrev pub noKey : Key
+noKey = (0, [])
+
+-- a hash of 32 bits
+unfoldable pub hashKey : Key → ℕ
+hashKey k = (k .0 % 2 ^ 32 * 2654435761 + hashOf (k .1)) % 2 ^ 32
 
 -- the bits of the row
 abbrev pub leadOf : Kind → ℕ

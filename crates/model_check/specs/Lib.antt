@@ -1,3 +1,4 @@
 pub mod Kinds
 pub mod Keys
 pub mod Rules
+pub mod Tables

@@ -16,7 +16,7 @@ use model::records::Kind;
 use model::records::skip_record;
 
 // The bytes of the text at a place.
-fn text_at(s: &[u8], p: Place) -> &[u8]
+pub(crate) fn text_at(s: &[u8], p: Place) -> &[u8]
     ensures { λ r. ⌜ ((t : Text) → Stands text (now (s .entry)) p t → now r ≡ t) ⌝ }
 {
     let t = bits::take_text(s, p);
@@ -26,7 +26,7 @@ fn text_at(s: &[u8], p: Place) -> &[u8]
 }
 
 // How many bits stand in a record before the text of its key: an expense's row.
-fn lead(kind: Kind) -> usize
+pub(crate) fn lead(kind: Kind) -> usize
     ensures { λ r. ⌜ r ≡ leadOf kind ⌝ }
 {
     match kind {
@@ -40,7 +40,7 @@ fn lead(kind: Kind) -> usize
 }
 
 // Whether the record at a place has a key.
-fn has_key(s: &[u8], p: Place, kind: Kind, row: u64, name: &[u8]) -> bool
+pub(crate) fn has_key(s: &[u8], p: Place, kind: Kind, row: u64, name: &[u8]) -> bool
     ensures { λ r. ⌜ ((k : Key) → KeyAt (leadOf kind) (now (s .entry)) p k → r ≡ sameKey (row, now (name .entry)) k) ⌝ }
 {
     let v = bits::take(s, p, lead(kind));
@@ -81,7 +81,7 @@ fn is_repeated(s: &[u8], p: Place, kind: Kind, next: Place, count: u32) -> bool
     some_has_key(s, next, kind, count, v.value, text_at(s, v.next))
 }
 
-// Whether no two records of a section have the same key.
+// Whether no two records of a section have the same key, by a look at all later ones for each.
 pub(crate) fn distinct(s: &[u8], kind: Kind, x: Section) -> bool
     ensures { λ r. ⌜ ((key : Item kind → Key) → Keyed kind (now (s .entry)) key → (xs : List (Item kind)) (end : ℕ) → Holds (formatOf kind) (now (s .entry)) x xs end → r ≡ distinct (λ (x y : Item kind). sameKey (key x) (key y)) xs) ⌝ }
 {

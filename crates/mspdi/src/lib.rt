@@ -70,9 +70,7 @@ pub extern "C" fn mspdi_time(minutes: u32, text: &mut [u8], written: &mut u64) -
 pub extern "C" fn mspdi_check(model: &[u8], work: &mut [u32]) -> u32
     ensures { λ r. ⌜ _≡_ {A = ℕ × List ℕ} (r, now (work .exit)) (checkAnswer (now (model .entry)), replicate (length (now (work .entry))) 0) ⌝ }
 {
-    let answer = model_check::check(model);
-    bits::clear_words_from(work, 0);
-    answer
+    model_check::check(model, work)
 }
 
 // The number of an outline's answer, and how many rows it has.

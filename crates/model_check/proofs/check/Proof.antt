@@ -1,30 +1,20 @@
 -- `model_check::check` meets its contract. Assumes nothing.
-use borrow.Author.Tests.{not-true, not-false}
-use Rattle.model_check.proofs.Whole.{refused, checked}
+use Rattle.bits.specs.Clear.{cleared-all}
 use borrow.Author.Needs.{needs}
 use Rattle.model_check.proofs.check.Statement.{statement}
 use Rattle.model_check.proofs.check.Tie as tie
 
-open-requires : tie.Need-open-requires
-open-requires c κs = search needs
+answer-requires : tie.Need-answer-requires
+answer-requires c κs = search needs
 
-enum-known-opened : tie.Need-enum-known-opened
-enum-known-opened c = search needs
+clear-words-from-requires : tie.Need-clear-words-from-requires
+clear-words-from-requires c κs = search needs
 
-enum-told : tie.Need-enum-told
-enum-told c = search needs
+same-length : tie.Need-same-length
+same-length c = search needs
 
 returns : tie.Need-returns
-returns c = refused (c .before .before .«open» .ensures) (c .enum-told .given .1)
-
-keeps-list-requires : tie.Need-keeps-list-requires
-keeps-list-requires c κs = search needs
-
-returns-2 : tie.Need-returns-2
-returns-2 c = checked (c .before .before .before .before .before .«open» .ensures) (c .before .before .before .opened .given .1) (c .before .keeps-list .ensures) (not-true _ (c .if1 .taken))
-
-returns-3 : tie.Need-returns-3
-returns-3 c = checked (c .before .before .before .before .before .«open» .ensures) (c .before .before .before .opened .given .1) (c .before .keeps-list .ensures) (not-false _ (c .if1 .left))
+returns c = rw (c .before .before .before .before .before .before .answer .ensures, c .before .before .clear-words-from .ensures, cleared-all, c .before .before .before .before .before .before .answer .kept .1 .0)
 
 pub check-spec : {M : Type 1} → statement M
-check-spec = tie.close (tie.spec open-requires enum-known-opened enum-told returns keeps-list-requires returns-2 returns-3)
+check-spec = tie.close (tie.spec answer-requires clear-words-from-requires same-length returns)

@@ -21,8 +21,8 @@ calendar-known-requires c κs = search needs
 returns : tie.Need-returns
 unfolding activityRight
 returns c =
-    λ m d x h.
-    rw (c .before .before .parent-below .ensures (x .parent) (activity-parent h false (c .before .before .before .parent-place .ensures)), c .calendar-known .ensures m d (x .calendar) (activity-calendar h (c .before .activity-calendar-place .ensures)))
+    λ m d n x h.
+    rw (c .before .before .parent-below .ensures (x .parent) (activity-parent h false (c .before .before .before .parent-place .ensures)), c .calendar-known .ensures m d n (x .calendar) (activity-calendar h (c .before .activity-calendar-place .ensures)))
 
 pub activity-right-spec : {M : Type 1} → statement M
 activity-right-spec =

@@ -2,9 +2,6 @@
 use mathlib.Core.Path.{_∙_}
 use native.Mathlib.Omega.{arith}
 use Rattle.model.specs.Places.{between}
-use Rattle.definition.specs.Model.{Calendar}
-use Rattle.model_check.specs.Kinds.{run}
-use Rattle.model_check.proofs.Keyed.{calendar-key}
 use Rattle.model_check.proofs.Right.{no-name, a-name}
 use borrow.Author.Needs.{needs}
 use Rattle.model_check.proofs.rules.calendar_known.Statement.{statement}
@@ -20,25 +17,27 @@ enum-told : tie.Need-enum-told
 enum-told c = search needs
 
 returns : tie.Need-returns
-returns c = λ m d o h. no-name m h (c .before .before .take-name .ensures) (c .enum-told .given .1)
+returns c = λ m d x o h. no-name m h (c .before .before .take-name .ensures) (c .enum-told .given .1)
 
 add-end : tie.Need-add-end
-add-end c = omega (arith, c .before .before .before .take-name .ensures .within _ _ (c .before .name .given .1), c .before .before .before .before .before .good)
+add-end c = omega (arith, c .before .before .before .take-name .ensures .within _ _ (c .before .name .given .1), c .before .before .before .before .before .before .good)
 
-sub-some-has-key : tie.Need-sub-some-has-key
-sub-some-has-key c = search needs
+sub-is-calendar : tie.Need-sub-is-calendar
+sub-is-calendar c = search needs
 
-part-some-has-key-start : tie.Need-part-some-has-key-start
-part-some-has-key-start c = search needs
+part-is-calendar-start : tie.Need-part-is-calendar-start
+part-is-calendar-start c = search needs
 
-part-some-has-key-end : tie.Need-part-some-has-key-end
-part-some-has-key-end c = c .before .before .before .take-name .ensures .within _ _ (c .before .name .given .1)
+part-is-calendar-end : tie.Need-part-is-calendar-end
+part-is-calendar-end c = c .before .before .before .take-name .ensures .within _ _ (c .before .name .given .1)
 
-some-has-key-requires : tie.Need-some-has-key-requires
-some-has-key-requires c κs = search needs
+is-calendar-requires : tie.Need-is-calendar-requires
+is-calendar-requires c κs = search needs
 
 returns-2 : tie.Need-returns-2
-returns-2 c = λ m d o h. c .some-has-key .ensures (λ (x : Calendar). (0, x .name)) calendar-key (m .calendars) _ (run _ (d .calendars)) ∙ rw between (a-name m h (c .before .before .before .before .before .take-name .ensures) _ _ (c .before .before .before .name .given .1))
+returns-2 c =
+    let n = c .before .before .before in
+    λ m d x o h. c .is-calendar .ensures m d x ∙ rw between (a-name m h (n .before .before .take-name .ensures) _ _ (n .name .given .1))
 
 pub calendar-known-spec : {M : Type 1} → statement M
 calendar-known-spec =
@@ -49,8 +48,8 @@ calendar-known-spec =
     enum-told
     returns
     add-end
-    sub-some-has-key
-    part-some-has-key-start
-    part-some-has-key-end
-    some-has-key-requires
+    sub-is-calendar
+    part-is-calendar-start
+    part-is-calendar-end
+    is-calendar-requires
     returns-2)

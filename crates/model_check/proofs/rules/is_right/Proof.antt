@@ -43,24 +43,24 @@ row-below-requires : tie.Need-row-below-requires
 row-below-requires c κs = search needs
 
 returns : tie.Need-returns
-returns c = rw (c .enum-told .given .1) (λ m d a h. refl)
+returns c = rw (c .enum-told .given .1) (λ m d n a h. refl)
 
 returns-2 : tie.Need-returns-2
 returns-2 c = rw (c .before .enum-told2 .given .1) (c .activity-right .ensures)
 
 returns-3 : tie.Need-returns-3
-returns-3 c = rw (c .before .enum-told3 .given .1) (λ m d a h. link-right d h (c .rows-below .ensures))
+returns-3 c = rw (c .before .enum-told3 .given .1) (λ m d n a h. link-right d h (c .rows-below .ensures))
 
 returns-4 : tie.Need-returns-4
 returns-4 c =
-    rw (c .before .before .enum-told4 .given .1) (λ m d a h. c .calendar-known .ensures m d (a .calendar) (resource-calendar h (c .before .resource-calendar-place .ensures)))
+    rw (c .before .before .enum-told4 .given .1) (λ m d n a h. c .calendar-known .ensures m d n (a .calendar) (resource-calendar h (c .before .resource-calendar-place .ensures)))
 
 returns-5 : tie.Need-returns-5
-returns-5 c = rw (c .before .enum-told5 .given .1) (λ m d a h. assignment-right d h (c .rows-below2 .ensures))
+returns-5 c = rw (c .before .enum-told5 .given .1) (λ m d n a h. assignment-right d h (c .rows-below2 .ensures))
 
 returns-6 : tie.Need-returns-6
 returns-6 c =
-    rw (c .before .enum-told6 .given .1) (λ m d a h. c .row-below .ensures (a .activity) (expense-activity h) ∙ rw (d .activities .count))
+    rw (c .before .enum-told6 .given .1) (λ m d n a h. c .row-below .ensures (a .activity) (expense-activity h) ∙ rw (d .activities .count))
 
 pub is-right-spec : {M : Type 1} → statement M
 is-right-spec =
