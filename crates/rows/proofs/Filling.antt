@@ -14,9 +14,10 @@ use Rattle.definition.specs.Text.{Text}
 use Rattle.definition.specs.Tree.{Element}
 use Rattle.index.specs.declared.Table.{Table}
 use Rattle.index.specs.Hash.{hashOf}
-use Rattle.index.specs.Chains.{zeros, added, endOf}
-use Rattle.index.specs.Law.{Fits, Indexed, indexed-none, indexed-by, indexed-same}
-use Rattle.index.specs.Frame.{added-outside, zeros-outside, length-added, length-zeros}
+use Rattle.index.specs.Chains.{zeros, added}
+use Rattle.index.specs.Law.{Fits, Indexed, indexed-none, indexed-by, indexed-same, length-added}
+use Rattle.index.specs.Frame.{Outside, added-outside, zeros-outside}
+use Rattle.index.specs.Steps.{length-zeros}
 use Rattle.tree.specs.Place.{elementAt}
 use Rattle.rows.specs.Tables.{listed, uidOf, laterIn, listedBy, roomIn, Lists, noElement, nth, hashIn, Ripe, Tabled}
 use Rattle.rows.specs.declared.kept.KeptAnswer.{KeptAnswer}
@@ -51,25 +52,23 @@ pub record Filling (s : Text) (root : Element) (l : Listed) (t : Table) (w : Lis
   pub left : drop row (listed l root) ≡ listedBy s l e
   pub there : (at left : ℕ) → e ≡ Is at left → at < length s
   pub length-same : length w′ ≡ length w
-  pub before : (j : ℕ) → j < t .at → getD w′ j 0 ≡ getD w j 0
-  pub behind : (j : ℕ) → endOf t ≤ j → getD w′ j 0 ≡ getD w j 0
+  pub outside : (j : ℕ) → Outside t j → getD w′ j 0 ≡ getD w j 0
 
-module _ {s : Text} {root : Element} {l : Listed} {t : Table} {w : List ℕ} (ripe : Ripe s root l t w) where
-  pub fill-begin : {n : ℕ} {e : KeptAnswer} {w₁ : List ℕ} → w₁ ≡ zeros w (t .at) (t .rows) → Lists s l (listed l root) n e → Filling s root l t w 0 e w₁
+module _ {s : Text} {root : Element} {l : Listed} {t : Table} {w : List ℕ} (ripe : Ripe s root l t w) {w₀ : List ℕ} where
+  pub fill-begin : {n : ℕ} {e : KeptAnswer} → w₀ ≡ zeros w (t .at) (t .rows) → Lists s l (listed l root) n e → Filling s root l t w₀ 0 e w₀
   fill-begin i h = record {
     places = λ r. 0;
-    indexed = rw i (indexed-none w (ripe .fits));
+    indexed = rw i (indexed-none _ _ w (ripe .fits));
     stands = λ r k. absurd (omega arith);
     left = h .is;
     there = h .there;
-    length-same = rw i (length-zeros w (t .at) (t .rows));
-    before = λ j k. rw i (zeros-outside t w j (ripe .fits));
-    behind = λ j k. rw i (zeros-outside t w j (ripe .fits));
+    length-same = refl;
+    outside = λ j k. refl;
   }
 
-  module _ {row : ℕ} {e : KeptAnswer} {w₁ : List ℕ} (f : Filling s root l t w row e w₁) where
-    pub fill-end : e ≡ Absent → Tabled s root l t w w₁
-    fill-end i =
+  module _ {row : ℕ} {e : KeptAnswer} {w₁ : List ℕ} (f : Filling s root l t w₀ row e w₁) where
+    pub fill-end : w₀ ≡ zeros w (t .at) (t .rows) → e ≡ Absent → Tabled s root l t w w₁
+    fill-end o i =
         let z : length (listed l root) ≤ row = drop-out row (listed l root) (f .left ∙ lists-end s l i) in
         let y : row ≡ length (listed l root) = omega (arith, f .indexed .few, ripe .rows) in
         record {
@@ -77,9 +76,8 @@ module _ {s : Text} {root : Element} {l : Listed} {t : Table} {w : List ℕ} (ri
           indexed = rw (← y) (f .indexed);
           stands = λ r k. f .stands r (omega arith);
           small = ripe .small;
-          length-same = f .length-same;
-          before = f .before;
-          behind = f .behind;
+          length-same = f .length-same ∙ ap length o ∙ length-zeros w (t .at) (t .rows);
+          outside = λ j k. f .outside j k ∙ ap (λ (v : List ℕ). getD v j 0) o ∙ zeros-outside w t j k;
         }
 
     module _ {at left : ℕ} (i : e ≡ Is at left) where
@@ -88,6 +86,12 @@ module _ {s : Text} {root : Element} {l : Listed} {t : Table} {w : List ℕ} (ri
       fill-in =
           let z : drop row (listed l root) ≡ elementAt s at ∷ laterIn s l at left = f .left ∙ rw i in
           drop-in row (listed l root) z
+
+      pub fill-place : at < 2 ^ 32
+      fill-place = omega (arith, f .there at left i, ripe .short)
+
+      pub fill-row : row + 1 < 2 ^ 32
+      fill-row = omega (arith, fill-in, ripe .small)
 
       placed : ℕ → ℕ
       placed r = if eqb r row then at else f .places r
@@ -100,21 +104,27 @@ module _ {s : Text} {root : Element} {l : Listed} {t : Table} {w : List ℕ} (ri
       unfolding placed
       new-place = rw (eq-eqb row row refl)
 
+      stood : elementAt s at ≡ nth l root row → (r : ℕ) → r < row + 1 → (b : Bool) → eqb r row ≡ b → elementAt s (placed r) ≡ nth l root r
+      stood x r k true e = let z : r ≡ row = eqb-true r row e in rw z (ap (elementAt s) (sym new-place) ∙ x)
+      stood x r k false e =
+          let z : r ≡ row → ⊥ = eqb-false r row e in
+          let y : r < row = omega (arith, z) in
+          ap (elementAt s) (sym (old-place r y)) ∙ f .stands r y
+
       module _ {n : ℕ} {r : KeptAnswer} (m : Lists s l (laterIn s l at left) n r) where
         here : nth l root row ∷ drop (row + 1) (listed l root) ≡ elementAt s at ∷ listedBy s l r
         here = drop-is row (listed l root) noElement (f .left ∙ lists-next i m)
 
-        pub fill-turn : {h : ℕ} → h ≡ hashOf (uidOf (elementAt s at)) → {w₂ : List ℕ} → w₂ ≡ added w₁ t row h at → Filling s root l t w (row + 1) r w₂
-        fill-turn {h} j {w₂} k =
+        pub fill-turn : {u : Text} → u ≡ uidOf (elementAt s at) → {h : ℕ} → h ≡ hashOf u → {w₂ : List ℕ} → w₂ ≡ added w₁ t row h at → Filling s root l t w₀ (row + 1) r w₂
+        fill-turn d {h} j {w₂} k =
             let few : row < t .rows = omega (arith, fill-in, ripe .rows) in
             let x : nth l root row ≡ elementAt s at = cons-head here in
             record {
               places = placed;
-              indexed = indexed-by (indexed-same (λ q z. refl) old-place (f .indexed)) few k (j ∙ ap (λ (e : Element). hashOf (uidOf e)) (sym x)) new-place;
-              stands = λ q z. ?;
+              indexed = indexed-by (indexed-same (f .indexed) (λ q z. refl) old-place) few (j ∙ ap hashOf d ∙ ap (λ (e : Element). hashOf (uidOf e)) (sym x)) new-place k;
+              stands = λ q z. stood (sym x) q z (eqb q row) refl;
               left = cons-tail here;
               there = m .there;
               length-same = ap length k ∙ length-added w₁ t row h at ∙ f .length-same;
-              before = λ q z. ?;
-              behind = λ q z. ?;
+              outside = λ q z. ap (λ (v : List ℕ). getD v q 0) k ∙ added-outside w₁ t row h at q z ∙ f .outside q z;
             }

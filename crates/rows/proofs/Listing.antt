@@ -13,10 +13,12 @@ use borrow.Author.Tests.{ltb-true, ltb-false}
 use Rattle.definition.specs.Ascii.{bytes}
 use Rattle.definition.specs.Base.{if_then_else_, given, keep, first}
 use Rattle.definition.specs.Text.{Text}
-use Rattle.definition.specs.Tree.{Element, records, recordsUpTo, element, elements, all, child, textOf}
+use Rattle.definition.specs.Tree.{Element, records, recordsUpTo, element, elements, all, allIn, child, textOf}
 use Rattle.definition.specs.Task.{ownUid, isKept, mostTasks, keptTasks}
+use Rattle.definition.specs.Resource.{workResources, costResources}
 use Rattle.tree.specs.Place.{elementAt, laterAt, Past}
 use Rattle.tree.specs.declared.Found.{Found}
+use Rattle.rows.specs.Turns.{work-picked, cost-picked}
 use Rattle.rows.specs.Walks.{keptBy, room, Kept, passes, pickedBy, Picks}
 use Rattle.rows.specs.Tables.{listed, laterIn, listedBy, mostIn, roomIn, Lists, unboundedOf}
 use Rattle.rows.specs.declared.kept.KeptAnswer.{KeptAnswer}
@@ -59,7 +61,7 @@ module _ (s : Text) where
   kept-on Absent = refl
   kept-on (Is at left) = refl
 
-pub kept-lists : {s : Text} (k : List Element) {es : List Element} {n : ℕ} {r : KeptAnswer} → es ≡ keep isKept k → Kept s es n r → Lists s Listed.Tasks es (suc n) r
+kept-lists : {s : Text} (k : List Element) {es : List Element} {n : ℕ} {r : KeptAnswer} → es ≡ keep isKept k → Kept s es n r → Lists s Listed.Tasks es (suc n) r
 unfolding keptBy
 kept-lists {s} k {r = r} i h = record {
   is = h .is ∙ kept-is s r;
@@ -69,17 +71,58 @@ kept-lists {s} k {r = r} i h = record {
       own-there s at (and-left (ownUid (elementAt s at)) _ (keep-head isKept k z));
 }
 
--- a position at or after one is past it
-pub picks-lists : {s : Text} {l : Listed} {w : Which} {k es : List Element} {from : ℕ} (f : Found) (m : ℕ)
+-- a position behind m has less ahead of it
+picks-lists : {s : Text} {l : Listed} {w : Which} {k es : List Element} {from : ℕ} (f : Found) (m n : ℕ) {r : KeptAnswer}
     → ((p : ℕ) → pickedBy s (bytes "Resource") w (Found.At p) ≡ listedBy s l (Is p 0)) → ((p : ℕ) → roomIn s l (Is p 0) ≡ suc (length s - p))
-    → keep (passes w) k ≡ es → Picks s (bytes "Resource") w k from f → m < from → Lists s l es (suc (length s - m)) (unboundedOf f)
+    → keep (passes w) k ≡ es → m < from → length s - m < n → Picks s (bytes "Resource") w k from f → r ≡ unboundedOf f → Lists s l es n r
 unfolding pickedBy listedBy roomIn Past
-picks-lists Found.Nothing m list room e h z = record { is = sym e ∙ h .is; on = omega arith; there = λ at left i. let y : _≡_ {A = ℕ} 0 1 = cc in absurd (omega arith) }
-picks-lists (Found.At p) m list room e h z = record {
-  is = sym e ∙ h .is ∙ list p;
-  on = omega (arith, room p, h .on);
-  there = λ at left i. let y : p ≡ at = cc in omega (arith, h .on);
-}
+picks-lists Found.Nothing m n list room e y z h i =
+    rw i (record { is = sym e ∙ h .is; on = omega arith; there = λ at left i. let y : _≡_ {A = ℕ} 0 1 = cc in absurd (omega arith) })
+picks-lists (Found.At p) m n list room e y z h i =
+    rw i
+    (record {
+      is = sym e ∙ h .is ∙ list p;
+      on = omega (arith, room p, h .on);
+      there = λ at left i. let y : p ≡ at = cc in omega (arith, h .on);
+    })
+
+-- the first of a list
+
+abbrev resourcesIn : Element → List Element
+resourcesIn root = allIn (child root (bytes "Resources")) (bytes "Resource")
+
+module _ (s : Text) (root : Element) where
+  pub first-tasks : {r : KeptAnswer} → Kept s (keptTasks root) mostTasks r → Lists s Listed.Tasks (keptTasks root) (suc mostTasks) r
+  unfolding keptTasks
+  first-tasks h = kept-lists _ refl h
+
+  module _ (m : ℕ) {f : Found} {r : KeptAnswer} where
+    pub first-work : Picks s (bytes "Resource") Which.Work (resourcesIn root) (m + 1) f → r ≡ unboundedOf f → Lists s Listed.Work (workResources root) (suc (length s)) r
+    unfolding pickedBy listedBy laterIn roomIn
+    first-work = picks-lists f 0 _ (λ p. refl) (λ p. refl) (work-picked root) (omega arith) (omega arith)
+
+    pub first-cost : Picks s (bytes "Resource") Which.Cost (resourcesIn root) (m + 1) f → r ≡ unboundedOf f → Lists s Listed.Cost (costResources root) (suc (length s)) r
+    unfolding pickedBy listedBy laterIn roomIn
+    first-cost = picks-lists f 0 _ (λ p. refl) (λ p. refl) (cost-picked root) (omega arith) (omega arith)
+
+-- the next one
+
+module _ (s : Text) (at left : ℕ) where
+  pub next-tasks : {r : KeptAnswer} → Kept s (keep isKept (take left (laterAt s (bytes "Task") at))) left r
+      → Lists s Listed.Tasks (laterIn s Listed.Tasks at left) (roomIn s Listed.Tasks (Is at left)) r
+  unfolding laterIn roomIn
+  next-tasks h = kept-lists _ refl h
+
+  module _ {f : Found} {r : KeptAnswer} where
+    pub next-work : Picks s (bytes "Resource") Which.Work (laterAt s (bytes "Resource") at) (at + 1) f → r ≡ unboundedOf f
+        → Lists s Listed.Work (laterIn s Listed.Work at left) (roomIn s Listed.Work (Is at left)) r
+    unfolding pickedBy listedBy laterIn roomIn
+    next-work = picks-lists f at _ (λ p. refl) (λ p. refl) refl (omega arith) (omega arith)
+
+    pub next-cost : Picks s (bytes "Resource") Which.Cost (laterAt s (bytes "Resource") at) (at + 1) f → r ≡ unboundedOf f
+        → Lists s Listed.Cost (laterIn s Listed.Cost at left) (roomIn s Listed.Cost (Is at left)) r
+    unfolding pickedBy listedBy laterIn roomIn
+    next-cost = picks-lists f at _ (λ p. refl) (λ p. refl) refl (omega arith) (omega arith)
 
 -- ---- a turn of a walk
 

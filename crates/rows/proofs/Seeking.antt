@@ -51,6 +51,17 @@ module _ (s : Text) {w : List ℕ} {t : Table} (u : Text) {at : Row} (h : Seeks 
     pub sought-on : b ≡ false → {at′ : Row} → at′ ≡ nextOf w t r → Seeks w t (named s w t u) (soughtIn s w t u) at′
     sought-on k n = seeks-next h e (here ∙ k) n
 
+-- ---- where the element of a row stands
+
+module _ (w : List ℕ) (t : Table) {o : RowAnswer} where
+  pub found-at : {r : ℕ} → o ≡ RowAnswer.Is r → {p : ℕ} → p ≡ placeOf w t r → Found.At p ≡ foundIn w t (rowMeaning o)
+  unfolding rowMeaning
+  found-at e i = rw e (ap Found.At i)
+
+  pub found-none : o ≡ RowAnswer.Absent → Found.Nothing ≡ foundIn w t (rowMeaning o)
+  unfolding rowMeaning
+  found-none e = rw e
+
 -- the element where a row was found
 pub found-sought : (s : Text) (w : List ℕ) (t : Table) (o : Option ℕ) → foundMeaning s (foundIn w t o) ≡ (o >>= λ r. some (elementAt s (placeOf w t r)))
 unfolding foundMeaning

@@ -16,7 +16,8 @@ use Rattle.index.specs.declared.Table.{Table}
 use Rattle.index.specs.declared.Made.{Made}
 use Rattle.index.specs.declared.Made.the-variants.{Ready, NoRoom}
 use Rattle.index.specs.Hash.{hashOf}
-use Rattle.index.specs.Chains.{tableOf, chainOf, placeOf, endOf}
+use Rattle.index.specs.Chains.{tableOf, chainOf, placeOf}
+use Rattle.index.specs.Frame.{Outside}
 use Rattle.index.specs.Law.{Fits, Indexed}
 use Rattle.tree.specs.Place.{elementAt, laterAt}
 use Rattle.tree.specs.declared.Found.{Found}
@@ -125,8 +126,7 @@ pub record Tabled (s : Text) (root : Element) (l : Listed) (t : Table) (w w′ :
   pub stands : (r : ℕ) → r < length (listed l root) → elementAt s (places r) ≡ nth l root r
   pub small : length (listed l root) < 2 ^ 32
   pub length-same : length w′ ≡ length w
-  pub before : (j : ℕ) → j < t .at → getD w′ j 0 ≡ getD w j 0
-  pub behind : (j : ℕ) → endOf t ≤ j → getD w′ j 0 ≡ getD w j 0
+  pub outside : (j : ℕ) → Outside t j → getD w′ j 0 ≡ getD w j 0
 
 abbrev pub TabledIn : Text → Element → Listed → Made → List ℕ → List ℕ → Type 0
 TabledIn s root l NoRoom w w′ = w′ ≡ w

@@ -1,9 +1,4 @@
-use Rattle.definition.specs.Ascii.{bytes}
-use Rattle.definition.specs.Task.{isKept, keptTasks}
-use Rattle.rows.specs.Turns.{work-picked, cost-picked}
-use Rattle.rows.specs.Walks.{pickedBy}
-use Rattle.rows.specs.Tables.{laterIn, listedBy, roomIn}
-use Rattle.rows.proofs.Listing.{kept-lists, picks-lists}
+use Rattle.rows.proofs.Listing.{first-tasks, first-work, first-cost}
 use borrow.Author.Needs.{needs}
 use Rattle.rows.proofs.table.first_listed.Statement.{statement}
 use Rattle.rows.proofs.table.first_listed.Tie as tie
@@ -45,13 +40,13 @@ unbounded-requires-2 : tie.Need-unbounded-requires-2
 unbounded-requires-2 c κs = search needs
 
 returns : tie.Need-returns
-returns c = ?
+returns c = rw (c .before .enum-told .given .1) (first-tasks _ _ (c .first-kept .ensures))
 
 returns-2 : tie.Need-returns-2
-returns-2 c = ?
+returns-2 c = rw (c .before .before .before .before .enum-told2 .given .1) (first-work _ _ (c .before .before .before .before .before .before .before .args .root) (c .before .first-which .ensures) (c .unbounded .ensures))
 
 returns-3 : tie.Need-returns-3
-returns-3 c = ?
+returns-3 c = rw (c .before .before .before .before .enum-told3 .given .1) (first-cost _ _ (c .before .before .before .before .before .before .before .args .root) (c .before .first-which2 .ensures) (c .unbounded2 .ensures))
 
 pub first-listed-spec : {M : Type 1} → statement M
 first-listed-spec =

@@ -1,63 +1,46 @@
+use Rattle.rows.proofs.Listing.{next-tasks, next-work, next-cost}
 use borrow.Author.Needs.{needs}
 use Rattle.rows.proofs.table.next_listed.Statement.{statement}
 use Rattle.rows.proofs.table.next_listed.Tie as tie
-use Rattle.rows.proofs.table.next_listed.Reads as reads
-use Rattle.rows.proofs.table.next_listed.Lts as lts
-use Rattle.rows.proofs.kept.next_kept.Reads as next-kept-reads
-use Rattle.rows.proofs.section.next_which.Reads as next-which-reads
-use Rattle.rows.proofs.table.unbounded.Reads as unbounded-reads
 
--- src/table.rt:58:26
 enum-told : tie.Need-enum-told
 enum-told c = search needs
 
--- src/table.rt:58:26
 next-kept-requires : tie.Need-next-kept-requires
 next-kept-requires c κs = search needs
 
--- src/table.rt:59:53
 enum-told-2 : tie.Need-enum-told-2
 enum-told-2 c = search needs
 
--- src/table.rt:59:53
 slice-aggregate-next-which : tie.Need-slice-aggregate-next-which
 slice-aggregate-next-which c = search needs
 
--- src/table.rt:59:35
 next-which-requires : tie.Need-next-which-requires
 next-which-requires c κs = search needs
 
--- src/table.rt:59:25
 unbounded-requires : tie.Need-unbounded-requires
 unbounded-requires c κs = search needs
 
--- src/table.rt:60:53
 enum-told-3 : tie.Need-enum-told-3
 enum-told-3 c = search needs
 
--- src/table.rt:60:53
 slice-aggregate-next-which-2 : tie.Need-slice-aggregate-next-which-2
 slice-aggregate-next-which-2 c = search needs
 
--- src/table.rt:60:35
 next-which-requires-2 : tie.Need-next-which-requires-2
 next-which-requires-2 c κs = search needs
 
--- src/table.rt:60:25
 unbounded-requires-2 : tie.Need-unbounded-requires-2
 unbounded-requires-2 c κs = search needs
 
--- src/table.rt:54:1
 returns : tie.Need-returns
-returns c = ?
+returns c = rw (c .before .enum-told .given .1) (next-tasks _ _ _ (c .next-kept .ensures))
 
--- src/table.rt:54:1
 returns-2 : tie.Need-returns-2
-returns-2 c = ?
+returns-2 c = rw (c .before .before .before .enum-told2 .given .1) (next-work _ _ _ (c .before .next-which .ensures) (c .unbounded .ensures))
 
--- src/table.rt:54:1
 returns-3 : tie.Need-returns-3
-returns-3 c = ?
+returns-3 c = rw (c .before .before .before .enum-told3 .given .1) (next-cost _ _ _ (c .before .next-which2 .ensures) (c .unbounded2 .ensures))
 
 pub next-listed-spec : {M : Type 1} → statement M
 next-listed-spec =

@@ -1,3 +1,4 @@
+use Rattle.rows.proofs.Seeking.{found-at, found-none}
 use borrow.Author.Needs.{needs}
 use Rattle.rows.proofs.table.place_of.Statement.{statement}
 use Rattle.rows.proofs.table.place_of.Tie as tie
@@ -15,10 +16,10 @@ enum-told : tie.Need-enum-told
 enum-told c = search needs
 
 returns : tie.Need-returns
-returns c = ?
+returns c = found-at _ _ (c .before .before .row .given .1) (c .place .ensures)
 
 returns-2 : tie.Need-returns-2
-returns-2 c = ?
+returns-2 c = found-none _ _ (c .enum-told .given .1)
 
 pub place-of-spec : {M : Type 1} → statement M
 place-of-spec =

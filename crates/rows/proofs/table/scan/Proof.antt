@@ -1,71 +1,65 @@
+-- `rows::table::scan` meets its contract. The invariant: the row of the last among those left, else the row so far. Assumes nothing.
+use Prim.Native.Nat.{_^_}
+use mathlib.Core.Path.{refl}
+use Rattle.tree.specs.Place.{elementAt}
+use Rattle.rows.specs.Rows.{hasUid}
+use Rattle.rows.specs.Tables.{rowIn32, listedBy, roomIn}
+use Rattle.rows.proofs.Lasts.{RowIn, upWithin, within-begin, row-turn, row-end}
+use Rattle.rows.proofs.Listing.{lists-end, lists-next, lists-less}
+use borrow.Author.Needs.{needs}
 use Rattle.rows.proofs.table.scan.Statement.{statement}
 use Rattle.rows.proofs.table.scan.Tie as tie
-use Rattle.rows.proofs.table.scan.Reads as reads
-use Rattle.rows.proofs.table.scan.Lts as lts
-use Rattle.fields.proofs.text_is.Reads as text-is-reads
-use Rattle.rows.proofs.kept.or_row.Reads as or-row-reads
-use Rattle.rows.proofs.kept.row_when.Reads as row-when-reads
-use Rattle.rows.proofs.table.first_listed.Reads as first-listed-reads
-use Rattle.rows.proofs.table.next_listed.Reads as next-listed-reads
-use Rattle.std.proofs.num.wrapping_add_u32.Reads as wrapping-add-u32-reads
 
 abbrev Inv-loop : tie.InvT-loop
-Inv-loop s root list uid found₀ row₀ e₀ t11 found row e = ?
+Inv-loop s root list uid found₀ row₀ e₀ t11 found row e = RowIn (upWithin (2 ^ 32)) (hasUid uid) (rowIn32 list (elementAt s root) uid) row (listedBy s list e) found
 
 abbrev μ-loop : tie.MeasureT-loop
-μ-loop s root list uid found₀ row₀ e₀ t11 found row e = ?
+μ-loop s root list uid found₀ row₀ e₀ t11 found row e = roomIn s list e
 
--- src/table.rt:140:9
 first-listed-requires : tie.Need-first-listed-requires Inv-loop μ-loop
-first-listed-requires c κs = ?
+first-listed-requires c κs = search needs
 
--- src/table.rt:141:5
 loop-holds : tie.Need-loop-holds Inv-loop μ-loop
-loop-holds c = ?
+loop-holds c = within-begin (2 ^ 32) _ _ (c .first-listed .ensures .is)
 
--- src/table.rt:142:28
 enum-known-e : tie.Need-enum-known-e Inv-loop μ-loop
-enum-known-e c = ?
+enum-known-e c = search needs
 
--- src/table.rt:143:13
 enum-told : tie.Need-enum-told Inv-loop μ-loop
-enum-told c = ?
+enum-told c = search needs
 
--- src/table.rt:143:13
 returns : tie.Need-returns Inv-loop μ-loop
-returns c = ?
+returns c = row-end (c .before .before .loop .inv) (lists-end _ _ (c .enum-told .given .1))
 
--- src/table.rt:145:53
 slice-aggregate-text-is : tie.Need-slice-aggregate-text-is Inv-loop μ-loop
-slice-aggregate-text-is c = ?
+slice-aggregate-text-is c = search needs
 
--- src/table.rt:145:30
 text-is-requires : tie.Need-text-is-requires Inv-loop μ-loop
-text-is-requires c κs = ?
+text-is-requires c κs = search needs
 
--- src/table.rt:145:13
 row-when-requires : tie.Need-row-when-requires Inv-loop μ-loop
-row-when-requires c κs = ?
+row-when-requires c κs = search needs
 
--- src/table.rt:146:9
 or-row-requires : tie.Need-or-row-requires Inv-loop μ-loop
-or-row-requires c κs = ?
+or-row-requires c κs = search needs
 
--- src/table.rt:147:9
 wrapping-add-u32-requires : tie.Need-wrapping-add-u32-requires Inv-loop μ-loop
-wrapping-add-u32-requires c κs = ?
+wrapping-add-u32-requires c κs = search needs
 
--- src/table.rt:148:9
 next-listed-requires : tie.Need-next-listed-requires Inv-loop μ-loop
-next-listed-requires c κs = ?
+next-listed-requires c κs = search needs
 
--- src/table.rt:141:5
 loop-less : tie.Need-loop-less Inv-loop μ-loop
-loop-less c = ?
+loop-less c = lists-less (c .before .before .before .before .before .before .before .e .given .1) (c .next-listed .ensures) refl
 
--- src/table.rt:141:5
 loop-again : tie.Need-loop-again Inv-loop μ-loop
-loop-again c = ?
+loop-again c = 
+    let a = c .before in
+    let f = a .before in
+    let w = f .before in
+    let u = w .before in
+    let t = u .before .before .before in
+    row-turn (t .before .before .loop .inv) (lists-next (t .e .given .1) (c .next-listed .ensures)) (u .text-is .ensures) (w .row-when .ensures) (f .or-row .ensures) (a .wrapping-add-u32 .ensures)
 
 pub scan-spec : {M : Type 1} → statement M
 scan-spec =

@@ -54,7 +54,9 @@ next-requires : tie.Need-next-requires Inv-loop μ-loop
 next-requires c κs = search needs
 
 loop-less : tie.Need-loop-less Inv-loop μ-loop
-loop-less c = next-less _ _ (c .before .before .before .before .before .before .row .given .1) (c .next .ensures)
+loop-less c =
+    let a = c .before .before .before .before .before .before .before .before .before .before .before .before .before .before .args in
+    next-less (a .words .now) (a .t) (c .before .before .before .before .before .before .row .given .1) (c .next .ensures)
 
 loop-again : tie.Need-loop-again Inv-loop μ-loop
 loop-again c =
