@@ -1,6 +1,8 @@
 pub mod Texts
 pub mod Context
 pub mod Seen
+pub mod Stars
+pub mod Ids
 pub mod Kept
 pub mod Records
 pub mod Short
