@@ -1,16 +1,12 @@
 -- Ids by tables in lent words: what the calls make of the words and read in them, and the law that it is what a look at all records gives. Assumes
 -- nothing.
-use mathlib.Core.Path.{_≡_, refl, sym, ap, _∙_}
-use mathlib.Core.Bool.{Bool, true, false, _&&_, _||_}
-use mathlib.Core.List.{List, [], _∷_, _++_, map}
-use mathlib.Core.Option.{Option, some, none}
-use Prim.Native.Nat.{ℕ, zero, suc, _+_, _-_, _*_, _≤_, _<_}
-use native.Mathlib.Omega.{arith}
+use mathlib.Core.Bool.{Bool, _&&_}
+use mathlib.Core.List.{List, []}
+use mathlib.Core.Option.{some}
+use Prim.Native.Nat.{ℕ, suc, _+_, _-_, _*_}
 use lib.Dec.{ltb, leb}
-use lib.ListN.{length}
-use Rattle.definition.specs.Base.{if_then_else_, _>>=_, _or_, given, find, same, some?}
+use Rattle.definition.specs.Base.{if_then_else_, _>>=_, _or_, given, find, same}
 use Rattle.definition.specs.Text.{Text}
-use Rattle.definition.specs.Calendar.{free}
 use Rattle.index.specs.Hash.{hashOf}
 use Rattle.index.specs.Chains.{zeros, added, placeOf, chainOf}
 use Rattle.model.specs.Answers.{readAt}

@@ -2,9 +2,10 @@ pub mod Texts
 pub mod Context
 pub mod Seen
 pub mod Stars
-pub mod Ids
 pub mod Kept
 pub mod Records
+pub mod Ids
+pub mod Noted
 pub mod Short
 pub mod Carried
 pub mod Agree

@@ -1,6 +1,5 @@
 -- `names::ids::id_of` meets its contract. Assumes nothing.
 use mathlib.Core.Path.{ap, _∙_}
-use Prim.Native.Nat.{ℕ}
 use Rattle.names.specs.Ids.{textFrom}
 use borrow.Author.Needs.{needs}
 use Rattle.names.proofs.ids.id_of.Statement.{statement}

@@ -5,7 +5,6 @@ use Rattle.definition.specs.Base.{find}
 use Rattle.index.specs.Hash.{hashOf}
 use Rattle.index.specs.Chains.{firstOf, placeOf, chainOf, upTo}
 use Rattle.index.specs.Law.{Seeks, seeks-first, seeks-next, next-less}
-use Rattle.pack.specs.Value.{starredBy}
 use Rattle.names.specs.Ids.{wants, behind, starsFrom}
 use Rattle.names.proofs.Chained.{no-number, its-number, seen-own}
 use borrow.Author.Needs.{needs}
