@@ -1,7 +1,7 @@
 -- The law of the tables of ids: where the rows of a list in the buffer were noted, so many `*` are free as the tables say. Assumes nothing.
 use mathlib.Core.Path.{_≡_, refl, sym, ap, subst, _∙_}
 use mathlib.Core.Bool.{Bool, true, false, _&&_, _||_}
-use mathlib.Core.List.{List, [], map}
+use mathlib.Core.List.{List, [], _∷_, _++_, map}
 use mathlib.Core.Option.{Option, some, none}
 use Prim.Native.Nat.{ℕ, zero, suc, _+_, _-_, _*_, _≤_, _<_, min}
 use native.Mathlib.Numerals.{add-one}
@@ -9,7 +9,7 @@ use native.Mathlib.Decide.{decLt}
 use native.Mathlib.Omega.{arith}
 use borrow.Author.Tests.{ltb-true, leb-true, eq-eqb, ne-eqb}
 use lib.Dec.{ltb, leb, eqb}
-use lib.ListN.{length, take, getD, length-take}
+use lib.ListN.{length, take, getD, length-take, length-append}
 use lib.Seq.{getD-take, ext-getD}
 use Rattle.definition.specs.Base.{if_then_else_, _>>=_, _or_, _orElse_, when, given, find, findLast, count, same, some?}
 use Rattle.definition.specs.Text.{Text}
@@ -31,8 +31,8 @@ use Rattle.model.specs.declared.records.Kind.{Kind}
 use Rattle.pack.specs.Value.{starredBy}
 use Rattle.names.specs.Texts.{placeOfRow, textAt, textsAt}
 use Rattle.names.specs.Seen.{texts-length}
-use Rattle.names.specs.Kept.{Kept}
-use Rattle.names.specs.Records.{Plain, Fronts, row-kept, texts-kept, text-kept}
+use Rattle.names.specs.Kept.{Kept, there-inside}
+use Rattle.names.specs.Records.{Plain, Fronts, Lies, place-last, text-front, place-kept, row-kept, texts-kept, text-kept}
 use Rattle.names.specs.Stars.{star-same, TakenTo, taken-free, tries, tries-free}
 use Rattle.names.specs.Ids.{idsOf, noIds, noted, idAt, isId, wants, behind, takenIn, starsFrom, freeIn}
 use Rattle.names.specs.declared.ids.Ids.{Ids}
@@ -130,7 +130,7 @@ pub record Noted (kind : Kind) (d : List ℕ) (p : Place) (w : List ℕ) (i : Id
   pub by-wanted : Indexed (i .wanted) (λ r. hashOf (wanted r)) stars n w
   pub apart : endOf (i .ids) ≤ i .wanted .at
   pub even : i .wanted .rows ≡ i .ids .rows
-  -- each record begins with a byte, and with its wanted text and so many `*`, where fewer are taken
+  -- each record begins at a whole byte, with its wanted text and so many `*`, and with fewer that text is taken
   pub whole : (r : ℕ) → r < n → placeOfRow kind d p r .bit ≡ 0
   pub is : (r : ℕ) → r < n → textAt kind d p r ≡ starredBy (wanted r) (stars r)
   pub taken : (r : ℕ) → r < n → TakenTo (textsAt kind d p n) (wanted r) (stars r)
@@ -269,6 +269,19 @@ module _ {kind : Kind} {d : List ℕ} {p : Place} {w : List ℕ} {i : Ids} {n : 
     is = λ r j. text-kept k s p n h l f r j ∙ x .is r j;
     taken = λ r j. rw (texts-kept k s p n h l f) (x .taken r j);
   }
+
+-- one more record was put behind the list, and noted
+module _ {kind : Kind} {B : Type 0} {g : Format B} {G : B → Type 0} {front : B → Text} (k : Plain kind g G) (f : Fronts g front) {d d′ : List ℕ} {p : Place} {xs : List B} {y : B} {q q′ : Place} where
+  pub noted-put : {w w′ : List ℕ} {i : Ids} (x : Noted kind d p w i (length xs)) → length xs < i .ids .rows → Lies g G d p xs q → Lies g G d′ p (xs ++ (y ∷ [])) q′ → {m : ℕ} → Kept m d d′ → at q ≤ m → q .bit ≡ 0
+      → (u : Text) (stars : ℕ) → starredBy u stars ≡ free (textsAt kind d p (length xs)) u → front y ≡ starredBy u stars → w′ ≡ noted w i (length xs) u stars (q .byte)
+      → Noted kind d′ p w′ i (length (xs ++ (y ∷ [])))
+  noted-put x few l l′ {m} s h b u stars fr is e =
+      let last : placeOfRow kind d p (length xs) ≡ q = place-last k l in
+      let there : inside (length d) (placeOfRow kind d p (length xs)) ≡ true = rw last (there-inside (l .there)) in
+      let upto : at (placeOfRow kind d p (length xs)) ≤ m = rw last h in
+      let n : length (xs ++ (y ∷ [])) ≡ suc (length xs) = length-append xs (y ∷ []) ∙ omega arith in
+      rw n (noted-more (noted-kept x k f s there upto) few u stars (q .byte) (fr ∙ ap (λ (l : List Text). free l u) (sym (texts-kept k s p (length xs) there upto f)))
+      (text-front k f xs y [] l′ ∙ is) (place-kept k s p (length xs) there upto ∙ last ∙ sym (byte-place q refl b)) e)
 
 -- ---- the words before a place stay, so that they are the same when those behind are cleared
 
