@@ -6,7 +6,7 @@ ghost use mathlib.Core.Path.{_≡_};
 ghost use Prim.Native.Nat.{_+_, _-_, _%_, min};
 ghost use mathlib.Core.List.{_++_};
 ghost use lib.ListN.{getD, set, replicate};
-ghost use Rattle.index.specs.Hash.{hashOf};
+ghost use Rattle.index.specs.Hash.{mixed, hashOf};
 ghost use Rattle.index.specs.Chains.{zeros, added, firstOf, nextOf, placeOf, tableOf, rowBelow, endIn};
 
 // Where its words begin, and how many rows there may be.
@@ -25,17 +25,41 @@ pub enum Made {
     NoRoom,
 }
 
+const START: u32 = 2166136261;
+
+const PRIME: u64 = 16777619;
+
+// One byte more: FNV-1a.
+fn mix(h: u32, b: u8) -> u32
+    ensures { λ r. ⌜ r ≡ mixed h b ⌝ }
+{
+    let x = (h ^ (b as u32)) as u64;
+    ((x * PRIME) % 0x1_0000_0000) as u32
+}
+
 pub fn hash_of(s: &[u8]) -> u32
     ensures { λ r. ⌜ r ≡ hashOf (now (s .entry)) ⌝ }
 {
-    (s.len() % 4294967296) as u32
+    let mut h = START;
+    let mut i: usize = 0;
+    while i < s.len() {
+        h = mix(h, s[i]);
+        i += 1;
+    }
+    h
 }
 
 // The hash of a text with so many `*` behind it.
 pub fn hash_starred(s: &[u8], stars: u32) -> u32
     ensures { λ r. ⌜ r ≡ hashOf (now (s .entry) ++ replicate stars 42) ⌝ }
 {
-    hash_of(s)
+    let mut h = hash_of(s);
+    let mut i: u32 = 0;
+    while i < stars {
+        h = mix(h, 42);
+        i += 1;
+    }
+    h
 }
 
 fn word(words: &[u32], from: usize, i: usize) -> u32
