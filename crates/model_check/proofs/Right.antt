@@ -10,6 +10,7 @@ use Rattle.definition.specs.Format.{whole, row, text, optional}
 use Rattle.definition.specs.Model.{Model, Calendar, Link, Assignment}
 use Rattle.definition.specs.Pack.{link, assignment}
 use Rattle.definition.specs.Check.{ifGiven, isCalendar, linkRight, assignmentRight}
+use Rattle.laws.specs.Tests.{some-map}
 use Rattle.laws.specs.FitNames.{same-turned}
 use Rattle.bits.specs.declared.Place.{Place}
 use Rattle.model.specs.Splits.{Stands, stands-or}
@@ -23,7 +24,6 @@ use Rattle.model.specs.declared.records.Kind.{Kind}
 use Rattle.model_check.specs.Kinds.{Item}
 use Rattle.model_check.specs.Keys.{sameKey}
 use Rattle.model_check.specs.Rules.{rowsBelow, rightOf}
-use Rattle.model_check.proofs.Whole.{some-map}
 
 -- ---- a parent's row
 
@@ -43,7 +43,7 @@ module _ (m : Model) (n : Text) where
   named = some-ext (λ c. same-turned n (c .name)) (m .calendars)
 
   pub named-in : some? (sameKey (0, n)) (map (λ (c : Calendar). (0, c .name)) (m .calendars)) ≡ isCalendar m n
-  named-in = sym (some-map (sameKey (0, n)) (λ (c : Calendar). (0, c .name)) (m .calendars)) ∙ named
+  named-in = some-map (sameKey (0, n)) (λ (c : Calendar). (0, c .name)) (m .calendars) ∙ named
 
 module _ {s : List ℕ} {p : Place} {r : NameField} {o : Option Text} (m : Model) (h : Stands (optional text) s p o) (e : NameTaken s p r) where
   pub no-name : r .name ≡ NameAnswer.Absent → true ≡ ifGiven (isCalendar m) o

@@ -1,5 +1,5 @@
 -- The check's list from the answers to its lines, and the number from both passes. Assumes nothing.
-use mathlib.Core.Path.{_≡_, refl, ap}
+use mathlib.Core.Path.{_≡_, refl, sym, ap}
 use mathlib.Core.Bool.{Bool, _&&_, not}
 use mathlib.Core.List.{List, [], _∷_, map}
 use Prim.Native.Nat.{ℕ, suc}
@@ -8,6 +8,7 @@ use Rattle.definition.specs.Text.{Text}
 use Rattle.definition.specs.Model.{Model}
 use Rattle.definition.specs.Check.{distinct, keepsList}
 use Rattle.definition.specs.Refusal.{checkAnswer}
+use Rattle.laws.specs.Tests.{some-map}
 use Rattle.model.specs.Sections.{Decoded, Opens}
 use Rattle.model.specs.declared.Opened.{Opened}
 use Rattle.model.specs.declared.Sections.{Sections}
@@ -15,16 +16,11 @@ use Rattle.model.specs.declared.Sections.{Sections}
 pub both : {a b c d : Bool} → a ≡ b → c ≡ d → a && c ≡ b && d
 both e f = rw (e, f)
 
-pub some-map : {A B : Type 0} (p : B → Bool) (key : A → B) (l : List A) → some? (λ x. p (key x)) l ≡ some? p (map key l)
-unfolding some?
-some-map p key [] = refl
-some-map p key (x ∷ l) = rw (some-map p key l)
-
 -- items with distinct keys, and their keys
 pub distinct-map : {A B : Type 0} (eq : B → B → Bool) (key : A → B) (l : List A) → distinct (λ x y. eq (key x) (key y)) l ≡ distinct eq (map key l)
 unfolding distinct
 distinct-map eq key [] = refl
-distinct-map eq key (x ∷ l) = both (ap not (some-map (eq (key x)) key l)) (distinct-map eq key l)
+distinct-map eq key (x ∷ l) = both (ap not (sym (some-map (eq (key x)) key l))) (distinct-map eq key l)
 
 -- a rule that does not look at the row
 pub every-plain : {A : Type 0} (p : A → Bool) (i : ℕ) (l : List A) → every? (λ (x : ℕ × A). p (x .1)) (numbered i l) ≡ every? p l
