@@ -3,10 +3,10 @@
 // names the last row of its bucket: 0 for none, else the row plus 1, as does the word of a row. Words past the end read as 0 and store nothing.
 // What the words mean is said in specs/.
 ghost use mathlib.Core.Path.{_≡_};
-ghost use Prim.Native.Nat.{_+_, _-_, _%_, min};
+ghost use Prim.Native.Nat.{_+_, _-_, _*_, _%_, _^_, _≤_, _<_, min};
 ghost use mathlib.Core.List.{_++_};
-ghost use lib.ListN.{getD, set, replicate};
-ghost use Rattle.index.specs.Hash.{mixed, hashOf};
+ghost use lib.ListN.{length, getD, set, replicate};
+ghost use Rattle.index.specs.Hash.{quadAt, mixed, hashAfter, hashOf, starredBy};
 ghost use Rattle.index.specs.Chains.{zeros, added, firstOf, nextOf, placeOf, tableOf, rowBelow, endIn};
 
 // Where its words begin, and how many rows there may be.
@@ -25,41 +25,101 @@ pub enum Made {
     NoRoom,
 }
 
-const START: u32 = 2166136261;
+const LOW: u64 = 0x1_0000_0000;
 
-const PRIME: u64 = 16777619;
-
-// One byte more: FNV-1a.
-fn mix(h: u32, b: u8) -> u32
-    ensures { λ r. ⌜ r ≡ mixed h b ⌝ }
+// Four bytes as a number, the first the least.
+fn joined(a: u8, b: u8, c: u8, d: u8) -> u32
+    ensures { λ r. ⌜ r ≡ a + 256 * b + 65536 * c + 16777216 * d ⌝ }
 {
-    let x = (h ^ (b as u32)) as u64;
-    ((x * PRIME) % 0x1_0000_0000) as u32
+    (a as u32) + 256 * (b as u32) + 65536 * (c as u32) + 16777216 * (d as u32)
 }
 
-pub fn hash_of(s: &[u8]) -> u32
-    ensures { λ r. ⌜ r ≡ hashOf (now (s .entry)) ⌝ }
+fn quad(s: &[u8], i: usize) -> u32
+    requires { ⌜ i + 4 ≤ length (now s) ⌝ }
+    ensures { λ r. ⌜ r ≡ quadAt (now (s .entry)) i ⌝ }
 {
-    let mut h = START;
-    let mut i: usize = 0;
-    while i < s.len() {
-        h = mix(h, s[i]);
-        i += 1;
+    joined(s[i], s[i + 1], s[i + 2], s[i + 3])
+}
+
+// A byte of a text with so many `*` behind it; past its end 0.
+fn starred(s: &[u8], stars: u32, i: usize) -> u8
+    ensures { λ r. ⌜ r ≡ getD (starredBy (now (s .entry)) stars) i 0 ⌝ }
+{
+    if i < s.len() {
+        return s[i];
+    }
+    if i - s.len() < stars as usize {
+        return b'*';
+    }
+    0
+}
+
+// Four of its bytes.
+fn starred_quad(s: &[u8], stars: u32, i: usize) -> u32
+    requires { ⌜ i + 4 < 2 ^ 64 ⌝ }
+    ensures { λ r. ⌜ r ≡ quadAt (starredBy (now (s .entry)) stars) i ⌝ }
+{
+    if i + 4 <= s.len() {
+        return quad(s, i);
+    }
+    let a = starred(s, stars, i);
+    let b = starred(s, stars, i + 1);
+    let c = starred(s, stars, i + 2);
+    joined(a, b, c, starred(s, stars, i + 3))
+}
+
+// Eight bytes more. Each half of the state is multiplied by a number of 32 bits, so that nothing is lost.
+fn mix(h: u64, a: u32, b: u32) -> u64
+    ensures { λ r. ⌜ r ≡ mixed h a b ⌝ }
+{
+    let x = (h % LOW) ^ (a as u64);
+    let y = (h / LOW) ^ (b as u64);
+    let z = (x * 2654435761) ^ (y * 2246822519);
+    z ^ (z / LOW)
+}
+
+// The first so many times eight bytes.
+fn mix_all(s: &[u8], stars: u32, rounds: usize) -> u64
+    requires { ⌜ 8 * rounds ≤ length (now s) + stars ⌝ }
+    ensures { λ r. ⌜ r ≡ hashAfter (starredBy (now (s .entry)) stars) rounds ⌝ }
+{
+    let mut h = (s.len() + stars as usize) as u64;
+    let mut k: usize = 0;
+    while k < rounds {
+        h = mix(
+            h,
+            starred_quad(s, stars, 8 * k),
+            starred_quad(s, stars, 8 * k + 4),
+        );
+        k += 1;
     }
     h
+}
+
+fn less(n: usize, k: usize) -> usize
+    ensures { λ r. ⌜ r ≡ n - k ⌝ }
+{
+    if n < k {
+        return 0;
+    }
+    n - k
 }
 
 // The hash of a text with so many `*` behind it.
 pub fn hash_starred(s: &[u8], stars: u32) -> u32
     ensures { λ r. ⌜ r ≡ hashOf (now (s .entry) ++ replicate stars 42) ⌝ }
 {
-    let mut h = hash_of(s);
-    let mut i: u32 = 0;
-    while i < stars {
-        h = mix(h, 42);
-        i += 1;
-    }
-    h
+    let n = s.len() + (stars as usize);
+    let h = mix_all(s, stars, less(n, 1) / 8);
+    let a = starred_quad(s, stars, less(n, 8));
+    let b = starred_quad(s, stars, less(n, 4));
+    (mix(h, a, b) % LOW) as u32
+}
+
+pub fn hash_of(s: &[u8]) -> u32
+    ensures { λ r. ⌜ r ≡ hashOf (now (s .entry)) ⌝ }
+{
+    hash_starred(s, 0)
 }
 
 fn word(words: &[u32], from: usize, i: usize) -> u32

@@ -1,57 +1,68 @@
--- `index::hash_starred` meets its contract. Assumes nothing.
-use mathlib.Core.Path.{_≡_, refl, sym, ap, _∙_}
-use mathlib.Core.List.{_++_}
-use Prim.Native.Nat.{ℕ, _-_, _+_, _≤_}
-use lib.ListN.{replicate}
-use Rattle.index.specs.Hash.{hashOf, mixed}
-use Rattle.index.specs.Steps.{hash-none, hash-star}
+-- `index::hash_starred` meets its contract. What the calls give together is the definition. Assumes nothing.
+use Rattle.index.specs.Hash.{starredBy}
+use Rattle.index.specs.Steps.{hash-done, length-starred}
 use borrow.Author.Needs.{needs}
-use native.Mathlib.Omega.{arith}
 use Rattle.index.proofs.hash_starred.Statement.{statement}
 use Rattle.index.proofs.hash_starred.Tie as tie
 
-abbrev Inv-loop : tie.InvT-loop
-Inv-loop s stars h₀ i₀ h i = (i ≤ stars) × (h ≡ hashOf (s ++ replicate i 42))
+add-n : tie.Need-add-n
+add-n c = search needs
 
-abbrev μ-loop : tie.MeasureT-loop
-μ-loop s stars h₀ i₀ h i = stars - i
+less-requires : tie.Need-less-requires
+less-requires c κs = search needs
 
-hash-of-requires : tie.Need-hash-of-requires Inv-loop μ-loop
-hash-of-requires c κs = search needs
+mix-all-requires : tie.Need-mix-all-requires
+mix-all-requires c κs = search needs
 
-loop-holds : tie.Need-loop-holds Inv-loop μ-loop
-loop-holds c = (omega arith, c .hash-of .ensures ∙ hash-none (c .before .before .args .s .now))
+less-requires-2 : tie.Need-less-requires-2
+less-requires-2 c κs = search needs
 
-mix-requires : tie.Need-mix-requires Inv-loop μ-loop
+starred-quad-requires : tie.Need-starred-quad-requires
+starred-quad-requires c κs = search needs
+
+less-requires-3 : tie.Need-less-requires-3
+less-requires-3 c κs = search needs
+
+starred-quad-requires-2 : tie.Need-starred-quad-requires-2
+starred-quad-requires-2 c κs = search needs
+
+mix-requires : tie.Need-mix-requires
 mix-requires c κs = search needs
 
-add-i : tie.Need-add-i Inv-loop μ-loop
-add-i c = search needs
+cast-result : tie.Need-cast-result
+cast-result c = search needs
 
-loop-less : tie.Need-loop-less Inv-loop μ-loop
-loop-less c = search needs
-
-loop-again : tie.Need-loop-again Inv-loop μ-loop
-loop-again c =
-    let l = c .before .before in
-    (omega arith, c .mix .ensures ∙ ap (λ (h : ℕ). mixed h 42) (l .loop .inv .1) ∙ hash-star (l .before .before .before .args .s .now) (l .loop .i))
-
-returns : tie.Need-returns Inv-loop μ-loop
+returns : tie.Need-returns
 returns c =
-    let l = c .before in
-    let z : l .loop .i ≡ l .before .before .before .args .stars = omega arith in
-    l .loop .inv .1 ∙ ap (λ (i : ℕ). hashOf (l .before .before .before .args .s .now ++ replicate i 42)) z
+    let b = c .before in
+    let l3 = b .before in
+    let a = l3 .before in
+    let l2 = a .before in
+    let m = l2 .before in
+    let l1 = m .before in
+    let x = l1 .before .before .args in
+    hash-done
+    (starredBy (x .s .now) (x .stars))
+    (length-starred (x .s .now) (x .stars))
+    (l1 .less .ensures)
+    (l2 .less2 .ensures)
+    (l3 .less3 .ensures)
+    (m .mix-all .ensures)
+    (a .starred-quad .ensures)
+    (b .starred-quad2 .ensures)
+    (c .mix .ensures)
 
 pub hash-starred-spec : {M : Type 1} → statement M
 hash-starred-spec =
     tie.close
     (tie.spec
-    Inv-loop
-    μ-loop
-    hash-of-requires
-    loop-holds
+    add-n
+    less-requires
+    mix-all-requires
+    less-requires-2
+    starred-quad-requires
+    less-requires-3
+    starred-quad-requires-2
     mix-requires
-    add-i
-    loop-less
-    loop-again
+    cast-result
     returns)
