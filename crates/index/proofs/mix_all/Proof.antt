@@ -1,6 +1,6 @@
 -- `index::mix_all` meets its contract. The invariant: the state after k times eight bytes. Assumes nothing.
 use mathlib.Core.Path.{_≡_, sym, ap, _∙_}
-use Prim.Native.Nat.{ℕ, _-_, _+_, _≤_}
+use Prim.Native.Nat.{_-_, _≤_}
 use Rattle.index.specs.Hash.{hashAfter, starredBy}
 use Rattle.index.specs.Steps.{hash-none, hash-more, length-starred}
 use native.Mathlib.Omega.{arith}
