@@ -14,6 +14,7 @@ pub mod Bases
 pub mod BaseDays
 pub mod Elements
 pub mod Loops
+pub mod Noting
 pub mod Overs
 pub mod WeekHours
 pub mod Orders

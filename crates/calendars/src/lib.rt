@@ -6,6 +6,7 @@ mod days;
 mod exceptions;
 mod hours;
 mod list;
+mod notes;
 mod plain;
 mod record;
 
