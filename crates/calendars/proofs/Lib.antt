@@ -15,6 +15,7 @@ pub mod BaseDays
 pub mod Elements
 pub mod Loops
 pub mod Noting
+pub mod Passing
 pub mod Overs
 pub mod WeekHours
 pub mod Orders

@@ -7,6 +7,7 @@ mod exceptions;
 mod hours;
 mod list;
 mod notes;
+mod pass;
 mod plain;
 mod record;
 
