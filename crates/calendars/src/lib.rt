@@ -9,6 +9,7 @@ mod list;
 mod notes;
 mod pass;
 mod plain;
+mod reach;
 mod record;
 
 pub use built::put_calendars;
