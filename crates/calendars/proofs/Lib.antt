@@ -16,6 +16,7 @@ pub mod Elements
 pub mod Loops
 pub mod Noting
 pub mod Passing
+pub mod OwnHours
 pub mod Overs
 pub mod WeekHours
 pub mod Orders

@@ -152,6 +152,6 @@ pub(crate) fn put_calendar(
     let own = reach_in(s, at, from);
     let d = put_holidays(out, c, s, at, week, base, words, own);
     let e = put_extra_days(out, d, s, at, week, base, words, own);
-    let f = put_exceptions(out, e, s, at, base);
+    let f = put_exceptions(out, e, s, at, base, words, own);
     bits::pad(out, f)
 }
