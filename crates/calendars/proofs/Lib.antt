@@ -14,6 +14,9 @@ pub mod Bases
 pub mod BaseDays
 pub mod Elements
 pub mod Loops
+pub mod Noting
+pub mod Passing
+pub mod OwnHours
 pub mod Overs
 pub mod WeekHours
 pub mod Orders

@@ -5,6 +5,7 @@ pub mod Hours
 pub mod Plain
 pub mod Exceptions
 pub mod Days
+pub mod Notes
 pub mod Base
 pub mod Record
 pub mod Built

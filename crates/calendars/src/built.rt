@@ -5,6 +5,7 @@ ghost use mathlib.Core.Bool.{_&&_};
 ghost use Prim.Native.Nat.{_%_};
 ghost use lib.Dec.{leb, eqb};
 ghost use lib.ListN.{length};
+ghost use Rattle.bits.specs.Clear.{cleared};
 ghost use Rattle.definition.specs.Format.{whole};
 ghost use Rattle.definition.specs.Pack.{calendar};
 ghost use Rattle.definition.specs.Refusal.{mostElements};
@@ -83,12 +84,14 @@ fn put_next(
     s: &[u8],
     root: usize,
     at: usize,
+    words: &mut [u32],
+    from: usize,
 ) -> Records
-    ensures { λ r. ⌜ Adds (elementAt (now (s .entry)) root) (elementAt (now (s .entry)) at ∷ []) start (now (out .entry)) done (now (out .exit)) r ⌝ }
+    ensures { λ r. ⌜ Adds (elementAt (now (s .entry)) root) (elementAt (now (s .entry)) at ∷ []) start (now (out .entry)) done (now (out .exit)) r ⌝ ∗ ⌜ cleared from (now (words .exit)) ≡ cleared from (now (words .entry)) ⌝ }
 {
     let stars = stars_of(out, start, done.count, s, at);
     let base = base_of(out, start, done.count, s, root, at);
-    let next = put_calendar(out, done.next, s, at, stars, base);
+    let next = put_calendar(out, done.next, s, at, stars, base, words, from);
     Records {
         count: std::num::wrapping_add_u32(done.count, 1),
         next,
@@ -98,8 +101,15 @@ fn put_next(
 // ---- all of them
 
 // Those without a base, then the others.
-fn put_each(out: &mut [u8], start: Place, s: &[u8], root: usize) -> Records
-    ensures { λ r. ⌜ AddsAll (elementAt (now (s .entry)) root) start (now (out .entry)) (now (out .exit)) r ⌝ }
+fn put_each(
+    out: &mut [u8],
+    start: Place,
+    s: &[u8],
+    root: usize,
+    words: &mut [u32],
+    from: usize,
+) -> Records
+    ensures { λ r. ⌜ AddsAll (elementAt (now (s .entry)) root) start (now (out .entry)) (now (out .exit)) r ⌝ ∗ ⌜ cleared from (now (words .exit)) ≡ cleared from (now (words .entry)) ⌝ }
 {
     let mut built = Records {
         count: 0,
@@ -110,7 +120,7 @@ fn put_each(out: &mut [u8], start: Place, s: &[u8], root: usize) -> Records
         let Found::At(at) = found else {
             return built;
         };
-        built = put_next(out, start, built, s, root, at);
+        built = put_next(out, start, built, s, root, at, words, from);
         found = rows::next_calendar(s, root, at);
     }
 }
@@ -128,10 +138,17 @@ fn or_default(out: &mut [u8], done: Records) -> Records
     done
 }
 
-fn put_built(out: &mut [u8], p: Place, s: &[u8], root: usize) -> Records
-    ensures { λ r. ⌜ PutsBuilt (elementAt (now (s .entry)) root) (now (out .entry)) p (now (out .exit)) r ⌝ }
+fn put_built(
+    out: &mut [u8],
+    p: Place,
+    s: &[u8],
+    root: usize,
+    words: &mut [u32],
+    from: usize,
+) -> Records
+    ensures { λ r. ⌜ PutsBuilt (elementAt (now (s .entry)) root) (now (out .entry)) p (now (out .exit)) r ⌝ ∗ ⌜ cleared from (now (words .exit)) ≡ cleared from (now (words .entry)) ⌝ }
 {
-    let done = put_each(out, p, s, root);
+    let done = put_each(out, p, s, root, words, from);
     or_default(out, done)
 }
 
@@ -171,17 +188,26 @@ fn put_elapsed(out: &mut [u8], done: Records, s: &[u8], root: usize) -> Records
 }
 
 // The main calendar, then the others, then the elapsed one where a kept task is elapsed; none where there are more than 5,000,000, or where the
-// place is not at a whole byte.
-pub fn put_calendars(out: &mut [u8], p: Place, s: &[u8], root: usize) -> Records
-    ensures { λ r. ⌜ WritesIf (leb (length (calendarElements (elementAt (now (s .entry)) root))) mostElements && eqb (p .bit % 8) 0) (whole calendar) (calendarsOf (contextOf (elementAt (now (s .entry)) root))) (now (out .entry)) p (now (out .exit)) r ⌝ }
+// place is not at a whole byte. The words from `at` on are used, and are 0 in the end.
+pub fn put_calendars(
+    out: &mut [u8],
+    p: Place,
+    s: &[u8],
+    root: usize,
+    words: &mut [u32],
+    at: usize,
+) -> Records
+    ensures { λ r. ⌜ WritesIf (leb (length (calendarElements (elementAt (now (s .entry)) root))) mostElements && eqb (p .bit % 8) 0) (whole calendar) (calendarsOf (contextOf (elementAt (now (s .entry)) root))) (now (out .entry)) p (now (out .exit)) r ⌝ ∗ ⌜ now (words .exit) ≡ cleared at (now (words .entry)) ⌝ }
 {
     if !((names::count_calendars(s, root) <= 5_000_000) & (p.bit % 8 == 0)) {
+        bits::clear_words_from(words, at);
         return Records {
             count: 0,
             next: PAST,
         };
     }
-    let done = put_built(out, p, s, root);
+    let done = put_built(out, p, s, root, words, at);
+    bits::clear_words_from(words, at);
     turn_main(out, p, rows::main_calendar(s, root));
     put_elapsed(out, done, s, root)
 }

@@ -6,7 +6,10 @@ mod days;
 mod exceptions;
 mod hours;
 mod list;
+mod notes;
+mod pass;
 mod plain;
+mod reach;
 mod record;
 
 pub use built::put_calendars;

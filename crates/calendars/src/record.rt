@@ -6,6 +6,7 @@ ghost use Rattle.definition.specs.Ascii.{bytes};
 ghost use Rattle.definition.specs.Format.{periods};
 ghost use Rattle.definition.specs.Calendar.{weekDays};
 ghost use Rattle.tree.specs.Place.{elementAt, laterAt};
+ghost use Rattle.bits.specs.Clear.{cleared};
 ghost use Rattle.bits.specs.Steps.{Puts};
 ghost use Rattle.calendar.specs.Week.{placeMeaning};
 ghost use Rattle.rows.specs.Rows.{foundMeaning};
@@ -17,6 +18,7 @@ use crate::days::put_exceptions;
 use crate::hours::put_periods;
 use crate::list::begin;
 use crate::plain::put_week;
+use crate::reach::reach_in;
 use bits::Place;
 use calendar::PlaceAnswer;
 use tree::Found;
@@ -130,7 +132,7 @@ fn put_hours(out: &mut [u8], p: Place, s: &[u8], at: usize, base: Base) -> Place
 
 // ---- the whole
 
-// A Calendar over its base, its name with so many `*` behind it.
+// A Calendar over its base, its name with so many `*` behind it; the words from `from` on are free.
 pub(crate) fn put_calendar(
     out: &mut [u8],
     p: Place,
@@ -138,15 +140,18 @@ pub(crate) fn put_calendar(
     at: usize,
     stars: u32,
     base: Base,
+    words: &mut [u32],
+    from: usize,
 ) -> Place
-    ensures { λ r. ⌜ PutsCalendar (elementAt (now (s .entry)) at) stars base (now (out .entry)) p (now (out .exit)) r ⌝ }
+    ensures { λ r. ⌜ PutsCalendar (elementAt (now (s .entry)) at) stars base (now (out .entry)) p (now (out .exit)) r ⌝ ∗ ⌜ cleared from (now (words .exit)) ≡ cleared from (now (words .entry)) ⌝ }
 {
     let a = pack::put_starred(out, p, names::wanted_name(s, at, b"Calendar"), stars);
     let week = calendar::week_of(s, at, base_week(out, base));
     let b = put_week(out, a, week);
     let c = put_hours(out, b, s, at, base);
-    let d = put_holidays(out, c, s, at, week, base);
-    let e = put_extra_days(out, d, s, at, week, base);
-    let f = put_exceptions(out, e, s, at, base);
+    let own = reach_in(s, at, from);
+    let d = put_holidays(out, c, s, at, week, base, words, own);
+    let e = put_extra_days(out, d, s, at, week, base, words, own);
+    let f = put_exceptions(out, e, s, at, base, words, own);
     bits::pad(out, f)
 }

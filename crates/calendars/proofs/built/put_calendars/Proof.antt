@@ -1,6 +1,6 @@
 use borrow.Author.Tests.{not-true, not-false}
 use native.Mathlib.Omega.{arith}
-use mathlib.Core.Path.{refl}
+use mathlib.Core.Path.{refl, _∙_}
 use lib.ListN.{drop}
 use Rattle.laws.specs.Each.{each-drop}
 use Rattle.laws.specs.FitTrees.{small-element}
@@ -14,11 +14,23 @@ use Rattle.calendars.proofs.built.put_calendars.Tie as tie
 count-calendars-requires : tie.Need-count-calendars-requires
 count-calendars-requires c κs = search needs
 
+clear-words-from-requires : tie.Need-clear-words-from-requires
+clear-words-from-requires c κs = search needs
+
+same-length : tie.Need-same-length
+same-length c = search needs
+
 returns : tie.Need-returns
-returns c = let a = c .before .before .before .before .before .args in calendars-not (a .s .now) (elementAt (a .s .now) (a .root)) {p = a .p} (c .before .before .count-calendars .ensures) (not-true _ (c .if1 .taken)) refl
+returns c =
+    let k = c .before .before .before .before in
+    let a = c .before .before .before .before .before .before .before .before .before .before .args in
+    (calendars-not (a .s .now) (elementAt (a .s .now) (a .root)) {p = a .p} (k .before .before .count-calendars .ensures) (not-true _ (k .if1 .taken)) refl, c .before .before .clear-words-from .ensures)
 
 put-built-requires : tie.Need-put-built-requires
 put-built-requires c κs = search needs
+
+clear-words-from-requires-2 : tie.Need-clear-words-from-requires-2
+clear-words-from-requires-2 c κs = search needs
 
 main-calendar-requires : tie.Need-main-calendar-requires
 main-calendar-requires c κs = search needs
@@ -29,11 +41,24 @@ turn-main-requires c κs = search needs
 put-elapsed-requires : tie.Need-put-elapsed-requires
 put-elapsed-requires c κs = search needs
 
-same-length : tie.Need-same-length
-same-length c = search needs
+same-length-2 : tie.Need-same-length-2
+same-length-2 c = search needs
+
+same-length-3 : tie.Need-same-length-3
+same-length-3 c = search needs
 
 returns-2 : tie.Need-returns-2
-returns-2 c = let a = c .before .before .before .before .before .before .before .before .before .before .before .before .before .before .before .before .before .before .args in let bytes = bytes-of (a .s .now) (λ i. omega (arith, c .before .before .before .before .before .before .before .before .before .before .before .before .before .before .before .before .shared-slice-known .given i)) in calendars-if (a .s .now) (elementAt (a .s .now) (a .root)) {p = a .p} (c .before .before .before .before .before .before .before .before .before .before .before .before .before .before .before .count-calendars .ensures) (small-element (drop (a .root) (a .s .now)) (each-drop (a .root) bytes)) (not-false _ (c .before .before .before .before .before .before .before .before .before .before .before .before .before .if1 .left)) _ (c .before .before .before .before .before .before .before .main-calendar .ensures) (c .before .before .before .before .before .before .before .before .before .before .before .put-built .ensures) (c .before .before .before .before .before .before .turn-main .ensures) (c .before .before .put-elapsed .ensures)
+returns-2 c =
+    let t = c .before .before .before .before .before .before in
+    let w = c .before .before .before .before .before .before .before .before .before .before .before in
+    let b = c .before .before .before .before .before .before .before .before .before .before .before .before .before .before .before .before .before in
+    let k = c .before .before .before .before .before .before .before .before .before .before .before .before .before .before .before .before .before .before .before .before in
+    let n = k .before .before in
+    let a = n .before .before .before .before .args in
+    let bytes = bytes-of (a .s .now) (λ i. omega (arith, n .before .before .shared-slice-known .given i)) in (
+      calendars-if (a .s .now) (elementAt (a .s .now) (a .root)) {p = a .p} (n .count-calendars .ensures) (small-element (drop (a .root) (a .s .now)) (each-drop (a .root) bytes)) (not-false _ (k .if1 .left)) _ (t .before .main-calendar .ensures) (b .put-built .ensures .0) (t .turn-main .ensures) (c .before .before .put-elapsed .ensures),
+      w .clear-words-from2 .ensures ∙ b .put-built .ensures .1,
+    )
 
 pub put-calendars-spec : {M : Type 1} → statement M
-put-calendars-spec = tie.close (tie.spec count-calendars-requires returns put-built-requires main-calendar-requires turn-main-requires put-elapsed-requires same-length returns-2)
+put-calendars-spec = tie.close (tie.spec count-calendars-requires clear-words-from-requires same-length returns put-built-requires clear-words-from-requires-2 main-calendar-requires turn-main-requires put-elapsed-requires same-length-2 same-length-3 returns-2)

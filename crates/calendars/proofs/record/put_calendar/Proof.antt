@@ -1,3 +1,4 @@
+use Rattle.calendars.proofs.Passing.{kept-at}
 use mathlib.Core.Path.{ap, _∙_}
 use Rattle.definition.specs.Text.{Text}
 use Rattle.tree.specs.Place.{elementAt}
@@ -30,6 +31,9 @@ put-week-requires c κs = search needs
 put-hours-requires : tie.Need-put-hours-requires
 put-hours-requires c κs = search needs
 
+reach-in-requires : tie.Need-reach-in-requires
+reach-in-requires c κs = search needs
+
 put-holidays-requires : tie.Need-put-holidays-requires
 put-holidays-requires c κs = search needs
 
@@ -43,10 +47,27 @@ pad-requires : tie.Need-pad-requires
 pad-requires c κs = search needs
 
 same-length : tie.Need-same-length
-same-length c = c .before .before .pad .kept .0 ∙ c .before .before .before .before .before .before .put-exceptions .kept .0 ∙ c .before .before .before .before .before .before .before .before .before .before .put-extra-days .kept .0 ∙ c .before .before .before .before .before .before .before .before .before .before .before .before .before .before .put-holidays .kept .0 ∙ c .before .before .before .before .before .before .before .before .before .before .before .before .before .before .before .before .before .before .put-hours .kept .0 ∙ c .before .before .before .before .before .before .before .before .before .before .before .before .before .before .before .before .before .before .before .before .before .before .put-week .kept .0 ∙ c .before .before .before .before .before .before .before .before .before .before .before .before .before .before .before .before .before .before .before .before .before .before .before .before .before .before .before .before .before .put-starred .kept .0
+same-length c = c .before .before .pad .kept .0 ∙ c .before .before .before .before .before .before .before .before .put-exceptions .kept .0 ∙ c .before .before .before .before .before .before .before .before .before .before .before .before .before .before .before .put-extra-days .kept .0 ∙ c .before .before .before .before .before .before .before .before .before .before .before .before .before .before .before .before .before .before .before .before .before .before .put-holidays .kept .0 ∙ c .before .before .before .before .before .before .before .before .before .before .before .before .before .before .before .before .before .before .before .before .before .before .before .before .before .before .before .before .put-hours .kept .0 ∙ c .before .before .before .before .before .before .before .before .before .before .before .before .before .before .before .before .before .before .before .before .before .before .before .before .before .before .before .before .before .before .before .before .put-week .kept .0 ∙ c .before .before .before .before .before .before .before .before .before .before .before .before .before .before .before .before .before .before .before .before .before .before .before .before .before .before .before .before .before .before .before .before .before .before .before .before .before .before .before .put-starred .kept .0
+
+same-length-2 : tie.Need-same-length-2
+same-length-2 c = c .before .before .before .before .before .before .before .before .put-exceptions .kept .1 .1 .1 .1 .1 .0 ∙ c .before .before .before .before .before .before .before .before .before .before .before .before .before .before .before .put-extra-days .kept .1 .1 .1 .1 .1 .1 .0 ∙ c .before .before .before .before .before .before .before .before .before .before .before .before .before .before .before .before .before .before .before .before .before .before .put-holidays .kept .1 .1 .1 .1 .1 .1 .0
 
 returns : tie.Need-returns
-returns c = let a = c .before .before .before .before .before .before .before .before .before .before .before .before .before .before .before .before .before .before .before .before .before .before .before .before .before .before .before .before .before .before .before .before .before .before .before .args in calendar-over (elementAt (a .s .now) (a .at)) (a .stars) (put-same (ap (λ (t : Text). starredBy t (a .stars)) (c .before .before .before .before .before .before .before .before .before .before .before .before .before .before .before .before .before .before .before .before .before .before .before .before .before .before .before .before .before .before .wanted-name .ensures)) (c .before .before .before .before .before .before .before .before .before .before .before .before .before .before .before .before .before .before .before .before .before .before .before .before .before .before .before .before .before .put-starred .ensures)) (c .before .before .before .before .before .before .before .before .before .before .before .before .before .before .before .before .before .before .before .before .before .before .before .before .before .base-week .ensures) (c .before .before .before .before .before .before .before .before .before .before .before .before .before .before .before .before .before .before .before .before .before .before .before .before .week-of .ensures) (c .before .before .before .before .before .before .before .before .before .before .before .before .before .before .before .before .before .before .before .before .before .before .put-week .ensures) (c .before .before .before .before .before .before .before .before .before .before .before .before .before .before .before .before .before .before .put-hours .ensures) (over-holidays (a .base) (c .before .before .before .before .before .before .before .before .before .before .before .before .before .before .put-holidays .ensures)) (over-extra-days (a .base) (c .before .before .before .before .before .before .before .before .before .before .put-extra-days .ensures)) (over-exceptions (a .base) (c .before .before .before .before .before .before .put-exceptions .ensures)) (c .before .before .pad .ensures)
+returns c =
+    let x = c .before .before .before .before .before .before .before .before in
+    let e = c .before .before .before .before .before .before .before .before .before .before .before .before .before .before .before in
+    let h = c .before .before .before .before .before .before .before .before .before .before .before .before .before .before .before .before .before .before .before .before .before .before in
+    let o = h .before .before .before in
+    let u = c .before .before .before .before .before .before .before .before .before .before .before .before .before .before .before .before .before .before .before .before .before .before .before .before .before .before .before .before in
+    let w = c .before .before .before .before .before .before .before .before .before .before .before .before .before .before .before .before .before .before .before .before .before .before .before .before .before .before .before .before .before .before .before .before in
+    let m = w .before .before in
+    let b = m .before in
+    let q = c .before .before .before .before .before .before .before .before .before .before .before .before .before .before .before .before .before .before .before .before .before .before .before .before .before .before .before .before .before .before .before .before .before .before .before .before .before .before .before in
+    let n = q .before in
+    let a = c .before .before .before .before .before .before .before .before .before .before .before .before .before .before .before .before .before .before .before .before .before .before .before .before .before .before .before .before .before .before .before .before .before .before .before .before .before .before .before .before .before .before .before .before .before .before .args in (
+      calendar-over (elementAt (a .s .now) (a .at)) (a .stars) (put-same (ap (λ (t : Text). starredBy t (a .stars)) (n .wanted-name .ensures)) (q .put-starred .ensures)) (b .base-week .ensures) (m .week-of .ensures) (w .put-week .ensures) (u .put-hours .ensures) (over-holidays (a .base) (h .put-holidays .ensures .0)) (over-extra-days (a .base) (e .put-extra-days .ensures .0)) (over-exceptions (a .base) (x .put-exceptions .ensures .0)) (c .before .before .pad .ensures),
+      kept-at _ _ (o .reach-in .ensures) (x .put-exceptions .ensures .1 ∙ e .put-extra-days .ensures .1 ∙ h .put-holidays .ensures .1),
+    )
 
 pub put-calendar-spec : {M : Type 1} → statement M
-put-calendar-spec = tie.close (tie.spec slice-aggregate-wanted-name wanted-name-requires put-starred-requires base-week-requires week-of-requires put-week-requires put-hours-requires put-holidays-requires put-extra-days-requires put-exceptions-requires pad-requires same-length returns)
+put-calendar-spec = tie.close (tie.spec slice-aggregate-wanted-name wanted-name-requires put-starred-requires base-week-requires week-of-requires put-week-requires put-hours-requires reach-in-requires put-holidays-requires put-extra-days-requires put-exceptions-requires pad-requires same-length same-length-2 returns)
