@@ -2,11 +2,11 @@
 -- nothing.
 use Prim.Native.Nat.{ℕ, min, max, _-_, _≤_, _<_}
 use native.Mathlib.Omega.{arith}
-use mathlib.Core.Path.{_≡_, refl, sym, ap, _∙_, subst}
+use mathlib.Core.Path.{_≡_, ap, _∙_, subst}
 use mathlib.Core.Bool.{Bool}
 use mathlib.Core.List.{List}
 use mathlib.Core.Option.{Option}
-use lib.ListN.{length, getD, take, replicate, length-append, length-replicate, List·getD-append}
+use lib.ListN.{length, take, replicate, length-append, length-replicate, List·getD-append}
 use lib.Seq.{length-take-le, getD-take}
 use Rattle.definition.specs.Format.{Format}
 use Rattle.definition.specs.Model.{Activity, Link, Expense}

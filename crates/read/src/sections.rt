@@ -1,5 +1,4 @@
 // The six sections, one after another, and their counts.
-ghost use Rattle.tree.specs.Place.{elementAt};
 ghost use Rattle.read.specs.Sections.{SectionsPut, AllPut, Closes};
 ghost use Rattle.read.specs.Tables.{Tasked};
 use crate::assigned::put_assigned;
