@@ -24,7 +24,7 @@ use Rattle.laws.specs.Formats.{Fills, fills-whole, fills-pair, fills-times}
 use Rattle.laws.specs.Buf.{_▷_, sizeOf}
 use Rattle.tree.specs.Place.{elementAt}
 use Rattle.bits.specs.Places.{at, inside, Fits, room-none}
-use Rattle.bits.specs.Clear.{cleared, cleared-all}
+use Rattle.bits.specs.Clear.{cleared}
 use Rattle.bits.specs.Steps.{Puts, Step, said, view, view-in}
 use Rattle.bits.specs.Round.{put-stood, stood-all, overran}
 use Rattle.bits.specs.declared.Place.{Place}
@@ -32,7 +32,7 @@ use Rattle.pack.specs.Record.{countsBy}
 use Rattle.pack.specs.declared.record.Counts as P
 use Rattle.read.specs.Sections.{start, low, zeros, Few, AllPut, Closes}
 use Rattle.read.specs.declared.sections.Sections.{Sections}
-use Rattle.read.specs.Answers.{Leaves, Gives}
+use Rattle.read.specs.Answers.{Leaves}
 use Rattle.read.specs.Answers as A
 use Rattle.read.specs.declared.ReadAnswer.{ReadAnswer}
 use Rattle.read.specs.declared.ReadAnswer.the-variants as answer
@@ -192,14 +192,11 @@ module _ {s : Text} {d d1 : List ℕ} {r : Sections} (w : AllPut s 0 d d1 r) whe
 
 -- the answer for a tree that is refused, and for one that is read
 
-module _ {s : Text} {n : ℕ} {model work work′ out : List ℕ} (e : n ≡ treeRefusal s) where
-  pub gives-refused : 0 < n → work′ ≡ cleared 0 work → out ≡ replicate (length model) 0 → Gives s model work out work′ (answer.Refused n)
-  gives-refused h c o =
+module _ (s : Text) (model : List ℕ) {n : ℕ} {out : List ℕ} (e : n ≡ treeRefusal s) where
+  pub leaves-refused : 0 < n → out ≡ replicate (length model) 0 → Leaves (length model) (readAnswer s (length model)) (answer.Refused n) out
+  leaves-refused h o =
       let k : readAnswer s (length model) ≡ refused n = reads-not s (length model) (rw (← e) h) ∙ ap refused (sym e) in
-      record {
-        leaves = subst (λ (a : Answer). Leaves (length model) a (answer.Refused n) out) (sym k) (record { refusal = refl; count = refl; given = o });
-        cleared = c ∙ cleared-all work;
-      }
+      subst (λ (a : Answer). Leaves (length model) a (answer.Refused n) out) (sym k) (record { refusal = refl; count = refl; given = o })
 
-  pub gives-read : {r : ReadAnswer} → n ≤ 0 → work′ ≡ cleared 0 work → A.Fills s model out r → Gives s model work out work′ r
-  gives-read h c f = record { leaves = f .fills (sym e ∙ omega arith); cleared = c ∙ cleared-all work }
+  pub leaves-read : {r : ReadAnswer} → n ≤ 0 → A.Fills s model out r → Leaves (length model) (readAnswer s (length model)) r out
+  leaves-read h f = f .fills (sym e ∙ omega arith)

@@ -1,3 +1,4 @@
 pub mod Project
+pub mod Tables
 pub mod Sections
 pub mod Answers

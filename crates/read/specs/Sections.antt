@@ -1,8 +1,9 @@
 -- The six sections put one after another, and their counts closed. Assumes nothing.
 use Prim.Native.Nat.{ℕ, _%_, _^_, _≤_}
 use mathlib.Core.Path.{_≡_}
-use mathlib.Core.Bool.{true}
+use mathlib.Core.Bool.{true, _&&_}
 use mathlib.Core.List.{List, _++_}
+use lib.Dec.{leb}
 use lib.ListN.{length}
 use Rattle.definition.specs.Text.{Text}
 use Rattle.definition.specs.Bits.{Bits, bitsOf}
@@ -11,15 +12,20 @@ use Rattle.definition.specs.Tree.{Element}
 use Rattle.definition.specs.Model.{Calendar, Activity, Link, Resource, Assignment, Expense, Model}
 use Rattle.definition.specs.Pack.{Counts, counts, countsOf, body, bodyOf, calendar, activity, link, resource, assignment, expense}
 use Rattle.definition.specs.Calendar.{calendarElements}
-use Rattle.definition.specs.Resource.{workResources}
+use Rattle.definition.specs.Task.{contextOf}
+use Rattle.definition.specs.Resource.{workResources, resources, assignments, expenses}
 use Rattle.definition.specs.Refusal.{mostElements}
 use Rattle.definition.specs.Read.{modelOf}
 use Rattle.tree.specs.Place.{elementAt}
 use Rattle.bits.specs.Places.{inside}
 use Rattle.bits.specs.Steps.{Puts}
 use Rattle.bits.specs.declared.Place.{Place}
+use Rattle.pack.specs.Writes.{Writes, WritesIf}
 use Rattle.pack.specs.Record.{countsBy}
 use Rattle.pack.specs.declared.record.Counts as P
+use Rattle.names.specs.Context.{contextAt, calendarsBefore}
+use Rattle.assignments.specs.Section.{WritesIn}
+use Rattle.read.specs.declared.assigned.Assigned.{Assigned}
 use Rattle.read.specs.declared.sections.Sections.{Sections}
 
 abbrev pub start : Place
@@ -59,6 +65,14 @@ Whole d p = inside (length d) p ≡ true → p .bit % 8 ≡ 0
 -- their counts, where all fitted
 abbrev pub Counted : Element → List ℕ → Sections → Type 0
 Counted e d' r = inside (length d') (r .next) ≡ true → countsBy (r .counts) ≡ low (countsOf (modelOf e))
+
+-- resources, which give d1, then assignments, which give d2, then expenses; the calendars stand at c
+pub record AssignedPut (e : Element) (c : Place) (d : List ℕ) (p : Place) (d' : List ℕ) (r : Assigned) : Type 0 where
+  pub d1 : List ℕ
+  pub d2 : List ℕ
+  pub resources-put : WritesIf (leb (length (workResources e)) mostElements && calendarsBefore d c e p) (whole resource) (resources (contextAt d c e) e) d p d1 (r .resources)
+  pub assignments-put : Writes (whole assignment) (assignments (contextOf e) e) d1 (r .resources .next) d2 (r .assignments)
+  pub expenses-put : WritesIn (whole expense) (expenses (contextOf e) e) d2 (r .assignments .next) d' (r .expenses)
 
 -- the sections
 pub record SectionsPut (s : Text) (root : ℕ) (d : List ℕ) (p : Place) (d' : List ℕ) (r : Sections) : Type 0 where

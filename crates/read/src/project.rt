@@ -12,9 +12,11 @@ ghost use Rattle.tree.specs.Place.{elementAt};
 ghost use Rattle.bits.specs.Steps.{Puts};
 ghost use Rattle.pack.specs.Value.{dateBy};
 ghost use Rattle.read.specs.Project.{Skipped};
+ghost use Rattle.read.specs.Tables.{Tasked};
 use bits::Place;
 use definition::Date;
 use definition::DateAnswer;
+use index::Made;
 use pack::Skips;
 
 // The title, else the name.
@@ -37,10 +39,11 @@ fn start_of(s: &[u8], root: usize) -> Date
     }
 }
 
-fn skips_of(s: &[u8], root: usize) -> Skips
+fn skips_of(s: &[u8], root: usize, words: &[u32], tasks: Made) -> Skips
+    requires { ⌜ Tasked (now s) root (now words) tasks ⌝ }
     ensures { λ r. ⌜ Skipped (elementAt (now (s .entry)) root) r ⌝ }
 {
-    let fates = links::count_fates(s, root);
+    let fates = links::count_fates(s, root, words, tasks);
     Skips {
         skipped: calendar::skipped(s, root),
         dangling: fates.dangling,
@@ -48,13 +51,21 @@ fn skips_of(s: &[u8], root: usize) -> Skips
     }
 }
 
-pub(crate) fn put_project(out: &mut [u8], p: Place, s: &[u8], root: usize) -> Place
+pub(crate) fn put_project(
+    out: &mut [u8],
+    p: Place,
+    s: &[u8],
+    root: usize,
+    words: &[u32],
+    tasks: Made,
+) -> Place
+    requires { ⌜ Tasked (now s) root (now words) tasks ⌝ }
     ensures { λ r. ⌜ Puts (whole project) (projectOf (contextOf (elementAt (now (s .entry)) root)) (elementAt (now (s .entry)) root)) (now (out .entry)) p (now (out .exit)) r ⌝ }
 {
     let name = project_name(s, root);
     let start = start_of(s, root);
     let currency = tree::text_of(s, root, b"CurrencySymbol");
-    let skips = skips_of(s, root);
+    let skips = skips_of(s, root, words, tasks);
     let status = fields::date_in(s, root, b"StatusDate");
     pack::put_project(out, p, name, start, currency, skips, status)
 }

@@ -1,9 +1,12 @@
 // The six sections, one after another, and their counts.
-ghost use Rattle.tree.specs.Place.{elementAt};
 ghost use Rattle.read.specs.Sections.{SectionsPut, AllPut, Closes};
+ghost use Rattle.read.specs.Tables.{Tasked};
+use crate::assigned::put_assigned;
 use crate::project::put_project;
 use bits::Place;
+use index::Made;
 use pack::Counts;
+use rows::Listed;
 
 // How many records of each kind were put, and the place behind the last.
 pub(crate) struct Sections {
@@ -11,32 +14,39 @@ pub(crate) struct Sections {
     pub next: Place,
 }
 
-// The calendars stand at p; activities and resources read their names there.
-fn put_sections(out: &mut [u8], p: Place, s: &[u8], root: usize) -> Sections
+// The calendars stand at p; activities and resources read their names there. The words behind the table of the kept tasks are lent to each section.
+fn put_sections(
+    out: &mut [u8],
+    p: Place,
+    s: &[u8],
+    root: usize,
+    words: &mut [u32],
+    tasks: Made,
+) -> Sections
+    requires { ⌜ Tasked (now s) root (now words) tasks ⌝ }
     ensures { λ r. ⌜ SectionsPut (now (s .entry)) root (now (out .entry)) p (now (out .exit)) r ⌝ }
 {
-    let a = calendars::put_calendars(out, p, s, root);
-    let b = activities::put_activities(out, a.next, s, root, p);
-    let c = links::put_links(out, b.next, s, root);
-    let d = assignments::put_resources(out, c.next, s, root, p);
-    let e = assignments::put_assignments(out, d.next, s, root);
-    let f = assignments::put_expenses(out, e.next, s, root);
-    let next = f.next;
+    let behind = index::end_of(tasks, words.len());
+    let a = calendars::put_calendars(out, p, s, root, words, behind);
+    let b = activities::put_activities(out, a.next, s, root, p, words, tasks);
+    let c = links::put_links(out, b.next, s, root, words, tasks);
+    let d = put_assigned(out, c.next, s, root, p, words, tasks);
+    let next = d.expenses.next;
     Sections {
         counts: Counts {
             calendars: a.count,
             activities: b.count,
             links: c.count,
-            resources: d.count,
-            assignments: e.count,
-            expenses: f.count,
+            resources: d.resources.count,
+            assignments: d.assignments.count,
+            expenses: d.expenses.count,
         },
         next,
     }
 }
 
 // All from the first byte on, the six counts left open.
-pub(crate) fn put_all(out: &mut [u8], s: &[u8], root: usize) -> Sections
+pub(crate) fn put_all(out: &mut [u8], s: &[u8], root: usize, words: &mut [u32]) -> Sections
     ensures { λ r. ⌜ AllPut (now (s .entry)) root (now (out .entry)) (now (out .exit)) r ⌝ }
 {
     let open = Counts {
@@ -48,8 +58,9 @@ pub(crate) fn put_all(out: &mut [u8], s: &[u8], root: usize) -> Sections
         expenses: 0,
     };
     let p = pack::put_counts(out, Place { byte: 0, bit: 0 }, open);
-    let q = put_project(out, p, s, root);
-    put_sections(out, q, s, root)
+    let tasks = rows::index_rows(s, root, Listed::Tasks, words, 0);
+    let q = put_project(out, p, s, root, words, tasks);
+    put_sections(out, q, s, root, words, tasks)
 }
 
 // The six counts put in their places.

@@ -26,7 +26,7 @@ fn model_of(tree: &[u8], room: &mut [u8]) -> usize
     if MOST < tree.len() {
         return 0;
     }
-    let mut work = [0u32; 1];
+    let mut work = [0u32; 16384];
     length_of(read::read(tree, room, &mut work))
 }
 

@@ -18,8 +18,11 @@ clear-requires c κs = search needs
 same-length : tie.Need-same-length
 same-length c = search needs
 
+same-length-2 : tie.Need-same-length-2
+same-length-2 c = search needs
+
 returns : tie.Need-returns
-returns c = fills-short (c .before .before .before .before .before .before .before .before .before .put-all .ensures) (sym (c .before .before .before .before .before .inside .ensures) ∙ not-true _ (c .before .before .before .before .if1 .taken)) (c .before .before .clear .ensures)
+returns c = fills-short (c .before .before .before .before .before .before .before .before .before .before .before .put-all .ensures) (sym (c .before .before .before .before .before .inside .ensures) ∙ not-true _ (c .before .before .before .before .if1 .taken)) (c .before .before .clear .ensures)
 
 close-counts-requires : tie.Need-close-counts-requires
 close-counts-requires c κs = search needs
@@ -27,11 +30,14 @@ close-counts-requires c κs = search needs
 clear-from-requires : tie.Need-clear-from-requires
 clear-from-requires c κs = search needs
 
-same-length-2 : tie.Need-same-length-2
-same-length-2 c = search needs
+same-length-3 : tie.Need-same-length-3
+same-length-3 c = search needs
+
+same-length-4 : tie.Need-same-length-4
+same-length-4 c = search needs
 
 returns-2 : tie.Need-returns-2
-returns-2 c = fills-written (c .before .before .before .before .before .before .before .before .before .before .before .before .before .before .put-all .ensures) (sym (c .before .before .before .before .before .before .before .before .before .before .inside .ensures) ∙ not-false _ (c .before .before .before .before .before .before .before .before .before .if1 .left)) (c .before .before .before .before .before .before .close-counts .ensures) (λ i. omega (arith, c .before .before .before .before .slice-known4 .given i)) (c .before .before .clear-from .ensures)
+returns-2 c = fills-written (c .before .before .before .before .before .before .before .before .before .before .before .before .before .before .before .before .put-all .ensures) (sym (c .before .before .before .before .before .before .before .before .before .before .inside .ensures) ∙ not-false _ (c .before .before .before .before .before .before .before .before .before .if1 .left)) (c .before .before .before .before .before .before .close-counts .ensures) (λ i. omega (arith, c .before .before .before .before .slice-known6 .given i)) (c .before .before .clear-from .ensures)
 
 pub put-model-spec : {M : Type 1} → statement M
 put-model-spec =
@@ -41,8 +47,10 @@ put-model-spec =
     inside-requires
     clear-requires
     same-length
+    same-length-2
     returns
     close-counts-requires
     clear-from-requires
-    same-length-2
+    same-length-3
+    same-length-4
     returns-2)

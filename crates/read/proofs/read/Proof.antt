@@ -1,16 +1,16 @@
-use Rattle.read.proofs.Whole.{gives-refused, gives-read}
+use mathlib.Core.Path.{ap, _∙_}
+use Prim.Native.Nat.{ℕ}
+use lib.ListN.{replicate}
+use Rattle.bits.specs.Clear.{cleared-all}
 use borrow.Author.Needs.{needs}
 use Rattle.read.proofs.read.Statement.{statement}
 use Rattle.read.proofs.read.Tie as tie
 
+answer-requires : tie.Need-answer-requires
+answer-requires c κs = search needs
+
 clear-words-from-requires : tie.Need-clear-words-from-requires
 clear-words-from-requires c κs = search needs
-
-judge-requires : tie.Need-judge-requires
-judge-requires c κs = search needs
-
-clear-requires : tie.Need-clear-requires
-clear-requires c κs = search needs
 
 same-length : tie.Need-same-length
 same-length c = search needs
@@ -19,31 +19,9 @@ same-length-2 : tie.Need-same-length-2
 same-length-2 c = search needs
 
 returns : tie.Need-returns
-returns c = gives-refused (c .before .before .before .before .before .judge .ensures) (c .before .before .before .before .if1 .taken) (c .before .before .before .before .before .before .before .before .clear-words-from .ensures) (c .before .before .clear .ensures)
-
-put-model-requires : tie.Need-put-model-requires
-put-model-requires c κs = search needs
-
-same-length-3 : tie.Need-same-length-3
-same-length-3 c = search needs
-
-same-length-4 : tie.Need-same-length-4
-same-length-4 c = search needs
-
-returns-2 : tie.Need-returns-2
-returns-2 c = gives-read (c .before .before .before .before .before .judge .ensures) (c .before .before .before .before .if1 .left) (c .before .before .before .before .before .before .before .before .clear-words-from .ensures) (c .before .before .put-model .ensures)
+returns c = record { leaves = c .before .before .before .before .before .before .before .before .answer .ensures; cleared = c .before .before .clear-words-from .ensures ∙ cleared-all (c .before .before .before .before .before .before .before .before .answer .last .1 .1 .0) ∙ ap (λ (n : ℕ). replicate n 0) (c .before .before .before .before .before .work .given) }
 
 pub read-spec : {M : Type 1} → statement M
 read-spec =
     tie.close
-    (tie.spec
-    clear-words-from-requires
-    judge-requires
-    clear-requires
-    same-length
-    same-length-2
-    returns
-    put-model-requires
-    same-length-3
-    same-length-4
-    returns-2)
+    (tie.spec answer-requires clear-words-from-requires same-length same-length-2 returns)

@@ -17,7 +17,7 @@ text-of-requires : tie.Need-text-of-requires
 text-of-requires c κs = search needs
 
 skips-of-requires : tie.Need-skips-of-requires
-skips-of-requires c κs = search needs
+skips-of-requires c κs = c .before .before .before .before .before .before .before .pre
 
 slice-aggregate-date-in : tie.Need-slice-aggregate-date-in
 slice-aggregate-date-in c = search needs
@@ -32,7 +32,10 @@ same-length : tie.Need-same-length
 same-length c = search needs
 
 returns : tie.Need-returns
-returns c = project-put (elementAt (c .before .before .before .before .before .before .before .before .before .before .before .before .before .args .s .now) (c .before .before .before .before .before .before .before .before .before .before .before .before .before .args .root)) _ _ (c .before .before .before .before .before .before .before .before .before .start-of .result .0) _ _ (c .before .before .before .before .before .before .before .before .before .before .project-name .ensures) (c .before .before .before .before .before .before .before .before .before .start-of .ensures) (c .before .before .before .before .before .before .before .text-of .ensures) (c .before .before .before .before .before .before .skips-of .ensures) (date-given _ (elementAt (c .before .before .before .before .before .before .before .before .before .before .before .before .before .args .s .now) (c .before .before .before .before .before .before .before .before .before .before .before .before .before .args .root)) "StatusDate" (c .before .before .before .before .date-in .ensures)) (c .before .before .put-project .ensures)
+returns c =
+    let a = c .before .before .before .before .before .before .before .before .before .before .before .before .before .before .args in
+    let e = elementAt (a .s .now) (a .root) in
+    project-put e _ _ (c .before .before .before .before .before .before .before .before .before .start-of .result .0) _ _ (c .before .before .before .before .before .before .before .before .before .before .project-name .ensures) (c .before .before .before .before .before .before .before .before .before .start-of .ensures) (c .before .before .before .before .before .before .before .text-of .ensures) (c .before .before .before .before .before .before .skips-of .ensures) (date-given _ e "StatusDate" (c .before .before .before .before .date-in .ensures)) (c .before .before .put-project .ensures)
 
 pub put-project-spec : {M : Type 1} → statement M
 put-project-spec =
