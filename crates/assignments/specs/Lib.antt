@@ -1,2 +1,4 @@
 pub mod Section
+pub mod Finders
 pub mod Records
+pub mod InUse
