@@ -1,5 +1,5 @@
 -- The table of a list while it is filled: the rows so far are in their chains, each with the place of its element. Assumes nothing.
-use Prim.Native.Nat.{ℕ, suc, _+_, _^_, _≤_, _<_}
+use Prim.Native.Nat.{ℕ, suc, _+_, _^_, _≤_, _<_, max}
 use native.Mathlib.Numerals.{add-one}
 use native.Mathlib.Omega.{arith}
 use mathlib.Core.Path.{_≡_, refl, sym, ap, _∙_}
@@ -51,6 +51,7 @@ pub record Filling (s : Text) (root : Element) (l : Listed) (t : Table) (w : Lis
   pub places : ℕ → ℕ
   pub indexed : Indexed t (hashIn l root) places row w′
   pub stands : (r : ℕ) → r < row → elementAt s (places r) ≡ nth l root r
+  pub within : row ≤ length (listed l root)
   pub left : drop row (listed l root) ≡ listedBy s l e
   pub there : (at left : ℕ) → e ≡ Is at left → at < length s
   pub length-same : length w′ ≡ length w
@@ -62,6 +63,7 @@ module _ {s : Text} {root : Element} {l : Listed} {t : Table} {w : List ℕ} (ri
     places = λ r. 0;
     indexed = rw i (indexed-none _ _ w (ripe .fits));
     stands = λ r k. absurd (omega arith);
+    within = omega arith;
     left = h .is;
     there = h .there;
     length-same = refl;
@@ -72,7 +74,7 @@ module _ {s : Text} {root : Element} {l : Listed} {t : Table} {w : List ℕ} (ri
     pub fill-end : w₀ ≡ zeros w (t .at) (t .rows) → e ≡ Absent → Tabled s root l t w w₁
     fill-end o i =
         let z : length (listed l root) ≤ row = drop-out row (listed l root) (f .left ∙ lists-end s l i) in
-        let y : row ≡ length (listed l root) = omega (arith, f .indexed .few, ripe .rows) in
+        let y : row ≡ length (listed l root) = omega (arith, f .within) in
         record {
           places = f .places;
           indexed = rw (← y) (f .indexed);
@@ -125,6 +127,7 @@ module _ {s : Text} {root : Element} {l : Listed} {t : Table} {w : List ℕ} (ri
               places = placed;
               indexed = indexed-by (indexed-same (f .indexed) (λ q z. refl) old-place) few (j ∙ ap hashOf d ∙ ap (λ (e : Element). hashOf (uidOf e)) (sym x)) new-place k;
               stands = λ q z. stood (sym x) q z (eqb q row) refl;
+              within = omega (arith, fill-in);
               left = cons-tail here;
               there = m .there;
               length-same = ap length k ∙ length-added w₁ t row h at ∙ f .length-same;
@@ -137,18 +140,19 @@ module _ (s : Text) (root : Element) (l : Listed) (at : ℕ) (w : List ℕ) wher
   pub makes-long : 2 ^ 32 ≤ length s → Makes s root l at w w NoRoom
   makes-long h = record { made = rw (le-ltb (length s) (2 ^ 32) h); words = refl }
 
-  module _ {n : ℕ} {m : Made} (short : length s < 2 ^ 32) (i : n ≡ length (listed l root)) (j : m ≡ tableOf (length w) at n) where
+  module _ {n k : ℕ} {m : Made} (short : length s < 2 ^ 32) (i : n ≡ length (listed l root)) (o : k ≡ max 1 n) (j : m ≡ tableOf (length w) at k) where
     made-is : m ≡ madeFor s root l (length w) at
-    made-is = rw (lt-ltb (length s) (2 ^ 32) short) (j ∙ ap (tableOf (length w) at) i)
+    made-is = rw (lt-ltb (length s) (2 ^ 32) short) (j ∙ ap (tableOf (length w) at) (o ∙ ap (max 1) i))
 
     pub makes-none : m ≡ NoRoom → Makes s root l at w w NoRoom
     makes-none e = record { made = sym e ∙ made-is; words = refl }
 
     module _ {t : Table} (e : m ≡ Ready t) where
       pub made-ripe : n < 2 ^ 32 → Ripe s root l t w
-      made-ripe k =
-          let p = table-placed (length w) at n (sym e ∙ j) in
-          record { short = short; small = omega arith; rows = sym i ∙ sym (ap (λ (t : Table). t .rows) (p .is)); fits = p .fits }
+      made-ripe h =
+          let p = table-placed (length w) at k (sym e ∙ j) in
+          let z : t .rows ≡ k = ap (λ (t : Table). t .rows) (p .is) in
+          record { short = short; small = omega arith; rows = omega arith; fits = p .fits }
 
       pub makes-filled : {w′ : List ℕ} → Tabled s root l t w w′ → Makes s root l at w w′ (Ready t)
       makes-filled x = record { made = sym e ∙ made-is; words = x }

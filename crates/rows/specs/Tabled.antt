@@ -1,6 +1,6 @@
 -- What a table in lent words says: where it was made of a list, the rows and elements of the definition; and nothing but its own words counts. Assumes
 -- nothing.
-use Prim.Native.Nat.{ℕ, suc, _+_, _%_, _^_, _≤_, _<_}
+use Prim.Native.Nat.{ℕ, suc, _+_, _%_, _^_, _≤_, _<_, max}
 use native.Mathlib.Nat.{mod-eq-of-lt, zero-add}
 use native.Mathlib.Omega.{arith}
 use mathlib.Core.Path.{_≡_, refl, sym, ap, _∙_, fun-ext}
@@ -168,8 +168,8 @@ module _ (s : Text) (root : Element) {w w′ : List ℕ} where
 made-at : (s : Text) (root : Element) (l : Listed) (len at : ℕ) {t : Table} → Ready t ≡ madeFor s root l len at → t .at ≡ at
 made-at s root l len at {t} e = go (ltb (length s) (2 ^ 32)) e
   where
-    go : (b : Bool) → Ready t ≡ (if b then tableOf len at (length (listed l root)) else NoRoom) → t .at ≡ at
-    go true e = ap (λ (t : Table). t .at) (table-placed len at (length (listed l root)) e .is)
+    go : (b : Bool) → Ready t ≡ (if b then tableOf len at (max 1 (length (listed l root))) else NoRoom) → t .at ≡ at
+    go true e = ap (λ (t : Table). t .at) (table-placed len at (max 1 (length (listed l root))) e .is)
     go false e = let y : _≡_ {A = ℕ} 0 1 = cc in absurd (omega arith)
 
 -- the words of a table stay that ends before the place from which another is made

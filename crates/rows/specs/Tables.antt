@@ -1,5 +1,5 @@
 -- Rows by their UIDs, from tables in lent words. Assumes nothing: these are definitions.
-use Prim.Native.Nat.{ℕ, suc, _-_, _%_, _^_, _<_}
+use Prim.Native.Nat.{ℕ, suc, _-_, _%_, _^_, _<_, max, _≤_}
 use mathlib.Core.Path.{_≡_}
 use mathlib.Core.List.{List, [], _∷_}
 use mathlib.Core.Option.{Option, some, none}
@@ -108,15 +108,15 @@ nth l root r = getD (listed l root) r noElement
 abbrev pub hashIn : Listed → Element → ℕ → ℕ
 hashIn l root r = hashOf (uidOf (nth l root r))
 
--- where there is room for it, and 32 bits hold each position in the tree
+-- where there is room for it, for one row at least, and 32 bits hold each position in the tree
 abbrev pub madeFor : Text → Element → Listed → ℕ → ℕ → Made
-madeFor s root l len at = if ltb (length s) (2 ^ 32) then tableOf len at (length (listed l root)) else NoRoom
+madeFor s root l len at = if ltb (length s) (2 ^ 32) then tableOf len at (max 1 (length (listed l root))) else NoRoom
 
 -- what a table needs that is to be filled
 pub record Ripe (s : Text) (root : Element) (l : Listed) (t : Table) (w : List ℕ) : Type 0 where
   pub short : length s < 2 ^ 32
   pub small : length (listed l root) < 2 ^ 32
-  pub rows : length (listed l root) ≡ t .rows
+  pub rows : length (listed l root) ≤ t .rows
   pub fits : Fits t (length w)
 
 -- the words of the table: each row's UID by its hash, and where its element stands; the words outside stay

@@ -1,6 +1,6 @@
 // Tables of the elements that have a UID, in lent words: the hash of each UID, and where its element stands in the tree.
 ghost use mathlib.Core.Path.{_≡_};
-ghost use Prim.Native.Nat.{suc, _^_, _<_};
+ghost use Prim.Native.Nat.{suc, _^_, _<_, max};
 ghost use lib.ListN.{length};
 ghost use Rattle.definition.specs.Answer.{rowMeaning};
 ghost use Rattle.tree.specs.Place.{elementAt};
@@ -97,6 +97,13 @@ fn fill(s: &[u8], root: usize, list: Listed, words: &mut [u32], t: Table)
     }
 }
 
+// One row at least: a table of no rows would be none.
+fn rows_for(n: u32) -> u32
+    ensures { λ r. ⌜ r ≡ max 1 n ⌝ }
+{
+    if n == 0 { 1 } else { n }
+}
+
 // A table of a list, in the words from a place on, where there is room for it and 32 bits hold each position in the tree.
 pub fn index_rows(s: &[u8], root: usize, list: Listed, words: &mut [u32], at: usize) -> Made
     ensures { λ r. ⌜ Makes (now (s .entry)) (elementAt (now (s .entry)) root) list at (now (words .entry)) (now (words .exit)) r ⌝ }
@@ -104,7 +111,8 @@ pub fn index_rows(s: &[u8], root: usize, list: Listed, words: &mut [u32], at: us
     if 4294967295 < s.len() {
         return Made::NoRoom;
     }
-    let made = index::table_at(words.len(), at, count_listed(s, root, list));
+    let rows = rows_for(count_listed(s, root, list));
+    let made = index::table_at(words.len(), at, rows);
     let Made::Ready(t) = made else {
         return Made::NoRoom;
     };

@@ -13,6 +13,9 @@ returns c =
 count-listed-requires : tie.Need-count-listed-requires
 count-listed-requires c κs = search needs
 
+rows-for-requires : tie.Need-rows-for-requires
+rows-for-requires c κs = search needs
+
 table-at-requires : tie.Need-table-at-requires
 table-at-requires c κs = search needs
 
@@ -25,17 +28,19 @@ enum-told c = search needs
 returns-2 : tie.Need-returns-2
 returns-2 c =
     let t = c .before .before in
-    let n = t .before in
+    let r = t .before in
+    let n = r .before in
     let a = n .before .before .before .before .args in
-    makes-none (a .s .now) (elementAt (a .s .now) (a .root)) (a .list) (a .at) (a .words .now) (omega (arith, n .before .if1 .left)) (n .count-listed .ensures) (t .table-at .ensures) (c .enum-told .given .1)
+    makes-none (a .s .now) (elementAt (a .s .now) (a .root)) (a .list) (a .at) (a .words .now) (omega (arith, n .before .if1 .left)) (n .count-listed .ensures) (r .rows-for .ensures) (t .table-at .ensures) (c .enum-told .given .1)
 
 fill-requires : tie.Need-fill-requires
 fill-requires c κs =
     let m = c .before .before in
     let t = m .before .before in
-    let n = t .before in
+    let r = t .before in
+    let n = r .before in
     let a = n .before .before .before .before .args in
-    made-ripe (a .s .now) (elementAt (a .s .now) (a .root)) (a .list) (a .at) (a .words .now) (omega (arith, n .before .if1 .left)) (n .count-listed .ensures) (t .table-at .ensures) (m .made .given .1) (omega arith)
+    made-ripe (a .s .now) (elementAt (a .s .now) (a .root)) (a .list) (a .at) (a .words .now) (omega (arith, n .before .if1 .left)) (n .count-listed .ensures) (r .rows-for .ensures) (t .table-at .ensures) (m .made .given .1) (omega arith)
 
 same-length : tie.Need-same-length
 same-length c = search needs
@@ -45,9 +50,10 @@ returns-3 c =
     let f = c .before .before in
     let m = f .before .before .before in
     let t = m .before .before in
-    let n = t .before in
+    let r = t .before in
+    let n = r .before in
     let a = n .before .before .before .before .args in
-    makes-filled (a .s .now) (elementAt (a .s .now) (a .root)) (a .list) (a .at) (a .words .now) (omega (arith, n .before .if1 .left)) (n .count-listed .ensures) (t .table-at .ensures) (m .made .given .1) (f .fill .ensures)
+    makes-filled (a .s .now) (elementAt (a .s .now) (a .root)) (a .list) (a .at) (a .words .now) (omega (arith, n .before .if1 .left)) (n .count-listed .ensures) (r .rows-for .ensures) (t .table-at .ensures) (m .made .given .1) (f .fill .ensures)
 
 pub index-rows-spec : {M : Type 1} → statement M
 index-rows-spec =
@@ -55,6 +61,7 @@ index-rows-spec =
     (tie.spec
     returns
     count-listed-requires
+    rows-for-requires
     table-at-requires
     enum-known-made
     enum-told
