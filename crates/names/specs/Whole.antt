@@ -28,6 +28,6 @@ module _ {A : Type 0} (f : Format A) where
       let e : length (b ++ putAll (whole f) (n + length b) xs) ≡ length b + length (putAll (whole f) (n + length b) xs) = length-append b (putAll (whole f) (n + length b) xs) in
       omega (arith, e, all-whole (n + length b) xs (one-whole n x))
 
-pub puts-whole : {A : Type 0} {f : Format A} (k : ℕ) {xs : List A} {d₀ : List ℕ} {p : Place} {d : List ℕ} {q : Place} → Puts (times k (whole f)) xs d₀ p d q → inside (length d) q ≡ true → p .bit ≡ 0 → q .bit ≡ 0
+pub puts-whole : {A : Type 0} (f : Format A) (k : ℕ) {xs : List A} {d₀ : List ℕ} {p : Place} {d : List ℕ} {q : Place} → Puts (times k (whole f)) xs d₀ p d q → inside (length d) q ≡ true → p .bit ≡ 0 → q .bit ≡ 0
 unfolding times
-puts-whole {f = f} k {xs} {p = p} h i b = ap (λ (q : Place). q .bit) (put-stood h i .ends) ∙ all-whole f (at p) xs (omega arith)
+puts-whole f k {xs} {p = p} h i b = ap (λ (q : Place). q .bit) (put-stood h i .ends) ∙ all-whole f (at p) xs (omega arith)
