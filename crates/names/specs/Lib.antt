@@ -10,3 +10,4 @@ pub mod Short
 pub mod Carried
 pub mod Agree
 pub mod Turned
+pub mod Whole
