@@ -58,10 +58,10 @@ mach r = T′.lowered r
 abbrev pub BT : Lfts 1 → RattleType
 BT κs = G.the-row (namedLft 1 0 tt κs)
 
-abbrev DT : Lft → Declared
+abbrev pub DT : Lft → Declared
 DT κ = G.the-type (namedLft 1 0 tt (κ, tt))
 
-abbrev LT : (κ : Lft) → LL.Laws (DT κ)
+abbrev pub LT : (κ : Lft) → LL.Laws (DT κ)
 LT κ = G′.the-laws (namedLft 1 0 tt (κ, tt))
 
 abbrev pub machT : Taken → Val
@@ -76,7 +76,7 @@ place-is p h k = LL.owes P.the-type P′.the-laws p ((refl, h), ((refl, k), tt))
 
 module _ {M : Type 1} {𝓤 : URA M} {H : Heap 𝓤} {A : Atoms 𝓤} {W : Given 𝓤 H A} {κ : Lft} {s : RefT (List ℕ)} where
   pub a-place : {p : Place} → Placed p → Lends W κ s (P.the-row .own p (P′.lowered p ∷ []))
-  a-place h = plainly P.the-row (LL.makes P.the-type P′.the-plain 𝓤 H A) h
+  a-place {p} h = plainly P.the-row (LL.makes P.the-type P′.the-plain 𝓤 H A) p h
 
   pub a-reader : (p : Place) → Placed p → Lends W κ s (B (κ, tt) .own (record { model = s; place = p }) (mach (record { model = s; place = p }) ∷ []))
   a-reader p h = record { lends = qed W (‵ (Bytes κ s) ∷ []) ∵ use1 W (‵ (all-own (D κ .parts) (L κ) (s, (p, tt)))) ((itself and-also a-place h and-also nothing-more) .lends) $ by ! (own-shut 𝓤 H A W (D κ) (L κ) (s, (p, tt))) }
@@ -85,7 +85,7 @@ module _ {M : Type 1} {𝓤 : URA M} {H : Heap 𝓤} {A : Atoms 𝓤} {W : Given
   pub a-taken : (n : ℕ) (p : Place) → Is u64 n (vint w64 n ∷ []) → Placed p → Lends W κ s (BT (κ, tt) .own (record { value = n; rest = record { model = s; place = p } }) (machT (record { value = n; rest = record { model = s; place = p } }) ∷ []))
   a-taken n p h k =
       let v : Values (DT κ .parts) = (n, (record { model = s; place = p }, tt)) in
-      record { lends = qed W (‵ (Bytes κ s) ∷ []) ∵ use1 W (‵ (all-own (DT κ .parts) (LT κ) v)) ((plainly u64 (uint-makes 𝓤 H A W w64) h and-also a-reader p k and-also nothing-more) .lends) $ by ! (own-shut 𝓤 H A W (DT κ) (LT κ) v) }
+      record { lends = qed W (‵ (Bytes κ s) ∷ []) ∵ use1 W (‵ (all-own (DT κ .parts) (LT κ) v)) ((plainly u64 (uint-makes 𝓤 H A W w64) n h and-also a-reader p k and-also nothing-more) .lends) $ by ! (own-shut 𝓤 H A W (DT κ) (LT κ) v) }
 
 module _ {M : Type 1} (𝓤 : URA M) (H : Heap 𝓤) (A : Atoms 𝓤) (W : Given 𝓤 H A) (κ : Lft) where
   -- a reader gives its bytes

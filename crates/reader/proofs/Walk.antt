@@ -3,7 +3,7 @@
 -- Of the bytes it makes what each call takes, and what stands at exit.
 --     Lends P      the bytes make P: themselves (`itself`), a plain value (`plainly`), nothing (`nothing-more`), one and another (`_and-also_`).        Gives P      P gives the bytes
 --     Promise      the contract of a function whose clauses are facts: what it needs is ρ, and what it says of its answer is φ
---     asks         a call of such a function, whose arguments the bytes make: the goal goes on at each answer of which φ holds
+--     asks         a call of such a function, whose arguments the bytes make: the goal goes on at each answer of which φ holds.        asks-plain    of one with no lifetime
 --     leaves       the exit, at an answer that the bytes make.        leaves-by     the same of the bytes and of what is held beside them
 --     proves       a walk from [the token; the bytes] gives the function's statement
 -- They take `Given`.
@@ -26,17 +26,18 @@ use contract.Running.{Running, GhostRules, givenOf, tables, tablesOf}
 use sound.WpLaws.{FmC, WpFn-mono}
 use types.Kit.{Given, Item, ‵, raw, ⋆, _⊛_, some, later, Post, runs, lands, Seq, _$_, _∵_, !, qed, by, move, drop, use0, use1, use2, split, join, pick, await, suffices, frame, done}
 use types.Run.{Opds}
-use denote.RattleType.{RattleType, flat, owns}
+use denote.RattleType.{RattleType, Denots, Valss, flat, owns}
 use denote.Laws.{Is, Are, Ises, Spells, valss, Tells, Tellss, Makes, shows}
 use denote.Builtin.{u8}
 use denote.Ref.{RefT}
-use denote.Signature.{typeAt, typesAt}
+use denote.Signature.{Slot, typeAt, typesAt}
 use denote.Slice.{ShrSlice, sliceVal, shr-slice-copy}
 use denote.Steps.{only, peeks, heard}
 use denote.Triple.Statement.{Contract, Triple}
 use denote.Triple.Call.{calls-at}
 use denote.Triple.Clauses.{Clauses, Ended, Lasts, closing, ensured, lasts}
-use denote.Triple.Entry.{Args, Vals, Res, alive, onEntry}
+use denote.Triple.End.{Kepts}
+use denote.Triple.Entry.{Args, Vals, Res, alive}
 use denote.Triple.Spec.{tripleOf}
 use denote.Triple.Table.{entered}
 use denote.Triple.Walked.{says, Stays, Fit, hasOf, AllGo, Walks, walkOf, walked, walk-meets, ends-at}
@@ -62,8 +63,8 @@ module _ {M : Type 1} {𝓤 : URA M} {H : Heap 𝓤} {A : Atoms 𝓤} {W : Given
   pub nothing-more : Lends W κ s ftrue
   nothing-more = record { lends = qed W (‵ (Bytes κ s) ∷ []) ∵ drop ! $ done ! }
 
-  pub plainly : (R : RattleType) → Makes 𝓤 H A R (Is R) → {x : R .Denot} {vs : List Val} → Is R x vs → Lends W κ s (R .own x vs)
-  plainly R makes {x} {vs} is = record { lends = qed W (‵ (Bytes κ s) ∷ []) ∵ drop ! $ use0 W (‵ (R .own x vs)) (makes x vs is) $ done ! }
+  pub plainly : (R : RattleType) → Makes 𝓤 H A R (Is R) → (x : R .Denot) {vs : List Val} → Is R x vs → Lends W κ s (R .own x vs)
+  plainly R makes x {vs} is = record { lends = qed W (‵ (Bytes κ s) ∷ []) ∵ drop ! $ use0 W (‵ (R .own x vs)) (makes x vs is) $ done ! }
 
   infixr 20 _and-also_
   pub _and-also_ : {P Q : Fml} → Lends W κ s P → Lends W κ s Q → Lends W κ s (fsep P Q)
@@ -103,6 +104,9 @@ module _ {M : Type 1} (𝓤 : URA M) (T : Ended) where
 
 -- ---- a call
 
+abbrev plain-fn : (ps : List (Slot 0)) → Kepts ps → Slot 0 → Ended
+plain-fn ps ks res = record { signature = record { lifetimes = 0; outlives = []; params = ps; result = res }; kept = ks }
+
 abbrev Answer : (T : Ended) → Lfts (T .signature .lifetimes) → RattleType
 Answer T κs = typeAt (T .signature .result) κs
 
@@ -111,7 +115,7 @@ module _ {M : Type 1} (𝓤 : URA M) (H : Heap 𝓤) (A : Atoms 𝓤) (T : Ended
   tokens qs = raw (alive 𝓤 H A (T .signature) κs qs)
 
   module _ (ρ : Needs 𝓤 T) (φ : Says 𝓤 T) (qs : Shares (T .signature .lifetimes)) (out : AllOutlive (T .signature .lifetimes) (T .signature .outlives) κs) (a : Args (T .signature) κs) (vss : Vals (T .signature) κs) where
-    abbrev Pre : SProp 𝓤
+    abbrev pub Pre : SProp 𝓤
     Pre = Promise 𝓤 T H A ρ φ .pre ((κs, qs, out, a, vss), tt)
 
     made : (W : Given 𝓤 H A) (κ : Lft) (s : RefT (List ℕ)) → ent 𝓤 (emp 𝓤) (ρ κs a) → Lends W κ s (owns (typesAt (T .signature .params) κs) a vss)
@@ -137,6 +141,17 @@ module _ {M : Type 1} {𝓤 : URA M} {H : Heap 𝓤} {A : Atoms 𝓤} {K : Type 
       split t $ move t (1 ∷ []) $ use1 W (raw (fact 𝓤 (φ κs a r))) (said 𝓤 H A T κs ρ φ qs out a vss r) $ heard t (φ κs a r) (λ e. split t $ move t (1 ∷ []) $
       peeks t (Answer T κs) (Is (Answer T κs)) (shows 𝓤 H A (Answer T κs)) r (u ∷ []) (λ is.
       subst (λ (z : Val). Is (Answer T κs) r (z ∷ []) → Seq K W (‵ (Answer T κs .own r (z ∷ [])) ∷ tokens 𝓤 H A T κs qs ∷ ‵ (Bytes κ s) ∷ Γ) (lands C Λ E d z rest q)) (sym (ap only (tells r (u ∷ []) is))) (k r e) is))))
+
+-- a function with no lifetime: the caller's token, i, is kept aside
+module _ {M : Type 1} {𝓤 : URA M} {H : Heap 𝓤} {A : Atoms 𝓤} {K : Type 0} {W : Given 𝓤 H A} {Γ : List (Item 𝓤)} {E : Env 𝓤 H} {C : Calls 𝓤 H} {f : Name} {xs : List Operand} {Λ : Loops 𝓤 H} {q : Post 𝓤 H} {d : Place} {rest : Body} where
+  pub asks-plain : K → FmC 𝓤 H (W .laws) C → (κ : Lft) (s : RefT (List ℕ)) (i : Item 𝓤) (ps : List (Slot 0)) (ks : Kepts ps) (res : Slot 0) (ρ : Needs 𝓤 (plain-fn ps ks res)) (φ : Says 𝓤 (plain-fn ps ks res)) → Triple 𝓤 (C f) (Promise 𝓤 (plain-fn ps ks res) H A ρ φ)
+      → (a : Denots (typesAt ps tt)) (vss : Valss (typesAt ps tt)) → (low : res .row tt .Denot → Val) → Tells (res .row tt) (Is (res .row tt)) (λ r. low r ∷ []) → ent 𝓤 (emp 𝓤) (ρ tt a) → Lends W κ s (owns (typesAt ps tt) a vss)
+      → Opds K W (raw (Pre 𝓤 H A (plain-fn ps ks res) tt ρ φ tt tt a vss) ∷ ‵ (Bytes κ s) ∷ i ∷ Γ) E xs (flat (typesAt ps tt) vss)
+      → ((r : res .row tt .Denot) → φ tt a r → Is (res .row tt) r (low r ∷ []) → Seq K W (i ∷ ‵ (Bytes κ s) ∷ Γ) (lands C Λ E d (low r) rest q))
+      → Seq K W (i ∷ ‵ (Bytes κ s) ∷ Γ) (runs C Λ E (seq (call f xs d) rest) q)
+  asks-plain t fm κ s i ps ks res ρ φ known a vss low tells need h os k =
+      use0 W (tokens 𝓤 H A (plain-fn ps ks res) tt tt) (id⊢ 𝓤 (emp 𝓤)) $ move t (0 ∷ 2 ∷ []) $
+      asks t fm κ s (plain-fn ps ks res) ρ φ known tt tt tt a vss low tells need h os (λ r e is. drop t $ drop t $ move t (1 ∷ 0 ∷ []) $ k r e is)
 
 -- ---- the exit, and the statement
 

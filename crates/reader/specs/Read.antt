@@ -22,6 +22,10 @@ first s = record { model = s; place = record { byte = 0; bit = 0 } }
 abbrev pub moved : Reader → Place → Reader
 moved r p = record { model = r .model; place = p }
 
+-- a reader over the same model, at a place of which φ holds
+abbrev pub movedBy : (List ℕ → Place → Place → Type 0) → Reader → Reader → Type 0
+movedBy φ r q = (q ≡ moved r (q .place)) × φ (now (r .model)) (r .place) (q .place)
+
 -- a field, and the reader behind it
 abbrev pub taken : Reader → Field → Taken
 taken r f = record { value = f .value; rest = moved r (f .next) }

@@ -57,7 +57,7 @@ module _ {M : Type 1} (𝓤 : URA M) (H : Heap 𝓤) (A : Atoms 𝓤) (W : Given
       land ! (from ! (stop !)) (init ! 8 refl (bool-lawful 𝓤 H A W .typed b _ bs .0)) $
       returns ! (look ! 8 refl) $ forget ! 2 refl $ forget ! 4 refl $ forget ! 6 refl $ forget ! 8 refl $
       move ! (8 ∷ 9 ∷ []) $ free1 ! $ move ! (6 ∷ 7 ∷ []) $ free1 ! $ move ! (4 ∷ 5 ∷ []) $ free1 ! $ move ! (2 ∷ 3 ∷ []) $ free1 ! $ free0 ! $
-      by ! (leaves-at 𝓤 H A (this.signature .result) says κ q d W b (vbool b) e pd (plainly bool (bool-makes 𝓤 H A W) bs)))))))
+      by ! (leaves-at 𝓤 H A (this.signature .result) says κ q d W b (vbool b) e pd (plainly bool (bool-makes 𝓤 H A W) b bs)))))))
 
 pub at-end-spec : {M : Type 1} → stated.statement M
 unfolding code.routine tablesOf

@@ -71,7 +71,7 @@ module _ {M : Type 1} (𝓤 : URA M) (H : Heap 𝓤) (A : Atoms 𝓤) (W : Given
   walk is ns most =
       let wt = typed 𝓤 H A W κ d is in
       let pd = LL.owed (D κ) (L κ) d _ is .1 .0 in
-      let usize-n = plainly {W = W} {κ = κ} {s = d .model} usize (uint-makes 𝓤 H A W w64) ns in
+      let usize-n = plainly {W = W} {κ = κ} {s = d .model} usize (uint-makes 𝓤 H A W w64) n ns in
       qed W (tokens 𝓤 H A this.ended (κ, tt) (q, tt) ∷ ‵ (Bytes κ (d .model)) ∷ []) ∵ enter ! C Λ code.function (mach d ∷ vint w64 n ∷ []) _ $
       alloc1 ! (λ l₀. alloc1 ! (λ l₁. alloc1 ! (λ l₂. alloc1 ! (λ l₃. alloc1 ! (λ l₄. alloc1 ! (λ l₅. alloc1 ! (λ l₆. alloc1 ! (λ l₇. alloc0 ! $ params1 ! $ pass1 ! (init ! 12 refl wt) $ pass1 ! (init ! 10 refl (tt, record { fits = ns .1 })) $ pass0 ! $ move ! (16 ∷ 17 ∷ []) $
       assigns ! (of-opd ! (load ! (from ! (fld ! refl (stop !))) (look-in ! 14 (sub ! 0 refl (whole !))))) (from ! (stop !)) (init ! 8 refl (tt, wt .1 .0)) $

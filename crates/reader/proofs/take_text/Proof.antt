@@ -95,7 +95,7 @@ module _ {M : Type 1} (𝓤 : URA M) (H : Heap 𝓤) (A : Atoms 𝓤) (W : Given
         land ! (from ! (stop !)) (init ! 14 refl xt) $
         assigns ! (of-opd ! (load ! (from ! (fld ! refl (stop !))) (look-in ! 16 (sub ! 0 refl (whole !))))) (from ! (stop !)) (init ! 6 refl (tt, wt .1 .0)) $
         asks ! fm κ (d .model) part.ended (part-need 𝓤) part-says known-part (κ, tt) (q, tt) tt (d .model, (x, tt)) (bytesVal (d .model) ∷ [], (S′.lowered x ∷ [], tt)) bytesVal (shr-slice-tells (named 0) κ u8)
-        (factI 𝓤 (x .start + x .len ≤ length (now (d .model))) (emp 𝓤) (span-ends (now (d .model)) (d .place) (h .is))) (itself and-also plainly S.the-row (LL.makes S.the-type S′.the-plain 𝓤 H A) xs and-also nothing-more)
+        (factI 𝓤 (x .start + x .len ≤ length (now (d .model))) (emp 𝓤) (span-ends (now (d .model)) (d .place) (h .is))) (itself and-also plainly S.the-row (LL.makes S.the-type S′.the-plain 𝓤 H A) x xs and-also nothing-more)
         (and-then ! (load ! (from ! (stop !)) (look ! 6 refl)) (and-then ! (load ! (from ! (stop !)) (look ! 14 refl)) (no-more !))) (λ t e ts. move ! (1 ∷ 2 ∷ []) $
         let tw = shr-slice-lawful 𝓤 H A W (named 0) κ u8 .typed t _ ts .0 in
         -- [the token; the bytes; those of the text; the cells, the last one first]
