@@ -11,7 +11,7 @@ use lib.ListN.{length, take, drop, replicate, length-drop}
 use lib.Seq.{drop-drop, length-take-le}
 use lib.Pow.{pow-pos}
 use lib.Dec.{leb, ltb, eqb, eqb·suc-zero}
-use borrow.Author.Tests.{le-leb, lt-leb, ne-eqb}
+use borrow.Author.Tests.{le-leb, lt-leb, ne-eqb, ltb-false}
 use Rattle.definition.specs.Base.{if_then_else_, _>>=_, when, same, within}
 use Rattle.definition.specs.Bits.{Bits, dec, bitsOf, signed}
 use Rattle.definition.specs.Date.{Date, fromDays}
@@ -541,6 +541,32 @@ pub record Spans (s : List ℕ) (p : Place) (x : Span) : Type 0 where
   pub is : x ≡ spanAt s p
   pub reads : isUtf8 (take (x .len) (drop (x .start) s)) ≡ true → Reads text s p (take (x .len) (drop (x .start) s)) (x .next)
   pub refuses : isUtf8 (take (x .len) (drop (x .start) s)) ≡ false → Refuses text s p
+
+-- a text's bytes lie within
+pub span-ends : (s : List ℕ) (p : Place) {x : Span} → x ≡ spanAt s p → x .start + x .len ≤ length s
+unfolding spanAt
+span-ends s p {x} e = rw e (by-place (takeAt s p 32 .value) (padAt s (takeAt s p 32 .next)) (read-whole (read-field s p 32 refl) (skip-pad s _ refl)))
+  where
+    by-room : (b : Place) (n : ℕ) → Fits (length s) b 0 → (t : Bool) → ltb (length (drop (at b) (bitsOf s))) (8 * n) ≡ t
+        → spanOf s (some (n, drop (at b) (bitsOf s))) .start + spanOf s (some (n, drop (at b) (bitsOf s))) .len ≤ length s
+    by-room b n f true h = rw h (omega arith)
+    by-room b n f false h =
+        let l = ltb-false (length (drop (at b) (bitsOf s))) (8 * n) h in
+        let z = length-rest s (at b) in
+        rw h (omega arith)
+
+    by-inside : (b : Place) (n : ℕ) (t : Bool) → inside (length s) b ≡ t
+        → spanOf s (rest s b >>= λ l. some (n, l)) .start + spanOf s (rest s b >>= λ l. some (n, l)) .len ≤ length s
+    by-inside b n false h = rw (rest-out s b h) (omega arith)
+    by-inside b n true h = rw (rest-in s b (room-fits (length s) b 0 h)) (by-room b n (room-fits (length s) b 0 h) (ltb (length (drop (at b) (bitsOf s))) (8 * n)) refl)
+
+    by-place : (n : ℕ) (b : Place) → Reads (whole count) s p n b
+        → spanOf s (rest s p >>= whole count .get) .start + spanOf s (rest s p >>= whole count .get) .len ≤ length s
+    by-place n b h = rw (h .reads) (by-inside b n (inside (length s) b) refl)
+
+-- the bytes from a place to another
+pub between : (s : List ℕ) (a n : ℕ) → take (a + n - a) (drop a s) ≡ take n (drop a s)
+between s a n = let e : a + n - a ≡ n = omega arith in rw e
 
 -- ---- flags and signed fields
 

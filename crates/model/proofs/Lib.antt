@@ -1,2 +1,3 @@
 pub mod Single
 pub mod Several
+pub mod Through

@@ -32,7 +32,7 @@ use Rattle.model.specs.Lax.{behind, left, like-named, like-optional}
 use Rattle.model.specs.Passes.{Passes, pass-like, pass-read, pass-refused, pass-some, pass-none, pass-both, pass-alone}
 use Rattle.model.specs.Answers.{readAt, countsAt, rowAt, rowsAt, dateAt, nameMeaning, spanned, nameAt, read-there, read-nowhere, or-there, or-nowhere}
 use Rattle.model.specs.Splits.{stands-is, not-refused}
-use Rattle.model.specs.Sections.{start}
+use Rattle.model.specs.Sections.{start, countsBy}
 use Rattle.model.specs.Places.{NameTaken, between, span-ends, name-is}
 use Rattle.model.specs.declared.parts.NameAnswer.{NameAnswer}
 use Rattle.model.specs.Rising.{Finds, PeriodKey, DayKey}
@@ -430,11 +430,12 @@ module _ (s : List ℕ) {a b c d e f : Field} (ea : a ≡ takeAt s start 32) (eb
       read-⊗ (read-field s start 32 ea) (read-⊗ (read-field s (a .next) 32 eb) (read-⊗ (read-field s (b .next) 32 ec)
       (read-⊗ (read-field s (c .next) 32 ed) (read-⊗ (read-field s (d .next) 32 ee) (read-field s (e .next) 32 ef)))))
 
-  pub counts-cut : 7 < f .next .bit → ((0, (0, (0, (0, (0, 0))))), past) ≡ countsAt s start
-  counts-cut h = sym (or-nowhere _ (refused counts-read (far s (f .next) h)))
-
-  pub counts-given : f .next .bit ≤ 7 → ((a .value, (b .value, (c .value, (d .value, (e .value, f .value))))), f .next) ≡ countsAt s start
-  counts-given h = sym (or-there _ (take-there s (e .next) 32 ef h .1) counts-read)
+  pub counts-are : countsBy (a .value, (b .value, (c .value, (d .value, (e .value, f .value))))) (f .next) ≡ countsAt s start
+  counts-are = by-bit (ltb 7 (f .next .bit)) refl
+    where
+      by-bit : (t : Bool) → ltb 7 (f .next .bit) ≡ t → (if t then ((0, (0, (0, (0, (0, 0))))), past) else ((a .value, (b .value, (c .value, (d .value, (e .value, f .value))))), f .next)) ≡ countsAt s start
+      by-bit true h = sym (or-nowhere _ (refused counts-read (far s (f .next) (ltb-true 7 (f .next .bit) h))))
+      by-bit false h = sym (or-there _ (take-there s (e .next) 32 ef (ltb-false 7 (f .next .bit) h) .1) counts-read)
 
 -- ---- dates
 

@@ -5,19 +5,15 @@ use mathlib.Core.Bool.{Bool, true, false}
 use mathlib.Core.List.{List}
 use mathlib.Core.Option.{Option, some}
 use Prim.Native.Nat.{ℕ, _+_, _-_, _*_, _%_, _≤_}
-use native.Mathlib.Omega.{arith}
 use lib.ListN.{length, take, drop}
-use lib.Dec.{ltb}
-use borrow.Author.Tests.{ltb-false}
-use Rattle.definition.specs.Base.{_>>=_, when}
-use Rattle.definition.specs.Bits.{bitsOf}
+use Rattle.definition.specs.Base.{_>>=_}
 use Rattle.definition.specs.Text.{Text, isUtf8}
 use Rattle.definition.specs.Calendar.{byDate}
-use Rattle.definition.specs.Format.{Format, _⊗_, whole, times, count, row, flag, code, number, text, date, optional, listOf, periods, dates}
+use Rattle.definition.specs.Format.{Format, _⊗_, whole, times, row, flag, code, number, text, date, optional, listOf, periods, dates}
 use Rattle.definition.specs.Model.{Calendar, Activity, Link, Resource, Assignment, Expense}
 use Rattle.definition.specs.Pack.{calendar, activity, link, resource, assignment, expense}
-use Rattle.bits.specs.Places.{at, inside, Fits, room-fits}
-use Rattle.bits.specs.Reads.{rest, Reads, takeAt, padAt, spanAt, spanOf, Spans, rest-in, rest-out, length-rest, read-field, read-whole, skip-pad, read-none, read-some, refuse-some}
+use Rattle.bits.specs.Reads.{rest, Reads, Spans, padAt, read-none, read-some, refuse-some}
+pub use Rattle.bits.specs.Reads.{span-ends, between}
 use Rattle.bits.specs.declared.Place.{Place}
 use Rattle.bits.specs.declared.Span.{Span}
 use Rattle.model.specs.Lax.{regroup-none, regroup-more, regroup-like, lax-same, lax-⊗}
@@ -53,32 +49,6 @@ pub record CalendarAt (s : List ℕ) (p : Place) (r : CalendarPlaces) : Type 0 w
   pub extra : Passes dates s (r .extra) (r .exceptions)
 
 -- ---- texts
-
--- a text's bytes lie within
-pub span-ends : (s : List ℕ) (p : Place) {x : Span} → x ≡ spanAt s p → x .start + x .len ≤ length s
-unfolding spanAt
-span-ends s p {x} e = rw e (by-place (takeAt s p 32 .value) (padAt s (takeAt s p 32 .next)) (read-whole (read-field s p 32 refl) (skip-pad s _ refl)))
-  where
-    by-room : (b : Place) (n : ℕ) → Fits (length s) b 0 → (t : Bool) → ltb (length (drop (at b) (bitsOf s))) (8 * n) ≡ t
-        → spanOf s (some (n, drop (at b) (bitsOf s))) .start + spanOf s (some (n, drop (at b) (bitsOf s))) .len ≤ length s
-    by-room b n f true h = rw h (omega arith)
-    by-room b n f false h =
-        let l = ltb-false (length (drop (at b) (bitsOf s))) (8 * n) h in
-        let z = length-rest s (at b) in
-        rw h (omega arith)
-
-    by-inside : (b : Place) (n : ℕ) (t : Bool) → inside (length s) b ≡ t
-        → spanOf s (rest s b >>= λ l. some (n, l)) .start + spanOf s (rest s b >>= λ l. some (n, l)) .len ≤ length s
-    by-inside b n false h = rw (rest-out s b h) (omega arith)
-    by-inside b n true h = rw (rest-in s b (room-fits (length s) b 0 h)) (by-room b n (room-fits (length s) b 0 h) (ltb (length (drop (at b) (bitsOf s))) (8 * n)) refl)
-
-    by-place : (n : ℕ) (b : Place) → Reads (whole count) s p n b
-        → spanOf s (rest s p >>= whole count .get) .start + spanOf s (rest s p >>= whole count .get) .len ≤ length s
-    by-place n b h = rw (h .reads) (by-inside b n (inside (length s) b) refl)
-
--- the bytes from a place to another
-pub between : (s : List ℕ) (a n : ℕ) → take (a + n - a) (drop a s) ≡ take n (drop a s)
-between s a n = let e : a + n - a ≡ n = omega arith in rw e
 
 pub text-is : {s : List ℕ} {p : Place} {x : Span} {t : Text} → Stands text s p t → Spans s p x → t ≡ textIn s (x .start, x .len)
 text-is {s} {p} {x} {t} h i = by-utf8 (isUtf8 (textIn s (x .start, x .len))) refl

@@ -1,25 +1,27 @@
 -- What the decoding pass answers: whether the bytes are a model, and where its sections stand. Assumes nothing.
 use mathlib.Core.Path.{_≡_, _∙_}
-use mathlib.Core.Bool.{_&&_}
+use mathlib.Core.Bool.{true, _&&_}
 use mathlib.Core.List.{List}
 use mathlib.Core.Option.{some, none}
 use Prim.Native.Nat.{ℕ, _+_, _-_, _*_, _%_, _≤_, _<_}
 use native.Mathlib.Nat.{sub-zero}
 use native.Mathlib.Omega.{arith}
 use lib.ListN.{length, drop}
-use lib.Dec.{eqb}
+use lib.Dec.{eqb, ltb}
 use Rattle.definition.specs.Base.{if_then_else_, given}
 use Rattle.definition.specs.Bits.{Bits, bitsOf}
 use Rattle.definition.specs.Format.{Format, whole, times}
 use Rattle.definition.specs.Model.{Model}
 use Rattle.definition.specs.Pack.{Counts as CountsOf, project, calendar, activity, link, resource, assignment, expense, decode}
-use Rattle.bits.specs.Places.{Fits}
+use Rattle.bits.specs.Places.{past, Fits}
 use Rattle.bits.specs.Reads.{rest, Reads, rest-in}
 use Rattle.bits.specs.declared.Place.{Place}
 use Rattle.model.specs.Lax.{Lax}
 use Rattle.model.specs.Passes.{Passes}
 use Rattle.model.specs.Answers.{rest-fits}
+use Rattle.model.specs.Parts.{recordOf}
 use Rattle.model.specs.Splits.{Step, step, later}
+use Rattle.model.specs.declared.records.Kind.{Kind}
 use Rattle.model.specs.declared.Opened.{Opened}
 use Rattle.model.specs.declared.Head.{Head}
 use Rattle.model.specs.declared.Section.{Section}
@@ -36,6 +38,17 @@ start = byteAt 0
 
 abbrev pub countsIn : Counts → CountsOf
 countsIn n = (n .calendars, (n .activities, (n .links, (n .resources, (n .assignments, n .expenses)))))
+
+-- six counts that were read, if the place behind them is one; else zeros
+abbrev pub countsBy : CountsOf → Place → CountsOf × Place
+countsBy n p = if ltb 7 (p .bit) then ((0, (0, (0, (0, (0, 0))))), past) else (n, p)
+
+-- the place behind the project record, and behind so many records of a kind: a whole byte or past every end
+abbrev pub PassesProject : List ℕ → Place → Place → Type 0
+PassesProject s p q = Passes (whole project) s p q × (q .bit % 8 ≡ 0)
+
+abbrev pub PassesRecords : Kind → ℕ → List ℕ → Place → Place → Type 0
+PassesRecords kind count s p q = Passes (times count (recordOf true kind)) s p q × (p .bit % 8 ≡ 0 → q .bit % 8 ≡ 0)
 
 -- the places of the first two sections, each at a whole byte or past every end
 pub record Heads (s : List ℕ) (n : Counts) (h : Head) : Type 0 where

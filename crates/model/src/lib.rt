@@ -5,14 +5,18 @@ pub mod records; // records, one and many
 pub mod parts; // the parts of records
 
 ghost use mathlib.Core.Path.{_≡_};
-ghost use Prim.Native.Nat.{_%_};
+ghost use Prim.Native.Nat.{_^_, _<_};
+ghost use Rattle.reader.specs.Read.{movedBy};
 ghost use Rattle.model.specs.Answers.{countsAt};
-ghost use Rattle.model.specs.Sections.{start, countsIn, sectionsBy, Heads, Behind, Walks, Opens};
+ghost use Rattle.model.specs.Sections.{start, countsIn, countsBy, sectionsBy, PassesProject, PassesRecords, Heads, Behind, Walks, Opens};
 use crate::records::Kind;
 use crate::records::skip_project;
 use crate::records::skip_records;
 use bits::PAST;
 use bits::Place;
+use reader::Reader;
+use reader::reader_of;
+use reader::take;
 
 // A section: how many records it has, and the byte at which the first stands.
 pub struct Section {
@@ -57,28 +61,44 @@ const NO_COUNTS: Counts = Counts {
     next: PAST,
 };
 
-pub fn take_counts(s: &[u8]) -> Counts
-    ensures { λ r. ⌜ (countsIn r, r .next) ≡ countsAt (now (s .entry)) start ⌝ }
+// Six counts that were read, and the place behind them.
+fn counts_of(a: u64, b: u64, c: u64, d: u64, e: u64, f: u64, next: Place) -> Counts
+    requires { ⌜ (a < 2 ^ 32) × (b < 2 ^ 32) × (c < 2 ^ 32) × (d < 2 ^ 32) × (e < 2 ^ 32) × (f < 2 ^ 32) ⌝ }
+    ensures { λ r. ⌜ (countsIn r, r .next) ≡ countsBy (a, (b, (c, (d, (e, f))))) next ⌝ }
 {
-    let a = bits::take(s, Place { byte: 0, bit: 0 }, 32);
-    let b = bits::take(s, a.next, 32);
-    let c = bits::take(s, b.next, 32);
-    let d = bits::take(s, c.next, 32);
-    let e = bits::take(s, d.next, 32);
-    let f = bits::take(s, e.next, 32);
-    let next = f.next;
     if 7 < next.bit {
         return NO_COUNTS;
     }
     Counts {
-        calendars: a.value as u32,
-        activities: b.value as u32,
-        links: c.value as u32,
-        resources: d.value as u32,
-        assignments: e.value as u32,
-        expenses: f.value as u32,
+        calendars: a as u32,
+        activities: b as u32,
+        links: c as u32,
+        resources: d as u32,
+        assignments: e as u32,
+        expenses: f as u32,
         next,
     }
+}
+
+// Read one after another by a reader at the first bit.
+pub fn take_counts(s: &[u8]) -> Counts
+    ensures { λ r. ⌜ (countsIn r, r .next) ≡ countsAt (now (s .entry)) start ⌝ }
+{
+    let a = take(reader_of(s), 32);
+    let b = take(a.rest, 32);
+    let c = take(b.rest, 32);
+    let d = take(c.rest, 32);
+    let e = take(d.rest, 32);
+    let f = take(e.rest, 32);
+    counts_of(
+        a.value,
+        b.value,
+        c.value,
+        d.value,
+        e.value,
+        f.value,
+        f.rest.place,
+    )
 }
 
 // Where each section begins, and where the last one ends.
@@ -98,15 +118,40 @@ pub struct Head {
     pub activities: Place,
 }
 
+// The reader behind the project record, and the reader behind so many records of a kind.
+fn past_project<'a>(r: Reader<'a>) -> Reader<'a>
+    ensures { λ q. ⌜ movedBy PassesProject (r .entry) q ⌝ }
+{
+    let place = skip_project(r.model, r.place);
+    Reader {
+        model: r.model,
+        place,
+    }
+}
+
+fn past_records<'a>(r: Reader<'a>, kind: Kind, count: u32) -> Reader<'a>
+    ensures { λ q. ⌜ movedBy (PassesRecords kind count) (r .entry) q ⌝ }
+{
+    let place = skip_records(r.model, r.place, kind, count, true);
+    Reader {
+        model: r.model,
+        place,
+    }
+}
+
 // The walk up to the activities.
 pub fn walk_head(s: &[u8], n: Counts) -> Head
     ensures { λ r. ⌜ Heads (now (s .entry)) n r ⌝ }
 {
-    let calendars = skip_project(s, n.next);
-    let activities = skip_records(s, calendars, Kind::Calendars, n.calendars, true);
+    let a = Reader {
+        model: s,
+        place: n.next,
+    };
+    let b = past_project(a);
+    let c = past_records(b, Kind::Calendars, n.calendars);
     Head {
-        calendars,
-        activities,
+        calendars: b.place,
+        activities: c.place,
     }
 }
 
@@ -114,20 +159,22 @@ pub fn walk_head(s: &[u8], n: Counts) -> Head
 pub fn walk_behind(s: &[u8], n: Counts, head: Head, links: Place) -> Places
     ensures { λ r. ⌜ Behind (now (s .entry)) n head links r ⌝ }
 {
-    let calendars = head.calendars;
-    let activities = head.activities;
-    let resources = skip_records(s, links, Kind::Links, n.links, true);
-    let assignments = skip_records(s, resources, Kind::Resources, n.resources, true);
-    let expenses = skip_records(s, assignments, Kind::Assignments, n.assignments, true);
-    let end = skip_records(s, expenses, Kind::Expenses, n.expenses, true);
+    let a = Reader {
+        model: s,
+        place: links,
+    };
+    let b = past_records(a, Kind::Links, n.links);
+    let c = past_records(b, Kind::Resources, n.resources);
+    let d = past_records(c, Kind::Assignments, n.assignments);
+    let e = past_records(d, Kind::Expenses, n.expenses);
     Places {
-        calendars,
-        activities,
+        calendars: head.calendars,
+        activities: head.activities,
         links,
-        resources,
-        assignments,
-        expenses,
-        end,
+        resources: b.place,
+        assignments: c.place,
+        expenses: d.place,
+        end: e.place,
     }
 }
 
@@ -135,9 +182,12 @@ fn walk(s: &[u8], n: Counts) -> Places
     ensures { λ r. ⌜ Walks (now (s .entry)) n r ⌝ }
 {
     let head = walk_head(s, n);
-    let activities = head.activities;
-    let links = skip_records(s, activities, Kind::Activities, n.activities, true);
-    walk_behind(s, n, head, links)
+    let a = Reader {
+        model: s,
+        place: head.activities,
+    };
+    let b = past_records(a, Kind::Activities, n.activities);
+    walk_behind(s, n, head, b.place)
 }
 
 // The sections of so many bytes, if the last one ends where they end.

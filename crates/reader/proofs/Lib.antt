@@ -1,0 +1,4 @@
+pub mod Held
+pub mod Moves
+pub mod Through
+pub mod Walk
