@@ -25,7 +25,6 @@ use Rattle.laws.specs.FitResources.{fit-expense, fit-resource}
 use Rattle.tree.specs.Place.{elementAt}
 use Rattle.bits.specs.declared.Place.{Place}
 use Rattle.names.specs.Context.{calendarsBefore}
-use Rattle.assignments.specs.Resources.{isWork, FewResources}
 use Rattle.index.specs.declared.Made.{Made}
 use Rattle.index.specs.declared.Made.the-variants.{Ready, NoRoom}
 use Rattle.index.specs.Chains.{placeOf}
@@ -34,6 +33,7 @@ use Rattle.rows.specs.Tables.{soughtIn, costIn}
 use Rattle.assignments.specs.declared.section.Tables.{Tables}
 use Rattle.assignments.specs.Finders.{taskBy, expenseFor}
 use Rattle.assignments.specs.Records.{findersAt}
+use Rattle.assignments.specs.Resources.{isWork, FewResources}
 
 -- the element at a position of bytes
 pub small-at : (s : Text) → Bytes s → (at : ℕ) → Small (elementAt s at)

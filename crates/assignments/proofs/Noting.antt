@@ -6,7 +6,7 @@ use mathlib.Core.Path.{_≡_, refl, sym, ap, subst, _∙_}
 use mathlib.Core.Bool.{Bool, true, false, true≢false, _&&_, _||_, not}
 use mathlib.Core.List.{List, [], _∷_, _++_, map, map-append}
 use mathlib.Core.Option.{Option, some, none}
-use borrow.Author.Tests.{eqb-true, eqb-false, eq-eqb, ne-eqb, ltb-true, ltb-false, leb-false, lt-ltb, le-ltb, lt-leb, not-false}
+use borrow.Author.Tests.{eqb-true, eq-eqb, ltb-true, ltb-false, leb-false, lt-ltb, le-ltb, lt-leb, not-false}
 use lib.Dec.{eqb, ltb, leb}
 use lib.ListN.{length, getD, take, drop, length-append, List·getD-append}
 use lib.Seq.{split-at, take-append-le, take-append-seam, getD-append-seam}
@@ -33,6 +33,7 @@ use Rattle.index.specs.declared.Row.the-variants as row
 use Rattle.index.specs.Chains.{zeros, added, firstOf, nextOf, placeOf, chainOf, asRow}
 use Rattle.index.specs.Last.{lastBelow, rows-of}
 use Rattle.index.specs.Law.{Fits, indexed-none, indexed-by, indexed-same, find-like, Seeks, seeks-first, seeks-none, seeks-here, seeks-next}
+use Rattle.index.specs.With.{with, with-here, with-before, one-more}
 use Rattle.index.specs.Below.{SameBelow, below-refl, below-added}
 use Rattle.model.specs.Splits.{Stands}
 use Rattle.model.specs.declared.records.Kind.the-variants.{Expenses}
@@ -144,35 +145,21 @@ module _ (d : List ℕ) {v : List ℕ} {t : Table} (activity : ℕ) (name : Text
 
 -- ---- one more
 
--- a number more in a row of numbers
-abbrev with : (ℕ → ℕ) → ℕ → ℕ → ℕ → ℕ
-with f n a r = if eqb r n then a else f r
-
-with-here : (f : ℕ → ℕ) (n a : ℕ) → a ≡ with f n a n
-with-here f n a = rw (eq-eqb n n refl)
-
-with-before : (f : ℕ → ℕ) (n a r : ℕ) → r < n → f r ≡ with f n a r
-with-before f n a r h = rw (ne-eqb r n (λ e. omega arith))
-
 module _ {start : Place} {xs : List Expense} {v : List ℕ} {t : Table} (n : Noted start xs v t) (few : length xs < t .rows) (e : Expense) (b : ℕ) (k : endAt start xs ≡ 8 * b) where
-  more-stands : (r : ℕ) (here : Bool) → eqb r (length xs) ≡ here → r < length xs + 1 → endAt start (take r (xs ++ (e ∷ []))) ≡ 8 * with (n .places) (length xs) b r
-  more-stands r true z h =
-      let y : r ≡ length xs = eqb-true r (length xs) z in
-      rw (y, take-append-seam xs (e ∷ []), ← with-here (n .places) (length xs) b) k
-  more-stands r false z h =
-      let y : r ≡ length xs → ⊥ = eqb-false r (length xs) z in
-      let l : r < length xs = omega (arith, y) in
-      let m : r ≤ length xs = omega arith in
-      rw (take-append-le r xs (e ∷ []) m, ← with-before (n .places) (length xs) b r l) (n .stands r l)
+  more-stands : (r : ℕ) → r < suc (length xs) → endAt start (take r (xs ++ (e ∷ []))) ≡ 8 * with (n .places) (length xs) b r
+  more-stands =
+      one-more (λ r. endAt start (take r (xs ++ (e ∷ []))) ≡ 8 * with (n .places) (length xs) b r) (length xs)
+      (λ r h. let m : r ≤ length xs = omega arith in rw (take-append-le r xs (e ∷ []) m, with-before (n .places) (length xs) b r h) (n .stands r h))
+      (rw (take-append-seam xs (e ∷ []), with-here (n .places) (length xs) b) k)
 
   pub noted-more : {v′ : List ℕ} → v′ ≡ added v t (length xs) (keyOf (e .activity) (e .name)) b → Noted start (xs ++ (e ∷ [])) v′ t
   noted-more z =
       let l : length (xs ++ (e ∷ [])) ≡ length xs + 1 = length-append xs (e ∷ []) in
-      let old = indexed-same (n .indexed) (λ r h. ap (λ (x : Expense). keyOf (x .activity) (x .name)) (sym (List·getD-append xs (e ∷ []) noExpense r h))) (with-before (n .places) (length xs) b) in
+      let old = indexed-same (n .indexed) (λ r h. ap (λ (x : Expense). keyOf (x .activity) (x .name)) (sym (List·getD-append xs (e ∷ []) noExpense r h))) (λ r h. sym (with-before (n .places) (length xs) b r h)) in
       record {
         places = with (n .places) (length xs) b;
-        indexed = rw l (indexed-by old few (ap (λ (x : Expense). keyOf (x .activity) (x .name)) (sym (getD-append-seam xs e [] noExpense))) (with-here (n .places) (length xs) b) z);
-        stands = λ r h. more-stands r (eqb r (length xs)) refl (omega arith);
+        indexed = rw l (indexed-by old few (ap (λ (x : Expense). keyOf (x .activity) (x .name)) (sym (getD-append-seam xs e [] noExpense))) (sym (with-here (n .places) (length xs) b)) z);
+        stands = λ r h. more-stands r (omega arith);
       }
 
 -- none yet

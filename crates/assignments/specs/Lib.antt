@@ -1,5 +1,5 @@
 pub mod Section
 pub mod Finders
 pub mod Records
-pub mod Resources
 pub mod InUse
+pub mod Resources

@@ -11,7 +11,7 @@ use Rattle.definition.specs.Text.{Text}
 use Rattle.definition.specs.Tree.{Element}
 use Rattle.definition.specs.Bits.{Bits}
 use Rattle.definition.specs.Format.{whole, times}
-use Rattle.definition.specs.Pack.{assignment, expense}
+use Rattle.definition.specs.Pack.{assignment}
 use Rattle.definition.specs.Model.{Assignment, Expense}
 use Rattle.definition.specs.Resource.{firsts}
 use Rattle.laws.specs.Each.{Each}
