@@ -44,13 +44,13 @@ impl Elements {
 /// the expenses.
 pub fn work_words(tree: &[u8]) -> usize {
     let n = Elements::of(tree);
-    let tasks = n.tasks.min(MOST_TASKS);
+    let tasks = n.tasks.clamp(1, MOST_TASKS);
     let days = match n.exceptions {
         0 => 0,
         1..=MANY_EXCEPTIONS => ALL_DAYS / 100,
         _ => ALL_DAYS,
     };
-    let sections = [days, 8 * tasks, 6 * n.resources, 3 * (n.resources + n.assignments)];
+    let sections = [days, 8 * tasks, 6 * n.resources, 3 * (n.resources + n.assignments + 2)];
     3 * tasks + sections.into_iter().max().unwrap_or(0)
 }
 
