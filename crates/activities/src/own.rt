@@ -56,7 +56,7 @@ pub(crate) fn own_for(out: &[u8], p: Place, words: &mut [u32], tasks: Made, byte
     Own { columns, ids }
 }
 
-// How many `*` an id needs that is wanted for the row at p. The section begins at `start`.
+// How many `*` an id needs that is wanted for the row at p. The section begins at `start`. Once the room is spent nothing is tried.
 pub(crate) fn stars_for(
     out: &[u8],
     start: Place,
@@ -69,6 +69,9 @@ pub(crate) fn stars_for(
     requires { ⌜ (inside (length (now out)) p ≡ true → IdsNoted ids (now out) start (now words) row) ⌝ }
     ensures { λ r. ⌜ (inside (length (now (out .entry))) p ≡ true → starredBy (now (wanted .entry)) r ≡ free (textsAt Kind.Activities (now (out .entry)) start row) (now (wanted .entry))) ⌝ }
 {
+    if !bits::inside(out.len(), p) {
+        return 0;
+    }
     let IdsMade::Ready(t) = ids else {
         return names::free_stars(out, start, Kind::Activities, row, wanted);
     };
