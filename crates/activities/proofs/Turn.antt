@@ -13,7 +13,7 @@ use Rattle.definition.specs.Format.{whole}
 use Rattle.definition.specs.Link.{entered}
 use Rattle.definition.specs.Model.{Activity}
 use Rattle.definition.specs.Pack.{activity}
-use Rattle.definition.specs.Task.{contextOf, keptTasks, levelOf, wantedId, activityOf, mostTasks}
+use Rattle.definition.specs.Task.{Context, contextOf, keptTasks, levelOf, wantedId, activityOf, activities, mostTasks}
 use Rattle.definition.specs.Text.{Text}
 use Rattle.definition.specs.Tree.{Element}
 use Rattle.laws.specs.Each.{empty, next, each-append}
@@ -41,7 +41,8 @@ use Rattle.names.specs.Short.{built-short}
 use Rattle.names.specs.Texts.{textsAt}
 use Rattle.names.specs.Whole.{puts-whole}
 use Rattle.names.specs.declared.ids.Ids.{Ids}
-use Rattle.pack.specs.Value.{starredBy}
+use Rattle.pack.specs.Writes.{Writes}
+use Rattle.pack.specs.declared.record.Records.{Records}
 use Rattle.rows.specs.Tables.{noElement}
 use Rattle.rows.specs.Tabled.{row-same}
 use Rattle.rows.specs.declared.kept.KeptAnswer.{KeptAnswer}
@@ -80,6 +81,10 @@ found-same s root tasks {w} {w′} x = row-same s (elementAt s root) Tasks (reco
   where
     by : {t : Table} → tasks ≡ ReadyTable t → endOf t ≤ endIn tasks
     by e = rw e (omega arith)
+
+pub writes-found : (root : Element) {f find : Finder} → f ≡ find → (x : Context) {d : List ℕ} {p : Place} {d' : List ℕ} {r : Records} → Writes (whole activity) (activities x (entered (linksBy f (contextOf root)))) d p d' r
+    → Writes (whole activity) (activities x (entered (linksBy find (contextOf root)))) d p d' r
+writes-found root e x {d} {p} {d'} {r} h = subst (λ f. Writes (whole activity) (activities x (entered (linksBy f (contextOf root)))) d p d' r) e h
 
 -- the activities of some tasks are put, and those of ts are left
 abbrev pub Goes : Finder → List ℕ → Place → Element → Place → List ℕ → Place → ℕ → List Element → Type 0

@@ -114,8 +114,7 @@ loop-again c =
     let n = u .put-row .ensures .1 in
     let opened = rw (sym (l .loop .inv .0)) at (z .pre .1 .opened) in
     let same = below-then (x .same) (row-below n opened (a .tasks) (z .pre .1 .behind)) in
-    let found = found-same (now (a .s)) (a .root) (a .tasks) same in
-    (
+    let found = found-same (now (a .s)) (a .root) (a .tasks) same in (
       u .put-row .kept .0 ∙ l .loop .inv .0,
       omega (arith, k, l .loop .inv .1, c .next-kept .ensures .on),
       goes-on _ (a .c) root (z .pre .0) small w found (u .put-row .ensures .0) (omega (arith, l .loop .inv .1)) own (c .next-kept .ensures .is),
