@@ -3,7 +3,7 @@ use Prim.Native.Nat.{ℕ, _+_, _%_, _^_, _≤_, _<_}
 use native.Mathlib.Nat.{mod-eq-of-lt}
 use native.Mathlib.Omega.{arith}
 use mathlib.Core.Path.{_≡_, refl, sym, ap, subst, _∙_}
-use mathlib.Core.Bool.{Bool, true}
+use mathlib.Core.Bool.{true}
 use mathlib.Core.List.{List, [], _∷_, _++_, map, map-append}
 use mathlib.Core.Option.{Option}
 use lib.ListN.{length, getD, take, length-map, length-append}
@@ -11,7 +11,6 @@ use lib.Seq.{getD-at}
 use Rattle.definition.specs.Calendar.{free}
 use Rattle.definition.specs.Format.{whole}
 use Rattle.definition.specs.Link.{entered}
-use Rattle.definition.specs.Model.{Activity}
 use Rattle.definition.specs.Pack.{activity}
 use Rattle.definition.specs.Task.{Context, contextOf, keptTasks, levelOf, wantedId, activityOf, activities, mostTasks}
 use Rattle.definition.specs.Text.{Text}
@@ -20,7 +19,7 @@ use Rattle.laws.specs.Each.{empty, next, each-append}
 use Rattle.laws.specs.FitActivities.{fit-activity}
 use Rattle.laws.specs.FitRecords.{Short, FitsActivityBy}
 use Rattle.laws.specs.FitTrees.{Small, slim-texts}
-use Rattle.bits.specs.Places.{at, inside, Fits, fits-room}
+use Rattle.bits.specs.Places.{at, inside, fits-room}
 use Rattle.bits.specs.Round.{put-stood}
 use Rattle.bits.specs.Steps.{Puts, before-in, put-more}
 use Rattle.bits.specs.declared.Place.{Place}
@@ -35,12 +34,11 @@ use Rattle.model.specs.declared.records.Kind.the-variants.{Activities}
 use Rattle.names.specs.Carried.{context-carried}
 use Rattle.names.specs.Context.{contextAt, calendarsBefore}
 use Rattle.names.specs.Kept.{step-kept}
-use Rattle.names.specs.Noted.{Noted, noted-put}
+use Rattle.names.specs.Noted.{noted-put}
 use Rattle.names.specs.Records.{Lies, FitsActivityFields, activityFields, plainActivities, plain-activities, front-activities, activities-lie, texts-activities}
 use Rattle.names.specs.Short.{built-short}
 use Rattle.names.specs.Texts.{textsAt}
 use Rattle.names.specs.Whole.{puts-whole}
-use Rattle.names.specs.declared.ids.Ids.{Ids}
 use Rattle.pack.specs.Writes.{Writes}
 use Rattle.pack.specs.declared.record.Records.{Records}
 use Rattle.rows.specs.Tables.{noElement}
