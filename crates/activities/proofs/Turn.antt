@@ -19,6 +19,7 @@ use Rattle.laws.specs.Each.{empty, next, each-append}
 use Rattle.laws.specs.FitActivities.{fit-activity}
 use Rattle.laws.specs.FitRecords.{Short, FitsActivityBy}
 use Rattle.laws.specs.FitTrees.{Small, slim-texts}
+use Rattle.laws.specs.Formats.{fills-whole, fills-times}
 use Rattle.bits.specs.Places.{at, inside, fits-room}
 use Rattle.bits.specs.Round.{put-stood}
 use Rattle.bits.specs.Steps.{Puts, before-in, put-more}
@@ -33,12 +34,11 @@ use Rattle.links.specs.Fates.{Finder, taskIn, linksBy, isEntered}
 use Rattle.model.specs.declared.records.Kind.the-variants.{Activities}
 use Rattle.names.specs.Carried.{context-carried}
 use Rattle.names.specs.Context.{contextAt, calendarsBefore}
-use Rattle.names.specs.Kept.{step-kept}
+use Rattle.names.specs.Kept.{step-kept, put-ends}
 use Rattle.names.specs.Noted.{noted-put}
 use Rattle.names.specs.Records.{Lies, FitsActivityFields, activityFields, plainActivities, plain-activities, front-activities, activities-lie, texts-activities}
 use Rattle.names.specs.Short.{built-short}
 use Rattle.names.specs.Texts.{textsAt}
-use Rattle.names.specs.Whole.{puts-whole}
 use Rattle.pack.specs.Writes.{Writes}
 use Rattle.pack.specs.declared.record.Records.{Records}
 use Rattle.rows.specs.Tables.{noElement}
@@ -138,7 +138,7 @@ module _ (find : Finder) {d₀ : List ℕ} (c : Place) (root : Element) {p : Pla
           (noted-put plain-activities front-activities (rw (sym long) at (ids-moved open-at (before-it i₀) at₀ o refl j g (omega arith))) (omega arith)
           (activities-lie _ (w .puts) i₀ (w .fits))
           (subst (λ l. Lies plainActivities FitsActivityFields d' p l r) (map-append activityFields (w .done) (nextOf w ∷ [])) (activities-lie _ (put-more _ (w .puts) new-put) i (each-append (w .fits) (next new-fits empty))))
-          (step-kept (new-put .step)) (omega (arith, before-in (length d) q b)) (puts-whole activity _ (w .puts) i₀ (x .whole)) (wantedId t) (y .stars)
+          (step-kept (new-put .step)) (omega (arith, before-in (length d) q b)) (put-ends (fills-times _ (fills-whole activity)) (w .puts) i₀ (x .whole)) (wantedId t) (y .stars)
           (rw (sym long) at (y .free-is i₀))
           (next-id ∙ ap (λ (l : List Text). free l (wantedId t)) (sym texts) ∙ sym (y .free-is i₀))
           (rw (byte, sym long) at made))
