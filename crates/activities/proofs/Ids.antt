@@ -1,15 +1,18 @@
 -- The tables of ids behind the columns. Assumes nothing.
-use Prim.Native.Nat.{ℕ, _+_, _≤_, _<_}
+use Prim.Native.Nat.{ℕ, _+_, _-_, _≤_, _<_, min}
+use native.Mathlib.Decide.{decLt}
 use native.Mathlib.Omega.{arith}
 use mathlib.Core.Path.{_≡_, refl, sym, ap, _∙_}
 use mathlib.Core.Bool.{Bool, true}
-use mathlib.Core.List.{List, map}
+use mathlib.Core.List.{List, _++_, map}
 use mathlib.Core.Option.{Option}
-use lib.ListN.{length, take}
+use lib.ListN.{length, take, replicate}
+use lib.Seq.{take-length, take-all}
 use Rattle.definition.specs.Calendar.{free}
 use Rattle.definition.specs.Task.{levelOf, keptTasks, parentOf}
 use Rattle.definition.specs.Text.{Text}
 use Rattle.definition.specs.Tree.{Element}
+use Rattle.bits.specs.Clear.{cleared}
 use Rattle.bits.specs.declared.Place.{Place}
 use Rattle.index.specs.Below.{SameBelow, below-refl, below-then, below-zeros, below-added}
 use Rattle.index.specs.Chains.{endIn}
@@ -18,7 +21,7 @@ use Rattle.index.specs.Last.{lastBelow}
 use Rattle.index.specs.declared.Made.{Made}
 use Rattle.model.specs.declared.records.Kind.the-variants.{Activities}
 use Rattle.names.specs.Ids as names
-use Rattle.names.specs.Noted.{Noted, ids-placed, noted-none, noted-free}
+use Rattle.names.specs.Noted.{Noted, ids-placed, noted-none, noted-free, cleared-same}
 use Rattle.names.specs.Texts.{textsAt}
 use Rattle.names.specs.declared.ids.Ids.{Ids}
 use Rattle.names.specs.declared.ids.IdsMade.{IdsMade}
@@ -122,3 +125,18 @@ module _ {own : Own} {row at : ℕ} {o : Option ℕ} {u : Text} {byte : ℕ} {ta
       let z = r .room (omega arith) in
       held-kept (held-more (own .columns) row at o w (omega arith) z (h (omega arith)) e (i ∙ parents-are root row _ few ∙ ap (λ (l : ℕ). lastBelow (lower (levelAt root) l) row) (ap levelOf e)))
       {m = endOf (own .columns)} (omega arith) (ids-below (λ h. omega arith))
+
+-- ---- the words are cleared behind the table
+
+cleared-end : (end e : ℕ) (w : List ℕ) → end ≡ min e (length w) → cleared end w ≡ cleared e w
+cleared-end end e w h = by (decLt (length w) e)
+  where
+    by : Dec (length w < e) → cleared end w ≡ cleared e w
+    by (yes k) =
+        let z : end ≡ length w = omega arith in
+        let n : length w - length w ≡ length w - e = omega arith in
+        ap (λ (n : ℕ). cleared n w) z ∙ (λ i. (take-length w ∙ sym (take-all e w (omega arith))) i ++ replicate (n i) 0)
+    by (no k) = let z : end ≡ e = omega arith in ap (λ (n : ℕ). cleared n w) z
+
+pub cleared-behind : {end e : ℕ} {w w′ : List ℕ} → SameBelow e w w′ → end ≡ min e (length w) → {w″ : List ℕ} → w″ ≡ cleared end w′ → w″ ≡ cleared e w
+cleared-behind {end} {e} {w} {w′} x h i = i ∙ cleared-end end e w′ (h ∙ ap (min e) (sym (x .long))) ∙ cleared-same e w w′ (x .long) (x .words)

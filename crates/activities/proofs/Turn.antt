@@ -3,7 +3,7 @@ use Prim.Native.Nat.{ℕ, _+_, _%_, _^_, _≤_, _<_}
 use native.Mathlib.Nat.{mod-eq-of-lt}
 use native.Mathlib.Omega.{arith}
 use mathlib.Core.Path.{_≡_, refl, sym, ap, subst, _∙_}
-use mathlib.Core.Bool.{Bool, true}
+use mathlib.Core.Bool.{true}
 use mathlib.Core.List.{List, [], _∷_, _++_, map, map-append}
 use mathlib.Core.Option.{Option}
 use lib.ListN.{length, getD, take, length-map, length-append}
@@ -11,16 +11,16 @@ use lib.Seq.{getD-at}
 use Rattle.definition.specs.Calendar.{free}
 use Rattle.definition.specs.Format.{whole}
 use Rattle.definition.specs.Link.{entered}
-use Rattle.definition.specs.Model.{Activity}
 use Rattle.definition.specs.Pack.{activity}
-use Rattle.definition.specs.Task.{contextOf, keptTasks, levelOf, wantedId, activityOf, mostTasks}
+use Rattle.definition.specs.Task.{Context, contextOf, keptTasks, levelOf, wantedId, activityOf, activities, mostTasks}
 use Rattle.definition.specs.Text.{Text}
 use Rattle.definition.specs.Tree.{Element}
 use Rattle.laws.specs.Each.{empty, next, each-append}
 use Rattle.laws.specs.FitActivities.{fit-activity}
 use Rattle.laws.specs.FitRecords.{Short, FitsActivityBy}
 use Rattle.laws.specs.FitTrees.{Small, slim-texts}
-use Rattle.bits.specs.Places.{at, inside, Fits, fits-room}
+use Rattle.laws.specs.Formats.{fills-whole, fills-times}
+use Rattle.bits.specs.Places.{at, inside, fits-room}
 use Rattle.bits.specs.Round.{put-stood}
 use Rattle.bits.specs.Steps.{Puts, before-in, put-more}
 use Rattle.bits.specs.declared.Place.{Place}
@@ -34,14 +34,13 @@ use Rattle.links.specs.Fates.{Finder, taskIn, linksBy, isEntered}
 use Rattle.model.specs.declared.records.Kind.the-variants.{Activities}
 use Rattle.names.specs.Carried.{context-carried}
 use Rattle.names.specs.Context.{contextAt, calendarsBefore}
-use Rattle.names.specs.Kept.{step-kept}
-use Rattle.names.specs.Noted.{Noted, noted-put}
+use Rattle.names.specs.Kept.{step-kept, put-ends}
+use Rattle.names.specs.Noted.{noted-put}
 use Rattle.names.specs.Records.{Lies, FitsActivityFields, activityFields, plainActivities, plain-activities, front-activities, activities-lie, texts-activities}
 use Rattle.names.specs.Short.{built-short}
 use Rattle.names.specs.Texts.{textsAt}
-use Rattle.names.specs.Whole.{puts-whole}
-use Rattle.names.specs.declared.ids.Ids.{Ids}
-use Rattle.pack.specs.Value.{starredBy}
+use Rattle.pack.specs.Writes.{Writes}
+use Rattle.pack.specs.declared.record.Records.{Records}
 use Rattle.rows.specs.Tables.{noElement}
 use Rattle.rows.specs.Tabled.{row-same}
 use Rattle.rows.specs.declared.kept.KeptAnswer.{KeptAnswer}
@@ -80,6 +79,10 @@ found-same s root tasks {w} {w′} x = row-same s (elementAt s root) Tasks (reco
   where
     by : {t : Table} → tasks ≡ ReadyTable t → endOf t ≤ endIn tasks
     by e = rw e (omega arith)
+
+pub writes-found : (root : Element) {f find : Finder} → f ≡ find → (x : Context) {d : List ℕ} {p : Place} {d' : List ℕ} {r : Records} → Writes (whole activity) (activities x (entered (linksBy f (contextOf root)))) d p d' r
+    → Writes (whole activity) (activities x (entered (linksBy find (contextOf root)))) d p d' r
+writes-found root e x {d} {p} {d'} {r} h = subst (λ f. Writes (whole activity) (activities x (entered (linksBy f (contextOf root)))) d p d' r) e h
 
 -- the activities of some tasks are put, and those of ts are left
 abbrev pub Goes : Finder → List ℕ → Place → Element → Place → List ℕ → Place → ℕ → List Element → Type 0
@@ -135,7 +138,7 @@ module _ (find : Finder) {d₀ : List ℕ} (c : Place) (root : Element) {p : Pla
           (noted-put plain-activities front-activities (rw (sym long) at (ids-moved open-at (before-it i₀) at₀ o refl j g (omega arith))) (omega arith)
           (activities-lie _ (w .puts) i₀ (w .fits))
           (subst (λ l. Lies plainActivities FitsActivityFields d' p l r) (map-append activityFields (w .done) (nextOf w ∷ [])) (activities-lie _ (put-more _ (w .puts) new-put) i (each-append (w .fits) (next new-fits empty))))
-          (step-kept (new-put .step)) (omega (arith, before-in (length d) q b)) (puts-whole activity _ (w .puts) i₀ (x .whole)) (wantedId t) (y .stars)
+          (step-kept (new-put .step)) (omega (arith, before-in (length d) q b)) (put-ends (fills-times _ (fills-whole activity)) (w .puts) i₀ (x .whole)) (wantedId t) (y .stars)
           (rw (sym long) at (y .free-is i₀))
           (next-id ∙ ap (λ (l : List Text). free l (wantedId t)) (sym texts) ∙ sym (y .free-is i₀))
           (rw (byte, sym long) at made))

@@ -3,7 +3,7 @@
 use Prim.Native.Nat.{ℕ, zero, suc, _+_, _-_, _*_, _≤_, _<_}
 use native.Mathlib.Decide.{decLt}
 use native.Mathlib.Omega.{arith}
-use borrow.Author.Tests.{ltb-true, ltb-false, lt-ltb, le-ltb}
+use borrow.Author.Tests.{ltb-false, lt-ltb, le-ltb}
 use mathlib.Core.Path.{_≡_, refl, sym, ap, _∙_}
 use mathlib.Core.Bool.{Bool, true, false}
 use mathlib.Core.List.{List, map}
@@ -18,6 +18,7 @@ use Rattle.index.specs.Below.{SameBelow}
 use Rattle.index.specs.Frame.{SameIn}
 use Rattle.index.specs.declared.Table.{Table}
 use Rattle.index.specs.Last.{lastBelow, wordOf, last-none, last-yes, last-no, last-here, last-on, last-in, last-same, rows-of}
+use Rattle.index.specs.With.{one-more}
 use Rattle.rows.specs.Tables.{noElement}
 use Rattle.tree.specs.Place.{elementAt}
 use Rattle.activities.specs.Parents.{placeAt, parentAt, endOf, noted, lower, levelIn, Climbs, taskAt, levelAt, Held}
@@ -174,19 +175,13 @@ module _ (own : Columns) (row at : ℕ) (o : Option ℕ) (w : List ℕ) where
         ∙ getD-set-same (set w (placeAt (own .at) row) at) (parentAt (own .at) row) (wordOf o) 0 (omega (arith, length-set w (placeAt (own .at) row) at))
 
     pub held-more : Held s root (own .at) (row + 1) (noted own row at o w)
-    held-more = record { stands = λ r k. stands r k (decLt r row); parents = λ r k. parents r k (decLt r row) }
-      where
-        stands : (r : ℕ) → r < row + 1 → Dec (r < row) → elementAt s (getD (noted own row at o w) (placeAt (own .at) r) 0) ≡ taskAt root r
-        stands r k (yes j) = ap (elementAt s) (noted-other (placeAt (own .at) r) (λ a z. omega arith) (λ a z. omega arith)) ∙ h .stands r j
-        stands r k (no j) =
-            let z : r ≡ row = omega arith in
-            ap (λ (r : ℕ). elementAt s (getD (noted own row at o w) (placeAt (own .at) r) 0)) z ∙ ap (elementAt s) at-place ∙ e ∙ ap (taskAt root) (sym z)
-
-        parents : (r : ℕ) → r < row + 1 → Dec (r < row) → getD (noted own row at o w) (parentAt (own .at) r) 0 ≡ wordOf (lastBelow (lower (levelAt root) (levelAt root r)) r)
-        parents r k (yes j) = noted-other (parentAt (own .at) r) (λ a z. omega arith) (λ a z. omega arith) ∙ h .parents r j
-        parents r k (no j) =
-            let z : r ≡ row = omega arith in
-            ap (λ (r : ℕ). getD (noted own row at o w) (parentAt (own .at) r) 0) z
-            ∙ at-parent
-            ∙ ap (λ (o : Option ℕ). wordOf o) i
-            ∙ ap (λ (r : ℕ). wordOf (lastBelow (lower (levelAt root) (levelAt root r)) r)) (sym z)
+    held-more = record {
+      stands = λ r k.
+          one-more (λ r. elementAt s (getD (noted own row at o w) (placeAt (own .at) r) 0) ≡ taskAt root r) row
+          (λ r j. ap (elementAt s) (noted-other (placeAt (own .at) r) (λ a z. omega arith) (λ a z. omega arith)) ∙ h .stands r j)
+          (ap (elementAt s) at-place ∙ e) r (omega arith);
+      parents = λ r k.
+          one-more (λ r. getD (noted own row at o w) (parentAt (own .at) r) 0 ≡ wordOf (lastBelow (lower (levelAt root) (levelAt root r)) r)) row
+          (λ r j. noted-other (parentAt (own .at) r) (λ a z. omega arith) (λ a z. omega arith) ∙ h .parents r j)
+          (at-parent ∙ ap (λ (o : Option ℕ). wordOf o) i) r (omega arith);
+    }

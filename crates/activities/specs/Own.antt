@@ -12,7 +12,7 @@ use Rattle.index.specs.Below.{SameBelow}
 use Rattle.index.specs.declared.Made.{Made}
 use Rattle.model.specs.declared.records.Kind.the-variants.{Activities}
 use Rattle.names.specs.Ids as names
-use Rattle.names.specs.Noted.{Placed, Noted}
+use Rattle.names.specs.Noted.{Noted}
 use Rattle.names.specs.declared.ids.Ids.{Ids}
 use Rattle.names.specs.declared.ids.IdsMade.{IdsMade}
 use Rattle.names.specs.declared.ids.IdsMade.the-variants.{Ready, NoRoom}

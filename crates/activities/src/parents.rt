@@ -2,8 +2,8 @@
 // and its parent row plus 1, 0 for none. The parent of a row is the row before it, or a row above that one.
 ghost use mathlib.Core.Path.{_≡_};
 ghost use mathlib.Core.List.{map};
-ghost use Prim.Native.Nat.{_<_, _≤_};
-ghost use lib.ListN.{length, take};
+ghost use Prim.Native.Nat.{_<_};
+ghost use lib.ListN.{take};
 ghost use Rattle.definition.specs.Answer.{rowMeaning};
 ghost use Rattle.definition.specs.Task.{levelOf, keptTasks, parentOf};
 ghost use Rattle.index.specs.Last.{lastBelow, wordOf};

@@ -1,8 +1,7 @@
 // What an activity's record holds, each value from the task in the tree.
 ghost use mathlib.Core.Path.{_≡_};
-ghost use mathlib.Core.Bool.{_&&_, not};
 ghost use Rattle.definition.specs.Answer.{rowMeaning};
-ghost use Rattle.definition.specs.Base.{if_then_else_, _or_};
+ghost use Rattle.definition.specs.Base.{_or_};
 ghost use Rattle.definition.specs.Task.{wantedId};
 ghost use Rattle.fields.specs.Answers.{minutesMeans};
 ghost use Rattle.links.specs.Fates.{taskIn, isEntered};

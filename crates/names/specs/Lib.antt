@@ -10,4 +10,3 @@ pub mod Short
 pub mod Carried
 pub mod Agree
 pub mod Turned
-pub mod Whole

@@ -1,25 +1,19 @@
-use Prim.Native.Nat.{ℕ, _+_, _≤_, _<_}
+use Prim.Native.Nat.{_+_, _≤_}
 use native.Mathlib.Omega.{arith}
-use mathlib.Core.Path.{_≡_, refl, sym, ap, _∙_}
-use mathlib.Core.Bool.{true}
+use mathlib.Core.Path.{_≡_, refl, sym, _∙_}
 use lib.ListN.{length, drop}
 use denote.Ref.{now}
 use Rattle.definition.specs.Task.{mostTasks}
-use Rattle.bits.specs.Places.{inside}
-use Rattle.index.specs.Below.{SameBelow, below-refl, below-then}
-use Rattle.index.specs.Chains.{endIn}
+use Rattle.index.specs.Below.{below-then}
 use Rattle.laws.specs.Each.{each-drop}
 use Rattle.laws.specs.FitTrees.{small-element}
-use Rattle.links.specs.Fates.{taskIn, isEntered}
+use Rattle.links.specs.Fates.{taskIn}
 use Rattle.names.specs.Seen.{bytes-of}
 use Rattle.names.specs.Context.{contextAt}
 use Rattle.rows.proofs.Listing.{first-tasks, next-tasks}
 use Rattle.rows.specs.Turns.{kept-end, kept-at, room-at}
 use Rattle.rows.specs.Walks.{keptBy, room}
-use Rattle.rows.specs.declared.kept.KeptAnswer.the-variants.{Is}
 use Rattle.tree.specs.Place.{elementAt}
-use Rattle.activities.specs.Own.{IdsNoted}
-use Rattle.activities.specs.Parents.{Held}
 use Rattle.activities.proofs.Ids.{row-below, row-held}
 use Rattle.activities.proofs.Loop.{written-none, written-all}
 use Rattle.activities.proofs.Turn.{Stays, stays-begin, stays-ready, found-same, Goes, goes-task, goes-on, ids-on}

@@ -1,9 +1,9 @@
-use mathlib.Core.Path.{_≡_, ap, _∙_}
+use mathlib.Core.Path.{ap, _∙_}
 use mathlib.Core.Option.{Option}
 use denote.Ref.{now}
 use Rattle.definition.specs.Text.{Text}
 use Rattle.bits.specs.Steps.{put-same}
-use Rattle.names.specs.Context.{contextAt, textWithUid}
+use Rattle.names.specs.Context.{contextAt}
 use Rattle.pack.specs.Value.{nameMeaning, starredBy}
 use Rattle.tree.specs.Place.{elementAt}
 use Rattle.activities.specs.Values.{activityPlanned}
