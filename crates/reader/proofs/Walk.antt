@@ -8,7 +8,7 @@
 --     leaves       the exit, at an answer that the bytes make.        leaves-by     the same of the bytes and of what is held beside them
 --     proves       a walk from [the token; the bytes] gives the function's statement
 -- They take `Given`.
-use mathlib.Core.Path.{_≡_, sym, ap, subst}
+use mathlib.Core.Path.{sym, ap, subst}
 use Prim.Native.Nat.{ℕ, zero, suc}
 use mathlib.Core.List.{List, [], _∷_, _++_}
 use lib.ListN.{length}
@@ -19,7 +19,7 @@ use mir.Val.{Val}
 use base.Logic.{SProp, ent, sep, emp, id⊢, via, comm∗, monoR, fst∗, snd∗, emp∗, exE}
 use base.Fml.{Fml, Lft, ftrue, fsep, fat, froom, fdies}
 use prog.Model.{Model}
-use prog.Routine.{Routine, Env as Routines}
+use prog.Routine.{Env as Routines}
 use prog.Wp.{Heap, Env, Calls, Loops, Closed, WpFn}
 use ghost.Atoms.{Atoms, sem}
 use contract.Lifetimes.{Lfts, Shares, AllOutlive}
@@ -42,7 +42,7 @@ use denote.Triple.End.{Kepts}
 use denote.Triple.Entry.{Args, Vals, Res, alive}
 use denote.Triple.Spec.{tripleOf}
 use denote.Triple.Table.{entered}
-use denote.Triple.Walked.{says, Stays, Fit, hasOf, AllGo, Walks, walkOf, walked, walk-meets, ends-at}
+use denote.Triple.Walked.{says, Stays, Fit, hasOf, AllGo, walkOf, walked, walk-meets, ends-at}
 
 -- ---- what the bytes make
 

@@ -28,7 +28,7 @@ use Rattle.bits.specs.declared.Place.{Place}
 use Rattle.bits.proofs.Place as P
 use Rattle.bits.proofs.Place.Laws as P′
 use Rattle.reader.proofs.Held.{a-place}
-use Rattle.reader.proofs.Walk.{turned, gone, Bytes, bytesVal, itself, plainly, nothing-more, _and-also_, first-gives, slice-gives, none, Promise, tokens, Runs, leaves, unasked, proves}
+use Rattle.reader.proofs.Walk.{turned, gone, Bytes, bytesVal, itself, plainly, nothing-more, _and-also_, first-gives, slice-gives, none, tokens, Runs, leaves, unasked, proves}
 use Rattle.model.specs.Sections.{Behind}
 use Rattle.model.specs.declared.Counts.{Counts}
 use Rattle.model.specs.declared.Head.{Head}

@@ -24,7 +24,7 @@ use denote.Triple.Entry.{Args, Vals}
 use denote.Triple.Table.{cited}
 use denote.Triple.Walked.{Stays, stay-none, stay-none-slice, goes-none, goes-none-slice}
 use denote.Exit.{yes}
-use Rattle.reader.proofs.Walk.{turned, gone, Bytes, bytesVal, itself, plainly, nothing-more, _and-also_, first-gives, slice-gives, none, Promise, tokens, Runs, leaves, unasked, proves}
+use Rattle.reader.proofs.Walk.{turned, gone, Bytes, bytesVal, itself, plainly, nothing-more, _and-also_, first-gives, slice-gives, none, tokens, Runs, leaves, unasked, proves}
 use Rattle.model.specs.Sections.{Heads}
 use Rattle.model.specs.declared.Counts.{Counts}
 use Rattle.model.specs.declared.Head.{Head}
