@@ -11,17 +11,15 @@ use mir.Val.{WT, hasTy, vint}
 use base.Fml.{Lft, Share}
 use prog.Wp.{Heap, Env, Calls, Loops}
 use ghost.Atoms.{Atoms}
-use contract.Lifetimes.{Lfts}
 use sound.WpLaws.{FmC}
 use types.Kit.{Given, Item, ‵, raw, Post, runs, lands, Seq}
 use types.Run.{Opds}
-use denote.RattleType.{Denots}
 use denote.Laws.{Is}
 use denote.Plain.{uint-makes}
 use denote.Builtin.{u32}
 use denote.Enum.Laws as EL
 use denote.Ref.{RefT, now}
-use denote.Signature.{Slot, plain, typesAt}
+use denote.Signature.{Slot, plain}
 use denote.Triple.Statement.{Contract, Triple}
 use denote.Triple.Clauses.{Ended}
 use denote.Exit.{yes}

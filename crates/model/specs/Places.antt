@@ -4,7 +4,7 @@ use mathlib.Core.Path.{_≡_, refl, sym, ap, _∙_}
 use mathlib.Core.Bool.{Bool, true, false}
 use mathlib.Core.List.{List}
 use mathlib.Core.Option.{Option, some}
-use Prim.Native.Nat.{ℕ, _+_, _-_, _*_, _%_, _≤_}
+use Prim.Native.Nat.{ℕ, _+_, _%_, _≤_}
 use lib.ListN.{length, take, drop}
 use Rattle.definition.specs.Base.{_>>=_}
 use Rattle.definition.specs.Text.{Text, isUtf8}
@@ -12,7 +12,7 @@ use Rattle.definition.specs.Calendar.{byDate}
 use Rattle.definition.specs.Format.{Format, _⊗_, whole, times, row, flag, code, number, text, date, optional, listOf, periods, dates}
 use Rattle.definition.specs.Model.{Calendar, Activity, Link, Resource, Assignment, Expense}
 use Rattle.definition.specs.Pack.{calendar, activity, link, resource, assignment, expense}
-use Rattle.bits.specs.Reads.{rest, Reads, Spans, padAt, read-none, read-some, refuse-some}
+use Rattle.bits.specs.Reads.{Reads, Spans, padAt, read-some, refuse-some}
 pub use Rattle.bits.specs.Reads.{span-ends, between}
 use Rattle.bits.specs.declared.Place.{Place}
 use Rattle.bits.specs.declared.Span.{Span}

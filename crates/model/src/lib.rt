@@ -62,20 +62,28 @@ const NO_COUNTS: Counts = Counts {
 };
 
 // Six counts that were read, and the place behind them.
-fn counts_of(a: u64, b: u64, c: u64, d: u64, e: u64, f: u64, next: Place) -> Counts
-    requires { ⌜ (a < 2 ^ 32) × (b < 2 ^ 32) × (c < 2 ^ 32) × (d < 2 ^ 32) × (e < 2 ^ 32) × (f < 2 ^ 32) ⌝ }
-    ensures { λ r. ⌜ (countsIn r, r .next) ≡ countsBy (a, (b, (c, (d, (e, f))))) next ⌝ }
+fn counts_of(
+    calendars: u64,
+    activities: u64,
+    links: u64,
+    resources: u64,
+    assignments: u64,
+    expenses: u64,
+    next: Place,
+) -> Counts
+    requires { ⌜ (calendars < 2 ^ 32) × (activities < 2 ^ 32) × (links < 2 ^ 32) × (resources < 2 ^ 32) × (assignments < 2 ^ 32) × (expenses < 2 ^ 32) ⌝ }
+    ensures { λ r. ⌜ (countsIn r, r .next) ≡ countsBy (calendars, (activities, (links, (resources, (assignments, expenses))))) next ⌝ }
 {
     if 7 < next.bit {
         return NO_COUNTS;
     }
     Counts {
-        calendars: a as u32,
-        activities: b as u32,
-        links: c as u32,
-        resources: d as u32,
-        assignments: e as u32,
-        expenses: f as u32,
+        calendars: calendars as u32,
+        activities: activities as u32,
+        links: links as u32,
+        resources: resources as u32,
+        assignments: assignments as u32,
+        expenses: expenses as u32,
         next,
     }
 }
@@ -84,20 +92,20 @@ fn counts_of(a: u64, b: u64, c: u64, d: u64, e: u64, f: u64, next: Place) -> Cou
 pub fn take_counts(s: &[u8]) -> Counts
     ensures { λ r. ⌜ (countsIn r, r .next) ≡ countsAt (now (s .entry)) start ⌝ }
 {
-    let a = take(reader_of(s), 32);
-    let b = take(a.rest, 32);
-    let c = take(b.rest, 32);
-    let d = take(c.rest, 32);
-    let e = take(d.rest, 32);
-    let f = take(e.rest, 32);
+    let calendars = take(reader_of(s), 32);
+    let activities = take(calendars.rest, 32);
+    let links = take(activities.rest, 32);
+    let resources = take(links.rest, 32);
+    let assignments = take(resources.rest, 32);
+    let expenses = take(assignments.rest, 32);
     counts_of(
-        a.value,
-        b.value,
-        c.value,
-        d.value,
-        e.value,
-        f.value,
-        f.rest.place,
+        calendars.value,
+        activities.value,
+        links.value,
+        resources.value,
+        assignments.value,
+        expenses.value,
+        expenses.rest.place,
     )
 }
 
@@ -143,15 +151,15 @@ fn past_records<'a>(r: Reader<'a>, kind: Kind, count: u32) -> Reader<'a>
 pub fn walk_head(s: &[u8], n: Counts) -> Head
     ensures { λ r. ⌜ Heads (now (s .entry)) n r ⌝ }
 {
-    let a = Reader {
+    let project = Reader {
         model: s,
         place: n.next,
     };
-    let b = past_project(a);
-    let c = past_records(b, Kind::Calendars, n.calendars);
+    let calendars = past_project(project);
+    let activities = past_records(calendars, Kind::Calendars, n.calendars);
     Head {
-        calendars: b.place,
-        activities: c.place,
+        calendars: calendars.place,
+        activities: activities.place,
     }
 }
 
@@ -159,22 +167,22 @@ pub fn walk_head(s: &[u8], n: Counts) -> Head
 pub fn walk_behind(s: &[u8], n: Counts, head: Head, links: Place) -> Places
     ensures { λ r. ⌜ Behind (now (s .entry)) n head links r ⌝ }
 {
-    let a = Reader {
+    let first = Reader {
         model: s,
         place: links,
     };
-    let b = past_records(a, Kind::Links, n.links);
-    let c = past_records(b, Kind::Resources, n.resources);
-    let d = past_records(c, Kind::Assignments, n.assignments);
-    let e = past_records(d, Kind::Expenses, n.expenses);
+    let resources = past_records(first, Kind::Links, n.links);
+    let assignments = past_records(resources, Kind::Resources, n.resources);
+    let expenses = past_records(assignments, Kind::Assignments, n.assignments);
+    let end = past_records(expenses, Kind::Expenses, n.expenses);
     Places {
         calendars: head.calendars,
         activities: head.activities,
         links,
-        resources: b.place,
-        assignments: c.place,
-        expenses: d.place,
-        end: e.place,
+        resources: resources.place,
+        assignments: assignments.place,
+        expenses: expenses.place,
+        end: end.place,
     }
 }
 
@@ -182,12 +190,12 @@ fn walk(s: &[u8], n: Counts) -> Places
     ensures { λ r. ⌜ Walks (now (s .entry)) n r ⌝ }
 {
     let head = walk_head(s, n);
-    let a = Reader {
+    let activities = Reader {
         model: s,
         place: head.activities,
     };
-    let b = past_records(a, Kind::Activities, n.activities);
-    walk_behind(s, n, head, b.place)
+    let links = past_records(activities, Kind::Activities, n.activities);
+    walk_behind(s, n, head, links.place)
 }
 
 // The sections of so many bytes, if the last one ends where they end.

@@ -12,7 +12,7 @@ use base.Fml.{Lft, Share}
 use prog.Model.{Model}
 use prog.Routine.{Env as Routines}
 use prog.Wp.{Heap, Calls, Loops, Closed}
-use ghost.Atoms.{Atoms, sem}
+use ghost.Atoms.{Atoms}
 use contract.Lifetimes.{Lfts}
 use contract.Running.{Running, GhostRules, givenOf, tables}
 use types.Kit.{Given, ‵, ⋆, _⊛_, given, _$_, _∵_, !, qed, by, move, drop, use1, split, learn, done}

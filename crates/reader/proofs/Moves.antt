@@ -16,9 +16,9 @@ use prog.Wp.{Heap, Calls, Loops, Closed}
 use ghost.Atoms.{Atoms}
 use contract.Lifetimes.{Lfts}
 use contract.Running.{Running, GhostRules, givenOf, tables, tablesOf}
-use types.Kit.{Given, ‵, _$_, _∵_, !, qed, by, move, drop}
+use types.Kit.{Given, ‵, _$_, _∵_, !, qed, by, drop}
 use types.Part.{agg, whole, sub, look-in}
-use types.Run.{look, init, forget, stop, fld, from, load, of-opd, and-then, no-more, assigns, land, returns, enter, alloc1, alloc0, params1, pass1, pass0, free1, free0}
+use types.Run.{look, init, stop, fld, from, load, of-opd, and-then, no-more, assigns, land, returns, enter, alloc1, alloc0, params1, pass1, pass0, free0}
 use sound.WpLaws.{FmC, fmOf}
 use denote.Laws.{Is}
 use denote.Builtin.{SliceRefOf, u8}
@@ -38,7 +38,7 @@ use Rattle.reader.specs.Read.{moved}
 use Rattle.reader.specs.declared.Reader.{Reader}
 use Rattle.reader.proofs.Reader.Laws as T′
 use Rattle.reader.proofs.Held.{B, D, L, mach, a-place, a-reader, typed, of-reader, RunsBy, leaves-at, proves-by}
-use Rattle.reader.proofs.Walk.{Bytes, bytesVal, itself, nothing-more, _and-also_, none, Promise, tokens, asks}
+use Rattle.reader.proofs.Walk.{turned, gone, Bytes, bytesVal, itself, nothing-more, _and-also_, none, Promise, tokens, asks}
 
 -- f's signature, and g's answer
 abbrev inner : Ended
@@ -78,17 +78,16 @@ module _ (φ : List ℕ → Place → Place → Type 0) (Ψ : Reader → Reader 
         let wt = typed 𝓤 H A W κ d is in
         let pd = LL.owed (D κ) (L κ) d _ is .1 .0 in
         qed W (tokens 𝓤 H A (of-reader ReaderS) (κ, tt) (q, tt) ∷ ‵ (Bytes κ (d .model)) ∷ []) ∵ enter ! C Λ (code f) (mach d ∷ []) _ $
-        alloc1 ! (λ l₀. alloc1 ! (λ l₁. alloc1 ! (λ l₂. alloc1 ! (λ l₃. alloc1 ! (λ l₄. alloc1 ! (λ l₅. alloc0 ! $ params1 ! $ pass1 ! (init ! 8 refl wt) $ pass0 ! $ move ! (12 ∷ 13 ∷ []) $
-        assigns ! (of-opd ! (load ! (from ! (fld ! refl (stop !))) (look-in ! 10 (sub ! 0 refl (whole !))))) (from ! (stop !)) (init ! 6 refl (tt, wt .1 .0)) $
-        assigns ! (of-opd ! (load ! (from ! (fld ! refl (stop !))) (look-in ! 10 (sub ! 1 refl (whole !))))) (from ! (stop !)) (init ! 4 refl (tt, wt .1 .1 .0)) $
+        alloc1 ! (λ l₀. alloc1 ! (λ l₁. alloc1 ! (λ l₂. alloc1 ! (λ l₃. alloc1 ! (λ l₄. alloc1 ! (λ l₅. alloc0 ! $ params1 ! $ pass1 ! (init ! 8 refl wt) $ pass0 ! $ turned ! 6 $
+        assigns ! (of-opd ! (load ! (from ! (fld ! refl (stop !))) (look-in ! 4 (sub ! 0 refl (whole !))))) (from ! (stop !)) (init ! 8 refl (tt, wt .1 .0)) $
+        assigns ! (of-opd ! (load ! (from ! (fld ! refl (stop !))) (look-in ! 4 (sub ! 1 refl (whole !))))) (from ! (stop !)) (init ! 10 refl (tt, wt .1 .1 .0)) $
         asks ! fm κ (d .model) inner (none 𝓤 inner) inside known (κ, tt) (q, tt) tt (d .model, (d .place, tt)) (bytesVal (d .model) ∷ [], (P′.lowered (d .place) ∷ [], tt)) P′.lowered (P′.lowers .val-is)
-        (id⊢ 𝓤 (emp 𝓤)) (itself and-also a-place pd and-also nothing-more) (and-then ! (load ! (from ! (stop !)) (look ! 6 refl)) (and-then ! (load ! (from ! (stop !)) (look ! 4 refl)) (no-more !))) (λ p e ps. drop ! $
+        (id⊢ 𝓤 (emp 𝓤)) (itself and-also a-place pd and-also nothing-more) (and-then ! (load ! (from ! (stop !)) (look ! 8 refl)) (and-then ! (load ! (from ! (stop !)) (look ! 10 refl)) (no-more !))) (λ p e ps. drop ! $
         let pt = LL.lawful P.the-type P′.the-laws 𝓤 H A W .typed p _ ps .0 in
-        land ! (from ! (stop !)) (init ! 8 refl pt) $
-        assigns ! (of-opd ! (load ! (from ! (fld ! refl (stop !))) (look-in ! 10 (sub ! 0 refl (whole !))))) (from ! (stop !)) (init ! 2 refl (tt, wt .1 .0)) $
-        assigns ! (agg ! (and-then ! (load ! (from ! (stop !)) (look ! 2 refl)) (and-then ! (load ! (from ! (stop !)) (look ! 8 refl)) (no-more !)))) (from ! (stop !)) (init ! 12 refl (tt, (wt .1 .0, (pt .1, tt)))) $
-        returns ! (look ! 12 refl) $ forget ! 2 refl $ forget ! 4 refl $ forget ! 6 refl $ forget ! 8 refl $ forget ! 10 refl $ forget ! 12 refl $
-        move ! (12 ∷ 13 ∷ []) $ free1 ! $ move ! (10 ∷ 11 ∷ []) $ free1 ! $ move ! (8 ∷ 9 ∷ []) $ free1 ! $ move ! (6 ∷ 7 ∷ []) $ free1 ! $ move ! (4 ∷ 5 ∷ []) $ free1 ! $ move ! (2 ∷ 3 ∷ []) $ free1 ! $ free0 ! $
+        land ! (from ! (stop !)) (init ! 6 refl pt) $
+        assigns ! (of-opd ! (load ! (from ! (fld ! refl (stop !))) (look-in ! 4 (sub ! 0 refl (whole !))))) (from ! (stop !)) (init ! 12 refl (tt, wt .1 .0)) $
+        assigns ! (agg ! (and-then ! (load ! (from ! (stop !)) (look ! 12 refl)) (and-then ! (load ! (from ! (stop !)) (look ! 6 refl)) (no-more !)))) (from ! (stop !)) (init ! 2 refl (tt, (wt .1 .0, (pt .1, tt)))) $
+        returns ! (look ! 2 refl) $ gone ! $ gone ! $ gone ! $ gone ! $ gone ! $ gone ! $ free0 ! $
         by ! (leaves-at 𝓤 H A ReaderS outside κ q d W (moved d p) (mach (moved d p)) (follows d p e) pd (a-reader p ps)))))))))
 
   module _ {M : Type 1} (𝓤 : URA M) (H : Heap 𝓤) (𝓜 : Model 𝓤 H) (𝓖 : GhostRules 𝓤 H) (𝓡 : Running 𝓤 H 𝓜) where

@@ -12,9 +12,9 @@ use prog.Wp.{Heap, Calls, Loops}
 use ghost.Atoms.{Atoms}
 use contract.Lifetimes.{Lfts}
 use contract.Running.{givenOf, tables, tablesOf}
-use types.Kit.{Given, ‵, _$_, _∵_, !, qed, by, move, drop}
+use types.Kit.{Given, ‵, _$_, _∵_, !, qed, by, drop}
 use types.Part.{agg, whole, sub, look-in}
-use types.Run.{look, init, forget, stop, fld, from, load, true-lit, of-opd, and-then, no-more, assigns, land, returns, enter, alloc1, alloc0, params1, pass1, pass0, free1, free0}
+use types.Run.{look, init, stop, fld, from, load, true-lit, of-opd, and-then, no-more, assigns, land, returns, enter, alloc1, alloc0, params1, pass1, pass0, free0}
 use sound.WpLaws.{FmC, fmOf}
 use denote.Laws.{Is}
 use denote.Plain.{uint-vals, uint-tells, uint-makes, bool-makes}
@@ -34,7 +34,7 @@ use Rattle.bits.proofs.Place.Laws as P′
 use Rattle.reader.specs.Read.{moved, movedBy}
 use Rattle.reader.specs.declared.Reader.{Reader}
 use Rattle.reader.proofs.Held.{B, D, L, mach, a-place, a-reader, reader-gives, typed}
-use Rattle.reader.proofs.Walk.{Bytes, bytesVal, itself, plainly, nothing-more, _and-also_, first-gives, none, Promise, tokens, asks, Runs, leaves, unasked, proves}
+use Rattle.reader.proofs.Walk.{turned, gone, Bytes, bytesVal, itself, plainly, nothing-more, _and-also_, first-gives, none, Promise, tokens, asks, Runs, leaves, unasked, proves}
 use Rattle.model.specs.Passes.{Passes}
 use Rattle.model.specs.Parts.{recordOf}
 use Rattle.model.specs.Sections.{PassesRecords}
@@ -72,18 +72,17 @@ module _ {M : Type 1} (𝓤 : URA M) (H : Heap 𝓤) (A : Atoms 𝓤) (W : Given
       let a-count = plainly {W = W} {κ = κ} {s = d .model} u32 (uint-makes 𝓤 H A W w32) n ns in
       qed W (tokens 𝓤 H A this.ended (κ, tt) (q, tt) ∷ ‵ (Bytes κ (d .model)) ∷ []) ∵ enter ! C Λ code.function (mach d ∷ K′.lowered kind ∷ vint w32 n ∷ []) _ $
       alloc1 ! (λ l₀. alloc1 ! (λ l₁. alloc1 ! (λ l₂. alloc1 ! (λ l₃. alloc1 ! (λ l₄. alloc1 ! (λ l₅. alloc1 ! (λ l₆. alloc1 ! (λ l₇. alloc0 ! $ params1 ! $ pass1 ! (init ! 12 refl wt) $ pass1 ! (init ! 10 refl (EL.lawful K.the-type K′.the-laws 𝓤 H A W tt .typed kind _ ks .0)) $
-      pass1 ! (init ! 8 refl (tt, record { fits = ns .1 })) $ pass0 ! $ move ! (16 ∷ 17 ∷ []) $
-      assigns ! (of-opd ! (load ! (from ! (fld ! refl (stop !))) (look-in ! 14 (sub ! 0 refl (whole !))))) (from ! (stop !)) (init ! 6 refl (tt, wt .1 .0)) $
-      assigns ! (of-opd ! (load ! (from ! (fld ! refl (stop !))) (look-in ! 14 (sub ! 1 {d = 16} refl (whole !))))) (from ! (stop !)) (init ! 4 refl (tt, wt .1 .1 .0)) $
+      pass1 ! (init ! 8 refl (tt, record { fits = ns .1 })) $ pass0 ! $ turned ! 8 $
+      assigns ! (of-opd ! (load ! (from ! (fld ! refl (stop !))) (look-in ! 4 (sub ! 0 refl (whole !))))) (from ! (stop !)) (init ! 12 refl (tt, wt .1 .0)) $
+      assigns ! (of-opd ! (load ! (from ! (fld ! refl (stop !))) (look-in ! 4 (sub ! 1 {d = 16} refl (whole !))))) (from ! (stop !)) (init ! 14 refl (tt, wt .1 .1 .0)) $
       asks ! fm κ (d .model) callee.ended (none 𝓤 callee.ended) callee-says known (κ, tt) (q, tt) tt (d .model, (d .place, (kind, (n, (true, tt))))) (bytesVal (d .model) ∷ [], (P′.lowered (d .place) ∷ [], (K′.lowered kind ∷ [], (vint w32 n ∷ [], (vbool true ∷ [], tt)))))
       P′.lowered (P′.lowers .val-is) (id⊢ 𝓤 (emp 𝓤)) (itself and-also a-place pd and-also a-kind and-also a-count and-also plainly bool (bool-makes 𝓤 H A W) true refl and-also nothing-more)
-      (and-then ! (load ! (from ! (stop !)) (look ! 6 refl)) (and-then ! (load ! (from ! (stop !)) (look ! 4 refl)) (and-then ! (load ! (from ! (stop !)) (look ! 12 refl)) (and-then ! (load ! (from ! (stop !)) (look ! 10 refl)) (and-then ! (true-lit !) (no-more !)))))) (λ p e ps. drop ! $
+      (and-then ! (load ! (from ! (stop !)) (look ! 12 refl)) (and-then ! (load ! (from ! (stop !)) (look ! 14 refl)) (and-then ! (load ! (from ! (stop !)) (look ! 6 refl)) (and-then ! (load ! (from ! (stop !)) (look ! 8 refl)) (and-then ! (true-lit !) (no-more !)))))) (λ p e ps. drop ! $
       let pt = LL.lawful P.the-type P′.the-laws 𝓤 H A W .typed p _ ps .0 in
-      land ! (from ! (stop !)) (init ! 8 refl pt) $
-      assigns ! (of-opd ! (load ! (from ! (fld ! refl (stop !))) (look-in ! 14 (sub ! 0 refl (whole !))))) (from ! (stop !)) (init ! 2 refl (tt, wt .1 .0)) $
-      assigns ! (agg ! (and-then ! (load ! (from ! (stop !)) (look ! 2 refl)) (and-then ! (load ! (from ! (stop !)) (look ! 8 refl)) (no-more !)))) (from ! (stop !)) (init ! 16 refl (tt, (wt .1 .0, (pt .1, tt)))) $
-      returns ! (look ! 16 refl) $ forget ! 2 refl $ forget ! 4 refl $ forget ! 6 refl $ forget ! 8 refl $ forget ! 10 refl $ forget ! 12 refl $ forget ! 14 refl $ forget ! 16 refl $
-      move ! (16 ∷ 17 ∷ []) $ free1 ! $ move ! (14 ∷ 15 ∷ []) $ free1 ! $ move ! (12 ∷ 13 ∷ []) $ free1 ! $ move ! (10 ∷ 11 ∷ []) $ free1 ! $ move ! (8 ∷ 9 ∷ []) $ free1 ! $ move ! (6 ∷ 7 ∷ []) $ free1 ! $ move ! (4 ∷ 5 ∷ []) $ free1 ! $ move ! (2 ∷ 3 ∷ []) $ free1 ! $ free0 ! $
+      land ! (from ! (stop !)) (init ! 10 refl pt) $
+      assigns ! (of-opd ! (load ! (from ! (fld ! refl (stop !))) (look-in ! 4 (sub ! 0 refl (whole !))))) (from ! (stop !)) (init ! 16 refl (tt, wt .1 .0)) $
+      assigns ! (agg ! (and-then ! (load ! (from ! (stop !)) (look ! 16 refl)) (and-then ! (load ! (from ! (stop !)) (look ! 10 refl)) (no-more !)))) (from ! (stop !)) (init ! 2 refl (tt, (wt .1 .0, (pt .1, tt)))) $
+      returns ! (look ! 2 refl) $ gone ! $ gone ! $ gone ! $ gone ! $ gone ! $ gone ! $ gone ! $ gone ! $ free0 ! $
       by ! (leaves 𝓤 H A this.ended stayed (none 𝓤 this.ended) says κ (d .model) (κ, tt) (q, tt) tt (d, (kind, (n, tt))) at W (moved d p) (mach (moved d p)) (tt, (tt, (tt, tt))) (tt, (tt, (tt, tt))) (refl, e) (a-reader (d .place) pd and-also a-kind and-also a-count and-also nothing-more) (a-reader p ps)))))))))))
 
 pub past-records-spec : {M : Type 1} → stated.statement M

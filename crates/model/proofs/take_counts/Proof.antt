@@ -14,9 +14,9 @@ use ghost.Atoms.{Atoms}
 use contract.Lifetimes.{Lfts}
 use contract.Monad.{fact, factI}
 use contract.Running.{givenOf, tables, tablesOf}
-use types.Kit.{Given, ‵, _$_, _∵_, !, qed, by, move}
+use types.Kit.{Given, ‵, _$_, _∵_, !, qed, by}
 use types.Part.{whole, sub, look-in}
-use types.Run.{look, init, forget, stop, fld, from, load, lit, of-opd, and-then, no-more, assigns, land, returns, enter, alloc1, alloc0, params1, pass1, pass0, free1, free0}
+use types.Run.{look, init, stop, fld, from, load, lit, of-opd, and-then, no-more, assigns, land, returns, enter, alloc1, alloc0, params1, pass1, pass0, free0}
 use sound.WpLaws.{FmC, fmOf}
 use denote.Laws.{Is}
 use denote.Plain.{uint-makes}
@@ -43,7 +43,7 @@ use Rattle.reader.proofs.take as take
 use Rattle.reader.proofs.take.Symbol as take-def
 use Rattle.reader.proofs.take.Symbol.{name as #reader·take}
 use Rattle.reader.proofs.take.Met as take-thm
-use Rattle.reader.proofs.Walk.{Bytes, bytesVal, itself, plainly, nothing-more, _and-also_, first-gives, slice-gives, Needs, none, Promise, tokens, asks-plain, Runs, leaves, unasked, proves}
+use Rattle.reader.proofs.Walk.{turned, gone, Bytes, bytesVal, itself, plainly, nothing-more, _and-also_, first-gives, slice-gives, Needs, none, Promise, tokens, asks-plain, Runs, leaves, unasked, proves}
 use Rattle.model.specs.Answers.{countsAt}
 use Rattle.model.specs.Sections.{start, countsIn, countsBy}
 use Rattle.model.specs.declared.Counts.{Counts}
@@ -78,34 +78,33 @@ module _ {M : Type 1} (𝓤 : URA M) (H : Heap 𝓤) (A : Atoms 𝓤) (W : Given
   walk is =
       qed W (tokens 𝓤 H A this.ended (κ, tt) (q, tt) ∷ ‵ (Bytes κ s) ∷ []) ∵ enter ! C Λ code.function (bytesVal s ∷ []) _ $
       alloc1 ! (λ l₀. alloc1 ! (λ l₁. alloc1 ! (λ l₂. alloc1 ! (λ l₃. alloc1 ! (λ l₄. alloc1 ! (λ l₅. alloc1 ! (λ l₆. alloc1 ! (λ l₇. alloc1 ! (λ l₈. alloc1 ! (λ l₉. alloc1 ! (λ l₁₀. alloc1 ! (λ l₁₁. alloc1 ! (λ l₁₂. alloc1 ! (λ l₁₃. alloc1 ! (λ l₁₄. alloc1 ! (λ l₁₅. alloc1 ! (λ l₁₆. alloc1 ! (λ l₁₇. alloc1 ! (λ l₁₈. alloc1 ! (λ l₁₉. alloc1 ! (λ l₂₀. alloc0 ! $ params1 ! $
-      pass1 ! (init ! 38 refl (shr-slice-lawful 𝓤 H A W (named 0) κ u8 .typed s _ is .0)) $ pass0 ! $ move ! (42 ∷ 43 ∷ []) $
-      starts ! fm κ q s known-new (and-then ! (load ! (from ! (stop !)) (look ! 40 refl)) (no-more !)) (λ p₀ t₀. land ! (from ! (stop !)) (init ! 26 refl t₀) $
-      takes ! fm κ q s known-take (first s .place) p₀ 32 (refl, lit< tt) (omega arith) (and-then ! (load ! (from ! (stop !)) (look ! 26 refl)) (and-then ! (lit ! tt) (no-more !))) (λ x₁ e₁ v₁ p₁ t₁. land ! (from ! (stop !)) (init ! 38 refl t₁) $
-      assigns ! (of-opd ! (load ! (from ! (fld ! refl (stop !))) (look-in ! 38 (sub ! 1 {d = 8} refl (whole !))))) (from ! (stop !)) (init ! 24 refl (tt, t₁ .1 .1 .0)) $
-      takes ! fm κ q s known-take (x₁ .next) p₁ 32 (refl, lit< tt) (omega arith) (and-then ! (load ! (from ! (stop !)) (look ! 24 refl)) (and-then ! (lit ! tt) (no-more !))) (λ x₂ e₂ v₂ p₂ t₂. land ! (from ! (stop !)) (init ! 36 refl t₂) $
-      assigns ! (of-opd ! (load ! (from ! (fld ! refl (stop !))) (look-in ! 36 (sub ! 1 {d = 8} refl (whole !))))) (from ! (stop !)) (init ! 22 refl (tt, t₂ .1 .1 .0)) $
-      takes ! fm κ q s known-take (x₂ .next) p₂ 32 (refl, lit< tt) (omega arith) (and-then ! (load ! (from ! (stop !)) (look ! 22 refl)) (and-then ! (lit ! tt) (no-more !))) (λ x₃ e₃ v₃ p₃ t₃. land ! (from ! (stop !)) (init ! 34 refl t₃) $
-      assigns ! (of-opd ! (load ! (from ! (fld ! refl (stop !))) (look-in ! 34 (sub ! 1 {d = 8} refl (whole !))))) (from ! (stop !)) (init ! 20 refl (tt, t₃ .1 .1 .0)) $
-      takes ! fm κ q s known-take (x₃ .next) p₃ 32 (refl, lit< tt) (omega arith) (and-then ! (load ! (from ! (stop !)) (look ! 20 refl)) (and-then ! (lit ! tt) (no-more !))) (λ x₄ e₄ v₄ p₄ t₄. land ! (from ! (stop !)) (init ! 32 refl t₄) $
-      assigns ! (of-opd ! (load ! (from ! (fld ! refl (stop !))) (look-in ! 32 (sub ! 1 {d = 8} refl (whole !))))) (from ! (stop !)) (init ! 18 refl (tt, t₄ .1 .1 .0)) $
-      takes ! fm κ q s known-take (x₄ .next) p₄ 32 (refl, lit< tt) (omega arith) (and-then ! (load ! (from ! (stop !)) (look ! 18 refl)) (and-then ! (lit ! tt) (no-more !))) (λ x₅ e₅ v₅ p₅ t₅. land ! (from ! (stop !)) (init ! 30 refl t₅) $
-      assigns ! (of-opd ! (load ! (from ! (fld ! refl (stop !))) (look-in ! 30 (sub ! 1 {d = 8} refl (whole !))))) (from ! (stop !)) (init ! 16 refl (tt, t₅ .1 .1 .0)) $
-      takes ! fm κ q s known-take (x₅ .next) p₅ 32 (refl, lit< tt) (omega arith) (and-then ! (load ! (from ! (stop !)) (look ! 16 refl)) (and-then ! (lit ! tt) (no-more !))) (λ x₆ e₆ v₆ p₆ t₆. land ! (from ! (stop !)) (init ! 28 refl t₆) $
-      assigns ! (of-opd ! (load ! (from ! (fld ! refl (stop !))) (look-in ! 38 (sub ! 0 refl (whole !))))) (from ! (stop !)) (init ! 14 refl (tt, t₁ .1 .0)) $
-      assigns ! (of-opd ! (load ! (from ! (fld ! refl (stop !))) (look-in ! 36 (sub ! 0 refl (whole !))))) (from ! (stop !)) (init ! 12 refl (tt, t₂ .1 .0)) $
-      assigns ! (of-opd ! (load ! (from ! (fld ! refl (stop !))) (look-in ! 34 (sub ! 0 refl (whole !))))) (from ! (stop !)) (init ! 10 refl (tt, t₃ .1 .0)) $
-      assigns ! (of-opd ! (load ! (from ! (fld ! refl (stop !))) (look-in ! 32 (sub ! 0 refl (whole !))))) (from ! (stop !)) (init ! 8 refl (tt, t₄ .1 .0)) $
-      assigns ! (of-opd ! (load ! (from ! (fld ! refl (stop !))) (look-in ! 30 (sub ! 0 refl (whole !))))) (from ! (stop !)) (init ! 6 refl (tt, t₅ .1 .0)) $
-      assigns ! (of-opd ! (load ! (from ! (fld ! refl (stop !))) (look-in ! 28 (sub ! 0 refl (whole !))))) (from ! (stop !)) (init ! 4 refl (tt, t₆ .1 .0)) $
-      assigns ! (of-opd ! (load ! (from ! (fld ! refl (fld ! refl (stop !)))) (look-in ! 28 (sub ! 1 {d = 16} refl (sub ! 1 {d = 8} refl (whole !)))))) (from ! (stop !)) (init ! 2 refl (tt, t₆ .1 .1 .0 .1 .0)) $
+      pass1 ! (init ! 38 refl (shr-slice-lawful 𝓤 H A W (named 0) κ u8 .typed s _ is .0)) $ pass0 ! $ turned ! 21 $
+      starts ! fm κ q s known-new (and-then ! (load ! (from ! (stop !)) (look ! 4 refl)) (no-more !)) (λ p₀ t₀. land ! (from ! (stop !)) (init ! 18 refl t₀) $
+      takes ! fm κ q s known-take (first s .place) p₀ 32 (refl, lit< tt) (omega arith) (and-then ! (load ! (from ! (stop !)) (look ! 18 refl)) (and-then ! (lit ! tt) (no-more !))) (λ x₁ e₁ v₁ p₁ t₁. land ! (from ! (stop !)) (init ! 6 refl t₁) $
+      assigns ! (of-opd ! (load ! (from ! (fld ! refl (stop !))) (look-in ! 6 (sub ! 1 {d = 8} refl (whole !))))) (from ! (stop !)) (init ! 20 refl (tt, t₁ .1 .1 .0)) $
+      takes ! fm κ q s known-take (x₁ .next) p₁ 32 (refl, lit< tt) (omega arith) (and-then ! (load ! (from ! (stop !)) (look ! 20 refl)) (and-then ! (lit ! tt) (no-more !))) (λ x₂ e₂ v₂ p₂ t₂. land ! (from ! (stop !)) (init ! 8 refl t₂) $
+      assigns ! (of-opd ! (load ! (from ! (fld ! refl (stop !))) (look-in ! 8 (sub ! 1 {d = 8} refl (whole !))))) (from ! (stop !)) (init ! 22 refl (tt, t₂ .1 .1 .0)) $
+      takes ! fm κ q s known-take (x₂ .next) p₂ 32 (refl, lit< tt) (omega arith) (and-then ! (load ! (from ! (stop !)) (look ! 22 refl)) (and-then ! (lit ! tt) (no-more !))) (λ x₃ e₃ v₃ p₃ t₃. land ! (from ! (stop !)) (init ! 10 refl t₃) $
+      assigns ! (of-opd ! (load ! (from ! (fld ! refl (stop !))) (look-in ! 10 (sub ! 1 {d = 8} refl (whole !))))) (from ! (stop !)) (init ! 24 refl (tt, t₃ .1 .1 .0)) $
+      takes ! fm κ q s known-take (x₃ .next) p₃ 32 (refl, lit< tt) (omega arith) (and-then ! (load ! (from ! (stop !)) (look ! 24 refl)) (and-then ! (lit ! tt) (no-more !))) (λ x₄ e₄ v₄ p₄ t₄. land ! (from ! (stop !)) (init ! 12 refl t₄) $
+      assigns ! (of-opd ! (load ! (from ! (fld ! refl (stop !))) (look-in ! 12 (sub ! 1 {d = 8} refl (whole !))))) (from ! (stop !)) (init ! 26 refl (tt, t₄ .1 .1 .0)) $
+      takes ! fm κ q s known-take (x₄ .next) p₄ 32 (refl, lit< tt) (omega arith) (and-then ! (load ! (from ! (stop !)) (look ! 26 refl)) (and-then ! (lit ! tt) (no-more !))) (λ x₅ e₅ v₅ p₅ t₅. land ! (from ! (stop !)) (init ! 14 refl t₅) $
+      assigns ! (of-opd ! (load ! (from ! (fld ! refl (stop !))) (look-in ! 14 (sub ! 1 {d = 8} refl (whole !))))) (from ! (stop !)) (init ! 28 refl (tt, t₅ .1 .1 .0)) $
+      takes ! fm κ q s known-take (x₅ .next) p₅ 32 (refl, lit< tt) (omega arith) (and-then ! (load ! (from ! (stop !)) (look ! 28 refl)) (and-then ! (lit ! tt) (no-more !))) (λ x₆ e₆ v₆ p₆ t₆. land ! (from ! (stop !)) (init ! 16 refl t₆) $
+      assigns ! (of-opd ! (load ! (from ! (fld ! refl (stop !))) (look-in ! 6 (sub ! 0 refl (whole !))))) (from ! (stop !)) (init ! 30 refl (tt, t₁ .1 .0)) $
+      assigns ! (of-opd ! (load ! (from ! (fld ! refl (stop !))) (look-in ! 8 (sub ! 0 refl (whole !))))) (from ! (stop !)) (init ! 32 refl (tt, t₂ .1 .0)) $
+      assigns ! (of-opd ! (load ! (from ! (fld ! refl (stop !))) (look-in ! 10 (sub ! 0 refl (whole !))))) (from ! (stop !)) (init ! 34 refl (tt, t₃ .1 .0)) $
+      assigns ! (of-opd ! (load ! (from ! (fld ! refl (stop !))) (look-in ! 12 (sub ! 0 refl (whole !))))) (from ! (stop !)) (init ! 36 refl (tt, t₄ .1 .0)) $
+      assigns ! (of-opd ! (load ! (from ! (fld ! refl (stop !))) (look-in ! 14 (sub ! 0 refl (whole !))))) (from ! (stop !)) (init ! 38 refl (tt, t₅ .1 .0)) $
+      assigns ! (of-opd ! (load ! (from ! (fld ! refl (stop !))) (look-in ! 16 (sub ! 0 refl (whole !))))) (from ! (stop !)) (init ! 40 refl (tt, t₆ .1 .0)) $
+      assigns ! (of-opd ! (load ! (from ! (fld ! refl (fld ! refl (stop !)))) (look-in ! 16 (sub ! 1 {d = 16} refl (sub ! 1 {d = 8} refl (whole !)))))) (from ! (stop !)) (init ! 42 refl (tt, t₆ .1 .1 .0 .1 .0)) $
       asks-plain ! fm κ s (tokens 𝓤 H A this.ended (κ, tt) (q, tt)) (all.signature .params) (all.ended .kept) (all.signature .result) (all-need 𝓤) all-says known-all (x₁ .value, (x₂ .value, (x₃ .value, (x₄ .value, (x₅ .value, (x₆ .value, (x₆ .next, tt)))))))
       (vint w64 (x₁ .value) ∷ [], (vint w64 (x₂ .value) ∷ [], (vint w64 (x₃ .value) ∷ [], (vint w64 (x₄ .value) ∷ [], (vint w64 (x₅ .value) ∷ [], (vint w64 (x₆ .value) ∷ [], (P′.lowered (x₆ .next) ∷ [], tt))))))) N′.lowered (N′.lowers .val-is)
       (factI 𝓤 ((x₁ .value < 2 ^ 32) × (x₂ .value < 2 ^ 32) × (x₃ .value < 2 ^ 32) × (x₄ .value < 2 ^ 32) × (x₅ .value < 2 ^ 32) × (x₆ .value < 2 ^ 32)) (emp 𝓤) (field-lt (now s) start 32 e₁, field-lt (now s) (x₁ .next) 32 e₂, field-lt (now s) (x₂ .next) 32 e₃, field-lt (now s) (x₃ .next) 32 e₄, field-lt (now s) (x₄ .next) 32 e₅, field-lt (now s) (x₅ .next) 32 e₆))
       (plainly u64 (uint-makes 𝓤 H A W w64) (x₁ .value) v₁ and-also plainly u64 (uint-makes 𝓤 H A W w64) (x₂ .value) v₂ and-also plainly u64 (uint-makes 𝓤 H A W w64) (x₃ .value) v₃ and-also plainly u64 (uint-makes 𝓤 H A W w64) (x₄ .value) v₄ and-also plainly u64 (uint-makes 𝓤 H A W w64) (x₅ .value) v₅ and-also plainly u64 (uint-makes 𝓤 H A W w64) (x₆ .value) v₆ and-also a-place p₆ and-also nothing-more)
-      (and-then ! (load ! (from ! (stop !)) (look ! 15 refl)) (and-then ! (load ! (from ! (stop !)) (look ! 13 refl)) (and-then ! (load ! (from ! (stop !)) (look ! 11 refl)) (and-then ! (load ! (from ! (stop !)) (look ! 9 refl)) (and-then ! (load ! (from ! (stop !)) (look ! 7 refl)) (and-then ! (load ! (from ! (stop !)) (look ! 5 refl)) (and-then ! (load ! (from ! (stop !)) (look ! 3 refl)) (no-more !)))))))) (λ n e ns.
-      land ! (from ! (stop !)) (init ! 42 refl (LL.lawful N.the-type N′.the-laws 𝓤 H A W .typed n _ ns .0)) $
-      returns ! (look ! 42 refl) $ forget ! 2 refl $ forget ! 4 refl $ forget ! 6 refl $ forget ! 8 refl $ forget ! 10 refl $ forget ! 12 refl $ forget ! 14 refl $ forget ! 16 refl $ forget ! 18 refl $ forget ! 20 refl $ forget ! 22 refl $ forget ! 24 refl $ forget ! 26 refl $ forget ! 28 refl $ forget ! 30 refl $ forget ! 32 refl $ forget ! 34 refl $ forget ! 36 refl $ forget ! 38 refl $ forget ! 40 refl $ forget ! 42 refl $
-      move ! (42 ∷ 43 ∷ []) $ free1 ! $ move ! (40 ∷ 41 ∷ []) $ free1 ! $ move ! (38 ∷ 39 ∷ []) $ free1 ! $ move ! (36 ∷ 37 ∷ []) $ free1 ! $ move ! (34 ∷ 35 ∷ []) $ free1 ! $ move ! (32 ∷ 33 ∷ []) $ free1 ! $ move ! (30 ∷ 31 ∷ []) $ free1 ! $ move ! (28 ∷ 29 ∷ []) $ free1 ! $ move ! (26 ∷ 27 ∷ []) $ free1 ! $ move ! (24 ∷ 25 ∷ []) $ free1 ! $ move ! (22 ∷ 23 ∷ []) $ free1 ! $ move ! (20 ∷ 21 ∷ []) $ free1 ! $ move ! (18 ∷ 19 ∷ []) $ free1 ! $ move ! (16 ∷ 17 ∷ []) $ free1 ! $ move ! (14 ∷ 15 ∷ []) $ free1 ! $ move ! (12 ∷ 13 ∷ []) $ free1 ! $ move ! (10 ∷ 11 ∷ []) $ free1 ! $ move ! (8 ∷ 9 ∷ []) $ free1 ! $ move ! (6 ∷ 7 ∷ []) $ free1 ! $ move ! (4 ∷ 5 ∷ []) $ free1 ! $ move ! (2 ∷ 3 ∷ []) $ free1 ! $ free0 ! $
+      (and-then ! (load ! (from ! (stop !)) (look ! 31 refl)) (and-then ! (load ! (from ! (stop !)) (look ! 33 refl)) (and-then ! (load ! (from ! (stop !)) (look ! 35 refl)) (and-then ! (load ! (from ! (stop !)) (look ! 37 refl)) (and-then ! (load ! (from ! (stop !)) (look ! 39 refl)) (and-then ! (load ! (from ! (stop !)) (look ! 41 refl)) (and-then ! (load ! (from ! (stop !)) (look ! 43 refl)) (no-more !)))))))) (λ n e ns.
+      land ! (from ! (stop !)) (init ! 2 refl (LL.lawful N.the-type N′.the-laws 𝓤 H A W .typed n _ ns .0)) $
+      returns ! (look ! 2 refl) $ gone ! $ gone ! $ gone ! $ gone ! $ gone ! $ gone ! $ gone ! $ gone ! $ gone ! $ gone ! $ gone ! $ gone ! $ gone ! $ gone ! $ gone ! $ gone ! $ gone ! $ gone ! $ gone ! $ gone ! $ gone ! $ free0 ! $
       by ! (leaves 𝓤 H A this.ended stayed (none 𝓤 this.ended) says κ s (κ, tt) (q, tt) tt (s, tt) (bytesVal s ∷ [], tt) W n (N′.lowered n) (tt, tt) (tt, tt) (e ∙ counts-are (now s) e₁ e₂ e₃ e₄ e₅ e₆)
       (itself and-also nothing-more) (plainly N.the-row (LL.makes N.the-type N′.the-plain 𝓤 H A) n ns)))))))))))))))))))))))))))))))
 

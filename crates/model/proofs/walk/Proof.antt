@@ -10,9 +10,9 @@ use prog.Wp.{Heap, Calls, Loops}
 use ghost.Atoms.{Atoms}
 use contract.Lifetimes.{Lfts}
 use contract.Running.{givenOf, tables, tablesOf}
-use types.Kit.{Given, ‵, _$_, _∵_, !, qed, by, move, drop}
+use types.Kit.{Given, ‵, _$_, _∵_, !, qed, by, drop}
 use types.Part.{agg, whole, sub, look-in}
-use types.Run.{look, init, forget, stop, fld, from, load, lit, of-opd, and-then, no-more, assigns, land, returns, enter, alloc1, alloc0, params1, pass1, pass0, free1, free0}
+use types.Run.{look, init, stop, fld, from, load, lit, of-opd, and-then, no-more, assigns, land, returns, enter, alloc1, alloc0, params1, pass1, pass0, free0}
 use sound.WpLaws.{FmC, fmOf}
 use denote.Laws.{Is}
 use denote.Builtin.{u8}
@@ -27,7 +27,7 @@ use denote.Triple.Walked.{Stays, stay-none, stay-none-slice, goes-none, goes-non
 use denote.Exit.{yes}
 use Rattle.bits.proofs.Place.Laws as P′
 use Rattle.reader.proofs.Held.{a-place}
-use Rattle.reader.proofs.Walk.{Bytes, bytesVal, itself, plainly, nothing-more, _and-also_, first-gives, slice-gives, none, Promise, tokens, asks, Runs, leaves, unasked, proves}
+use Rattle.reader.proofs.Walk.{turned, gone, Bytes, bytesVal, itself, plainly, nothing-more, _and-also_, first-gives, slice-gives, none, Promise, tokens, asks, Runs, leaves, unasked, proves}
 use Rattle.model.specs.Lax.{like-times}
 use Rattle.model.specs.Passes.{pass-like}
 use Rattle.model.specs.Parts.{strict-activities}
@@ -85,24 +85,23 @@ module _ {M : Type 1} (𝓤 : URA M) (H : Heap 𝓤) (A : Atoms 𝓤) (W : Given
       let no = LL.owed N.the-type N′.the-laws n _ ns in
       let counts = plainly {W = W} {κ = κ} {s = s} N.the-row (LL.makes N.the-type N′.the-plain 𝓤 H A) n ns in
       qed W (tokens 𝓤 H A this.ended (κ, tt) (q, tt) ∷ ‵ (Bytes κ s) ∷ []) ∵ enter ! C Λ code.function (bytesVal s ∷ N′.lowered n ∷ []) _ $
-      alloc1 ! (λ l₀. alloc1 ! (λ l₁. alloc1 ! (λ l₂. alloc1 ! (λ l₃. alloc1 ! (λ l₄. alloc1 ! (λ l₅. alloc1 ! (λ l₆. alloc1 ! (λ l₇. alloc1 ! (λ l₈. alloc0 ! $ params1 ! $ pass1 ! (init ! 14 refl st) $ pass1 ! (init ! 12 refl nt) $ pass0 ! $ move ! (18 ∷ 19 ∷ []) $
+      alloc1 ! (λ l₀. alloc1 ! (λ l₁. alloc1 ! (λ l₂. alloc1 ! (λ l₃. alloc1 ! (λ l₄. alloc1 ! (λ l₅. alloc1 ! (λ l₆. alloc1 ! (λ l₇. alloc1 ! (λ l₈. alloc0 ! $ params1 ! $ pass1 ! (init ! 14 refl st) $ pass1 ! (init ! 12 refl nt) $ pass0 ! $ turned ! 9 $
       asks ! fm κ s head.ended (none 𝓤 head.ended) head-says known-head (κ, tt) (q, tt) tt (s, (n, tt)) vals E′.lowered (E′.lowers .val-is) (id⊢ 𝓤 (emp 𝓤)) (itself and-also counts and-also nothing-more)
-      (and-then ! (load ! (from ! (stop !)) (look ! 16 refl)) (and-then ! (load ! (from ! (stop !)) (look ! 14 refl)) (no-more !))) (λ h eh hs. drop ! $
+      (and-then ! (load ! (from ! (stop !)) (look ! 4 refl)) (and-then ! (load ! (from ! (stop !)) (look ! 6 refl)) (no-more !))) (λ h eh hs. drop ! $
       let ht = LL.lawful E.the-type E′.the-laws 𝓤 H A W .typed h _ hs .0 in
       let ho = LL.owed E.the-type E′.the-laws h _ hs in
-      land ! (from ! (stop !)) (init ! 12 refl ht) $
-      assigns ! (agg ! (and-then ! (load ! (from ! (stop !)) (look ! 16 refl)) (and-then ! (load ! (from ! (fld ! refl (stop !))) (look-in ! 12 (sub ! 1 refl (whole !)))) (no-more !)))) (from ! (stop !)) (init ! 10 refl (tt, (st .1, (ht .1 .1 .0, tt)))) $
-      assigns ! (of-opd ! (load ! (from ! (stop !)) (look ! 10 refl))) (from ! (stop !)) (init ! 6 refl (tt, (st .1, (ht .1 .1 .0, tt)))) $
-      assigns ! (agg ! (and-then ! (lit ! tt) (no-more !))) (from ! (stop !)) (init ! 4 refl (kind-typed 𝓤 H A W Activities)) $
-      passes-records ! fm records κ q s (h .activities) (ho .1 .0) Activities (n .activities) (no .1 .0) (and-then ! (load ! (from ! (stop !)) (look ! 6 refl)) (and-then ! (load ! (from ! (stop !)) (look ! 4 refl)) (and-then ! (load ! (from ! (fld ! refl (stop !))) (look-in ! 14 (sub ! 1 refl (whole !)))) (no-more !)))) (λ l el lp lt.
-      land ! (from ! (stop !)) (init ! 8 refl lt) $
-      assigns ! (of-opd ! (load ! (from ! (fld ! refl (stop !))) (look-in ! 8 (sub ! 1 {d = 16} refl (whole !))))) (from ! (stop !)) (init ! 2 refl (tt, lt .1 .1 .0)) $
+      land ! (from ! (stop !)) (init ! 8 refl ht) $
+      assigns ! (agg ! (and-then ! (load ! (from ! (stop !)) (look ! 4 refl)) (and-then ! (load ! (from ! (fld ! refl (stop !))) (look-in ! 8 (sub ! 1 refl (whole !)))) (no-more !)))) (from ! (stop !)) (init ! 10 refl (tt, (st .1, (ht .1 .1 .0, tt)))) $
+      assigns ! (of-opd ! (load ! (from ! (stop !)) (look ! 10 refl))) (from ! (stop !)) (init ! 14 refl (tt, (st .1, (ht .1 .1 .0, tt)))) $
+      assigns ! (agg ! (and-then ! (lit ! tt) (no-more !))) (from ! (stop !)) (init ! 16 refl (kind-typed 𝓤 H A W Activities)) $
+      passes-records ! fm records κ q s (h .activities) (ho .1 .0) Activities (n .activities) (no .1 .0) (and-then ! (load ! (from ! (stop !)) (look ! 14 refl)) (and-then ! (load ! (from ! (stop !)) (look ! 16 refl)) (and-then ! (load ! (from ! (fld ! refl (stop !))) (look-in ! 6 (sub ! 1 refl (whole !)))) (no-more !)))) (λ l el lp lt.
+      land ! (from ! (stop !)) (init ! 12 refl lt) $
+      assigns ! (of-opd ! (load ! (from ! (fld ! refl (stop !))) (look-in ! 12 (sub ! 1 {d = 16} refl (whole !))))) (from ! (stop !)) (init ! 18 refl (tt, lt .1 .1 .0)) $
       asks ! fm κ s behind.ended (none 𝓤 behind.ended) behind-says known-behind (κ, tt) (q, tt) tt (s, (n, (h, (l, tt)))) (bytesVal s ∷ [], (N′.lowered n ∷ [], (E′.lowered h ∷ [], (P′.lowered l ∷ [], tt)))) S′.lowered (S′.lowers .val-is) (id⊢ 𝓤 (emp 𝓤))
       (itself and-also counts and-also plainly E.the-row (LL.makes E.the-type E′.the-plain 𝓤 H A) h hs and-also a-place lp and-also nothing-more)
-      (and-then ! (load ! (from ! (stop !)) (look ! 16 refl)) (and-then ! (load ! (from ! (stop !)) (look ! 14 refl)) (and-then ! (load ! (from ! (stop !)) (look ! 12 refl)) (and-then ! (load ! (from ! (stop !)) (look ! 2 refl)) (no-more !))))) (λ w ew ws. drop ! $
-      land ! (from ! (stop !)) (init ! 18 refl (LL.lawful S.the-type S′.the-laws 𝓤 H A W .typed w _ ws .0)) $
-      returns ! (look ! 18 refl) $ forget ! 2 refl $ forget ! 4 refl $ forget ! 6 refl $ forget ! 8 refl $ forget ! 10 refl $ forget ! 12 refl $ forget ! 14 refl $ forget ! 16 refl $ forget ! 18 refl $
-      move ! (18 ∷ 19 ∷ []) $ free1 ! $ move ! (16 ∷ 17 ∷ []) $ free1 ! $ move ! (14 ∷ 15 ∷ []) $ free1 ! $ move ! (12 ∷ 13 ∷ []) $ free1 ! $ move ! (10 ∷ 11 ∷ []) $ free1 ! $ move ! (8 ∷ 9 ∷ []) $ free1 ! $ move ! (6 ∷ 7 ∷ []) $ free1 ! $ move ! (4 ∷ 5 ∷ []) $ free1 ! $ move ! (2 ∷ 3 ∷ []) $ free1 ! $ free0 ! $
+      (and-then ! (load ! (from ! (stop !)) (look ! 4 refl)) (and-then ! (load ! (from ! (stop !)) (look ! 6 refl)) (and-then ! (load ! (from ! (stop !)) (look ! 8 refl)) (and-then ! (load ! (from ! (stop !)) (look ! 18 refl)) (no-more !))))) (λ w ew ws. drop ! $
+      land ! (from ! (stop !)) (init ! 2 refl (LL.lawful S.the-type S′.the-laws 𝓤 H A W .typed w _ ws .0)) $
+      returns ! (look ! 2 refl) $ gone ! $ gone ! $ gone ! $ gone ! $ gone ! $ gone ! $ gone ! $ gone ! $ gone ! $ free0 ! $
       by ! (leaves 𝓤 H A this.ended stayed (none 𝓤 this.ended) says κ s (κ, tt) (q, tt) tt (s, (n, tt)) vals W w (S′.lowered w) (tt, (tt, tt)) (tt, (tt, tt)) (walks eh (pass-like (like-times _ strict-activities) (el .0)) (el .1 (eh .even .1)) ew)
       (itself and-also counts and-also nothing-more) (plainly S.the-row (LL.makes S.the-type S′.the-plain 𝓤 H A) w ws))))))))))))))
 

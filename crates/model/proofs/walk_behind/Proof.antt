@@ -9,9 +9,9 @@ use prog.Wp.{Heap, Calls, Loops}
 use ghost.Atoms.{Atoms}
 use contract.Lifetimes.{Lfts}
 use contract.Running.{givenOf, tables, tablesOf}
-use types.Kit.{Given, ‵, _$_, _∵_, !, qed, by, move}
+use types.Kit.{Given, ‵, _$_, _∵_, !, qed, by}
 use types.Part.{agg, whole, sub, look-in}
-use types.Run.{look, init, store, forget, stop, fld, from, load, lit, of-opd, and-then, no-more, assigns, land, returns, enter, alloc1, alloc0, params1, pass1, pass0, free1, free0}
+use types.Run.{look, init, store, stop, fld, from, load, lit, of-opd, and-then, no-more, assigns, land, returns, enter, alloc1, alloc0, params1, pass1, pass0, free0}
 use sound.WpLaws.{FmC, fmOf}
 use denote.Laws.{Is}
 use denote.Builtin.{u8}
@@ -28,7 +28,7 @@ use Rattle.bits.specs.declared.Place.{Place}
 use Rattle.bits.proofs.Place as P
 use Rattle.bits.proofs.Place.Laws as P′
 use Rattle.reader.proofs.Held.{a-place}
-use Rattle.reader.proofs.Walk.{Bytes, bytesVal, itself, plainly, nothing-more, _and-also_, first-gives, slice-gives, none, Promise, tokens, Runs, leaves, unasked, proves}
+use Rattle.reader.proofs.Walk.{turned, gone, Bytes, bytesVal, itself, plainly, nothing-more, _and-also_, first-gives, slice-gives, none, tokens, Runs, leaves, unasked, proves}
 use Rattle.model.specs.Sections.{Behind}
 use Rattle.model.specs.declared.Counts.{Counts}
 use Rattle.model.specs.declared.Head.{Head}
@@ -71,33 +71,32 @@ module _ {M : Type 1} (𝓤 : URA M) (H : Heap 𝓤) (A : Atoms 𝓤) (W : Given
       let ho = LL.owed E.the-type E′.the-laws h _ hs in
       qed W (tokens 𝓤 H A this.ended (κ, tt) (q, tt) ∷ ‵ (Bytes κ s) ∷ []) ∵ enter ! C Λ code.function (bytesVal s ∷ N′.lowered n ∷ E′.lowered h ∷ P′.lowered l ∷ []) _ $
       alloc1 ! (λ l₀. alloc1 ! (λ l₁. alloc1 ! (λ l₂. alloc1 ! (λ l₃. alloc1 ! (λ l₄. alloc1 ! (λ l₅. alloc1 ! (λ l₆. alloc1 ! (λ l₇. alloc1 ! (λ l₈. alloc1 ! (λ l₉. alloc1 ! (λ l₁₀. alloc1 ! (λ l₁₁. alloc1 ! (λ l₁₂. alloc1 ! (λ l₁₃. alloc1 ! (λ l₁₄. alloc1 ! (λ l₁₅. alloc1 ! (λ l₁₆. alloc1 ! (λ l₁₇. alloc1 ! (λ l₁₈. alloc0 ! $ params1 ! $
-      pass1 ! (init ! 34 refl st) $ pass1 ! (init ! 32 refl nt) $ pass1 ! (init ! 30 refl ht) $ pass1 ! (init ! 28 refl lt) $ pass0 ! $ move ! (38 ∷ 39 ∷ []) $
-      assigns ! (agg ! (and-then ! (load ! (from ! (stop !)) (look ! 36 refl)) (and-then ! (load ! (from ! (stop !)) (look ! 30 refl)) (no-more !)))) (from ! (stop !)) (init ! 28 refl (tt, (st .1, (lt .1, tt)))) $
-      assigns ! (of-opd ! (load ! (from ! (stop !)) (look ! 28 refl))) (from ! (stop !)) (init ! 18 refl (tt, (st .1, (lt .1, tt)))) $
-      assigns ! (agg ! (and-then ! (lit ! tt) (no-more !))) (from ! (stop !)) (init ! 16 refl (kind-typed 𝓤 H A W Links)) $
-      passes-records ! fm records κ q s l ls Links (n .links) (no .1 .1 .0) (and-then ! (load ! (from ! (stop !)) (look ! 18 refl)) (and-then ! (load ! (from ! (stop !)) (look ! 16 refl)) (and-then ! (load ! (from ! (fld ! refl (stop !))) (look-in ! 34 (sub ! 2 refl (whole !)))) (no-more !)))) (λ b eb bp bt.
-      land ! (from ! (stop !)) (init ! 26 refl bt) $
-      assigns ! (of-opd ! (load ! (from ! (stop !)) (look ! 26 refl))) (from ! (stop !)) (init ! 14 refl bt) $
-      assigns ! (agg ! (and-then ! (lit ! tt) (no-more !))) (from ! (stop !)) (store ! 16 refl (kind-typed 𝓤 H A W Resources)) $
-      passes-records ! fm records κ q s b bp Resources (n .resources) (no .1 .1 .1 .0) (and-then ! (load ! (from ! (stop !)) (look ! 14 refl)) (and-then ! (load ! (from ! (stop !)) (look ! 16 refl)) (and-then ! (load ! (from ! (fld ! refl (stop !))) (look-in ! 34 (sub ! 3 refl (whole !)))) (no-more !)))) (λ c ec cp ct.
-      land ! (from ! (stop !)) (init ! 24 refl ct) $
-      assigns ! (of-opd ! (load ! (from ! (stop !)) (look ! 24 refl))) (from ! (stop !)) (init ! 12 refl ct) $
-      assigns ! (agg ! (and-then ! (lit ! tt) (no-more !))) (from ! (stop !)) (store ! 16 refl (kind-typed 𝓤 H A W Assignments)) $
-      passes-records ! fm records κ q s c cp Assignments (n .assignments) (no .1 .1 .1 .1 .0) (and-then ! (load ! (from ! (stop !)) (look ! 12 refl)) (and-then ! (load ! (from ! (stop !)) (look ! 16 refl)) (and-then ! (load ! (from ! (fld ! refl (stop !))) (look-in ! 34 (sub ! 4 refl (whole !)))) (no-more !)))) (λ d ed dp dt.
-      land ! (from ! (stop !)) (init ! 22 refl dt) $
-      assigns ! (of-opd ! (load ! (from ! (stop !)) (look ! 22 refl))) (from ! (stop !)) (init ! 10 refl dt) $
-      assigns ! (agg ! (and-then ! (lit ! tt) (no-more !))) (from ! (stop !)) (store ! 16 refl (kind-typed 𝓤 H A W Expenses)) $
-      passes-records ! fm records κ q s d dp Expenses (n .expenses) (no .1 .1 .1 .1 .1 .0) (and-then ! (load ! (from ! (stop !)) (look ! 10 refl)) (and-then ! (load ! (from ! (stop !)) (look ! 16 refl)) (and-then ! (load ! (from ! (fld ! refl (stop !))) (look-in ! 34 (sub ! 5 refl (whole !)))) (no-more !)))) (λ e ee ep et.
+      pass1 ! (init ! 34 refl st) $ pass1 ! (init ! 32 refl nt) $ pass1 ! (init ! 30 refl ht) $ pass1 ! (init ! 28 refl lt) $ pass0 ! $ turned ! 19 $
+      assigns ! (agg ! (and-then ! (load ! (from ! (stop !)) (look ! 4 refl)) (and-then ! (load ! (from ! (stop !)) (look ! 10 refl)) (no-more !)))) (from ! (stop !)) (init ! 12 refl (tt, (st .1, (lt .1, tt)))) $
+      assigns ! (of-opd ! (load ! (from ! (stop !)) (look ! 12 refl))) (from ! (stop !)) (init ! 22 refl (tt, (st .1, (lt .1, tt)))) $
+      assigns ! (agg ! (and-then ! (lit ! tt) (no-more !))) (from ! (stop !)) (init ! 24 refl (kind-typed 𝓤 H A W Links)) $
+      passes-records ! fm records κ q s l ls Links (n .links) (no .1 .1 .0) (and-then ! (load ! (from ! (stop !)) (look ! 22 refl)) (and-then ! (load ! (from ! (stop !)) (look ! 24 refl)) (and-then ! (load ! (from ! (fld ! refl (stop !))) (look-in ! 6 (sub ! 2 refl (whole !)))) (no-more !)))) (λ b eb bp bt.
+      land ! (from ! (stop !)) (init ! 14 refl bt) $
+      assigns ! (of-opd ! (load ! (from ! (stop !)) (look ! 14 refl))) (from ! (stop !)) (init ! 26 refl bt) $
+      assigns ! (agg ! (and-then ! (lit ! tt) (no-more !))) (from ! (stop !)) (store ! 24 refl (kind-typed 𝓤 H A W Resources)) $
+      passes-records ! fm records κ q s b bp Resources (n .resources) (no .1 .1 .1 .0) (and-then ! (load ! (from ! (stop !)) (look ! 26 refl)) (and-then ! (load ! (from ! (stop !)) (look ! 24 refl)) (and-then ! (load ! (from ! (fld ! refl (stop !))) (look-in ! 6 (sub ! 3 refl (whole !)))) (no-more !)))) (λ c ec cp ct.
+      land ! (from ! (stop !)) (init ! 16 refl ct) $
+      assigns ! (of-opd ! (load ! (from ! (stop !)) (look ! 16 refl))) (from ! (stop !)) (init ! 28 refl ct) $
+      assigns ! (agg ! (and-then ! (lit ! tt) (no-more !))) (from ! (stop !)) (store ! 24 refl (kind-typed 𝓤 H A W Assignments)) $
+      passes-records ! fm records κ q s c cp Assignments (n .assignments) (no .1 .1 .1 .1 .0) (and-then ! (load ! (from ! (stop !)) (look ! 28 refl)) (and-then ! (load ! (from ! (stop !)) (look ! 24 refl)) (and-then ! (load ! (from ! (fld ! refl (stop !))) (look-in ! 6 (sub ! 4 refl (whole !)))) (no-more !)))) (λ d ed dp dt.
+      land ! (from ! (stop !)) (init ! 18 refl dt) $
+      assigns ! (of-opd ! (load ! (from ! (stop !)) (look ! 18 refl))) (from ! (stop !)) (init ! 30 refl dt) $
+      assigns ! (agg ! (and-then ! (lit ! tt) (no-more !))) (from ! (stop !)) (store ! 24 refl (kind-typed 𝓤 H A W Expenses)) $
+      passes-records ! fm records κ q s d dp Expenses (n .expenses) (no .1 .1 .1 .1 .1 .0) (and-then ! (load ! (from ! (stop !)) (look ! 30 refl)) (and-then ! (load ! (from ! (stop !)) (look ! 24 refl)) (and-then ! (load ! (from ! (fld ! refl (stop !))) (look-in ! 6 (sub ! 5 refl (whole !)))) (no-more !)))) (λ e ee ep et.
       let found : Places = record { calendars = h .calendars; activities = h .activities; links = l; resources = b; assignments = c; expenses = d; end = e } in
       land ! (from ! (stop !)) (init ! 20 refl et) $
-      assigns ! (of-opd ! (load ! (from ! (fld ! refl (stop !))) (look-in ! 26 (sub ! 1 {d = 16} refl (whole !))))) (from ! (stop !)) (init ! 8 refl (tt, bt .1 .1 .0)) $
-      assigns ! (of-opd ! (load ! (from ! (fld ! refl (stop !))) (look-in ! 24 (sub ! 1 {d = 16} refl (whole !))))) (from ! (stop !)) (init ! 6 refl (tt, ct .1 .1 .0)) $
-      assigns ! (of-opd ! (load ! (from ! (fld ! refl (stop !))) (look-in ! 22 (sub ! 1 {d = 16} refl (whole !))))) (from ! (stop !)) (init ! 4 refl (tt, dt .1 .1 .0)) $
-      assigns ! (of-opd ! (load ! (from ! (fld ! refl (stop !))) (look-in ! 20 (sub ! 1 {d = 16} refl (whole !))))) (from ! (stop !)) (init ! 2 refl (tt, et .1 .1 .0)) $
-      assigns ! (agg ! (and-then ! (load ! (from ! (fld ! refl (stop !))) (look-in ! 32 (sub ! 0 refl (whole !)))) (and-then ! (load ! (from ! (fld ! refl (stop !))) (look-in ! 32 (sub ! 1 refl (whole !)))) (and-then ! (load ! (from ! (stop !)) (look ! 30 refl)) (and-then ! (load ! (from ! (stop !)) (look ! 8 refl)) (and-then ! (load ! (from ! (stop !)) (look ! 6 refl)) (and-then ! (load ! (from ! (stop !)) (look ! 4 refl)) (and-then ! (load ! (from ! (stop !)) (look ! 2 refl)) (no-more !))))))))) (from ! (stop !))
-      (init ! 38 refl (tt, (ht .1 .0, (ht .1 .1 .0, (lt .1, (bt .1 .1 .0, (ct .1 .1 .0, (dt .1 .1 .0, (et .1 .1 .0, tt))))))))) $
-      returns ! (look ! 38 refl) $ forget ! 2 refl $ forget ! 4 refl $ forget ! 6 refl $ forget ! 8 refl $ forget ! 10 refl $ forget ! 12 refl $ forget ! 14 refl $ forget ! 16 refl $ forget ! 18 refl $ forget ! 20 refl $ forget ! 22 refl $ forget ! 24 refl $ forget ! 26 refl $ forget ! 28 refl $ forget ! 30 refl $ forget ! 32 refl $ forget ! 34 refl $ forget ! 36 refl $ forget ! 38 refl $
-      move ! (38 ∷ 39 ∷ []) $ free1 ! $ move ! (36 ∷ 37 ∷ []) $ free1 ! $ move ! (34 ∷ 35 ∷ []) $ free1 ! $ move ! (32 ∷ 33 ∷ []) $ free1 ! $ move ! (30 ∷ 31 ∷ []) $ free1 ! $ move ! (28 ∷ 29 ∷ []) $ free1 ! $ move ! (26 ∷ 27 ∷ []) $ free1 ! $ move ! (24 ∷ 25 ∷ []) $ free1 ! $ move ! (22 ∷ 23 ∷ []) $ free1 ! $ move ! (20 ∷ 21 ∷ []) $ free1 ! $ move ! (18 ∷ 19 ∷ []) $ free1 ! $ move ! (16 ∷ 17 ∷ []) $ free1 ! $ move ! (14 ∷ 15 ∷ []) $ free1 ! $ move ! (12 ∷ 13 ∷ []) $ free1 ! $ move ! (10 ∷ 11 ∷ []) $ free1 ! $ move ! (8 ∷ 9 ∷ []) $ free1 ! $ move ! (6 ∷ 7 ∷ []) $ free1 ! $ move ! (4 ∷ 5 ∷ []) $ free1 ! $ move ! (2 ∷ 3 ∷ []) $ free1 ! $ free0 ! $
+      assigns ! (of-opd ! (load ! (from ! (fld ! refl (stop !))) (look-in ! 14 (sub ! 1 {d = 16} refl (whole !))))) (from ! (stop !)) (init ! 32 refl (tt, bt .1 .1 .0)) $
+      assigns ! (of-opd ! (load ! (from ! (fld ! refl (stop !))) (look-in ! 16 (sub ! 1 {d = 16} refl (whole !))))) (from ! (stop !)) (init ! 34 refl (tt, ct .1 .1 .0)) $
+      assigns ! (of-opd ! (load ! (from ! (fld ! refl (stop !))) (look-in ! 18 (sub ! 1 {d = 16} refl (whole !))))) (from ! (stop !)) (init ! 36 refl (tt, dt .1 .1 .0)) $
+      assigns ! (of-opd ! (load ! (from ! (fld ! refl (stop !))) (look-in ! 20 (sub ! 1 {d = 16} refl (whole !))))) (from ! (stop !)) (init ! 38 refl (tt, et .1 .1 .0)) $
+      assigns ! (agg ! (and-then ! (load ! (from ! (fld ! refl (stop !))) (look-in ! 8 (sub ! 0 refl (whole !)))) (and-then ! (load ! (from ! (fld ! refl (stop !))) (look-in ! 8 (sub ! 1 refl (whole !)))) (and-then ! (load ! (from ! (stop !)) (look ! 10 refl)) (and-then ! (load ! (from ! (stop !)) (look ! 32 refl)) (and-then ! (load ! (from ! (stop !)) (look ! 34 refl)) (and-then ! (load ! (from ! (stop !)) (look ! 36 refl)) (and-then ! (load ! (from ! (stop !)) (look ! 38 refl)) (no-more !))))))))) (from ! (stop !))
+      (init ! 2 refl (tt, (ht .1 .0, (ht .1 .1 .0, (lt .1, (bt .1 .1 .0, (ct .1 .1 .0, (dt .1 .1 .0, (et .1 .1 .0, tt))))))))) $
+      returns ! (look ! 2 refl) $ gone ! $ gone ! $ gone ! $ gone ! $ gone ! $ gone ! $ gone ! $ gone ! $ gone ! $ gone ! $ gone ! $ gone ! $ gone ! $ gone ! $ gone ! $ gone ! $ gone ! $ gone ! $ gone ! $ free0 ! $
       by ! (leaves 𝓤 H A this.ended stayed (none 𝓤 this.ended) says κ s (κ, tt) (q, tt) tt (s, (n, (h, (l, tt)))) vals W found (S′.lowered found) (tt, (tt, (tt, (tt, tt)))) (tt, (tt, (tt, (tt, tt)))) (behind eb ec ed ee)
       (itself and-also plainly N.the-row (LL.makes N.the-type N′.the-plain 𝓤 H A) n ns and-also plainly E.the-row (LL.makes E.the-type E′.the-plain 𝓤 H A) h hs and-also a-place ls and-also nothing-more)
       (plainly S.the-row (LL.makes S.the-type S′.the-plain 𝓤 H A) found (LL.owes S.the-type S′.the-laws found (ho .0, (ho .1 .0, (ls, (bp, (cp, (dp, (ep, tt)))))))))))))))))))))))))))))))))

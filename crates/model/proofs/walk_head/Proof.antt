@@ -9,9 +9,9 @@ use prog.Wp.{Heap, Calls, Loops}
 use ghost.Atoms.{Atoms}
 use contract.Lifetimes.{Lfts}
 use contract.Running.{givenOf, tables, tablesOf}
-use types.Kit.{Given, ‵, _$_, _∵_, !, qed, by, move}
+use types.Kit.{Given, ‵, _$_, _∵_, !, qed, by}
 use types.Part.{agg, whole, sub, look-in}
-use types.Run.{look, init, forget, stop, fld, from, load, lit, of-opd, and-then, no-more, assigns, land, returns, enter, alloc1, alloc0, params1, pass1, pass0, free1, free0}
+use types.Run.{look, init, stop, fld, from, load, lit, of-opd, and-then, no-more, assigns, land, returns, enter, alloc1, alloc0, params1, pass1, pass0, free0}
 use sound.WpLaws.{FmC, fmOf}
 use denote.Laws.{Is}
 use denote.Builtin.{u8}
@@ -24,7 +24,7 @@ use denote.Triple.Entry.{Args, Vals}
 use denote.Triple.Table.{cited}
 use denote.Triple.Walked.{Stays, stay-none, stay-none-slice, goes-none, goes-none-slice}
 use denote.Exit.{yes}
-use Rattle.reader.proofs.Walk.{Bytes, bytesVal, itself, plainly, nothing-more, _and-also_, first-gives, slice-gives, none, Promise, tokens, Runs, leaves, unasked, proves}
+use Rattle.reader.proofs.Walk.{turned, gone, Bytes, bytesVal, itself, plainly, nothing-more, _and-also_, first-gives, slice-gives, none, tokens, Runs, leaves, unasked, proves}
 use Rattle.model.specs.Sections.{Heads}
 use Rattle.model.specs.declared.Counts.{Counts}
 use Rattle.model.specs.declared.Head.{Head}
@@ -62,20 +62,19 @@ module _ {M : Type 1} (𝓤 : URA M) (H : Heap 𝓤) (A : Atoms 𝓤) (W : Given
       let nt = LL.lawful N.the-type N′.the-laws 𝓤 H A W .typed n _ ns .0 in
       let no = LL.owed N.the-type N′.the-laws n _ ns in
       qed W (tokens 𝓤 H A this.ended (κ, tt) (q, tt) ∷ ‵ (Bytes κ s) ∷ []) ∵ enter ! C Λ code.function (bytesVal s ∷ N′.lowered n ∷ []) _ $
-      alloc1 ! (λ l₀. alloc1 ! (λ l₁. alloc1 ! (λ l₂. alloc1 ! (λ l₃. alloc1 ! (λ l₄. alloc1 ! (λ l₅. alloc1 ! (λ l₆. alloc1 ! (λ l₇. alloc1 ! (λ l₈. alloc1 ! (λ l₉. alloc1 ! (λ l₁₀. alloc0 ! $ params1 ! $ pass1 ! (init ! 18 refl st) $ pass1 ! (init ! 16 refl nt) $ pass0 ! $ move ! (22 ∷ 23 ∷ []) $
-      assigns ! (agg ! (and-then ! (load ! (from ! (stop !)) (look ! 20 refl)) (and-then ! (load ! (from ! (fld ! refl (stop !))) (look-in ! 18 (sub ! 6 refl (whole !)))) (no-more !)))) (from ! (stop !)) (init ! 16 refl (tt, (st .1, (nt .1 .1 .1 .1 .1 .1 .1 .0, tt)))) $
-      assigns ! (of-opd ! (load ! (from ! (stop !)) (look ! 16 refl))) (from ! (stop !)) (init ! 10 refl (tt, (st .1, (nt .1 .1 .1 .1 .1 .1 .1 .0, tt)))) $
-      passes-project ! fm project κ q s (n .next) (no .1 .1 .1 .1 .1 .1 .0) (and-then ! (load ! (from ! (stop !)) (look ! 10 refl)) (no-more !)) (λ p h po pt.
-      land ! (from ! (stop !)) (init ! 14 refl pt) $
-      assigns ! (of-opd ! (load ! (from ! (stop !)) (look ! 14 refl))) (from ! (stop !)) (init ! 8 refl pt) $
-      assigns ! (agg ! (and-then ! (lit ! tt) (no-more !))) (from ! (stop !)) (init ! 6 refl (kind-typed 𝓤 H A W Calendars)) $
-      passes-records ! fm records κ q s p po Calendars (n .calendars) (no .0) (and-then ! (load ! (from ! (stop !)) (look ! 8 refl)) (and-then ! (load ! (from ! (stop !)) (look ! 6 refl)) (and-then ! (load ! (from ! (fld ! refl (stop !))) (look-in ! 18 (sub ! 0 refl (whole !)))) (no-more !)))) (λ r k ro rt.
+      alloc1 ! (λ l₀. alloc1 ! (λ l₁. alloc1 ! (λ l₂. alloc1 ! (λ l₃. alloc1 ! (λ l₄. alloc1 ! (λ l₅. alloc1 ! (λ l₆. alloc1 ! (λ l₇. alloc1 ! (λ l₈. alloc1 ! (λ l₉. alloc1 ! (λ l₁₀. alloc0 ! $ params1 ! $ pass1 ! (init ! 18 refl st) $ pass1 ! (init ! 16 refl nt) $ pass0 ! $ turned ! 11 $
+      assigns ! (agg ! (and-then ! (load ! (from ! (stop !)) (look ! 4 refl)) (and-then ! (load ! (from ! (fld ! refl (stop !))) (look-in ! 6 (sub ! 6 refl (whole !)))) (no-more !)))) (from ! (stop !)) (init ! 8 refl (tt, (st .1, (nt .1 .1 .1 .1 .1 .1 .1 .0, tt)))) $
+      assigns ! (of-opd ! (load ! (from ! (stop !)) (look ! 8 refl))) (from ! (stop !)) (init ! 14 refl (tt, (st .1, (nt .1 .1 .1 .1 .1 .1 .1 .0, tt)))) $
+      passes-project ! fm project κ q s (n .next) (no .1 .1 .1 .1 .1 .1 .0) (and-then ! (load ! (from ! (stop !)) (look ! 14 refl)) (no-more !)) (λ p h po pt.
+      land ! (from ! (stop !)) (init ! 10 refl pt) $
+      assigns ! (of-opd ! (load ! (from ! (stop !)) (look ! 10 refl))) (from ! (stop !)) (init ! 16 refl pt) $
+      assigns ! (agg ! (and-then ! (lit ! tt) (no-more !))) (from ! (stop !)) (init ! 18 refl (kind-typed 𝓤 H A W Calendars)) $
+      passes-records ! fm records κ q s p po Calendars (n .calendars) (no .0) (and-then ! (load ! (from ! (stop !)) (look ! 16 refl)) (and-then ! (load ! (from ! (stop !)) (look ! 18 refl)) (and-then ! (load ! (from ! (fld ! refl (stop !))) (look-in ! 6 (sub ! 0 refl (whole !)))) (no-more !)))) (λ r k ro rt.
       land ! (from ! (stop !)) (init ! 12 refl rt) $
-      assigns ! (of-opd ! (load ! (from ! (fld ! refl (stop !))) (look-in ! 14 (sub ! 1 {d = 16} refl (whole !))))) (from ! (stop !)) (init ! 4 refl (tt, pt .1 .1 .0)) $
-      assigns ! (of-opd ! (load ! (from ! (fld ! refl (stop !))) (look-in ! 12 (sub ! 1 {d = 16} refl (whole !))))) (from ! (stop !)) (init ! 2 refl (tt, rt .1 .1 .0)) $
-      assigns ! (agg ! (and-then ! (load ! (from ! (stop !)) (look ! 4 refl)) (and-then ! (load ! (from ! (stop !)) (look ! 2 refl)) (no-more !)))) (from ! (stop !)) (init ! 22 refl (tt, (pt .1 .1 .0, (rt .1 .1 .0, tt)))) $
-      returns ! (look ! 22 refl) $ forget ! 2 refl $ forget ! 4 refl $ forget ! 6 refl $ forget ! 8 refl $ forget ! 10 refl $ forget ! 12 refl $ forget ! 14 refl $ forget ! 16 refl $ forget ! 18 refl $ forget ! 20 refl $ forget ! 22 refl $
-      move ! (22 ∷ 23 ∷ []) $ free1 ! $ move ! (20 ∷ 21 ∷ []) $ free1 ! $ move ! (18 ∷ 19 ∷ []) $ free1 ! $ move ! (16 ∷ 17 ∷ []) $ free1 ! $ move ! (14 ∷ 15 ∷ []) $ free1 ! $ move ! (12 ∷ 13 ∷ []) $ free1 ! $ move ! (10 ∷ 11 ∷ []) $ free1 ! $ move ! (8 ∷ 9 ∷ []) $ free1 ! $ move ! (6 ∷ 7 ∷ []) $ free1 ! $ move ! (4 ∷ 5 ∷ []) $ free1 ! $ move ! (2 ∷ 3 ∷ []) $ free1 ! $ free0 ! $
+      assigns ! (of-opd ! (load ! (from ! (fld ! refl (stop !))) (look-in ! 10 (sub ! 1 {d = 16} refl (whole !))))) (from ! (stop !)) (init ! 20 refl (tt, pt .1 .1 .0)) $
+      assigns ! (of-opd ! (load ! (from ! (fld ! refl (stop !))) (look-in ! 12 (sub ! 1 {d = 16} refl (whole !))))) (from ! (stop !)) (init ! 22 refl (tt, rt .1 .1 .0)) $
+      assigns ! (agg ! (and-then ! (load ! (from ! (stop !)) (look ! 20 refl)) (and-then ! (load ! (from ! (stop !)) (look ! 22 refl)) (no-more !)))) (from ! (stop !)) (init ! 2 refl (tt, (pt .1 .1 .0, (rt .1 .1 .0, tt)))) $
+      returns ! (look ! 2 refl) $ gone ! $ gone ! $ gone ! $ gone ! $ gone ! $ gone ! $ gone ! $ gone ! $ gone ! $ gone ! $ gone ! $ free0 ! $
       by ! (leaves 𝓤 H A this.ended stayed (none 𝓤 this.ended) says κ s (κ, tt) (q, tt) tt (s, (n, tt)) vals W (record { calendars = p; activities = r }) (E′.lowered (record { calendars = p; activities = r })) (tt, (tt, tt)) (tt, (tt, tt)) (heads h k)
       (itself and-also plainly N.the-row (LL.makes N.the-type N′.the-plain 𝓤 H A) n ns and-also nothing-more)
       (plainly E.the-row (LL.makes E.the-type E′.the-plain 𝓤 H A) (record { calendars = p; activities = r }) (LL.owes E.the-type E′.the-laws (record { calendars = p; activities = r }) (po, (ro, tt))))))))))))))))))

@@ -10,9 +10,9 @@ use prog.Wp.{Heap, Calls, Loops}
 use ghost.Atoms.{Atoms}
 use contract.Lifetimes.{Lfts}
 use contract.Running.{givenOf, tables, tablesOf}
-use types.Kit.{Given, ‵, _$_, _∵_, !, qed, by, move, drop}
+use types.Kit.{Given, ‵, _$_, _∵_, !, qed, by, drop}
 use types.Part.{whole, sub, look-in}
-use types.Run.{look, init, forget, stop, fld, from, load, of-opd, and-then, no-more, assigns, land, returns, enter, alloc1, alloc0, params1, pass1, pass0, free1, free0}
+use types.Run.{look, init, stop, fld, from, load, of-opd, and-then, no-more, assigns, land, returns, enter, alloc1, alloc0, params1, pass1, pass0, free0}
 use sound.WpLaws.{FmC, fmOf}
 use denote.Laws.{Is}
 use denote.Plain.{bool-tells, bool-lawful, bool-makes}
@@ -26,7 +26,7 @@ use Rattle.bits.proofs.Place.Laws as P′
 use Rattle.reader.specs.Read.{endsAt}
 use Rattle.reader.specs.declared.Reader.{Reader}
 use Rattle.reader.proofs.Held.{B, D, L, mach, a-place, typed, RunsBy, leaves-at, proves-by}
-use Rattle.reader.proofs.Walk.{Bytes, bytesVal, itself, plainly, nothing-more, _and-also_, none, Promise, tokens, asks}
+use Rattle.reader.proofs.Walk.{turned, gone, Bytes, bytesVal, itself, plainly, nothing-more, _and-also_, none, Promise, tokens, asks}
 use Rattle.reader.proofs.ends_at as callee
 use Rattle.reader.proofs.ends_at.Symbol as callee-def
 use Rattle.reader.proofs.ends_at.Symbol.{name as #reader·ends-at}
@@ -49,14 +49,13 @@ module _ {M : Type 1} (𝓤 : URA M) (H : Heap 𝓤) (A : Atoms 𝓤) (W : Given
       let wt = typed 𝓤 H A W κ d is in
       let pd = LL.owed (D κ) (L κ) d _ is .1 .0 in
       qed W (tokens 𝓤 H A this.ended (κ, tt) (q, tt) ∷ ‵ (Bytes κ (d .model)) ∷ []) ∵ enter ! C Λ code.function (mach d ∷ []) _ $
-      alloc1 ! (λ l₀. alloc1 ! (λ l₁. alloc1 ! (λ l₂. alloc1 ! (λ l₃. alloc0 ! $ params1 ! $ pass1 ! (init ! 4 refl wt) $ pass0 ! $ move ! (8 ∷ 9 ∷ []) $
-      assigns ! (of-opd ! (load ! (from ! (fld ! refl (stop !))) (look-in ! 6 (sub ! 0 refl (whole !))))) (from ! (stop !)) (init ! 4 refl (tt, wt .1 .0)) $
-      assigns ! (of-opd ! (load ! (from ! (fld ! refl (stop !))) (look-in ! 6 (sub ! 1 refl (whole !))))) (from ! (stop !)) (init ! 2 refl (tt, wt .1 .1 .0)) $
+      alloc1 ! (λ l₀. alloc1 ! (λ l₁. alloc1 ! (λ l₂. alloc1 ! (λ l₃. alloc0 ! $ params1 ! $ pass1 ! (init ! 4 refl wt) $ pass0 ! $ turned ! 4 $
+      assigns ! (of-opd ! (load ! (from ! (fld ! refl (stop !))) (look-in ! 4 (sub ! 0 refl (whole !))))) (from ! (stop !)) (init ! 6 refl (tt, wt .1 .0)) $
+      assigns ! (of-opd ! (load ! (from ! (fld ! refl (stop !))) (look-in ! 4 (sub ! 1 refl (whole !))))) (from ! (stop !)) (init ! 8 refl (tt, wt .1 .1 .0)) $
       asks ! fm κ (d .model) callee.ended (none 𝓤 callee.ended) callee-says known (κ, tt) (q, tt) tt (d .model, (d .place, tt)) (bytesVal (d .model) ∷ [], (P′.lowered (d .place) ∷ [], tt)) vbool bool-tells
-      (id⊢ 𝓤 (emp 𝓤)) (itself and-also a-place pd and-also nothing-more) (and-then ! (load ! (from ! (stop !)) (look ! 4 refl)) (and-then ! (load ! (from ! (stop !)) (look ! 2 refl)) (no-more !))) (λ b e bs. drop ! $
-      land ! (from ! (stop !)) (init ! 8 refl (bool-lawful 𝓤 H A W .typed b _ bs .0)) $
-      returns ! (look ! 8 refl) $ forget ! 2 refl $ forget ! 4 refl $ forget ! 6 refl $ forget ! 8 refl $
-      move ! (8 ∷ 9 ∷ []) $ free1 ! $ move ! (6 ∷ 7 ∷ []) $ free1 ! $ move ! (4 ∷ 5 ∷ []) $ free1 ! $ move ! (2 ∷ 3 ∷ []) $ free1 ! $ free0 ! $
+      (id⊢ 𝓤 (emp 𝓤)) (itself and-also a-place pd and-also nothing-more) (and-then ! (load ! (from ! (stop !)) (look ! 6 refl)) (and-then ! (load ! (from ! (stop !)) (look ! 8 refl)) (no-more !))) (λ b e bs. drop ! $
+      land ! (from ! (stop !)) (init ! 2 refl (bool-lawful 𝓤 H A W .typed b _ bs .0)) $
+      returns ! (look ! 2 refl) $ gone ! $ gone ! $ gone ! $ gone ! $ free0 ! $
       by ! (leaves-at 𝓤 H A (this.signature .result) says κ q d W b (vbool b) e pd (plainly bool (bool-makes 𝓤 H A W) b bs)))))))
 
 pub at-end-spec : {M : Type 1} → stated.statement M

@@ -10,9 +10,9 @@ use prog.Wp.{Heap, Calls, Loops}
 use ghost.Atoms.{Atoms}
 use contract.Lifetimes.{Lfts}
 use contract.Running.{givenOf, tables, tablesOf}
-use types.Kit.{Given, ‵, _$_, _∵_, !, qed, by, move}
+use types.Kit.{Given, ‵, _$_, _∵_, !, qed, by}
 use types.Part.{agg}
-use types.Run.{look, init, forget, stop, from, load, lit, and-then, no-more, assigns, returns, enter, alloc1, alloc0, params1, pass1, pass0, free1, free0}
+use types.Run.{look, init, stop, from, load, lit, and-then, no-more, assigns, returns, enter, alloc1, alloc0, params1, pass1, pass0, free0}
 use denote.Laws.{Is}
 use denote.Builtin.{u8}
 use denote.Ref.{RefT}
@@ -23,7 +23,7 @@ use denote.Triple.Walked.{Stays, stay-none-slice, goes-none-slice}
 use denote.Exit.{yes}
 use Rattle.reader.specs.Read.{first}
 use Rattle.reader.proofs.Held.{mach, place-is, a-reader}
-use Rattle.reader.proofs.Walk.{Bytes, bytesVal, itself, nothing-more, _and-also_, slice-gives, first-gives, none, tokens, Runs, leaves, unasked, proves}
+use Rattle.reader.proofs.Walk.{turned, gone, Bytes, bytesVal, itself, nothing-more, _and-also_, slice-gives, first-gives, none, tokens, Runs, leaves, unasked, proves}
 use Rattle.reader.proofs.reader_of.Key.{name as #reader·reader-of}
 use Rattle.reader.proofs.reader_of as this
 use Rattle.reader.proofs.reader_of.Statement as stated
@@ -41,11 +41,11 @@ module _ {M : Type 1} (𝓤 : URA M) (H : Heap 𝓤) (A : Atoms 𝓤) (W : Given
   walk is =
       let wt = shr-slice-lawful 𝓤 H A W (named 0) κ u8 .typed s (bytesVal s ∷ []) is .0 in
       qed W (tokens 𝓤 H A this.ended (κ, tt) (q, tt) ∷ ‵ (Bytes κ s) ∷ []) ∵ enter ! C Λ code.function (bytesVal s ∷ []) _ $
-      alloc1 ! (λ l₀. alloc1 ! (λ l₁. alloc1 ! (λ l₂. alloc0 ! $ params1 ! $ pass1 ! (init ! 2 refl wt) $ pass0 ! $ move ! (6 ∷ 7 ∷ []) $
-      assigns ! (agg ! (and-then ! (lit ! tt) (and-then ! (lit ! tt) (no-more !)))) (from ! (stop !)) (init ! 2 refl (tt, (record { fits = lit< tt }, (record { fits = lit< tt }, tt)))) $
-      assigns ! (agg ! (and-then ! (load ! (from ! (stop !)) (look ! 4 refl)) (and-then ! (load ! (from ! (stop !)) (look ! 2 refl)) (no-more !)))) (from ! (stop !))
-      (init ! 6 refl (tt, (wt .1, ((record { fits = lit< tt }, (record { fits = lit< tt }, tt)), tt)))) $
-      returns ! (look ! 6 refl) $ forget ! 2 refl $ forget ! 4 refl $ forget ! 6 refl $ move ! (6 ∷ 7 ∷ []) $ free1 ! $ move ! (4 ∷ 5 ∷ []) $ free1 ! $ move ! (2 ∷ 3 ∷ []) $ free1 ! $ free0 ! $
+      alloc1 ! (λ l₀. alloc1 ! (λ l₁. alloc1 ! (λ l₂. alloc0 ! $ params1 ! $ pass1 ! (init ! 2 refl wt) $ pass0 ! $ turned ! 3 $
+      assigns ! (agg ! (and-then ! (lit ! tt) (and-then ! (lit ! tt) (no-more !)))) (from ! (stop !)) (init ! 6 refl (tt, (record { fits = lit< tt }, (record { fits = lit< tt }, tt)))) $
+      assigns ! (agg ! (and-then ! (load ! (from ! (stop !)) (look ! 4 refl)) (and-then ! (load ! (from ! (stop !)) (look ! 6 refl)) (no-more !)))) (from ! (stop !))
+      (init ! 2 refl (tt, (wt .1, ((record { fits = lit< tt }, (record { fits = lit< tt }, tt)), tt)))) $
+      returns ! (look ! 2 refl) $ gone ! $ gone ! $ gone ! $ free0 ! $
       by ! (leaves 𝓤 H A this.ended stayed (none 𝓤 this.ended) says κ s (κ, tt) (q, tt) tt (s, tt) (bytesVal s ∷ [], tt) W (first s) (mach (first s)) (tt, tt) (tt, tt) refl (itself and-also nothing-more) (a-reader (first s .place) (place-is (first s .place) (lit< tt) (lit< tt)))))))
 
 pub reader-of-spec : {M : Type 1} → stated.statement M

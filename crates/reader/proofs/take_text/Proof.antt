@@ -12,9 +12,9 @@ use ghost.Atoms.{Atoms, sem}
 use contract.Lifetimes.{Lfts}
 use contract.Monad.{fact, factI}
 use contract.Running.{givenOf, tables, tablesOf}
-use types.Kit.{Given, ‵, ⋆, _⊛_, _$_, _∵_, !, qed, by, move, drop, use1, split, fjoin, frame}
+use types.Kit.{Given, ‵, ⋆, _⊛_, _$_, _∵_, !, qed, by, move, drop, use1, split, join, fjoin, frame}
 use types.Part.{agg, whole, sub, look-in}
-use types.Run.{look, init, forget, stop, fld, from, load, of-opd, and-then, no-more, assigns, land, returns, enter, alloc1, alloc0, params1, pass1, pass0, free1, free0}
+use types.Run.{look, init, stop, fld, from, load, of-opd, and-then, no-more, assigns, land, returns, enter, alloc1, alloc0, params1, pass1, pass0, free0}
 use sound.WpLaws.{FmC, fmOf}
 use denote.Laws.{Is}
 use denote.Builtin.{u8}
@@ -43,7 +43,7 @@ use Rattle.reader.specs.declared.TakenText.{TakenText}
 use Rattle.reader.proofs.TakenText as X
 use Rattle.reader.proofs.TakenText.Laws as X′
 use Rattle.reader.proofs.Held.{B, D, L, mach, Placed, a-place, a-reader, typed, stayed, RunsBy, proves-by}
-use Rattle.reader.proofs.Walk.{Bytes, bytesVal, Lends, itself, plainly, nothing-more, _and-also_, Needs, none, Promise, tokens, asks, leaves-by}
+use Rattle.reader.proofs.Walk.{turned, gone, Bytes, bytesVal, Lends, itself, plainly, nothing-more, _and-also_, Needs, none, Promise, tokens, asks, leaves-by}
 use Rattle.reader.proofs.part as part
 use Rattle.reader.proofs.part.Symbol as part-def
 use Rattle.reader.proofs.part.Symbol.{name as #reader·part}
@@ -86,25 +86,24 @@ module _ {M : Type 1} (𝓤 : URA M) (H : Heap 𝓤) (A : Atoms 𝓤) (W : Given
         let wt = typed 𝓤 H A W κ d is in
         let pd = LL.owed (D κ) (L κ) d _ is .1 .0 in
         qed W (tokens 𝓤 H A this.ended (κ, tt) (q, tt) ∷ ‵ (Bytes κ (d .model)) ∷ []) ∵ enter ! C Λ code.function (mach d ∷ []) _ $
-        alloc1 ! (λ l₀. alloc1 ! (λ l₁. alloc1 ! (λ l₂. alloc1 ! (λ l₃. alloc1 ! (λ l₄. alloc1 ! (λ l₅. alloc1 ! (λ l₆. alloc1 ! (λ l₇. alloc1 ! (λ l₈. alloc0 ! $ params1 ! $ pass1 ! (init ! 14 refl wt) $ pass0 ! $ move ! (18 ∷ 19 ∷ []) $
-        assigns ! (of-opd ! (load ! (from ! (fld ! refl (stop !))) (look-in ! 16 (sub ! 0 refl (whole !))))) (from ! (stop !)) (init ! 12 refl (tt, wt .1 .0)) $
-        assigns ! (of-opd ! (load ! (from ! (fld ! refl (stop !))) (look-in ! 16 (sub ! 1 {d = 16} refl (whole !))))) (from ! (stop !)) (init ! 10 refl (tt, wt .1 .1 .0)) $
+        alloc1 ! (λ l₀. alloc1 ! (λ l₁. alloc1 ! (λ l₂. alloc1 ! (λ l₃. alloc1 ! (λ l₄. alloc1 ! (λ l₅. alloc1 ! (λ l₆. alloc1 ! (λ l₇. alloc1 ! (λ l₈. alloc0 ! $ params1 ! $ pass1 ! (init ! 14 refl wt) $ pass0 ! $ turned ! 9 $
+        assigns ! (of-opd ! (load ! (from ! (fld ! refl (stop !))) (look-in ! 4 (sub ! 0 refl (whole !))))) (from ! (stop !)) (init ! 8 refl (tt, wt .1 .0)) $
+        assigns ! (of-opd ! (load ! (from ! (fld ! refl (stop !))) (look-in ! 4 (sub ! 1 {d = 16} refl (whole !))))) (from ! (stop !)) (init ! 10 refl (tt, wt .1 .1 .0)) $
         asks ! fm κ (d .model) bits.ended (none 𝓤 bits.ended) bits-says known-bits (κ, tt) (q, tt) tt (d .model, (d .place, tt)) (bytesVal (d .model) ∷ [], (P′.lowered (d .place) ∷ [], tt)) S′.lowered (S′.lowers .val-is)
-        (id⊢ 𝓤 (emp 𝓤)) (itself and-also a-place pd and-also nothing-more) (and-then ! (load ! (from ! (stop !)) (look ! 12 refl)) (and-then ! (load ! (from ! (stop !)) (look ! 10 refl)) (no-more !))) (λ x h xs. drop ! $
+        (id⊢ 𝓤 (emp 𝓤)) (itself and-also a-place pd and-also nothing-more) (and-then ! (load ! (from ! (stop !)) (look ! 8 refl)) (and-then ! (load ! (from ! (stop !)) (look ! 10 refl)) (no-more !))) (λ x h xs. drop ! $
         let xt = LL.lawful S.the-type S′.the-laws 𝓤 H A W .typed x _ xs .0 in
-        land ! (from ! (stop !)) (init ! 14 refl xt) $
-        assigns ! (of-opd ! (load ! (from ! (fld ! refl (stop !))) (look-in ! 16 (sub ! 0 refl (whole !))))) (from ! (stop !)) (init ! 6 refl (tt, wt .1 .0)) $
+        land ! (from ! (stop !)) (init ! 6 refl xt) $
+        assigns ! (of-opd ! (load ! (from ! (fld ! refl (stop !))) (look-in ! 4 (sub ! 0 refl (whole !))))) (from ! (stop !)) (init ! 14 refl (tt, wt .1 .0)) $
         asks ! fm κ (d .model) part.ended (part-need 𝓤) part-says known-part (κ, tt) (q, tt) tt (d .model, (x, tt)) (bytesVal (d .model) ∷ [], (S′.lowered x ∷ [], tt)) bytesVal (shr-slice-tells (named 0) κ u8)
         (factI 𝓤 (x .start + x .len ≤ length (now (d .model))) (emp 𝓤) (span-ends (now (d .model)) (d .place) (h .is))) (itself and-also plainly S.the-row (LL.makes S.the-type S′.the-plain 𝓤 H A) x xs and-also nothing-more)
-        (and-then ! (load ! (from ! (stop !)) (look ! 6 refl)) (and-then ! (load ! (from ! (stop !)) (look ! 14 refl)) (no-more !))) (λ t e ts. move ! (1 ∷ 2 ∷ []) $
+        (and-then ! (load ! (from ! (stop !)) (look ! 14 refl)) (and-then ! (load ! (from ! (stop !)) (look ! 6 refl)) (no-more !))) (λ t e ts. move ! (2 ∷ 0 ∷ []) $ join ! $ move ! (1 ∷ 0 ∷ []) $
         let tw = shr-slice-lawful 𝓤 H A W (named 0) κ u8 .typed t _ ts .0 in
-        -- [the token; the bytes; those of the text; the cells, the last one first]
-        land ! (from ! (stop !)) (init ! 9 refl (tt, tw .1)) $
-        assigns ! (of-opd ! (load ! (from ! (fld ! refl (stop !))) (look-in ! 17 (sub ! 0 refl (whole !))))) (from ! (stop !)) (init ! 5 refl (tt, wt .1 .0)) $
-        assigns ! (agg ! (and-then ! (load ! (from ! (stop !)) (look ! 5 refl)) (and-then ! (load ! (from ! (fld ! refl (stop !))) (look-in ! 15 (sub ! 2 refl (whole !)))) (no-more !)))) (from ! (stop !)) (init ! 3 refl (tt, (wt .1 .0, (xt .1 .1 .1 .0, tt)))) $
-        assigns ! (agg ! (and-then ! (load ! (from ! (stop !)) (look ! 9 refl)) (and-then ! (load ! (from ! (stop !)) (look ! 3 refl)) (no-more !)))) (from ! (stop !)) (init ! 19 refl (tt, (tw .1, ((wt .1 .0, (xt .1 .1 .1 .0, tt)), tt)))) $
-        returns ! (look ! 19 refl) $ forget ! 3 refl $ forget ! 5 refl $ forget ! 7 refl $ forget ! 9 refl $ forget ! 11 refl $ forget ! 13 refl $ forget ! 15 refl $ forget ! 17 refl $ forget ! 19 refl $
-        move ! (19 ∷ 20 ∷ []) $ free1 ! $ move ! (17 ∷ 18 ∷ []) $ free1 ! $ move ! (15 ∷ 16 ∷ []) $ free1 ! $ move ! (13 ∷ 14 ∷ []) $ free1 ! $ move ! (11 ∷ 12 ∷ []) $ free1 ! $ move ! (9 ∷ 10 ∷ []) $ free1 ! $ move ! (7 ∷ 8 ∷ []) $ free1 ! $ move ! (5 ∷ 6 ∷ []) $ free1 ! $ move ! (3 ∷ 4 ∷ []) $ free1 ! $ free0 ! $
+        -- [the token; the bytes, and those of the text; the cells]
+        land ! (from ! (stop !)) (init ! 12 refl (tt, tw .1)) $
+        assigns ! (of-opd ! (load ! (from ! (fld ! refl (stop !))) (look-in ! 4 (sub ! 0 refl (whole !))))) (from ! (stop !)) (init ! 16 refl (tt, wt .1 .0)) $
+        assigns ! (agg ! (and-then ! (load ! (from ! (stop !)) (look ! 16 refl)) (and-then ! (load ! (from ! (fld ! refl (stop !))) (look-in ! 6 (sub ! 2 refl (whole !)))) (no-more !)))) (from ! (stop !)) (init ! 18 refl (tt, (wt .1 .0, (xt .1 .1 .1 .0, tt)))) $
+        assigns ! (agg ! (and-then ! (load ! (from ! (stop !)) (look ! 12 refl)) (and-then ! (load ! (from ! (stop !)) (look ! 18 refl)) (no-more !)))) (from ! (stop !)) (init ! 2 refl (tt, (tw .1, ((wt .1 .0, (xt .1 .1 .1 .0, tt)), tt)))) $
+        returns ! (look ! 2 refl) $ gone ! $ gone ! $ gone ! $ gone ! $ gone ! $ gone ! $ gone ! $ gone ! $ gone ! $ free0 ! $
         by ! (leaves-by 𝓤 H A this.ended (stayed (this.signature .result)) (none 𝓤 this.ended) says κ (d .model) (κ, tt) (q, tt) tt (d, tt) (mach d ∷ [], tt) W (got t (x .next)) (X′.lowered (got t (x .next))) (tt, tt) (tt, tt)
         (record { bytes = e ∙ ap (bytesIn (now (d .model))) (h .is); rest = ap (λ (y : Span). moved d (y .next)) (h .is) }) (‵ (Bytes κ t) ∷ []) (shuts t (x .next) pd (LL.owed S.the-type S′.the-laws x _ xs .1 .1 .0))))))))))))))
 
