@@ -159,7 +159,7 @@ section-found {s} {r = r} e k h = record { is = rw e (h .is); on = past-later s 
 
 -- ---- the calendars in the order in which they are built
 
-keep-head : {A : Type 0} (q : A → Bool) (l : List A) {x : A} {k : List A} → keep q l ≡ x ∷ k → q x ≡ true
+pub keep-head : {A : Type 0} (q : A → Bool) (l : List A) {x : A} {k : List A} → keep q l ≡ x ∷ k → q x ≡ true
 unfolding keep
 keep-head q [] {x} {k} h = absurd (cons-ne-nil _ _ (sym h))
 keep-head q (y ∷ l) {x} {k} h = by (q y) refl h (keep-head q l)

@@ -16,13 +16,12 @@ pub use kept::first_kept;
 pub use kept::next_kept;
 pub use kept::parent_row;
 pub use kept::task_row;
-pub use resource::cost_resource;
-pub use resource::resource_row;
 pub use section::Which;
 pub use section::first_in;
 pub use section::first_which;
 pub use section::next_which;
 pub use table::Listed;
+pub use table::cost_with;
 pub use table::index_rows;
 pub use table::row_with;
 

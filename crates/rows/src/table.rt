@@ -1,14 +1,18 @@
 // Tables of the elements that have a UID, in lent words: the hash of each UID, and where its element stands in the tree.
 ghost use mathlib.Core.Path.{_≡_};
+ghost use Prim.Native.Nat.{suc, _^_, _<_};
 ghost use lib.ListN.{length};
 ghost use Rattle.definition.specs.Answer.{rowMeaning};
 ghost use Rattle.tree.specs.Place.{elementAt};
-ghost use Rattle.rows.specs.Tables.{listed, rowIn, Makes};
+ghost use Rattle.rows.specs.declared.kept.KeptAnswer.the-variants.{Is as KeptIs};
+ghost use Rattle.rows.specs.Rows.{foundMeaning};
+ghost use Rattle.rows.specs.Tables.{listed, rowIn32, soughtIn, rowIn, costIn, laterIn, mostIn, roomIn, Lists, unboundedOf, foundIn, Ripe, Tabled, Makes};
 use crate::kept::KeptAnswer;
 use crate::kept::first_kept;
 use crate::kept::next_kept;
-use crate::kept::task_row;
-use crate::resource::resource_row;
+use crate::kept::or_row;
+use crate::kept::row_when;
+use crate::resource::cost_resource;
 use crate::section::Which;
 use crate::section::first_which;
 use crate::section::next_which;
@@ -25,7 +29,21 @@ pub enum Listed {
     Cost,
 }
 
-fn first_listed(s: &[u8], root: usize, list: Listed) -> KeptAnswer {
+// ---- the elements of a list, one after another
+
+// Any number after it.
+fn unbounded(e: Found) -> KeptAnswer
+    ensures { λ r. ⌜ r ≡ unboundedOf e ⌝ }
+{
+    match e {
+        Found::At(at) => KeptAnswer::Is(at, 0),
+        Found::Nothing => KeptAnswer::Absent,
+    }
+}
+
+fn first_listed(s: &[u8], root: usize, list: Listed) -> KeptAnswer
+    ensures { λ r. ⌜ Lists (now (s .entry)) list (listed list (elementAt (now (s .entry)) root)) (suc (mostIn (now (s .entry)) list)) r ⌝ }
+{
     match list {
         Listed::Tasks => first_kept(s, root),
         Listed::Work => unbounded(first_which(s, root, b"Resources", b"Resource", Which::Work)),
@@ -33,15 +51,9 @@ fn first_listed(s: &[u8], root: usize, list: Listed) -> KeptAnswer {
     }
 }
 
-// Any number after it.
-fn unbounded(e: Found) -> KeptAnswer {
-    match e {
-        Found::At(at) => KeptAnswer::Is(at, 0),
-        Found::Nothing => KeptAnswer::Absent,
-    }
-}
-
-fn next_listed(s: &[u8], list: Listed, at: usize, left: u32) -> KeptAnswer {
+fn next_listed(s: &[u8], list: Listed, at: usize, left: u32) -> KeptAnswer
+    ensures { λ r. ⌜ Lists (now (s .entry)) list (laterIn (now (s .entry)) list at left) (roomIn (now (s .entry)) list (KeptIs at left)) r ⌝ }
+{
     match list {
         Listed::Tasks => next_kept(s, at, left),
         Listed::Work => unbounded(next_which(s, at, b"Resource", Which::Work)),
@@ -49,19 +61,29 @@ fn next_listed(s: &[u8], list: Listed, at: usize, left: u32) -> KeptAnswer {
     }
 }
 
-fn count_listed(s: &[u8], root: usize, list: Listed) -> u32 {
+// ---- a table is made
+
+// How many there are, in a tree of fewer than 2 ^ 32 bytes.
+fn count_listed(s: &[u8], root: usize, list: Listed) -> u32
+    requires { ⌜ length (now s) < 2 ^ 32 ⌝ }
+    ensures { λ r. ⌜ r ≡ length (listed list (elementAt (now (s .entry)) root)) ⌝ }
+{
     let mut n: u32 = 0;
     let mut e = first_listed(s, root, list);
     loop {
         let KeptAnswer::Is(at, left) = e else {
             return n;
         };
-        n = std::num::wrapping_add_u32(n, 1);
+        n += 1;
         e = next_listed(s, list, at, left);
     }
 }
 
-fn fill(s: &[u8], root: usize, list: Listed, words: &mut [u32], t: Table) {
+fn fill(s: &[u8], root: usize, list: Listed, words: &mut [u32], t: Table)
+    requires { ⌜ Ripe (now s) (elementAt (now s) root) list t (now words) ⌝ }
+    ensures { λ _. ⌜ Tabled (now (s .entry)) (elementAt (now (s .entry)) root) list t (now (words .entry)) (now (words .exit)) ⌝ }
+{
+    index::clear(words, t);
     let mut row: u32 = 0;
     let mut e = first_listed(s, root, list);
     loop {
@@ -70,7 +92,7 @@ fn fill(s: &[u8], root: usize, list: Listed, words: &mut [u32], t: Table) {
         };
         let hash = index::hash_of(tree::text_of(s, at, b"UID"));
         index::put(words, t, row, hash, at as u32);
-        row = std::num::wrapping_add_u32(row, 1);
+        row += 1;
         e = next_listed(s, list, at, left);
     }
 }
@@ -86,32 +108,44 @@ pub fn index_rows(s: &[u8], root: usize, list: Listed, words: &mut [u32], at: us
     let Made::Ready(t) = made else {
         return Made::NoRoom;
     };
-    index::clear(words, t);
     fill(s, root, list, words, t);
     Made::Ready(t)
 }
 
+// ---- the last with a UID
+
 // The first row of a chain whose element has the UID.
-fn seek(s: &[u8], words: &[u32], t: Table, uid: &[u8]) -> RowAnswer {
+fn seek(s: &[u8], words: &[u32], t: Table, uid: &[u8]) -> RowAnswer
+    ensures { λ r. ⌜ rowMeaning r ≡ soughtIn (now (s .entry)) (now (words .entry)) t (now (uid .entry)) ⌝ }
+{
     let mut row = index::first(words, t, index::hash_of(uid));
     loop {
         let Row::At(r) = row else {
             return RowAnswer::Absent;
         };
         let at = index::place(words, t, r) as usize;
-        if text::same(tree::text_of(s, at, b"UID"), uid) {
+        if fields::text_is(s, at, b"UID", uid) {
             return RowAnswer::Is(r);
         }
         row = index::next(words, t, r);
     }
 }
 
-// The row of the last of a list with a UID, by a look at all of them.
-fn scan(s: &[u8], root: usize, list: Listed, uid: &[u8]) -> RowAnswer {
-    match list {
-        Listed::Tasks => task_row(s, root, uid),
-        Listed::Work => resource_row(s, root, Which::Work, uid),
-        Listed::Cost => resource_row(s, root, Which::Cost, uid),
+// The row of the last of a list with a UID, as 32 bits hold it, by a look at all of them.
+fn scan(s: &[u8], root: usize, list: Listed, uid: &[u8]) -> RowAnswer
+    ensures { λ r. ⌜ rowMeaning r ≡ rowIn32 list (elementAt (now (s .entry)) root) (now (uid .entry)) ⌝ }
+{
+    let mut found = RowAnswer::Absent;
+    let mut row: u32 = 0;
+    let mut e = first_listed(s, root, list);
+    loop {
+        let KeptAnswer::Is(at, left) = e else {
+            return found;
+        };
+        let named = row_when(fields::text_is(s, at, b"UID", uid), row);
+        found = or_row(named, found);
+        row = std::num::wrapping_add_u32(row, 1);
+        e = next_listed(s, list, at, left);
     }
 }
 
@@ -129,5 +163,25 @@ pub fn row_with(
     match made {
         Made::Ready(t) => seek(s, words, t, uid),
         Made::NoRoom => scan(s, root, list, uid),
+    }
+}
+
+// Where the element of a row stands.
+fn place_of(words: &[u32], t: Table, row: RowAnswer) -> Found
+    ensures { λ r. ⌜ r ≡ foundIn (now (words .entry)) t (rowMeaning row) ⌝ }
+{
+    match row {
+        RowAnswer::Is(r) => Found::At(index::place(words, t, r) as usize),
+        RowAnswer::Absent => Found::Nothing,
+    }
+}
+
+// The last cost resource with a UID, by a table in the words; by a scan where there is none.
+pub fn cost_with(s: &[u8], root: usize, words: &[u32], made: Made, uid: &[u8]) -> Found
+    ensures { λ r. ⌜ foundMeaning (now (s .entry)) r ≡ costIn (now (s .entry)) (elementAt (now (s .entry)) root) (now (words .entry)) made (now (uid .entry)) ⌝ }
+{
+    match made {
+        Made::Ready(t) => place_of(words, t, seek(s, words, t, uid)),
+        Made::NoRoom => cost_resource(s, root, uid),
     }
 }
