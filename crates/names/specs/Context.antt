@@ -37,9 +37,12 @@ wantedBy unnamed e = textIn e "Name" or unnamed
 abbrev pub wantedName : Element → Text
 wantedName = wantedBy (bytes "Calendar")
 
--- how many `*` the name of a row's calendar has
+-- how many `*` the name of a calendar has; that of a row's calendar
+abbrev pub starsBy : Text → Element → ℕ
+starsBy name e = length name - length (wantedName e)
+
 abbrev pub starsIn : List ℕ → Place → Element → ℕ → Element → ℕ
-starsIn d c root row e = length (textAt Calendars d c (sectionRow (mainRow root) row)) - length (wantedName e)
+starsIn d c root row e = starsBy (textAt Calendars d c (sectionRow (mainRow root) row)) e
 
 abbrev pub nameIn : List ℕ → Place → Element → ℕ × Element → Text
 nameIn d c root x = starredBy (wantedName (x .1)) (starsIn d c root (x .0) (x .1))

@@ -7,3 +7,4 @@ pub mod Short
 pub mod Carried
 pub mod Agree
 pub mod Turned
+pub mod Named
