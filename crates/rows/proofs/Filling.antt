@@ -1,5 +1,5 @@
 -- The table of a list while it is filled: the rows so far are in their chains, each with the place of its element. Assumes nothing.
-use Prim.Native.Nat.{ℕ, zero, suc, _+_, _^_, _≤_, _<_}
+use Prim.Native.Nat.{ℕ, suc, _+_, _^_, _≤_, _<_}
 use native.Mathlib.Numerals.{add-one}
 use native.Mathlib.Omega.{arith}
 use mathlib.Core.Path.{_≡_, refl, sym, ap, _∙_}
@@ -8,18 +8,20 @@ use mathlib.Core.List.{List, [], _∷_}
 use lib.Dec.{eqb}
 use lib.ListN.{length, getD, drop, length-drop}
 use lib.Seq.{drop-cons}
-use borrow.Author.Tests.{eqb-true, eqb-false, ne-eqb, eq-eqb}
+use borrow.Author.Tests.{eqb-true, eqb-false, ne-eqb, eq-eqb, lt-ltb, le-ltb}
 use Rattle.definition.specs.Base.{if_then_else_}
 use Rattle.definition.specs.Text.{Text}
 use Rattle.definition.specs.Tree.{Element}
 use Rattle.index.specs.declared.Table.{Table}
 use Rattle.index.specs.Hash.{hashOf}
-use Rattle.index.specs.Chains.{zeros, added}
-use Rattle.index.specs.Law.{Fits, Indexed, indexed-none, indexed-by, indexed-same, length-added}
+use Rattle.index.specs.declared.Made.{Made}
+use Rattle.index.specs.declared.Made.the-variants.{Ready, NoRoom}
+use Rattle.index.specs.Chains.{tableOf, zeros, added}
+use Rattle.index.specs.Law.{table-placed, Indexed, indexed-none, indexed-by, indexed-same, length-added}
 use Rattle.index.specs.Frame.{Outside, added-outside, zeros-outside}
 use Rattle.index.specs.Steps.{length-zeros}
 use Rattle.tree.specs.Place.{elementAt}
-use Rattle.rows.specs.Tables.{listed, uidOf, laterIn, listedBy, roomIn, Lists, noElement, nth, hashIn, Ripe, Tabled}
+use Rattle.rows.specs.Tables.{listed, uidOf, laterIn, listedBy, Lists, noElement, nth, hashIn, madeFor, Ripe, Tabled, Makes}
 use Rattle.rows.specs.declared.kept.KeptAnswer.{KeptAnswer}
 use Rattle.rows.specs.declared.kept.KeptAnswer.the-variants.{Is, Absent}
 use Rattle.rows.specs.declared.table.Listed.{Listed}
@@ -128,3 +130,25 @@ module _ {s : Text} {root : Element} {l : Listed} {t : Table} {w : List ℕ} (ri
               length-same = ap length k ∙ length-added w₁ t row h at ∙ f .length-same;
               outside = λ q z. ap (λ (v : List ℕ). getD v q 0) k ∙ added-outside w₁ t row h at q z ∙ f .outside q z;
             }
+
+-- ---- a table is made
+
+module _ (s : Text) (root : Element) (l : Listed) (at : ℕ) (w : List ℕ) where
+  pub makes-long : 2 ^ 32 ≤ length s → Makes s root l at w w NoRoom
+  makes-long h = record { made = rw (le-ltb (length s) (2 ^ 32) h); words = refl }
+
+  module _ {n : ℕ} {m : Made} (short : length s < 2 ^ 32) (i : n ≡ length (listed l root)) (j : m ≡ tableOf (length w) at n) where
+    made-is : m ≡ madeFor s root l (length w) at
+    made-is = rw (lt-ltb (length s) (2 ^ 32) short) (j ∙ ap (tableOf (length w) at) i)
+
+    pub makes-none : m ≡ NoRoom → Makes s root l at w w NoRoom
+    makes-none e = record { made = sym e ∙ made-is; words = refl }
+
+    module _ {t : Table} (e : m ≡ Ready t) where
+      pub made-ripe : n < 2 ^ 32 → Ripe s root l t w
+      made-ripe k =
+          let p = table-placed (length w) at n (sym e ∙ j) in
+          record { short = short; small = omega arith; rows = sym i ∙ sym (ap (λ (t : Table). t .rows) (p .is)); fits = p .fits }
+
+      pub makes-filled : {w′ : List ℕ} → Tabled s root l t w w′ → Makes s root l at w w′ (Ready t)
+      makes-filled x = record { made = sym e ∙ made-is; words = x }

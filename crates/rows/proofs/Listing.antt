@@ -1,31 +1,28 @@
 -- The walk over a list of elements with a UID, and the table that is filled on it. Assumes nothing.
-use Prim.Native.Nat.{ℕ, zero, suc, _+_, _-_, _%_, _^_, _≤_, _<_}
+use Prim.Native.Nat.{ℕ, suc, _+_, _-_, _^_, _≤_, _<_}
 use native.Mathlib.Nat.{zero-add}
 use native.Mathlib.Omega.{arith}
 use mathlib.Core.Path.{_≡_, refl, sym, ap, _∙_}
 use mathlib.Core.Bool.{Bool, true, false, _&&_}
 use mathlib.Core.List.{List, [], _∷_}
-use mathlib.Core.Option.{Option, some, none}
 use lib.Dec.{ltb}
-use lib.ListN.{length, getD, drop, take, drop-of-length-le}
-use lib.Seq.{drop-cons}
+use lib.ListN.{length, take, drop-of-length-le}
 use borrow.Author.Tests.{ltb-true, ltb-false}
 use Rattle.definition.specs.Ascii.{bytes}
-use Rattle.definition.specs.Base.{if_then_else_, given, keep, first}
+use Rattle.definition.specs.Base.{keep, first}
 use Rattle.definition.specs.Text.{Text}
 use Rattle.definition.specs.Tree.{Element, records, recordsUpTo, element, elements, all, allIn, child, textOf}
 use Rattle.definition.specs.Task.{ownUid, isKept, mostTasks, keptTasks}
 use Rattle.definition.specs.Resource.{workResources, costResources}
 use Rattle.tree.specs.Place.{elementAt, laterAt, Past}
 use Rattle.tree.specs.declared.Found.{Found}
-use Rattle.rows.specs.Turns.{work-picked, cost-picked}
+use Rattle.rows.specs.Turns.{keep-head, work-picked, cost-picked}
 use Rattle.rows.specs.Walks.{keptBy, room, Kept, passes, pickedBy, Picks}
-use Rattle.rows.specs.Tables.{listed, laterIn, listedBy, mostIn, roomIn, Lists, unboundedOf}
+use Rattle.rows.specs.Tables.{laterIn, listedBy, mostIn, roomIn, Lists, unboundedOf}
 use Rattle.rows.specs.declared.kept.KeptAnswer.{KeptAnswer}
 use Rattle.rows.specs.declared.kept.KeptAnswer.the-variants.{Is, Absent}
 use Rattle.rows.specs.declared.section.Which.{Which}
 use Rattle.rows.specs.declared.table.Listed.{Listed}
-use Rattle.rows.proofs.Walking.{keep-head}
 
 -- ---- an element with a UID stands in the tree
 

@@ -63,7 +63,11 @@ module _ (w : List ℕ) (t : Table) {o : RowAnswer} where
   found-none e = rw e
 
 -- the element where a row was found
-pub found-sought : (s : Text) (w : List ℕ) (t : Table) (o : Option ℕ) → foundMeaning s (foundIn w t o) ≡ (o >>= λ r. some (elementAt s (placeOf w t r)))
+pub found-sought : (s : Text) (w : List ℕ) (t : Table) {o k : Option ℕ} {r : Found} → r ≡ foundIn w t o → o ≡ k
+    → foundMeaning s r ≡ (k >>= λ r. some (elementAt s (placeOf w t r)))
 unfolding foundMeaning
-found-sought s w t none = refl
-found-sought s w t (some r) = refl
+found-sought s w t {k = k} e i = ap (foundMeaning s) (e ∙ ap (foundIn w t) i) ∙ go k
+  where
+    go : (k : Option ℕ) → foundMeaning s (foundIn w t k) ≡ (k >>= λ r. some (elementAt s (placeOf w t r)))
+    go none = refl
+    go (some r) = refl

@@ -1,14 +1,14 @@
 -- The walks: each turn of the search for the next element that counts. Assumes nothing.
 use Prim.Native.Nat.{ℕ, zero, suc, _+_, _-_, _≤_, _<_}
 use native.Mathlib.Omega.{arith}
-use mathlib.Core.Path.{_≡_, refl, sym, ap, _∙_}
+use mathlib.Core.Path.{_≡_, refl, ap, _∙_}
 use mathlib.Core.Bool.{Bool, true, false, _&&_, not}
-use mathlib.Core.List.{List, [], _∷_, cons-ne-nil}
+use mathlib.Core.List.{List, [], _∷_}
 use mathlib.Core.Option.{Option, some, none}
 use lib.ListN.{length, take}
 use lib.Seq.{take-nil}
 use borrow.Author.Tests.{not-true}
-use Rattle.definition.specs.Base.{if_then_else_, _orElse_, given, keep, first, numbered}
+use Rattle.definition.specs.Base.{_orElse_, given, keep, first, numbered}
 use Rattle.definition.specs.Ascii.{bytes}
 use Rattle.definition.specs.Text.{Text}
 use Rattle.definition.specs.Tree.{Element, child, all, allIn}
@@ -19,7 +19,7 @@ use Rattle.tree.specs.Place.{elementAt, laterAt, listOf, Past, Starts}
 use Rattle.tree.specs.declared.Found.{Found}
 use Rattle.tree.specs.declared.Found.the-variants.{At, Nothing}
 use Rattle.rows.specs.Rows.{inOrder, calendarMeaning, rowZero}
-use Rattle.rows.specs.Turns.{list-at, list-end}
+use Rattle.rows.specs.Turns.{list-at, list-end, keep-head}
 use Rattle.rows.specs.Walks.{keptBy, room, Kept, passes, pickedBy, Picks, PicksFrom, laterInOrder, orderBy, orderRoom, Orders, OrdersAfter}
 use Rattle.rows.specs.declared.CalendarAnswer.{CalendarAnswer}
 use Rattle.rows.specs.declared.CalendarAnswer.the-variants as calendar
@@ -158,15 +158,6 @@ pub section-found : {s n : Text} {o : Option Element} {m p : ℕ} {r : Found} �
 section-found {s} {r = r} e k h = record { is = rw e (h .is); on = past-later s (omega arith) r (h .on) }
 
 -- ---- the calendars in the order in which they are built
-
-pub keep-head : {A : Type 0} (q : A → Bool) (l : List A) {x : A} {k : List A} → keep q l ≡ x ∷ k → q x ≡ true
-unfolding keep
-keep-head q [] {x} {k} h = absurd (cons-ne-nil _ _ (sym h))
-keep-head q (y ∷ l) {x} {k} h = by (q y) refl h (keep-head q l)
-  where
-    by : (t : Bool) → q y ≡ t → (if t then y ∷ keep q l else keep q l) ≡ x ∷ k → (keep q l ≡ x ∷ k → q x ≡ true) → q x ≡ true
-    by true e i more = let z : y ≡ x = cc in rw (← z) e
-    by false e i more = more i
 
 derived-room : (s : Text) (l : List Element) {from : ℕ} (r : Found) → Picks s (bytes "Calendar") Derived l from r → orderRoom s r < suc (suc (length s) - from)
 unfolding pickedBy orderRoom passes Past

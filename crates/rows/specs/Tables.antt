@@ -1,5 +1,5 @@
 -- Rows by their UIDs, from tables in lent words. Assumes nothing: these are definitions.
-use Prim.Native.Nat.{ℕ, suc, _-_, _%_, _^_, _<_, _≤_}
+use Prim.Native.Nat.{ℕ, suc, _-_, _%_, _^_, _<_}
 use mathlib.Core.Path.{_≡_}
 use mathlib.Core.List.{List, [], _∷_}
 use mathlib.Core.Option.{Option, some, none}

@@ -3,7 +3,7 @@ use Prim.Native.Nat.{ℕ, suc, _+_, _-_, _≤_, _<_}
 use native.Mathlib.Omega.{arith}
 use mathlib.Core.Path.{_≡_, refl, sym, ap, _∙_}
 use mathlib.Core.Bool.{Bool, true, false, _&&_, not, false≢true}
-use mathlib.Core.List.{List, [], _∷_}
+use mathlib.Core.List.{List, [], _∷_, cons-ne-nil}
 use mathlib.Core.Option.{Option, some, none}
 use lib.ListN.{length, take}
 use Rattle.definition.specs.Base.{if_then_else_, _>>=_, _or_, given, keep, some?}
@@ -70,6 +70,16 @@ picked-end s n w i = rw i
 pub picked-next : {s n : Text} {w : Which} {e : Found} {p : ℕ} → e ≡ At p → {from : ℕ} {r : Found} → Picks s n w (laterAt s n p) from r → pickedBy s n w e ≡ elementAt s p ∷ pickedBy s n w r
 unfolding pickedBy
 picked-next {s} {n} {w} {p = p} i h = ap (pickedBy s n w) i ∙ ap (λ (l : List Element). elementAt s p ∷ l) (h .is)
+
+-- what is kept passes
+pub keep-head : {A : Type 0} (q : A → Bool) (l : List A) {x : A} {k : List A} → keep q l ≡ x ∷ k → q x ≡ true
+unfolding keep
+keep-head q [] {x} {k} h = absurd (cons-ne-nil _ _ (sym h))
+keep-head q (y ∷ l) {x} {k} h = by (q y) refl h (keep-head q l)
+  where
+    by : (t : Bool) → q y ≡ t → (if t then y ∷ keep q l else keep q l) ≡ x ∷ k → (keep q l ≡ x ∷ k → q x ≡ true) → q x ≡ true
+    by true e i more = let z : y ≡ x = cc in rw (← z) e
+    by false e i more = more i
 
 -- work and cost resources are those that pass
 keep-both : (p q : Element → Bool) (l : List Element) → keep (λ x. p x && q x) l ≡ keep q (keep p l)

@@ -1,8 +1,8 @@
-// Look-ups in the tree, each by a scan: the row of a UID, the nearest lower level, a calendar by its UID; and the walks over the elements that
-// count. What is right is said in the crate definition, specs/Task.antt, specs/Resource.antt and specs/Calendar.antt.
+// Look-ups in the tree: the row of a UID by a scan or by a table in lent words, the nearest lower level, a calendar by its UID; and the walks over
+// the elements that count. What is right is said in the crate definition, specs/Task.antt, specs/Resource.antt and specs/Calendar.antt.
 mod built; // calendars, in the order in which they are built
 mod kept; // the kept tasks
-mod resource; // work and cost resources
+mod resource; // cost resources
 mod section; // elements of a section that pass a test
 mod table; // rows by their UIDs, from tables in lent words
 

@@ -1,39 +1,31 @@
+use Rattle.rows.specs.Tables.{costIn}
+use Rattle.rows.proofs.Seeking.{found-sought}
 use borrow.Author.Needs.{needs}
 use Rattle.rows.proofs.table.cost_with.Statement.{statement}
 use Rattle.rows.proofs.table.cost_with.Tie as tie
-use Rattle.rows.proofs.table.cost_with.Reads as reads
-use Rattle.rows.proofs.table.cost_with.Lts as lts
-use Rattle.rows.proofs.resource.cost_resource.Reads as cost-resource-reads
-use Rattle.rows.proofs.table.place_of.Reads as place-of-reads
-use Rattle.rows.proofs.table.seek.Reads as seek-reads
 
--- src/table.rt:184:21
 enum-known-made : tie.Need-enum-known-made
 enum-known-made c = search needs
 
--- src/table.rt:184:46
 seek-requires : tie.Need-seek-requires
 seek-requires c κs = search needs
 
--- src/table.rt:184:27
 place-of-requires : tie.Need-place-of-requires
 place-of-requires c κs = search needs
 
--- src/table.rt:185:25
 enum-told : tie.Need-enum-told
 enum-told c = search needs
 
--- src/table.rt:185:25
 cost-resource-requires : tie.Need-cost-resource-requires
 cost-resource-requires c κs = search needs
 
--- src/table.rt:180:1
 returns : tie.Need-returns
-returns c = ?
+unfolding costIn
+returns c = rw (c .before .before .before .made .given .1) (found-sought _ _ _ (c .place-of .ensures) (c .before .seek .ensures))
 
--- src/table.rt:180:1
 returns-2 : tie.Need-returns-2
-returns-2 c = ?
+unfolding costIn
+returns-2 c = rw (c .before .enum-told .given .1) (c .cost-resource .ensures)
 
 pub cost-with-spec : {M : Type 1} → statement M
 cost-with-spec =

@@ -1,47 +1,53 @@
+use Rattle.tree.specs.Place.{elementAt}
+use Rattle.rows.proofs.Filling.{makes-long, makes-none, made-ripe, makes-filled}
+use native.Mathlib.Omega.{arith}
 use borrow.Author.Needs.{needs}
 use Rattle.rows.proofs.table.index_rows.Statement.{statement}
 use Rattle.rows.proofs.table.index_rows.Tie as tie
-use Rattle.rows.proofs.table.index_rows.Reads as reads
-use Rattle.rows.proofs.table.index_rows.Lts as lts
-use Rattle.index.proofs.table_at.Reads as table-at-reads
-use Rattle.rows.proofs.table.count_listed.Reads as count-listed-reads
-use Rattle.rows.proofs.table.fill.Reads as fill-reads
 
--- src/table.rt:105:9
 returns : tie.Need-returns
-returns c = ?
+returns c =
+    let a = c .before .before .before .args in
+    makes-long (a .s .now) (elementAt (a .s .now) (a .root)) (a .list) (a .at) (a .words .now) (omega (arith, c .if1 .taken))
 
--- src/table.rt:107:49
 count-listed-requires : tie.Need-count-listed-requires
 count-listed-requires c κs = search needs
 
--- src/table.rt:107:9
 table-at-requires : tie.Need-table-at-requires
 table-at-requires c κs = search needs
 
--- src/table.rt:108:21
 enum-known-made : tie.Need-enum-known-made
 enum-known-made c = search needs
 
--- src/table.rt:109:9
 enum-told : tie.Need-enum-told
 enum-told c = search needs
 
--- src/table.rt:109:9
 returns-2 : tie.Need-returns-2
-returns-2 c = ?
+returns-2 c =
+    let t = c .before .before in
+    let n = t .before in
+    let a = n .before .before .before .before .args in
+    makes-none (a .s .now) (elementAt (a .s .now) (a .root)) (a .list) (a .at) (a .words .now) (omega (arith, n .before .if1 .left)) (n .count-listed .ensures) (t .table-at .ensures) (c .enum-told .given .1)
 
--- src/table.rt:111:5
 fill-requires : tie.Need-fill-requires
-fill-requires c κs = ?
+fill-requires c κs =
+    let m = c .before .before in
+    let t = m .before .before in
+    let n = t .before in
+    let a = n .before .before .before .before .args in
+    made-ripe (a .s .now) (elementAt (a .s .now) (a .root)) (a .list) (a .at) (a .words .now) (omega (arith, n .before .if1 .left)) (n .count-listed .ensures) (t .table-at .ensures) (m .made .given .1) (omega arith)
 
--- src/table.rt:101:1
 same-length : tie.Need-same-length
 same-length c = search needs
 
--- src/table.rt:101:1
 returns-3 : tie.Need-returns-3
-returns-3 c = ?
+returns-3 c =
+    let f = c .before .before in
+    let m = f .before .before .before in
+    let t = m .before .before in
+    let n = t .before in
+    let a = n .before .before .before .before .args in
+    makes-filled (a .s .now) (elementAt (a .s .now) (a .root)) (a .list) (a .at) (a .words .now) (omega (arith, n .before .if1 .left)) (n .count-listed .ensures) (t .table-at .ensures) (m .made .given .1) (f .fill .ensures)
 
 pub index-rows-spec : {M : Type 1} → statement M
 index-rows-spec =

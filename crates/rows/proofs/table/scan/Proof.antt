@@ -53,7 +53,7 @@ loop-less : tie.Need-loop-less Inv-loop μ-loop
 loop-less c = lists-less (c .before .before .before .before .before .before .before .e .given .1) (c .next-listed .ensures) refl
 
 loop-again : tie.Need-loop-again Inv-loop μ-loop
-loop-again c = 
+loop-again c =
     let a = c .before in
     let f = a .before in
     let w = f .before in
