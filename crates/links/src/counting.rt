@@ -2,12 +2,13 @@
 ghost use mathlib.Core.Path.{_≡_};
 ghost use Rattle.definition.specs.Ascii.{bytes};
 ghost use Rattle.definition.specs.Tree.{all};
-ghost use Rattle.definition.specs.Task.{contextOf, keptTasks};
+ghost use Rattle.definition.specs.Task.{contextOf};
 ghost use Rattle.tree.specs.Place.{elementAt};
-ghost use Rattle.links.specs.Fates.{countedBy, countedIn, Counted};
+ghost use Rattle.links.specs.Fates.{taskIn, fatesBy, countedBy, countedIn, Counted};
 use crate::Fates;
 use crate::fate::LinkFate;
 use crate::fate::fate_of;
+use index::Made;
 use rows::KeptAnswer;
 use tree::Found;
 
@@ -28,8 +29,8 @@ fn counted(n: Fates, fate: LinkFate) -> Fates
 }
 
 // With those of the task at `at`.
-fn counted_in(s: &[u8], root: usize, at: usize, n: Fates) -> Fates
-    ensures { λ r. ⌜ r ≡ countedIn (keptTasks (elementAt (now (s .entry)) root)) n (all (elementAt (now (s .entry)) at) (bytes "PredecessorLink")) ⌝ }
+fn counted_in(s: &[u8], root: usize, at: usize, words: &[u32], tasks: Made, n: Fates) -> Fates
+    ensures { λ r. ⌜ r ≡ countedIn (taskIn (now (s .entry)) root (now (words .entry)) tasks) n (all (elementAt (now (s .entry)) at) (bytes "PredecessorLink")) ⌝ }
 {
     let mut count = n;
     let mut link = tree::child(s, at, b"PredecessorLink");
@@ -37,13 +38,14 @@ fn counted_in(s: &[u8], root: usize, at: usize, n: Fates) -> Fates
         let Found::At(p) = link else {
             return count;
         };
-        count = counted(count, fate_of(s, root, p));
+        count = counted(count, fate_of(s, root, p, words, tasks));
         link = tree::next_child(s, p, b"PredecessorLink");
     }
 }
 
-pub fn count_fates(s: &[u8], root: usize) -> Fates
-    ensures { λ r. ⌜ Counted (contextOf (elementAt (now (s .entry)) root)) r ⌝ }
+// By the table of the kept tasks.
+pub fn count_fates(s: &[u8], root: usize, words: &[u32], tasks: Made) -> Fates
+    ensures { λ r. ⌜ Counted (fatesBy (taskIn (now (s .entry)) root (now (words .entry)) tasks) (contextOf (elementAt (now (s .entry)) root))) r ⌝ }
 {
     let mut count = Fates {
         dangling: 0,
@@ -54,7 +56,7 @@ pub fn count_fates(s: &[u8], root: usize) -> Fates
         let KeptAnswer::Is(at, left) = task else {
             return count;
         };
-        count = counted_in(s, root, at, count);
+        count = counted_in(s, root, at, words, tasks, count);
         task = rows::next_kept(s, at, left);
     }
 }

@@ -1,10 +1,11 @@
 // What becomes of a link element.
 ghost use mathlib.Core.Path.{_≡_};
 ghost use Rattle.definition.specs.Answer.{rowMeaning};
-ghost use Rattle.definition.specs.Task.{keptTasks};
 ghost use Rattle.tree.specs.Place.{elementAt};
-ghost use Rattle.links.specs.Fates.{isEntered, fateByRow, fateFor, keptFate};
+ghost use Rattle.links.specs.Fates.{taskIn, isEntered, fateByRow, fateFor, keptFate};
 use definition::RowAnswer;
+use index::Made;
+use rows::Listed;
 use tree::Found;
 
 // A kept one has the row of its predecessor.
@@ -23,16 +24,18 @@ fn by_row(row: RowAnswer) -> LinkFate
     }
 }
 
-pub(crate) fn fate_of(s: &[u8], root: usize, at: usize) -> LinkFate
-    ensures { λ r. ⌜ r ≡ fateFor (keptTasks (elementAt (now (s .entry)) root)) (elementAt (now (s .entry)) at) ⌝ }
+// By the table of the kept tasks.
+pub(crate) fn fate_of(s: &[u8], root: usize, at: usize, words: &[u32], tasks: Made) -> LinkFate
+    ensures { λ r. ⌜ r ≡ fateFor (taskIn (now (s .entry)) root (now (words .entry)) tasks) (elementAt (now (s .entry)) at) ⌝ }
 {
     if tasks::is_across(s, at) {
         return LinkFate::Across;
     }
-    if !fields::given(s, at, b"PredecessorUID") {
+    let uid = tree::text_of(s, at, b"PredecessorUID");
+    if uid.len() == 0 {
         return LinkFate::Dangling;
     }
-    by_row(rows::task_row(s, root, tree::text_of(s, at, b"PredecessorUID")))
+    by_row(rows::row_with(s, root, Listed::Tasks, words, tasks, uid))
 }
 
 fn is_kept(fate: LinkFate) -> bool
@@ -46,15 +49,15 @@ fn is_kept(fate: LinkFate) -> bool
 }
 
 // Whether a kept link enters the task at `at`.
-pub fn is_entered(s: &[u8], root: usize, at: usize) -> bool
-    ensures { λ r. ⌜ r ≡ isEntered (keptTasks (elementAt (now (s .entry)) root)) (elementAt (now (s .entry)) at) ⌝ }
+pub fn is_entered(s: &[u8], root: usize, at: usize, words: &[u32], tasks: Made) -> bool
+    ensures { λ r. ⌜ r ≡ isEntered (taskIn (now (s .entry)) root (now (words .entry)) tasks) (elementAt (now (s .entry)) at) ⌝ }
 {
     let mut link = tree::child(s, at, b"PredecessorLink");
     loop {
         let Found::At(p) = link else {
             return false;
         };
-        if is_kept(fate_of(s, root, p)) {
+        if is_kept(fate_of(s, root, p, words, tasks)) {
             return true;
         }
         link = tree::next_child(s, p, b"PredecessorLink");

@@ -3,16 +3,16 @@ ghost use Rattle.definition.specs.Ascii.{bytes};
 ghost use Rattle.definition.specs.Format.{whole};
 ghost use Rattle.definition.specs.Pack.{link as linkFormat};
 ghost use Rattle.definition.specs.Tree.{all};
-ghost use Rattle.definition.specs.Task.{contextOf, keptTasks};
-ghost use Rattle.definition.specs.Link.{links as linksOf};
+ghost use Rattle.definition.specs.Task.{contextOf};
 ghost use Rattle.tree.specs.Place.{elementAt};
 ghost use Rattle.pack.specs.Writes.{Writes};
-ghost use Rattle.links.specs.Fates.{linksBy, linksIn};
+ghost use Rattle.links.specs.Fates.{taskIn, linksBy, linksFor, linksIn};
 ghost use Rattle.links.specs.More.{More};
 ghost use Rattle.links.specs.declared.fate.LinkFate.the-variants.{Kept as KeptFate};
 use crate::fate::LinkFate;
 use crate::fate::fate_of;
 use bits::Place;
+use index::Made;
 use pack::Records;
 use rows::KeptAnswer;
 use tree::Found;
@@ -27,7 +27,7 @@ fn put_kept(
     row: u32,
     predecessor: u32,
 ) -> Records
-    ensures { λ r. ⌜ More (whole linkFormat) (linksBy «per_day» row (elementAt (now (s .entry)) at) (KeptFate predecessor)) (now (out .entry)) done (now (out .exit)) r ⌝ }
+    ensures { λ r. ⌜ More (whole linkFormat) (linksFor «per_day» row (elementAt (now (s .entry)) at) (KeptFate predecessor)) (now (out .entry)) done (now (out .exit)) r ⌝ }
 {
     let kind = tasks::link_kind(s, at);
     let lag = tasks::link_lag(s, at, per_day);
@@ -47,7 +47,7 @@ fn put_fate(
     row: u32,
     fate: LinkFate,
 ) -> Records
-    ensures { λ r. ⌜ More (whole linkFormat) (linksBy «per_day» row (elementAt (now (s .entry)) at) fate) (now (out .entry)) done (now (out .exit)) r ⌝ }
+    ensures { λ r. ⌜ More (whole linkFormat) (linksFor «per_day» row (elementAt (now (s .entry)) at) fate) (now (out .entry)) done (now (out .exit)) r ⌝ }
 {
     match fate {
         LinkFate::Across => done,
@@ -63,10 +63,12 @@ fn put_links_in(
     s: &[u8],
     root: usize,
     at: usize,
+    words: &[u32],
+    tasks: Made,
     per_day: u64,
     row: u32,
 ) -> Records
-    ensures { λ r. ⌜ More (whole linkFormat) (linksIn «per_day» (keptTasks (elementAt (now (s .entry)) root)) row (all (elementAt (now (s .entry)) at) (bytes "PredecessorLink"))) (now (out .entry)) done (now (out .exit)) r ⌝ }
+    ensures { λ r. ⌜ More (whole linkFormat) (linksIn «per_day» (taskIn (now (s .entry)) root (now (words .entry)) tasks) row (all (elementAt (now (s .entry)) at) (bytes "PredecessorLink"))) (now (out .entry)) done (now (out .exit)) r ⌝ }
 {
     let mut r = done;
     let mut link = tree::child(s, at, b"PredecessorLink");
@@ -74,14 +76,29 @@ fn put_links_in(
         let Found::At(p) = link else {
             return r;
         };
-        r = put_fate(out, r, s, p, per_day, row, fate_of(s, root, p));
+        r = put_fate(
+            out,
+            r,
+            s,
+            p,
+            per_day,
+            row,
+            fate_of(s, root, p, words, tasks),
+        );
         link = tree::next_child(s, p, b"PredecessorLink");
     }
 }
 
-// The kept links, one after another.
-pub fn put_links(out: &mut [u8], p: Place, s: &[u8], root: usize) -> Records
-    ensures { λ r. ⌜ Writes (whole linkFormat) (linksOf (contextOf (elementAt (now (s .entry)) root))) (now (out .entry)) p (now (out .exit)) r ⌝ }
+// The kept links, one after another, by the table of the kept tasks.
+pub fn put_links(
+    out: &mut [u8],
+    p: Place,
+    s: &[u8],
+    root: usize,
+    words: &[u32],
+    tasks: Made,
+) -> Records
+    ensures { λ r. ⌜ Writes (whole linkFormat) (linksBy (taskIn (now (s .entry)) root (now (words .entry)) tasks) (contextOf (elementAt (now (s .entry)) root))) (now (out .entry)) p (now (out .exit)) r ⌝ }
 {
     let per_day = tasks::per_day(s, root);
     let mut r = Records { count: 0, next: p };
@@ -91,7 +108,7 @@ pub fn put_links(out: &mut [u8], p: Place, s: &[u8], root: usize) -> Records
         let KeptAnswer::Is(at, left) = task else {
             return r;
         };
-        r = put_links_in(out, r, s, root, at, per_day, row);
+        r = put_links_in(out, r, s, root, at, words, tasks, per_day, row);
         row += 1;
         task = rows::next_kept(s, at, left);
     }

@@ -1,8 +1,11 @@
 pub mod Texts
 pub mod Context
 pub mod Seen
+pub mod Stars
 pub mod Kept
 pub mod Records
+pub mod Ids
+pub mod Noted
 pub mod Short
 pub mod Carried
 pub mod Agree

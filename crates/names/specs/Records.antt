@@ -214,6 +214,13 @@ module _ {kind : Kind} {B : Type 0} {g : Format B} {G : B → Type 0} (k : Plain
         let (xs, e, l) = lies-found d p rows i' in
         ap (placeOfRow kind d' p) (sym e) ∙ place-last (lies-kept u h l)
 
+    pub row-kept : (i : ℕ) → i < rows → placeOfRow kind d' p i ≡ placeOfRow kind d p i
+    row-kept i h' =
+        let (xs, e, l) = lies-found d p rows i' in
+        let (us, x, vs, z, m) = split-at xs i (omega arith) in
+        let (a, b) = lies-front us (x ∷ vs) (rw z at l) in
+        rw (← m) (place-last (lies-kept u (omega arith) a))
+
     pub texts-kept : {front : B → Text} → Fronts g front → textsAt kind d' p rows ≡ textsAt kind d p rows
     texts-kept w =
         let (xs, e, l) = lies-found d p rows i' in

@@ -2,7 +2,7 @@ use Rattle.definition.specs.Task.{keptTasks}
 use Rattle.tree.specs.Place.{elementAt}
 use Rattle.rows.specs.Walks.{keptBy, room}
 use Rattle.rows.specs.Turns.{kept-end, kept-next, kept-less}
-use Rattle.links.specs.Fates.{countedOf}
+use Rattle.links.specs.Fates.{taskIn, countedOf}
 use Rattle.links.proofs.Counts.{CountOf, tasks-begin, tasks-next, tasks-end}
 use borrow.Author.Needs.{needs}
 use native.Mathlib.Omega.{arith}
@@ -10,10 +10,10 @@ use Rattle.links.proofs.counting.count_fates.Statement.{statement}
 use Rattle.links.proofs.counting.count_fates.Tie as tie
 
 abbrev Inv-loop : tie.InvT-loop
-Inv-loop s root count₀ task₀ count task = CountOf (keptTasks (elementAt s root)) (countedOf (keptTasks (elementAt s root)) count₀ (keptTasks (elementAt s root))) count (keptBy s task)
+Inv-loop s root words tasks count₀ task₀ count task = CountOf (taskIn s root words tasks) (countedOf (taskIn s root words tasks) count₀ (keptTasks (elementAt s root))) count (keptBy s task)
 
 abbrev μ-loop : tie.MeasureT-loop
-μ-loop s root count₀ task₀ count task = room task
+μ-loop s root words tasks count₀ task₀ count task = room task
 
 first-kept-requires : tie.Need-first-kept-requires Inv-loop μ-loop
 first-kept-requires c κs = search needs
@@ -28,7 +28,7 @@ enum-told : tie.Need-enum-told Inv-loop μ-loop
 enum-told c = search needs
 
 returns : tie.Need-returns Inv-loop μ-loop
-returns c = tasks-end _ (c .before .before .loop .inv) (kept-end _ (c .enum-told .given .1))
+returns c = tasks-end _ _ (c .before .before .loop .inv) (kept-end _ (c .enum-told .given .1))
 
 counted-in-requires : tie.Need-counted-in-requires Inv-loop μ-loop
 counted-in-requires c κs = search needs

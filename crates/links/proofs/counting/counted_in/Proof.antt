@@ -1,20 +1,19 @@
 use Rattle.definition.specs.Ascii.{bytes}
-use Rattle.definition.specs.Task.{keptTasks}
 use Rattle.definition.specs.Tree.{all}
 use Rattle.tree.specs.Place.{elementAt, listOf}
 use Rattle.rows.specs.Walks.{ahead}
 use Rattle.rows.specs.Turns.{list-end, list-next, ahead-less}
-use Rattle.links.specs.Fates.{countedIn}
+use Rattle.links.specs.Fates.{taskIn, countedIn}
 use Rattle.links.proofs.Counts.{CountIn, count-begin, count-next, count-end}
 use borrow.Author.Needs.{needs}
 use Rattle.links.proofs.counting.counted_in.Statement.{statement}
 use Rattle.links.proofs.counting.counted_in.Tie as tie
 
 abbrev Inv-loop : tie.InvT-loop
-Inv-loop s root at count₀ link₀ t9 count link = CountIn (keptTasks (elementAt s root)) (countedIn (keptTasks (elementAt s root)) count₀ (all (elementAt s at) (bytes "PredecessorLink"))) count (listOf s (bytes "PredecessorLink") link)
+Inv-loop s root at words tasks count₀ link₀ t11 count link = CountIn (taskIn s root words tasks) (countedIn (taskIn s root words tasks) count₀ (all (elementAt s at) (bytes "PredecessorLink"))) count (listOf s (bytes "PredecessorLink") link)
 
 abbrev μ-loop : tie.MeasureT-loop
-μ-loop s root at count₀ link₀ t9 count link = ahead s link
+μ-loop s root at words tasks count₀ link₀ t11 count link = ahead s link
 
 slice-aggregate-child : tie.Need-slice-aggregate-child Inv-loop μ-loop
 slice-aggregate-child c = search needs

@@ -1,19 +1,18 @@
 use Rattle.definition.specs.Ascii.{bytes}
-use Rattle.definition.specs.Task.{keptTasks}
 use Rattle.tree.specs.Place.{elementAt, listOf}
 use Rattle.rows.specs.Walks.{ahead}
 use Rattle.rows.specs.Turns.{list-end, list-at, ahead-less, AnyIn, any-begin, any-end, any-here, any-on}
-use Rattle.links.specs.Fates.{isKeptLink, isEntered}
+use Rattle.links.specs.Fates.{taskIn, isKeptLink, isEntered}
 use Rattle.links.proofs.Links.{fate-kept}
 use borrow.Author.Needs.{needs}
 use Rattle.links.proofs.fate.is_entered.Statement.{statement}
 use Rattle.links.proofs.fate.is_entered.Tie as tie
 
 abbrev Inv-loop : tie.InvT-loop
-Inv-loop s root at link₀ t7 link = AnyIn (isKeptLink (keptTasks (elementAt s root))) (isEntered (keptTasks (elementAt s root)) (elementAt s at)) (listOf s (bytes "PredecessorLink") link)
+Inv-loop s root at words tasks link₀ t9 link = AnyIn (isKeptLink (taskIn s root words tasks)) (isEntered (taskIn s root words tasks) (elementAt s at)) (listOf s (bytes "PredecessorLink") link)
 
 abbrev μ-loop : tie.MeasureT-loop
-μ-loop s root at link₀ t7 link = ahead s link
+μ-loop s root at words tasks link₀ t9 link = ahead s link
 
 slice-aggregate-child : tie.Need-slice-aggregate-child Inv-loop μ-loop
 slice-aggregate-child c = search needs

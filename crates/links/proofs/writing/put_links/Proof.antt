@@ -3,12 +3,11 @@ use mathlib.Core.Path.{_≡_, refl, _∙_}
 use lib.ListN.{length}
 use Rattle.definition.specs.Format.{whole}
 use Rattle.definition.specs.Pack.{link as linkFormat}
-use Rattle.definition.specs.Task.{keptTasks, contextOf, mostTasks}
-use Rattle.definition.specs.Link.{links}
+use Rattle.definition.specs.Task.{contextOf, mostTasks}
 use Rattle.tree.specs.Place.{elementAt}
 use Rattle.rows.specs.Walks.{keptBy, room}
 use Rattle.rows.specs.Turns.{kept-end, kept-next, kept-less, room-at}
-use Rattle.links.specs.Fates.{linksFrom}
+use Rattle.links.specs.Fates.{taskIn, linksBy, linksFrom}
 use Rattle.links.specs.More.{Left, more-all}
 use Rattle.links.proofs.Links.{from-begin, from-next, from-end}
 use borrow.Author.Needs.{needs}
@@ -17,10 +16,10 @@ use Rattle.links.proofs.writing.put_links.Statement.{statement}
 use Rattle.links.proofs.writing.put_links.Tie as tie
 
 abbrev Inv-loop : tie.InvT-loop
-Inv-loop out₀ s root per-day r₀ row₀ task₀ out r row task = (length out ≡ length out₀) × Left (whole linkFormat) (links (contextOf (elementAt s root))) (linksFrom per-day (keptTasks (elementAt s root)) row (keptBy s task)) out₀ r₀ out r × (row + room task ≤ mostTasks)
+Inv-loop out₀ s root words tasks per-day r₀ row₀ task₀ out r row task = (length out ≡ length out₀) × Left (whole linkFormat) (linksBy (taskIn s root words tasks) (contextOf (elementAt s root))) (linksFrom per-day (taskIn s root words tasks) row (keptBy s task)) out₀ r₀ out r × (row + room task ≤ mostTasks)
 
 abbrev μ-loop : tie.MeasureT-loop
-μ-loop out₀ s root per-day r₀ row₀ task₀ out r row task = room task
+μ-loop out₀ s root words tasks per-day r₀ row₀ task₀ out r row task = room task
 
 per-day-requires : tie.Need-per-day-requires Inv-loop μ-loop
 per-day-requires c κs = search needs
@@ -29,7 +28,7 @@ first-kept-requires : tie.Need-first-kept-requires Inv-loop μ-loop
 first-kept-requires c κs = search needs
 
 loop-holds : tie.Need-loop-holds Inv-loop μ-loop
-loop-holds c = (refl, from-begin _ (c .before .per-day .ensures) (c .first-kept .ensures .is), omega (arith, c .first-kept .ensures .on))
+loop-holds c = (refl, from-begin _ _ (c .before .per-day .ensures) (c .first-kept .ensures .is), omega (arith, c .first-kept .ensures .on))
 
 enum-known-task : tie.Need-enum-known-task Inv-loop μ-loop
 enum-known-task c = search needs

@@ -4,11 +4,10 @@ use Rattle.definition.specs.Format.{whole}
 use Rattle.definition.specs.Pack.{link as linkFormat}
 use Rattle.definition.specs.Tree.{all}
 use Rattle.definition.specs.Ascii.{bytes}
-use Rattle.definition.specs.Task.{keptTasks}
 use Rattle.tree.specs.Place.{elementAt, listOf}
 use Rattle.rows.specs.Walks.{ahead}
 use Rattle.rows.specs.Turns.{list-end, list-next, ahead-less}
-use Rattle.links.specs.Fates.{linksIn}
+use Rattle.links.specs.Fates.{taskIn, linksIn}
 use Rattle.links.specs.More.{Left}
 use Rattle.links.proofs.Links.{in-begin, in-next, in-end}
 use borrow.Author.Needs.{needs}
@@ -16,10 +15,10 @@ use Rattle.links.proofs.writing.put_links_in.Statement.{statement}
 use Rattle.links.proofs.writing.put_links_in.Tie as tie
 
 abbrev Inv-loop : tie.InvT-loop
-Inv-loop out₀ s root at per-day row r₀ link₀ t12 out r link = (length out ≡ length out₀) × Left (whole linkFormat) (linksIn per-day (keptTasks (elementAt s root)) row (all (elementAt s at) (bytes "PredecessorLink"))) (linksIn per-day (keptTasks (elementAt s root)) row (listOf s (bytes "PredecessorLink") link)) out₀ r₀ out r
+Inv-loop out₀ s root at words tasks per-day row r₀ link₀ t14 out r link = (length out ≡ length out₀) × Left (whole linkFormat) (linksIn per-day (taskIn s root words tasks) row (all (elementAt s at) (bytes "PredecessorLink"))) (linksIn per-day (taskIn s root words tasks) row (listOf s (bytes "PredecessorLink") link)) out₀ r₀ out r
 
 abbrev μ-loop : tie.MeasureT-loop
-μ-loop out₀ s root at per-day row r₀ link₀ t12 out r link = ahead s link
+μ-loop out₀ s root at words tasks per-day row r₀ link₀ t14 out r link = ahead s link
 
 slice-aggregate-child : tie.Need-slice-aggregate-child Inv-loop μ-loop
 slice-aggregate-child c = search needs

@@ -5,7 +5,7 @@ use Rattle.definition.specs.Task.{unlessMain}
 use Rattle.definition.specs.Text.{Text}
 use Rattle.tree.specs.Place.{elementAt}
 use Rattle.names.specs.Context.{contextAt}
-use Rattle.names.proofs.Starred.{star-none}
+use Rattle.names.specs.Stars.{star-none}
 use borrow.Author.Needs.{needs}
 use Rattle.names.proofs.calendars.elapsed_named.Statement.{statement}
 use Rattle.names.proofs.calendars.elapsed_named.Tie as tie

@@ -4,7 +4,7 @@ use Rattle.definition.specs.Base.{same}
 use Rattle.definition.specs.Ascii.{bytes}
 use Rattle.tree.specs.Place.{elementAt}
 use Rattle.pack.specs.Value.{starredBy}
-use Rattle.names.proofs.Starred.{star-none}
+use Rattle.names.specs.Stars.{star-none}
 use Rattle.names.proofs.Found.{is-there, is-absent, main-there, main-absent, main-same}
 use borrow.Author.Needs.{needs}
 use Rattle.names.proofs.calendars.is_main.Statement.{statement}

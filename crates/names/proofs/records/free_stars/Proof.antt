@@ -3,7 +3,8 @@ use mathlib.Core.Path.{sym, ap, _∙_}
 use Prim.Native.Nat.{ℕ, _-_, _≤_}
 use Rattle.definition.specs.Calendar.{starred}
 use Rattle.names.specs.Texts.{textsAt}
-use Rattle.names.proofs.Starred.{Tried, tried-none, tried-more, tried-free, tried-all, not-true, not-false}
+use Rattle.names.specs.Stars.{Tried, tried-none, tried-more, tried-free, tried-all}
+use Rattle.names.proofs.Starred.{not-true, not-false}
 use Rattle.names.specs.Seen.{texts-length}
 use native.Mathlib.Omega.{arith}
 use borrow.Author.Needs.{needs}
