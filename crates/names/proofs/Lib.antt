@@ -1,3 +1,5 @@
 pub mod Starred
 pub mod Found
 pub mod Chained
+pub mod Placing
+pub mod Wording

@@ -149,6 +149,6 @@ pub record NotesName (d : List ℕ) (c q : Place) (s : Text) (t : Table) (row : 
   pub next : (k : ℕ) → Passes (times k (recordOf false kind.Calendars)) d c q → Passes (times (if eqb row (m .row) then k else k + 1) (recordOf false kind.Calendars)) d c r
 
 -- the first n rows
-pub record Noted (d : List ℕ) (c : Place) (s : Text) (t : Table) (m : Main) (n : ℕ) (w w′ : List ℕ) : Type 0 where
+pub record NamesNoted (d : List ℕ) (c : Place) (s : Text) (t : Table) (m : Main) (n : ℕ) (w w′ : List ℕ) : Type 0 where
   pub names : (row : ℕ) → row < n → getD w′ (nameAt t (t .rows - suc row)) 0 ≡ wordBy s m (textAt kind.Calendars d c (sectionRow (m .row) row)) (nthIn s t w row)
   pub stays : Stays (endOf t) (namesEnd t) w w′

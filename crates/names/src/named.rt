@@ -14,7 +14,7 @@ ghost use Rattle.rows.specs.Rows.{inOrder};
 ghost use Rattle.tree.specs.Place.{elementAt};
 ghost use Rattle.pack.specs.Value.{nameMeaning};
 ghost use Rattle.names.specs.Context.{contextAt};
-ghost use Rattle.names.specs.Named.{nameWord, nameBy, calendarName, nameOfRow, namedBy, namedIn, elapsedIn, madeIn, namesEnd, Stays, Stand, Chained, MainOf, mainText, NotesName, Noted, Ripe, Calendars, Makes};
+ghost use Rattle.names.specs.Named.{nameWord, nameBy, calendarName, nameOfRow, namedBy, namedIn, elapsedIn, madeIn, namesEnd, Stays, Stand, Chained, MainOf, mainText, NotesName, NamesNoted, Ripe, Calendars, Makes};
 use crate::calendars::count_calendars;
 use crate::calendars::elapsed_named;
 use crate::calendars::stars_at;
@@ -154,7 +154,7 @@ fn note_name(
 
 fn note_names(out: &[u8], c: Place, s: &[u8], words: &mut [u32], t: Table, main: Main)
     requires { ⌜ namesEnd t ≤ length (now words) ⌝ }
-    ensures { λ _. ⌜ Noted (now (out .entry)) c (now (s .entry)) t main (t .rows) (now (words .entry)) (now (words .exit)) ⌝ }
+    ensures { λ _. ⌜ NamesNoted (now (out .entry)) c (now (s .entry)) t main (t .rows) (now (words .entry)) (now (words .exit)) ⌝ }
 {
     let mut q = skip_record(out, c, Kind::Calendars, false);
     let mut row: u32 = 0;

@@ -1,0 +1,169 @@
+-- What a table of the calendars says: the name of each UID, as the definition says it. Assumes nothing.
+use Prim.Native.Nat.{ℕ, zero, suc, _+_, _-_, _≤_, _<_}
+use native.Mathlib.Omega.{arith}
+use mathlib.Core.Path.{_≡_, refl, sym, ap, _∙_}
+use mathlib.Core.Bool.{Bool, true, false, not}
+use mathlib.Core.List.{List, [], _∷_}
+use mathlib.Core.Option.{Option, some, none}
+use lib.ListN.{length, getD}
+use Rattle.definition.specs.Base.{if_then_else_, _>>=_, when, keep, first, find, numbered, same}
+use Rattle.definition.specs.Calendar.{nameOf, elapsedName}
+use Rattle.definition.specs.Task.{Context, unlessMain}
+use Rattle.definition.specs.Text.{Text}
+use Rattle.definition.specs.Tree.{Element}
+use Rattle.index.specs.declared.Table.{Table}
+use Rattle.index.specs.declared.Made.{Made}
+use Rattle.index.specs.declared.Made.the-variants.{Ready, NoRoom}
+use Rattle.index.specs.Below.{SameBelow, below-in}
+use Rattle.index.specs.Hash.{hashOf, same-hash}
+use Rattle.index.specs.Chains.{placeOf}
+use Rattle.index.specs.Last.{lastBelow, last-none, last-yes, last-no, last-same, last-in}
+use Rattle.index.specs.Law.{find-by-place, indexed-same}
+use Rattle.index.specs.Frame.{indexed-kept, place-same}
+use Rattle.bits.specs.declared.Place.{Place}
+use Rattle.pack.specs.Value.{starredBy}
+use Rattle.rows.specs.Rows.{inOrder, hasUid, withUidIn}
+use Rattle.rows.specs.Tables.{uidOf, soughtIn, noElement}
+use Rattle.tree.specs.Place.{elementAt}
+use Rattle.names.specs.Context.{wantedName, starsIn, nameIn, builtAt, contextAt}
+use Rattle.names.specs.Stars.{star-none}
+use Rattle.names.specs.ByUid.{name-with}
+use Rattle.names.specs.Named.{nameWord, nameBy, nameAt, namesEnd, namedBy, nameOfRow, namedIn, elapsedIn, howMany, ofRow, Stays, Calendars, CalendarsIn, Makes}
+
+-- ---- the first of a list is the last of the list turned round
+
+module _ {A : Type 0} (p : A → Bool) (d : A) where
+  abbrev back : List A → ℕ → A
+  back l r = getD l (length l - suc r) d
+
+  abbrev numberedBack : ℕ → List A → ℕ → Option (ℕ × A)
+  numberedBack k l r = some (k + (length l - suc r), back l r)
+
+  one-more : (x : A) (l : List A) (r : ℕ) → r < length l → back (x ∷ l) r ≡ back l r
+  one-more x l r h =
+      let z : suc (length l) - suc r ≡ suc (length l - suc r) = omega arith in
+      ap (λ (i : ℕ). getD (x ∷ l) i d) z
+
+  pub find-back : (k : ℕ) (l : List A) → find (λ (x : ℕ × A). p (x .1)) (numbered k l) ≡ (lastBelow (λ r. p (back l r)) (length l) >>= numberedBack k l)
+  unfolding keep first numbered
+  find-back k [] = ap (λ (o : Option ℕ). o >>= numberedBack k []) (sym (last-none (λ r. p (back [] r))))
+  find-back k (x ∷ l) = go (p x) refl (find-back (suc k) l)
+    where
+      n : ℕ
+      n = length l
+
+      here : back (x ∷ l) n ≡ x
+      here = let z : suc (length l) - suc (length l) ≡ 0 = omega arith in ap (λ (i : ℕ). getD (x ∷ l) i d) z
+
+      later : (o : Option ℕ) → ((r : ℕ) → o ≡ some r → r < n) → (o >>= numberedBack (suc k) l) ≡ (o >>= numberedBack k (x ∷ l))
+      later none h = refl
+      later (some r) h =
+          let i : r < length l = h r refl in
+          let z : suc k + (length l - suc r) ≡ k + (suc (length l) - suc r) = omega arith in
+          ap (λ (j : ℕ). some (j, back l r)) z ∙ ap (λ (e : A). some (k + (suc (length l) - suc r), e)) (sym (one-more x l r i))
+
+      found : ℕ → Bool
+      found r = p (back (x ∷ l) r)
+
+      go : (b : Bool) → p x ≡ b → first (keep (λ (x : ℕ × A). p (x .1)) (numbered (suc k) l)) ≡ (lastBelow (λ r. p (back l r)) (length l) >>= numberedBack (suc k) l)
+          → first (if b then (k, x) ∷ keep (λ (x : ℕ × A). p (x .1)) (numbered (suc k) l) else keep (λ (x : ℕ × A). p (x .1)) (numbered (suc k) l))
+          ≡ (lastBelow found (suc n) >>= numberedBack k (x ∷ l))
+      go true e h =
+          let z : k ≡ k + (suc n - suc n) = omega arith in
+          ap (λ (j : ℕ). some (j, x)) z
+          ∙ ap (λ (e : A). some (k + (suc n - suc n), e)) (sym here)
+          ∙ ap (λ (o : Option ℕ). o >>= numberedBack k (x ∷ l)) (sym (last-yes found n (ap p here ∙ e)))
+      go false e h =
+          let same : lastBelow (λ r. p (back l r)) n ≡ lastBelow found (suc n) =
+              last-same (λ r. p (back l r)) found n (λ r i. ap p (sym (one-more x l r i))) ∙ sym (last-no found n (ap p here ∙ e)) in
+          h
+          ∙ later (lastBelow (λ r. p (back l r)) n) (λ r i. last-in (λ r. p (back l r)) n i .0)
+          ∙ ap (λ (o : Option ℕ). o >>= numberedBack k (x ∷ l)) same
+
+-- ---- a name's word
+
+pub name-said : (x : Context) (text : Text) (stars : ℕ) → nameBy text (nameWord (x .main .name) text stars) ≡ unlessMain x (starredBy text stars)
+unfolding nameWord nameBy
+name-said x text stars = go (same (starredBy text stars) (x .main .name))
+  where
+    go : (b : Bool) → nameBy text (if b then 0 else suc stars) ≡ when (not b) (starredBy text stars)
+    go true = refl
+    go false = refl
+
+-- ---- the table
+
+module _ {d : List ℕ} {c : Place} {s : Text} {root : Element} {t : Table} {w : List ℕ} (x : Calendars d c s root t w) where
+  sought : (u : Text) → soughtIn s w t u ≡ lastBelow (λ r. hasUid u (ofRow root r)) (howMany root)
+  sought u =
+      find-by-place (x .indexed) (λ v. same (uidOf (elementAt s v)) u) (λ r. hasUid u (ofRow root r)) (hashOf u)
+      (λ r h. ap (hasUid u) (x .stands r h)) (λ r h e. same-hash (uidOf (ofRow root r)) u e)
+      ∙ ap (lastBelow (λ r. hasUid u (ofRow root r))) (x .rows)
+
+  in-row : (r : ℕ) → r < howMany root → nameOfRow s w t (some r) ≡ unlessMain (contextAt d c root) (nameIn d c root (howMany root - suc r, ofRow root r))
+  in-row r h =
+      let k : r < t .rows = omega (arith, x .rows) in
+      ap (λ (e : Element). nameBy (wantedName e) (getD w (nameAt t r) 0)) (x .stands r k)
+      ∙ ap (nameBy (wantedName (ofRow root r))) (x .names r k)
+      ∙ name-said (contextAt d c root) (wantedName (ofRow root r)) (starsIn d c root (howMany root - suc r) (ofRow root r))
+
+  named-by : (u : Text) → namedBy (contextAt d c root) u ≡ (withUidIn root u >>= λ y. unlessMain (contextAt d c root) (nameIn d c root y))
+  unfolding contextAt
+  named-by u = ap (λ (o : Option Text). o >>= unlessMain (contextAt d c root)) (name-with d c root u) ∙ go (withUidIn root u)
+    where
+      go : (o : Option (ℕ × Element)) → (o >>= (λ y. some (nameIn d c root y)) >>= unlessMain (contextAt d c root)) ≡ (o >>= λ y. unlessMain (contextAt d c root) (nameIn d c root y))
+      go none = refl
+      go (some y) = refl
+
+  -- THE LAW
+  pub calendars-named : (u : Text) → namedIn (contextAt d c root) s w (Ready t) u ≡ namedBy (contextAt d c root) u
+  unfolding namedIn
+  calendars-named u =
+      ap (nameOfRow s w t) (sought u)
+      ∙ go (lastBelow (λ r. hasUid u (ofRow root r)) (howMany root)) (λ r e. last-in (λ r. hasUid u (ofRow root r)) (howMany root) e .0)
+      ∙ ap (λ (o : Option (ℕ × Element)). o >>= λ y. unlessMain (contextAt d c root) (nameIn d c root y)) (sym (find-back (hasUid u) noElement 0 (inOrder root)))
+      ∙ sym (named-by u)
+    where
+      go : (o : Option ℕ) → ((r : ℕ) → o ≡ some r → r < howMany root)
+          → nameOfRow s w t o ≡ (o >>= (λ r. some (0 + (howMany root - suc r), ofRow root r)) >>= λ y. unlessMain (contextAt d c root) (nameIn d c root y))
+      go none h = refl
+      go (some r) h =
+          let z : howMany root - suc r ≡ 0 + (howMany root - suc r) = omega arith in
+          in-row r (h r refl) ∙ ap (λ (i : ℕ). unlessMain (contextAt d c root) (nameIn d c root (i, ofRow root r))) z
+
+  pub calendars-elapsed : elapsedIn (contextAt d c root) w (Ready t) ≡ unlessMain (contextAt d c root) elapsedName
+  unfolding elapsedIn
+  calendars-elapsed = ap (nameBy elapsedName) (x .elapsed) ∙ name-said (contextAt d c root) elapsedName 0 ∙ ap (unlessMain (contextAt d c root)) (star-none elapsedName)
+
+  -- what stands behind the table does not count
+  pub calendars-kept : {w′ : List ℕ} → SameBelow (namesEnd t) w w′ → Calendars d c s root t w′
+  calendars-kept {w′} y =
+      let i = below-in y {t = t} (omega arith) in
+      record {
+        rows = x .rows;
+        indexed = indexed-same (indexed-kept i (x .indexed)) (λ r h. refl) (λ r h. sym (place-same i r h));
+        stands = λ r h. ap (elementAt s) (place-same i r h) ∙ x .stands r h;
+        names = λ r h. y .words (nameAt t r) (omega arith) ∙ x .names r h;
+        elapsed = y .words (nameAt t (t .rows)) (omega arith) ∙ x .elapsed;
+      }
+
+-- ---- whether there is a table or none
+
+abbrev pub endNames : Made → ℕ
+endNames NoRoom = 0
+endNames (Ready t) = namesEnd t
+
+-- words that say of each UID what the definition says
+pub record Finds (x : Context) (s : Text) (m : Made) (w : List ℕ) : Type 0 where
+  pub named : (u : Text) → namedIn x s w m u ≡ namedBy x u
+  pub elapsed : elapsedIn x w m ≡ unlessMain x elapsedName
+
+pub makes-finds : {d : List ℕ} {c : Place} {s : Text} {root : Element} {at : ℕ} {w w′ : List ℕ} {m : Made} → Makes d c s root at w w′ m
+    → {w″ : List ℕ} → SameBelow (endNames m) w′ w″ → Finds (contextAt d c root) s m w″
+unfolding namedIn elapsedIn
+makes-finds {d} {c} {s} {root} {w = w} {w′} {m} h {w″} y = go m (h .words) y
+  where
+    go : (m : Made) → CalendarsIn d c s root m w w′ → SameBelow (endNames m) w′ w″ → Finds (contextAt d c root) s m w″
+    go NoRoom h y = record { named = λ u. refl; elapsed = refl }
+    go (Ready t) h y =
+        let k = calendars-kept (h .0) y in
+        record { named = calendars-named k; elapsed = calendars-elapsed k }
