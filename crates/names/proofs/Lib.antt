@@ -3,3 +3,4 @@ pub mod Found
 pub mod Chained
 pub mod Placing
 pub mod Wording
+pub mod Answered

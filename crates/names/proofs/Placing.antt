@@ -21,13 +21,13 @@ use Rattle.laws.specs.FitLists.{each-keep}
 use Rattle.index.specs.declared.Table.{Table}
 use Rattle.index.specs.Hash.{hashOf}
 use Rattle.index.specs.Chains.{nextAt, placeAt, placeOf, endOf, zeros, added}
-use Rattle.index.specs.Law.{Fits, Indexed, indexed-none, indexed-by, added-other, length-added}
+use Rattle.index.specs.Law.{Fits, Indexed, indexed-none, indexed-by, indexed-same, added-other, length-added}
 use Rattle.index.specs.Frame.{zeros-other, zeros-outside, added-outside}
 use Rattle.index.specs.Steps.{length-zeros}
 use Rattle.rows.specs.Rows.{inOrder}
 use Rattle.rows.specs.Tables.{uidOf, noElement}
-use Rattle.rows.specs.Turns.{order-end, order-next}
-use Rattle.rows.specs.Walks.{orderBy, orderRoom, laterInOrder, Orders}
+use Rattle.rows.specs.Turns.{order-end, order-at}
+use Rattle.rows.specs.Walks.{orderBy, laterInOrder, Orders}
 use Rattle.rows.proofs.Filling.{drop-in, drop-out, drop-is, cons-head, cons-tail}
 use Rattle.tree.specs.Place.{elementAt}
 use Rattle.tree.specs.declared.Found.{Found}
@@ -114,21 +114,18 @@ module _ {s : Text} {root : Element} {t : Table} {w : List ℕ} (ripe : Ripe s r
         let y : left ≡ 0 = omega (arith, p .few, ripe .rows, ripe .some) in
         (rw (← y) (p .stand), p .stays)
 
-    module _ {at : ℕ} (i : e ≡ At at) {r : Found} (h : Orders s root (laterInOrder s root at) (orderRoom s (At at)) r) where
-      split : drop (t .rows - left) (inOrder root) ≡ elementAt s at ∷ orderBy s root r
-      split = p .ahead ∙ order-next i h
-
-      inside : t .rows - left < howMany root
-      inside = drop-in (t .rows - left) (inOrder root) split
+    module _ {at : ℕ} (i : e ≡ At at) where
+      split : drop (t .rows - left) (inOrder root) ≡ elementAt s at ∷ laterInOrder s root at
+      split = p .ahead ∙ order-at s root i
 
       pub placing-more : 0 < left
-      placing-more = omega (arith, inside, ripe .rows, p .few)
+      placing-more = omega (arith, drop-in (t .rows - left) (inOrder root) split, ripe .rows, p .few)
 
       pub placing-at : at < 2 ^ 32
       placing-at =
           omega (arith, kept-there s at (kept-first (each-drop (t .rows - left) (order-kept root)) split), ripe .short)
 
-      both : getD (inOrder root) (t .rows - left) noElement ∷ drop (t .rows - left + 1) (inOrder root) ≡ elementAt s at ∷ orderBy s root r
+      both : getD (inOrder root) (t .rows - left) noElement ∷ drop (t .rows - left + 1) (inOrder root) ≡ elementAt s at ∷ laterInOrder s root at
       both = drop-is (t .rows - left) (inOrder root) noElement split
 
       here : elementAt s at ≡ ofRow root (left - 1)
@@ -149,38 +146,50 @@ module _ {s : Text} {root : Element} {t : Table} {w : List ℕ} (ripe : Ripe s r
             ∙ ap (elementAt s) (getD-set-other w₁ (placeAt t (left - 1)) (placeAt t r) at 0 (λ q. y (omega arith)))
             ∙ p .stand .stands r (omega (arith, y)) b
 
-        pub placing-turn : Placing s root t (left - 1) r w w₂
-        placing-turn =
+        pub placing-turn : {n : ℕ} {r : Found} → Orders s root (laterInOrder s root at) n r → Placing s root t (left - 1) r w w₂
+        placing-turn h =
             let z : t .rows - left + 1 ≡ t .rows - (left - 1) = omega (arith, placing-more, p .few) in
             record {
               few = omega (arith, p .few);
-              ahead = ap (λ (k : ℕ). drop k (inOrder root)) (sym z) ∙ cons-tail both;
+              ahead = ap (λ (k : ℕ). drop k (inOrder root)) (sym z) ∙ cons-tail both ∙ h .is;
               stand = record { stands = λ r a b. stood r (eqb r (left - 1)) refl a b };
               stays = stays-then (p .stays) (rw j (stays-set w₁ (placeAt t (left - 1)) at (omega arith) (omega (arith, placing-more, p .few))));
             }
 
 -- ---- all rows into their chains
 
-module _ (s : Text) {t : Table} {w : List ℕ} (fits : Fits t (length w)) where
-  pub chained-none : {w₀ : List ℕ} → w₀ ≡ zeros w (t .at) (t .rows) → Chained s t 0 w w₀
-  chained-none i =
-      rw i
-      (record {
-        indexed = indexed-none _ _ w fits;
-        ahead = λ r a b. zeros-other w (t .at) (t .rows) (placeAt t r) (λ k h e. omega arith);
-        stays = record { long = length-zeros w (t .at) (t .rows); outside = zeros-outside w t };
-      })
+module _ (s : Text) (w : List ℕ) {t : Table} (fits : Fits t (length w)) {w₀ : List ℕ} (i : w₀ ≡ zeros w (t .at) (t .rows)) where
+  pub chained-none : Chained s t 0 w₀ w₀
+  chained-none =
+      record {
+        indexed = rw i (indexed-none _ _ w fits);
+        ahead = λ r a b. refl;
+        stays = stays-refl (t .at) (endOf t) w₀;
+      }
 
-  module _ {n : ℕ} {w₁ : List ℕ} (x : Chained s t n w w₁) (few : n < t .rows) where
-    pub chained-more : {at : ℕ} → at ≡ placeOf w₁ t n → {u : Text} → u ≡ uidOf (elementAt s at) → {h : ℕ} → h ≡ hashOf u → {w₂ : List ℕ} → w₂ ≡ added w₁ t n h at → Chained s t (n + 1) w w₂
-    chained-more {at} i {u} j {h} k {w₂} l =
-        let a : at ≡ placeOf w t n = i ∙ x .ahead n (omega arith) few in
-        record {
-          indexed = indexed-by (x .indexed) few (k ∙ ap hashOf j ∙ ap (λ (p : ℕ). hashOf (uidOf (elementAt s p))) a) a l;
-          ahead = λ r b c.
-              let z : h % t .rows < t .rows = mod-lt h (fits .some) in
-              ap (λ (v : List ℕ). getD v (placeAt t r) 0) l
-              ∙ added-other t w₁ n h at few (placeAt t r) (λ e. omega arith) (λ e. omega arith) (λ e. omega arith)
-              ∙ x .ahead r (omega arith) c;
-          stays = stays-then (x .stays) (rw l (record { long = length-added w₁ t n h at; outside = added-outside w₁ t n h at }));
-        }
+  place-cleared : (r : ℕ) → r < t .rows → placeOf w₀ t r ≡ placeOf w t r
+  place-cleared r h =
+      ap (λ (l : List ℕ). getD l (placeAt t r) 0) i ∙ zeros-other w (t .at) (t .rows) (placeAt t r) (λ k b e. omega arith)
+
+  -- the places are those that stood there before the chains were emptied
+  pub chained-all : {n : ℕ} {w₁ : List ℕ} → Chained s t n w₀ w₁ → Chained s t n w w₁
+  chained-all x =
+      record {
+        indexed = indexed-same (x .indexed) (λ r h. ap (λ (p : ℕ). hashOf (uidOf (elementAt s p))) (place-cleared r (omega (arith, x .indexed .few)))) (λ r h. place-cleared r (omega (arith, x .indexed .few)));
+        ahead = λ r a b. x .ahead r a b ∙ place-cleared r b;
+        stays = stays-then (rw i (record { long = length-zeros w (t .at) (t .rows); outside = zeros-outside w t })) (x .stays);
+      }
+
+pub chained-more : {s : Text} {t : Table} {n : ℕ} {w w₁ : List ℕ} → Chained s t n w w₁ → n < t .rows → {at : ℕ} → at ≡ placeOf w₁ t n → {u : Text} → u ≡ uidOf (elementAt s at)
+    → {h : ℕ} → h ≡ hashOf u → {w₂ : List ℕ} → w₂ ≡ added w₁ t n h at → Chained s t (n + 1) w w₂
+chained-more {s} {t} {n} {w} {w₁} x few {at} i {u} j {h} k {w₂} l =
+    let a : at ≡ placeOf w t n = i ∙ x .ahead n (omega arith) few in
+    record {
+      indexed = indexed-by (x .indexed) few (k ∙ ap hashOf j ∙ ap (λ (p : ℕ). hashOf (uidOf (elementAt s p))) a) a l;
+      ahead = λ r b c.
+          let z : h % t .rows < t .rows = mod-lt h (x .indexed .fits .some) in
+          ap (λ (v : List ℕ). getD v (placeAt t r) 0) l
+          ∙ added-other t w₁ n h at few (placeAt t r) (λ e. omega arith) (λ e. omega arith) (λ e. omega arith)
+          ∙ x .ahead r (omega arith) c;
+      stays = stays-then (x .stays) (rw l (record { long = length-added w₁ t n h at; outside = added-outside w₁ t n h at }));
+    }

@@ -46,13 +46,17 @@ use Rattle.names.proofs.Placing.{stays-refl, stays-then, stays-wider, s
 
 -- ---- the word of a name
 
-pub word-main : {main text : Text} {stars : ℕ} → same (starredBy text stars) main ≡ true → 0 ≡ nameWord main text stars
-unfolding nameWord
-word-main h = rw h
+module _ (s : Text) (m : Main) (text : Text) (stars : ℕ) {name : Text} (i : name ≡ wantedName (elementAt s (m .at))) {b : Bool} (j : b ≡ same (starredBy text stars) (starredBy name (m .stars))) where
+  is-main : same (starredBy text stars) (mainText s m) ≡ b
+  is-main = sym (j ∙ ap (λ (n : Text). same (starredBy text stars) (starredBy n (m .stars))) i)
 
-pub word-other : {main text : Text} {stars : ℕ} → same (starredBy text stars) main ≡ false → stars + 1 ≡ nameWord main text stars
-unfolding nameWord
-word-other h = rw h (omega arith)
+  pub word-main : b ≡ true → 0 ≡ nameWord (mainText s m) text stars
+  unfolding nameWord
+  word-main h = rw (is-main, h)
+
+  pub word-other : b ≡ false → stars + 1 ≡ nameWord (mainText s m) text stars
+  unfolding nameWord
+  word-other h = rw (is-main, h) (omega arith)
 
 -- a wanted name is no empty text, so that 32 bits hold the word
 wanted-some : (e : Element) → 0 < length (wantedName e)
@@ -110,7 +114,29 @@ next-row main row false e = go (ltb main row) refl
   where
     go : (b : Bool) → ltb main row ≡ b → (if b then row else suc row) + 1 ≡ nextRow main (row + 1)
     go true k = rw (lt-ltb main (row + 1) (omega (arith, ltb-true main row k)))
-    go false k = rw (le-ltb main (row + 1) (omega (arith, ltb-false main row k, eqb-false row main e)))
+    go false k = rw (le-ltb main (row + 1) (omega (arith, ltb-false main row k, eqb-false row main e))) (omega arith)
+
+-- one row
+module _ (d : List ℕ) (c q : Place) (s : Text) (t : Table) (row : ℕ) (m : Main) (w : List ℕ) (few : row < t .rows) where
+  pub note-word : {at : ℕ} → at ≡ placeOf w t (t .rows - 1 - row) → {p : Place} → p ≡ (if eqb row (m .row) then c else q) → {text : Text} → text ≡ wantedName (elementAt s at) → {stars : ℕ}
+      → stars ≡ starsBy (readAt raw d p .0 or []) (elementAt s at) → {word : ℕ} → word ≡ nameWord (mainText s m) text stars → {w′ : List ℕ} → w′ ≡ set w (t .at + (3 * t .rows + (t .rows - 1 - row))) word
+      → w′ ≡ set w (nameAt t (t .rows - suc row)) (wordBy s m (readAt raw d (if eqb row (m .row) then c else q) .0 or []) (nthIn s t w row))
+  note-word {at} i {p} j {text} k {stars} l {word} n o =
+      let z : t .rows - 1 - row ≡ t .rows - suc row = omega arith in
+      let a : elementAt s at ≡ nthIn s t w row = ap (elementAt s) i ∙ ap (λ (r : ℕ). elementAt s (placeOf w t r)) z in
+      let b : starsBy (readAt raw d p .0 or []) (elementAt s at) ≡ starsBy (readAt raw d (if eqb row (m .row) then c else q) .0 or []) (nthIn s t w row) =
+          ap (λ (p : Place). starsBy (readAt raw d p .0 or []) (elementAt s at)) j ∙ ap (starsBy (readAt raw d (if eqb row (m .row) then c else q) .0 or [])) a in
+      let y : word ≡ wordBy s m (readAt raw d (if eqb row (m .row) then c else q) .0 or []) (nthIn s t w row) =
+          n ∙ ap (λ (x : Text). nameWord (mainText s m) x stars) (k ∙ ap wantedName a) ∙ ap (nameWord (mainText s m) (wantedName (nthIn s t w row))) (l ∙ b) in
+      o ∙ ap (λ (r : ℕ). set w (nameAt t r) word) z ∙ ap (set w (nameAt t (t .rows - suc row))) y
+
+module _ {d : List ℕ} {c q : Place} {b : Bool} where
+  pub next-main : b ≡ true → (k : ℕ) → Passes (times k (recordOf false kind.Calendars)) d c q → Passes (times (if b then k else k + 1) (recordOf false kind.Calendars)) d c q
+  next-main e k h = rw e h
+
+  pub next-other : {r : Place} → b ≡ false → Passes (recordOf false kind.Calendars) d q r → (k : ℕ) → Passes (times k (recordOf false kind.Calendars)) d c q
+      → Passes (times (if b then k else k + 1) (recordOf false kind.Calendars)) d c r
+  next-other e i k h = rw e (pass-more (recordOf false kind.Calendars) k h i)
 
 pub record Naming (d : List ℕ) (c : Place) (s : Text) (t : Table) (m : Main) (n : ℕ) (q : Place) (w w′ : List ℕ) : Type 0 where
   pub noted : NamesNoted d c s t m n w w′

@@ -90,6 +90,17 @@ name-said x text stars = go (same (starredBy text stars) (x .main .name))
     go true = refl
     go false = refl
 
+-- ---- by a look at all calendars
+
+module _ (d : List ℕ) (c : Place) (root : Element) where
+  pub named-by : (u : Text) → namedBy (contextAt d c root) u ≡ (withUidIn root u >>= λ y. unlessMain (contextAt d c root) (nameIn d c root y))
+  unfolding contextAt
+  named-by u = ap (λ (o : Option Text). o >>= unlessMain (contextAt d c root)) (name-with d c root u) ∙ go (withUidIn root u)
+    where
+      go : (o : Option (ℕ × Element)) → (o >>= (λ y. some (nameIn d c root y)) >>= unlessMain (contextAt d c root)) ≡ (o >>= λ y. unlessMain (contextAt d c root) (nameIn d c root y))
+      go none = refl
+      go (some y) = refl
+
 -- ---- the table
 
 module _ {d : List ℕ} {c : Place} {s : Text} {root : Element} {t : Table} {w : List ℕ} (x : Calendars d c s root t w) where
@@ -106,14 +117,6 @@ module _ {d : List ℕ} {c : Place} {s : Text} {root : Element} {t : Table} {w :
       ∙ ap (nameBy (wantedName (ofRow root r))) (x .names r k)
       ∙ name-said (contextAt d c root) (wantedName (ofRow root r)) (starsIn d c root (howMany root - suc r) (ofRow root r))
 
-  named-by : (u : Text) → namedBy (contextAt d c root) u ≡ (withUidIn root u >>= λ y. unlessMain (contextAt d c root) (nameIn d c root y))
-  unfolding contextAt
-  named-by u = ap (λ (o : Option Text). o >>= unlessMain (contextAt d c root)) (name-with d c root u) ∙ go (withUidIn root u)
-    where
-      go : (o : Option (ℕ × Element)) → (o >>= (λ y. some (nameIn d c root y)) >>= unlessMain (contextAt d c root)) ≡ (o >>= λ y. unlessMain (contextAt d c root) (nameIn d c root y))
-      go none = refl
-      go (some y) = refl
-
   -- THE LAW
   pub calendars-named : (u : Text) → namedIn (contextAt d c root) s w (Ready t) u ≡ namedBy (contextAt d c root) u
   unfolding namedIn
@@ -121,7 +124,7 @@ module _ {d : List ℕ} {c : Place} {s : Text} {root : Element} {t : Table} {w :
       ap (nameOfRow s w t) (sought u)
       ∙ go (lastBelow (λ r. hasUid u (ofRow root r)) (howMany root)) (λ r e. last-in (λ r. hasUid u (ofRow root r)) (howMany root) e .0)
       ∙ ap (λ (o : Option (ℕ × Element)). o >>= λ y. unlessMain (contextAt d c root) (nameIn d c root y)) (sym (find-back (hasUid u) noElement 0 (inOrder root)))
-      ∙ sym (named-by u)
+      ∙ sym (named-by d c root u)
     where
       go : (o : Option ℕ) → ((r : ℕ) → o ≡ some r → r < howMany root)
           → nameOfRow s w t o ≡ (o >>= (λ r. some (0 + (howMany root - suc r), ofRow root r)) >>= λ y. unlessMain (contextAt d c root) (nameIn d c root y))

@@ -18,7 +18,7 @@ stars-at-requires : tie.Need-stars-at-requires
 stars-at-requires c κs = search needs
 
 returns : tie.Need-returns
-returns c = ?
+returns c = stars-row (c .before .before .before .before .before .before .args .out .now) (c .before .before .before .before .before .before .args .c) (elementAt (c .before .before .before .before .before .before .args .s .now) (c .before .before .before .before .before .before .args .root)) (c .before .before .before .before .before .before .args .row) (elementAt (c .before .before .before .before .before .before .args .s .now) (c .before .before .before .before .before .before .args .at)) (c .before .before .before .main-row .ensures) (c .before .before .section-row .ensures) (c .before .place-of-row .ensures) (c .stars-at .ensures)
 
 pub stars-of-spec : {M : Type 1} → statement M
 stars-of-spec =
