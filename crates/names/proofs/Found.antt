@@ -1,20 +1,19 @@
 -- The calendars of a tree and the names by which they are found. Assumes nothing.
 use mathlib.Core.Path.{_≡_, refl, sym, ap, _∙_}
 use mathlib.Core.Bool.{Bool, true, false, _&&_}
-use mathlib.Core.List.{List, [], _∷_, map}
+use mathlib.Core.List.{List, [], _∷_}
 use mathlib.Core.Option.{Option, some, none}
 use Prim.Native.Nat.{ℕ, _+_, _*_, _-_, _/_, _^_, _≤_, _<_}
 use native.Mathlib.Omega.{arith}
 use lib.Dec.{leb, ltb}
 use lib.ListN.{length}
 use borrow.Author.Tests.{lt-ltb, le-ltb, le-leb, lt-leb, ltb-true, leb-true, leb-false, eq-eqb, ne-eqb}
-use Rattle.definition.specs.Base.{if_then_else_, _>>=_, _or_, _orElse_, keep, first, find, numbered, same}
+use Rattle.definition.specs.Base.{_>>=_, _or_, same}
 use Rattle.definition.specs.Ascii.{bytes}
 use Rattle.definition.specs.Text.{Text, trim}
 use Rattle.definition.specs.Tree.{Element, all, child, nonEmpty, textOf}
-use Rattle.definition.specs.Field.{textIn}
 use Rattle.definition.specs.Model.{Calendar}
-use Rattle.definition.specs.Calendar.{Named, plainCalendar, defaultCalendar, mainCalendar, withUid, nameOf, calendarElements}
+use Rattle.definition.specs.Calendar.{nameOf, calendarElements}
 use Rattle.definition.specs.Refusal.{mostElements}
 use Rattle.definition.specs.Task.{unlessMain}
 use Rattle.bits.specs.Places.{at, upTo}
@@ -23,13 +22,13 @@ use Rattle.model.specs.declared.records.Kind.the-variants.{Calendars}
 use Rattle.pack.specs.Value.{starredBy, nameMeaning}
 use Rattle.pack.specs.declared.stars.NameAnswer.{NameAnswer}
 use Rattle.pack.specs.declared.stars.NameAnswer.the-variants as name
-use Rattle.rows.specs.Rows.{inOrder, withUidIn, mainIn, calendarMeaning}
+use Rattle.rows.specs.Rows.{withUidIn, calendarMeaning}
 use Rattle.rows.specs.declared.CalendarAnswer.{CalendarAnswer}
 use Rattle.rows.specs.declared.CalendarAnswer.the-variants.{Is, Absent}
 use Rattle.tree.specs.Place.{elementAt}
 use Rattle.model.specs.Answers.{readAt}
 use Rattle.model.specs.Parts.{raw}
-use Rattle.names.specs.Texts.{placeOfRow, textAt}
+use Rattle.names.specs.Texts.{placeOfRow}
 use Rattle.names.specs.Turned.{order-length}
 use Rattle.names.specs.Seen.{row-text, raw-length}
 use Rattle.names.specs.ByUid.{name-with}

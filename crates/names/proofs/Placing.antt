@@ -1,27 +1,26 @@
 -- The table of the calendars while it is filled. Assumes nothing.
-use Prim.Native.Nat.{ℕ, zero, suc, _+_, _-_, _*_, _%_, _^_, _≤_, _<_}
+use Prim.Native.Nat.{ℕ, suc, _+_, _-_, _%_, _^_, _≤_, _<_}
 use native.Mathlib.Nat.{mod-lt}
-use native.Mathlib.Numerals.{add-one}
 use native.Mathlib.Omega.{arith}
 use mathlib.Core.Path.{_≡_, refl, sym, ap, _∙_}
 use mathlib.Core.Bool.{Bool, true, false, not, false≢true}
-use mathlib.Core.List.{List, [], _∷_, _++_}
+use mathlib.Core.List.{List, [], _∷_}
 use mathlib.Core.Option.{Option, some, none}
 use lib.Dec.{eqb, ltb}
 use lib.ListN.{length, getD, set, drop, length-set, drop-of-length-le}
 use lib.Seq.{getD-set-same, getD-set-other}
 use borrow.Author.Tests.{ltb-true, ltb-false, eqb-true, eqb-false}
 use Rattle.definition.specs.Ascii.{bytes}
-use Rattle.definition.specs.Base.{if_then_else_, given, keep, first, same}
-use Rattle.definition.specs.Calendar.{baseOf, calendarElements}
+use Rattle.definition.specs.Base.{if_then_else_, given, keep, same}
+use Rattle.definition.specs.Calendar.{baseOf}
 use Rattle.definition.specs.Text.{Text}
 use Rattle.definition.specs.Tree.{Element, records, recordsUpTo, element, all, allIn, child}
 use Rattle.laws.specs.Each.{Each, empty, next, each-append, each-drop}
 use Rattle.laws.specs.FitLists.{each-keep}
 use Rattle.index.specs.declared.Table.{Table}
 use Rattle.index.specs.Hash.{hashOf}
-use Rattle.index.specs.Chains.{nextAt, placeAt, placeOf, endOf, zeros, added}
-use Rattle.index.specs.Law.{Fits, Indexed, indexed-none, indexed-by, indexed-same, added-other, length-added}
+use Rattle.index.specs.Chains.{placeAt, placeOf, endOf, zeros, added}
+use Rattle.index.specs.Law.{Fits, indexed-none, indexed-by, indexed-same, added-other, length-added}
 use Rattle.index.specs.Frame.{zeros-other, zeros-outside, added-outside}
 use Rattle.index.specs.Steps.{length-zeros}
 use Rattle.rows.specs.Rows.{inOrder}
@@ -138,7 +137,7 @@ module _ {s : Text} {root : Element} {t : Table} {w : List ℕ} (ripe : Ripe s r
         stood r true z a b =
             let y : r ≡ left - 1 = eqb-true r (left - 1) z in
             let x : placeOf w₂ t (left - 1) ≡ at =
-                ap (λ (l : List ℕ). getD l (placeAt t (left - 1)) 0) j ∙ getD-set-same w₁ (placeAt t (left - 1)) at 0 (omega (arith, p .stays .long, ripe .room)) in
+            ap (λ (l : List ℕ). getD l (placeAt t (left - 1)) 0) j ∙ getD-set-same w₁ (placeAt t (left - 1)) at 0 (omega (arith, p .stays .long, ripe .room)) in
             rw y (ap (elementAt s) x ∙ here)
         stood r false z a b =
             let y : r ≡ left - 1 → ⊥ = eqb-false r (left - 1) z in

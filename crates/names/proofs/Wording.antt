@@ -8,7 +8,7 @@ use mathlib.Core.Option.{Option, some, none}
 use lib.Dec.{eqb, ltb, leb}
 use lib.ListN.{length, getD, set}
 use lib.Seq.{getD-set-same, getD-set-other}
-use borrow.Author.Tests.{ltb-true, ltb-false, leb-true, eqb-true, eqb-false, eq-eqb, ne-eqb, lt-ltb, le-ltb, lt-leb, le-leb}
+use borrow.Author.Tests.{ltb-true, ltb-false, eqb-true, eqb-false, ne-eqb, lt-ltb, le-ltb, lt-leb, le-leb}
 use Rattle.definition.specs.Ascii.{bytes}
 use Rattle.definition.specs.Base.{if_then_else_, _>>=_, _or_, _orElse_, first, numbered, same}
 use Rattle.definition.specs.Calendar.{calendarElements, elapsedName}
@@ -23,7 +23,7 @@ use Rattle.index.specs.declared.Made.{Made}
 use Rattle.index.specs.declared.Made.the-variants.{Ready, NoRoom}
 use Rattle.index.specs.Hash.{hashOf}
 use Rattle.index.specs.Chains.{placeAt, placeOf, endOf, tableOf}
-use Rattle.index.specs.Law.{Indexed, indexed-same, table-placed}
+use Rattle.index.specs.Law.{indexed-same, table-placed}
 use Rattle.index.specs.Frame.{SameIn, indexed-kept}
 use Rattle.index.specs.Steps.{table-none, table-short}
 use Rattle.bits.specs.declared.Place.{Place}
@@ -41,7 +41,7 @@ use Rattle.names.specs.Seen.{text-here, raw-length}
 use Rattle.names.specs.Turned.{order-length}
 use Rattle.names.specs.Context.{mainRow, sectionRow, wantedName, starsBy, starsIn, contextAt}
 use Rattle.names.specs.ByUid.{main-there}
-use Rattle.names.specs.Named.{nameWord, nameAt, namesEnd, howMany, madeIn, ofRow, Stays, Calendars, Ripe, Stand, Chained, MainOf, mainText, nthIn, wordBy, NotesName, NamesNoted}
+use Rattle.names.specs.Named.{nameWord, nameAt, namesEnd, howMany, madeIn, ofRow, Stays, Calendars, Ripe, Stand, Chained, MainOf, mainText, nthIn, wordBy, NotesName, NamesNoted, Makes}
 use Rattle.names.proofs.Placing.{stays-refl, stays-then, stays-wider, stays-set}
 
 -- ---- the word of a name
@@ -125,9 +125,9 @@ module _ (d : List ℕ) (c q : Place) (s : Text) (t : Table) (row : ℕ) (m : Ma
       let z : t .rows - 1 - row ≡ t .rows - suc row = omega arith in
       let a : elementAt s at ≡ nthIn s t w row = ap (elementAt s) i ∙ ap (λ (r : ℕ). elementAt s (placeOf w t r)) z in
       let b : starsBy (readAt raw d p .0 or []) (elementAt s at) ≡ starsBy (readAt raw d (if eqb row (m .row) then c else q) .0 or []) (nthIn s t w row) =
-          ap (λ (p : Place). starsBy (readAt raw d p .0 or []) (elementAt s at)) j ∙ ap (starsBy (readAt raw d (if eqb row (m .row) then c else q) .0 or [])) a in
+      ap (λ (p : Place). starsBy (readAt raw d p .0 or []) (elementAt s at)) j ∙ ap (starsBy (readAt raw d (if eqb row (m .row) then c else q) .0 or [])) a in
       let y : word ≡ wordBy s m (readAt raw d (if eqb row (m .row) then c else q) .0 or []) (nthIn s t w row) =
-          n ∙ ap (λ (x : Text). nameWord (mainText s m) x stars) (k ∙ ap wantedName a) ∙ ap (nameWord (mainText s m) (wantedName (nthIn s t w row))) (l ∙ b) in
+      n ∙ ap (λ (x : Text). nameWord (mainText s m) x stars) (k ∙ ap wantedName a) ∙ ap (nameWord (mainText s m) (wantedName (nthIn s t w row))) (l ∙ b) in
       o ∙ ap (λ (r : ℕ). set w (nameAt t r) word) z ∙ ap (set w (nameAt t (t .rows - suc row))) y
 
 module _ {d : List ℕ} {c q : Place} {b : Bool} where
@@ -171,9 +171,6 @@ module _ {d : List ℕ} {c : Place} {s : Text} {t : Table} {m : Main} {n : ℕ} 
         at = rw (← next-row (m .row) n (eqb n (m .row)) refl) (h .next (nextRow (m .row) n) (x .at));
       }
     where
-      word : Element → Text → ℕ
-      word e name = wordBy s m name e
-
       named : (row : ℕ) (b : Bool) → eqb row n ≡ b → row < n + 1 → getD w₂ (nameAt t (t .rows - suc row)) 0 ≡ wordBy s m (textAt kind.Calendars d c (sectionRow (m .row) row)) (nthIn s t w row)
       named row true e k =
           let z : row ≡ n = eqb-true row n e in
@@ -213,7 +210,6 @@ module _ {d : List ℕ} {c : Place} {s : Text} {root : Element} {t : Table} {w :
 
     named : (r : ℕ) → r < t .rows → getD w₄ (nameAt t r) 0 ≡ nameWord (contextAt d c root .main .name) (wantedName (ofRow root r)) (starsIn d c root (howMany root - suc r) (ofRow root r))
     named r h =
-        let row : ℕ = t .rows - suc r in
         let z : r ≡ t .rows - suc (t .rows - suc r) = omega arith in
         let x : t .rows - suc r ≡ howMany root - suc r = omega (arith, ripe .rows) in
         let y : elementAt s (placeOf w₂ t r) ≡ ofRow root r = ap (elementAt s) (b .indexed .places r h) ∙ a .0 .stands r (omega arith) h in
@@ -284,3 +280,10 @@ module _ (s : Text) (root : Element) (len at : ℕ) where
           record { short = ltb-true (length s) (2 ^ 32) f; rows = z; some = p .fits .some; room = omega (arith, p .fits .room, p .fits .some) }
       go true false f g e = let y : _≡_ {A = ℕ} 0 1 = cc in absurd (omega arith)
       go false b f g e = let y : _≡_ {A = ℕ} 0 1 = cc in absurd (omega arith)
+
+module _ {d : List ℕ} {c : Place} {s : Text} {root : Element} {at : ℕ} {w : List ℕ} {m : Made} (h : m ≡ madeIn s root (length w) at) where
+  pub makes-none : m ≡ NoRoom → Makes d c s root at w w NoRoom
+  makes-none e = record { made = sym e ∙ h; words = refl }
+
+  pub makes-ready : {t : Table} {w′ : List ℕ} → m ≡ Ready t → Calendars d c s root t w′ × Stays (t .at) (namesEnd t) w w′ → Makes d c s root at w w′ (Ready t)
+  makes-ready e x = record { made = sym e ∙ h; words = x }

@@ -1,5 +1,5 @@
 -- What a table of the calendars says: the name of each UID, as the definition says it. Assumes nothing.
-use Prim.Native.Nat.{ℕ, zero, suc, _+_, _-_, _≤_, _<_}
+use Prim.Native.Nat.{ℕ, suc, _+_, _-_, _<_}
 use native.Mathlib.Omega.{arith}
 use mathlib.Core.Path.{_≡_, refl, sym, ap, _∙_}
 use mathlib.Core.Bool.{Bool, true, false, not}
@@ -7,7 +7,7 @@ use mathlib.Core.List.{List, [], _∷_}
 use mathlib.Core.Option.{Option, some, none}
 use lib.ListN.{length, getD}
 use Rattle.definition.specs.Base.{if_then_else_, _>>=_, when, keep, first, find, numbered, same}
-use Rattle.definition.specs.Calendar.{nameOf, elapsedName}
+use Rattle.definition.specs.Calendar.{elapsedName}
 use Rattle.definition.specs.Task.{Context, unlessMain}
 use Rattle.definition.specs.Text.{Text}
 use Rattle.definition.specs.Tree.{Element}
@@ -16,7 +16,6 @@ use Rattle.index.specs.declared.Made.{Made}
 use Rattle.index.specs.declared.Made.the-variants.{Ready, NoRoom}
 use Rattle.index.specs.Below.{SameBelow, below-in}
 use Rattle.index.specs.Hash.{hashOf, same-hash}
-use Rattle.index.specs.Chains.{placeOf}
 use Rattle.index.specs.Last.{lastBelow, last-none, last-yes, last-no, last-same, last-in}
 use Rattle.index.specs.Law.{find-by-place, indexed-same}
 use Rattle.index.specs.Frame.{indexed-kept, place-same}
@@ -25,10 +24,10 @@ use Rattle.pack.specs.Value.{starredBy}
 use Rattle.rows.specs.Rows.{inOrder, hasUid, withUidIn}
 use Rattle.rows.specs.Tables.{uidOf, soughtIn, noElement}
 use Rattle.tree.specs.Place.{elementAt}
-use Rattle.names.specs.Context.{wantedName, starsIn, nameIn, builtAt, contextAt}
+use Rattle.names.specs.Context.{wantedName, starsIn, nameIn, contextAt}
 use Rattle.names.specs.Stars.{star-none}
 use Rattle.names.specs.ByUid.{name-with}
-use Rattle.names.specs.Named.{nameWord, nameBy, nameAt, namesEnd, namedBy, nameOfRow, namedIn, elapsedIn, howMany, ofRow, Stays, Calendars, CalendarsIn, Makes}
+use Rattle.names.specs.Named.{nameWord, nameBy, nameAt, namesEnd, namedBy, nameOfRow, namedIn, elapsedIn, howMany, ofRow, Calendars, CalendarsIn, Makes}
 
 -- ---- the first of a list is the last of the list turned round
 
@@ -75,7 +74,7 @@ module _ {A : Type 0} (p : A → Bool) (d : A) where
           ∙ ap (λ (o : Option ℕ). o >>= numberedBack k (x ∷ l)) (sym (last-yes found n (ap p here ∙ e)))
       go false e h =
           let same : lastBelow (λ r. p (back l r)) n ≡ lastBelow found (suc n) =
-              last-same (λ r. p (back l r)) found n (λ r i. ap p (sym (one-more x l r i))) ∙ sym (last-no found n (ap p here ∙ e)) in
+          last-same (λ r. p (back l r)) found n (λ r i. ap p (sym (one-more x l r i))) ∙ sym (last-no found n (ap p here ∙ e)) in
           h
           ∙ later (lastBelow (λ r. p (back l r)) n) (λ r i. last-in (λ r. p (back l r)) n i .0)
           ∙ ap (λ (o : Option ℕ). o >>= numberedBack k (x ∷ l)) same

@@ -166,7 +166,14 @@ fn is_main(out: &[u8], c: Place, s: &[u8], root: usize, text: &[u8], stars: u32)
 }
 
 // A text with so many `*`, unless it is the main calendar's name.
-pub(crate) fn unless_main(out: &[u8], c: Place, s: &[u8], root: usize, text: &[u8], stars: u32) -> NameAnswer
+pub(crate) fn unless_main(
+    out: &[u8],
+    c: Place,
+    s: &[u8],
+    root: usize,
+    text: &[u8],
+    stars: u32,
+) -> NameAnswer
     ensures { λ r. ⌜ nameMeaning (now (text .entry)) r ≡ unlessMain (contextAt (now (out .entry)) c (elementAt (now (s .entry)) root)) (starredBy (now (text .entry)) stars) ⌝ }
 {
     if is_main(out, c, s, root, text, stars) {

@@ -63,7 +63,12 @@ fn note_places(s: &[u8], root: usize, words: &mut [u32], t: Table)
             return;
         };
         left -= 1;
-        index::set_word(words, t.at, 2 * (t.rows as usize) + left as usize, at as u32);
+        index::set_word(
+            words,
+            t.at,
+            2 * (t.rows as usize) + left as usize,
+            at as u32,
+        );
         e = rows::next_calendar(s, root, at);
     }
 }

@@ -19,7 +19,9 @@ returns : tie.Need-returns
 returns c = stars-none _ _ (elementAt (c .before .before .before .before .before .before .args .s .now) (c .before .before .before .before .before .before .args .at)) (c .before .before .before .raw-text .ensures) (c .before .wanted-name .ensures) (c .if1 .taken)
 
 cast-result : tie.Need-cast-result
-cast-result c = omega (arith, stars-fit (c .before .before .before .before .before .before .args .out .now) (c .before .before .before .before .before .before .args .p) (elementAt (c .before .before .before .before .before .before .args .s .now) (c .before .before .before .before .before .before .args .at)) (c .before .before .before .raw-text .ensures) (c .before .wanted-name .ensures))
+cast-result c =
+    let a = c .before .before .before .before .before .before .args in
+    omega (arith, stars-fit (a .out .now) (a .p) (elementAt (a .s .now) (a .at)) (c .before .before .before .raw-text .ensures) (c .before .wanted-name .ensures))
 
 returns-2 : tie.Need-returns-2
 returns-2 c = stars-is _ _ (elementAt (c .before .before .before .before .before .before .args .s .now) (c .before .before .before .before .before .before .args .at)) (c .before .before .before .raw-text .ensures) (c .before .wanted-name .ensures)

@@ -18,7 +18,9 @@ stars-at-requires : tie.Need-stars-at-requires
 stars-at-requires c κs = search needs
 
 returns : tie.Need-returns
-returns c = stars-row (c .before .before .before .before .before .before .args .out .now) (c .before .before .before .before .before .before .args .c) (elementAt (c .before .before .before .before .before .before .args .s .now) (c .before .before .before .before .before .before .args .root)) (c .before .before .before .before .before .before .args .row) (elementAt (c .before .before .before .before .before .before .args .s .now) (c .before .before .before .before .before .before .args .at)) (c .before .before .before .main-row .ensures) (c .before .before .section-row .ensures) (c .before .place-of-row .ensures) (c .stars-at .ensures)
+returns c =
+    let a = c .before .before .before .before .before .before .args in
+    stars-row (a .out .now) (a .c) (elementAt (a .s .now) (a .root)) (a .row) (elementAt (a .s .now) (a .at)) (c .before .before .before .main-row .ensures) (c .before .before .section-row .ensures) (c .before .place-of-row .ensures) (c .stars-at .ensures)
 
 pub stars-of-spec : {M : Type 1} → statement M
 stars-of-spec =

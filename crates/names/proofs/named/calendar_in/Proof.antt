@@ -1,6 +1,4 @@
 -- `names::named::calendar_in` meets its contract. Assumes nothing.
-use Rattle.tree.specs.Place.{elementAt}
-use Rattle.names.specs.Context.{contextAt}
 use Rattle.names.proofs.Answered.{named-ready, named-none}
 use borrow.Author.Needs.{needs}
 use Rattle.names.proofs.named.calendar_in.Statement.{statement}

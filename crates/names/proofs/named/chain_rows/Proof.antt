@@ -45,15 +45,25 @@ loop-less : tie.Need-loop-less Inv-loop μ-loop
 loop-less c = omega arith
 
 loop-again : tie.Need-loop-again Inv-loop μ-loop
-loop-again c = (omega arith, chained-more (c .before .before .before .before .before .before .before .before .before .before .before .loop .inv .1) (c .before .before .before .before .before .before .before .before .before .if1 .taken) (c .before .before .before .before .before .before .before .place .ensures) (c .before .before .before .before .before .text-of .ensures) (c .before .before .before .before .hash-of .ensures) (c .before .before .put .ensures))
+loop-again c =
+    let p = c .before .before in
+    let ho = p .before .before in
+    let to = ho .before in
+    let p2 = to .before .before in
+    let i = p2 .before .before in
+    let l = i .before .before in
+    (omega arith, chained-more (l .loop .inv .1) (i .if1 .taken) (p2 .place .ensures) (to .text-of .ensures) (ho .hash-of .ensures) (p .put .ensures))
 
 same-length : tie.Need-same-length Inv-loop μ-loop
 same-length c = c .before .before .loop .inv .1 .stays .long ∙ c .before .before .before .before .before .clear .kept .0
 
 returns : tie.Need-returns Inv-loop μ-loop
-returns c = 
-    let e : c .before .before .loop .row ≡ c .before .before .before .before .before .before .before .before .before .args .t .rows = omega arith in
-    chained-all _ _ (c .before .before .before .before .before .before .before .before .before .pre) (c .before .before .before .before .before .clear .ensures) (rw e at (c .before .before .loop .inv .1))
+returns c =
+    let l = c .before .before in
+    let c2 = l .before .before .before in
+    let start = c2 .before .before .before .before in
+    let e : l .loop .row ≡ start .args .t .rows = omega arith in
+    chained-all _ _ (start .pre) (c2 .clear .ensures) (rw e at (l .loop .inv .1))
 
 pub chain-rows-spec : {M : Type 1} → statement M
 chain-rows-spec =

@@ -20,10 +20,16 @@ enum-told : tie.Need-enum-told
 enum-told c = search needs
 
 returns : tie.Need-returns
-returns c = record { there = is-there (c .before .before .before .before .before .before .before .args .s .now) (c .before .before .before .before .main-calendar .result) (c .before .before .before .before .main-calendar .ensures) (c .before .before .row .given .1); stars = c .stars-of .ensures }
+returns c =
+    let r = c .before .before in
+    let mc = r .before .before in
+    let start = mc .before .before .before in
+    record { there = is-there (start .args .s .now) (mc .main-calendar .result) (mc .main-calendar .ensures) (r .row .given .1); stars = c .stars-of .ensures }
 
 returns-2 : tie.Need-returns-2
-returns-2 c = absurd (omega (arith, c .before .before .before .before .before .pre, main-none (elementAt (c .before .before .before .before .before .args .s .now) (c .before .before .before .before .before .args .root)) (is-absent (c .before .before .before .before .before .args .s .now) (c .before .before .main-calendar .result) (c .before .before .main-calendar .ensures) (c .enum-told .given .1))))
+returns-2 c =
+    let a = c .before .before .before .before .before .args in
+    absurd (omega (arith, c .before .before .before .before .before .pre, main-none (elementAt (a .s .now) (a .root)) (is-absent (a .s .now) (c .before .before .main-calendar .result) (c .before .before .main-calendar .ensures) (c .enum-told .given .1))))
 
 pub main-of-spec : {M : Type 1} → statement M
 main-of-spec =

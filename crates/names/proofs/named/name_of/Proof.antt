@@ -38,10 +38,18 @@ enum-told : tie.Need-enum-told
 enum-told c = search needs
 
 returns : tie.Need-returns
-returns c = row-there (c .before .before .before .before .before .before .before .before .before .args .s .now) (c .before .before .before .before .before .before .before .before .before .args .words .now) (c .before .before .before .before .before .before .before .before .before .args .t) (c .before .before .before .before .before .row .given .1) (c .before .before .before .place .ensures) (c .before .word .ensures) (c .by-word .result) (c .by-word .ensures)
+returns c =
+    let w = c .before in
+    let p = w .before .before in
+    let r = p .before .before in
+    let start = r .before .before .before .before in
+    let a = start .args in
+    row-there (a .s .now) (a .words .now) (a .t) (r .row .given .1) (p .place .ensures) (w .word .ensures) (c .by-word .result) (c .by-word .ensures)
 
 returns-2 : tie.Need-returns-2
-returns-2 c = row-absent (c .before .before .before .before .args .s .now) (c .before .before .before .before .args .words .now) (c .before .before .before .before .args .t) (wantedName (elementAt (c .before .before .before .before .args .s .now) (length (c .before .before .before .before .args .s .now)))) (c .enum-told .given .1)
+returns-2 c =
+    let a = c .before .before .before .before .args in
+    row-absent (a .s .now) (a .words .now) (a .t) (wantedName (elementAt (a .s .now) (length (a .s .now)))) (c .enum-told .given .1)
 
 pub name-of-spec : {M : Type 1} → statement M
 name-of-spec =

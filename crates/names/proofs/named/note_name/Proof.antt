@@ -1,5 +1,4 @@
 -- `names::named::note_name` meets its contract. Assumes nothing.
-use native.Mathlib.Omega.{arith}
 use Rattle.tree.specs.Place.{elementAt}
 use Rattle.names.proofs.Wording.{stars-small, note-word, next-main, next-other}
 use borrow.Author.Needs.{needs}
@@ -31,7 +30,12 @@ wanted-name-requires : tie.Need-wanted-name-requires
 wanted-name-requires c κs = search needs
 
 word-of-requires : tie.Need-word-of-requires
-word-of-requires c κs = stars-small (c .before .before .before .before .before .before .before .before .before .before .before .args .out .now) (c .before .before .before .either .result) (elementAt (c .before .before .before .before .before .before .before .before .before .before .before .args .s .now) (c .before .before .before .before .before .place .result)) (c .before .before .stars-at .ensures)
+word-of-requires c κs =
+    let sa = c .before .before in
+    let e = sa .before in
+    let p = e .before .before in
+    let start = p .before .before .before .before .before .before in
+    stars-small (start .args .out .now) (e .either .result) (elementAt (start .args .s .now) (p .place .result)) (sa .stars-at .ensures)
 
 cast-set-word : tie.Need-cast-set-word
 cast-set-word c = search needs
@@ -52,7 +56,16 @@ same-length : tie.Need-same-length
 same-length c = search needs
 
 returns : tie.Need-returns
-returns c = record { word = note-word (c .before .before .before .before .before .before .before .before .before .before .before .before .before .before .before .before .before .before .args .out .now) (c .before .before .before .before .before .before .before .before .before .before .before .before .before .before .before .before .before .before .args .c) (c .before .before .before .before .before .before .before .before .before .before .before .before .before .before .before .before .before .before .args .q) (c .before .before .before .before .before .before .before .before .before .before .before .before .before .before .before .before .before .before .args .s .now) (c .before .before .before .before .before .before .before .before .before .before .before .before .before .before .before .before .before .before .args .t) (c .before .before .before .before .before .before .before .before .before .before .before .before .before .before .before .before .before .before .args .row) (c .before .before .before .before .before .before .before .before .before .before .before .before .before .before .before .before .before .before .args .main) (c .before .before .before .before .before .before .before .before .before .before .before .before .before .before .before .before .before .before .args .words .now) (c .before .before .before .before .before .before .before .before .before .before .before .before .before .before .before .before .before .before .pre) (c .before .before .before .before .before .before .before .before .before .before .before .before .place .ensures) (c .before .before .before .before .before .before .before .before .before .before .either .ensures) (c .before .before .before .before .before .before .before .wanted-name .ensures) (c .before .before .before .before .before .before .before .before .before .stars-at .ensures) (c .before .before .before .before .before .before .word-of .ensures) (c .before .before .before .set-word .ensures); next = next-main (c .if1 .taken) }
+returns c =
+    let sw = c .before .before .before in
+    let wo = sw .before .before .before in
+    let wn = wo .before in
+    let sa = wn .before .before in
+    let e = sa .before in
+    let p = e .before .before in
+    let start = p .before .before .before .before .before .before in
+    let a = start .args in
+    record { word = note-word (a .out .now) (a .c) (a .q) (a .s .now) (a .t) (a .row) (a .main) (a .words .now) (start .pre) (p .place .ensures) (e .either .ensures) (wn .wanted-name .ensures) (sa .stars-at .ensures) (wo .word-of .ensures) (sw .set-word .ensures); next = next-main (c .if1 .taken) }
 
 skip-record-requires : tie.Need-skip-record-requires
 skip-record-requires c κs = search needs
@@ -61,7 +74,17 @@ same-length-2 : tie.Need-same-length-2
 same-length-2 c = search needs
 
 returns-2 : tie.Need-returns-2
-returns-2 c = record { word = note-word (c .before .before .before .before .before .before .before .before .before .before .before .before .before .before .before .before .before .before .before .args .out .now) (c .before .before .before .before .before .before .before .before .before .before .before .before .before .before .before .before .before .before .before .args .c) (c .before .before .before .before .before .before .before .before .before .before .before .before .before .before .before .before .before .before .before .args .q) (c .before .before .before .before .before .before .before .before .before .before .before .before .before .before .before .before .before .before .before .args .s .now) (c .before .before .before .before .before .before .before .before .before .before .before .before .before .before .before .before .before .before .before .args .t) (c .before .before .before .before .before .before .before .before .before .before .before .before .before .before .before .before .before .before .before .args .row) (c .before .before .before .before .before .before .before .before .before .before .before .before .before .before .before .before .before .before .before .args .main) (c .before .before .before .before .before .before .before .before .before .before .before .before .before .before .before .before .before .before .before .args .words .now) (c .before .before .before .before .before .before .before .before .before .before .before .before .before .before .before .before .before .before .before .pre) (c .before .before .before .before .before .before .before .before .before .before .before .before .before .place .ensures) (c .before .before .before .before .before .before .before .before .before .before .before .either .ensures) (c .before .before .before .before .before .before .before .before .wanted-name .ensures) (c .before .before .before .before .before .before .before .before .before .before .stars-at .ensures) (c .before .before .before .before .before .before .before .word-of .ensures) (c .before .before .before .before .set-word .ensures); next = next-other (c .before .if1 .left) (c .skip-record .ensures .0) }
+returns-2 c =
+    let i = c .before in
+    let sw = i .before .before .before in
+    let wo = sw .before .before .before in
+    let wn = wo .before in
+    let sa = wn .before .before in
+    let e = sa .before in
+    let p = e .before .before in
+    let start = p .before .before .before .before .before .before in
+    let a = start .args in
+    record { word = note-word (a .out .now) (a .c) (a .q) (a .s .now) (a .t) (a .row) (a .main) (a .words .now) (start .pre) (p .place .ensures) (e .either .ensures) (wn .wanted-name .ensures) (sa .stars-at .ensures) (wo .word-of .ensures) (sw .set-word .ensures); next = next-other (i .if1 .left) (c .skip-record .ensures .0) }
 
 pub note-name-spec : {M : Type 1} → statement M
 note-name-spec =

@@ -29,13 +29,18 @@ loop-less : tie.Need-loop-less Inv-loop μ-loop
 loop-less c = omega arith
 
 loop-again : tie.Need-loop-again Inv-loop μ-loop
-loop-again c = (omega arith, naming-turn (c .before .before .before .before .before .before .loop .inv .1) (c .before .before .before .before .before .before .before .before .before .before .before .pre) (c .before .before .before .before .if1 .taken) (c .before .before .note-name .ensures))
+loop-again c =
+    let nn = c .before .before in
+    let i = nn .before .before in
+    let l = i .before .before in
+    let start = l .before .before .before .before .before in
+    (omega arith, naming-turn (l .loop .inv .1) (start .pre) (i .if1 .taken) (nn .note-name .ensures))
 
 same-length : tie.Need-same-length Inv-loop μ-loop
 same-length c = c .before .before .loop .inv .1 .noted .stays .long
 
 returns : tie.Need-returns Inv-loop μ-loop
-returns c = 
+returns c =
     let e : c .before .before .loop .row ≡ c .before .before .before .before .before .before .before .args .t .rows = omega arith in
     rw e at (c .before .before .loop .inv .1 .noted)
 

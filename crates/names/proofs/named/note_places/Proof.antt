@@ -48,7 +48,11 @@ add-set-word : tie.Need-add-set-word Inv-loop μ-loop
 add-set-word c = search needs
 
 cast-set-word-3 : tie.Need-cast-set-word-3 Inv-loop μ-loop
-cast-set-word-3 c = omega (arith, placing-at (c .before .before .before .before .before .before .before .before .before .pre) (c .before .before .before .before .before .loop .inv) (c .before .before .before .e .given .1))
+cast-set-word-3 c =
+    let e = c .before .before .before in
+    let l = e .before .before in
+    let start = l .before .before .before .before in
+    omega (arith, placing-at (start .pre) (l .loop .inv) (e .e .given .1))
 
 set-word-requires : tie.Need-set-word-requires Inv-loop μ-loop
 set-word-requires c κs = search needs
@@ -60,7 +64,12 @@ loop-less : tie.Need-loop-less Inv-loop μ-loop
 loop-less c = order-less (c .before .before .before .before .before .before .before .e .given .1) (c .next-calendar .ensures)
 
 loop-again : tie.Need-loop-again Inv-loop μ-loop
-loop-again c = placing-turn (c .before .before .before .before .before .before .before .before .before .before .before .before .before .pre) (c .before .before .before .before .before .before .before .before .before .loop .inv) (c .before .before .before .before .before .before .before .e .given .1) (c .before .before .before .set-word .ensures) (c .next-calendar .ensures)
+loop-again c =
+    let sw = c .before .before .before in
+    let e = sw .before .before .before .before in
+    let l = e .before .before in
+    let start = l .before .before .before .before in
+    placing-turn (start .pre) (l .loop .inv) (e .e .given .1) (sw .set-word .ensures) (c .next-calendar .ensures)
 
 pub note-places-spec : {M : Type 1} → statement M
 note-places-spec =

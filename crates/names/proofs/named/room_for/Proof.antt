@@ -7,16 +7,22 @@ use Rattle.names.proofs.named.room_for.Statement.{statement}
 use Rattle.names.proofs.named.room_for.Tie as tie
 
 returns : tie.Need-returns
-returns c = room-long (c .before .before .args .s .now) (elementAt (c .before .before .args .s .now) (c .before .before .args .root)) (c .before .before .args .len) (c .before .before .args .at) (omega arith)
+returns c =
+    let a = c .before .before .args in
+    room-long (a .s .now) (elementAt (a .s .now) (a .root)) (a .len) (a .at) (omega arith)
 
 count-calendars-requires : tie.Need-count-calendars-requires
 count-calendars-requires c κs = search needs
 
 returns-2 : tie.Need-returns-2
-returns-2 c = room-many (c .before .before .before .before .args .s .now) (elementAt (c .before .before .before .before .args .s .now) (c .before .before .before .before .args .root)) (c .before .before .before .before .args .len) (c .before .before .before .before .args .at) (omega arith) (c .before .count-calendars .ensures) (c .if2 .taken)
+returns-2 c =
+    let a = c .before .before .before .before .args in
+    room-many (a .s .now) (elementAt (a .s .now) (a .root)) (a .len) (a .at) (omega arith) (c .before .count-calendars .ensures) (c .if2 .taken)
 
 returns-3 : tie.Need-returns-3
-returns-3 c = room-short (c .before .before .before .before .before .args .s .now) (elementAt (c .before .before .before .before .before .args .s .now) (c .before .before .before .before .before .args .root)) (c .before .before .before .before .before .args .len) (c .before .before .before .before .before .args .at) (omega arith) (c .before .before .count-calendars .ensures) (omega arith) (c .if3 .taken)
+returns-3 c =
+    let a = c .before .before .before .before .before .args in
+    room-short (a .s .now) (elementAt (a .s .now) (a .root)) (a .len) (a .at) (omega arith) (c .before .before .count-calendars .ensures) (omega arith) (c .if3 .taken)
 
 sub-table-at : tie.Need-sub-table-at
 sub-table-at c = search needs
@@ -31,7 +37,9 @@ table-at-requires : tie.Need-table-at-requires
 table-at-requires c κs = search needs
 
 returns-4 : tie.Need-returns-4
-returns-4 c = room-is (c .before .before .before .before .before .before .args .s .now) (elementAt (c .before .before .before .before .before .before .args .s .now) (c .before .before .before .before .before .before .args .root)) (c .before .before .before .before .before .before .args .len) (c .before .before .before .before .before .before .args .at) (omega arith) (c .before .before .before .count-calendars .ensures) (omega arith) (c .table-at .ensures)
+returns-4 c =
+    let a = c .before .before .before .before .before .before .args in
+    room-is (a .s .now) (elementAt (a .s .now) (a .root)) (a .len) (a .at) (omega arith) (c .before .before .before .count-calendars .ensures) (omega arith) (c .table-at .ensures)
 
 pub room-for-spec : {M : Type 1} → statement M
 room-for-spec =

@@ -28,14 +28,19 @@ enum-told : tie.Need-enum-told
 enum-told c = search needs
 
 returns : tie.Need-returns
-returns c = 
-    let a = c .before .before .before .before .before .before .before .before .before .before .before .args in
-    let x = c .before .before .before .before .before .before .before .calendar-with in
-    scan-there (a .out .now) (a .c) (elementAt (a .s .now) (a .root)) (a .uid .now) _ _ _ (is-there (a .s .now) (x .result) (x .ensures) (c .before .before .before .before .before .row .given .1))
-    (beside (a .out .now) (a .c) (elementAt (a .s .now) (a .root)) _ _ _ (c .before .wanted-name .ensures) (c .before .before .before .stars-of .ensures) (c .unless-main .ensures))
+returns c =
+    let wn = c .before in
+    let so = wn .before .before in
+    let r = so .before .before in
+    let cw = r .before .before in
+    let start = cw .before .before .before .before in
+    let a = start .args in
+    let x = cw .calendar-with in
+    scan-there (a .out .now) (a .c) (elementAt (a .s .now) (a .root)) (a .uid .now) _ _ _ (is-there (a .s .now) (x .result) (x .ensures) (r .row .given .1))
+    (beside (a .out .now) (a .c) (elementAt (a .s .now) (a .root)) _ _ _ (wn .wanted-name .ensures) (so .stars-of .ensures) (c .unless-main .ensures))
 
 returns-2 : tie.Need-returns-2
-returns-2 c = 
+returns-2 c =
     let a = c .before .before .before .before .before .before .args in
     let x = c .before .before .calendar-with in
     scan-absent (a .out .now) (a .c) (elementAt (a .s .now) (a .root)) (a .uid .now) _ (is-absent (a .s .now) (x .result) (x .ensures) (c .enum-told .given .1))

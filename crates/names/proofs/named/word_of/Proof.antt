@@ -14,13 +14,17 @@ same-starred-requires : tie.Need-same-starred-requires
 same-starred-requires c κs = search needs
 
 returns : tie.Need-returns
-returns c = word-main (c .before .before .before .before .before .before .args .s .now) (c .before .before .before .before .before .before .args .main) (c .before .before .before .before .before .before .args .text .now) (c .before .before .before .before .before .before .args .stars) (c .before .before .wanted-name .ensures) (c .before .same-starred .ensures) (c .if1 .taken)
+returns c =
+    let a = c .before .before .before .before .before .before .args in
+    word-main (a .s .now) (a .main) (a .text .now) (a .stars) (c .before .before .wanted-name .ensures) (c .before .same-starred .ensures) (c .if1 .taken)
 
 add-result : tie.Need-add-result
 add-result c = search needs
 
 returns-2 : tie.Need-returns-2
-returns-2 c = word-other (c .before .before .before .before .before .before .args .s .now) (c .before .before .before .before .before .before .args .main) (c .before .before .before .before .before .before .args .text .now) (c .before .before .before .before .before .before .args .stars) (c .before .before .wanted-name .ensures) (c .before .same-starred .ensures) (c .if1 .left)
+returns-2 c =
+    let a = c .before .before .before .before .before .before .args in
+    word-other (a .s .now) (a .main) (a .text .now) (a .stars) (c .before .before .wanted-name .ensures) (c .before .same-starred .ensures) (c .if1 .left)
 
 pub word-of-spec : {M : Type 1} → statement M
 word-of-spec =
