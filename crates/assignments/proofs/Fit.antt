@@ -25,7 +25,7 @@ use Rattle.laws.specs.FitResources.{fit-expense, fit-resource}
 use Rattle.tree.specs.Place.{elementAt}
 use Rattle.bits.specs.declared.Place.{Place}
 use Rattle.names.specs.Context.{calendarsBefore}
-use Rattle.assignments.specs.Records.{isWork, FewResources}
+use Rattle.assignments.specs.Resources.{isWork, FewResources}
 
 -- the element at a position of bytes
 pub small-at : (s : Text) → Bytes s → (at : ℕ) → Small (elementAt s at)
@@ -71,29 +71,39 @@ fine-more {s} {at} {on} (h, l) (there {a = e} k) xs f = by (some? (sameExpense e
 
 -- ---- resources
 
--- those so far fit, and with those that are left they are not too many
-pub record FineResources (left : List Element) (xs : List Resource) : Type 0 where
+kept-some : (e : Element) (fs : List Element) → length (keep isWork (e ∷ [])) ≤ length (keep isWork (e ∷ fs))
+unfolding keep
+kept-some e fs = by (isWork e)
+  where
+    by : (t : Bool) → length (if t then e ∷ [] else []) ≤ length (if t then e ∷ keep isWork fs else keep isWork fs)
+    by true = omega arith
+    by false = omega arith
+
+-- those so far fit, and with those that are left they are no more than the rows
+pub record FineResources (rows : ℕ) (left : List Element) (xs : List Resource) : Type 0 where
   pub fit : Each (FitsResourceBy Short) xs
-  pub few : length xs + length (keep isWork left) ≤ mostElements
+  pub few : length xs + length (keep isWork left) ≤ rows
+  pub most : rows ≤ mostElements
 
-pub fine-all : (es : List Element) → length (keep isWork es) ≤ mostElements → FineResources es []
-fine-all es h = record { fit = empty; few = omega arith }
+pub fine-all : (es : List Element) → length (keep isWork es) ≤ mostElements → FineResources (length (keep isWork es)) es []
+fine-all es h = record { fit = empty; few = omega arith; most = h }
 
-pub fine-on : (x : Context) → Each (λ (n : Named). Short (n .1 .name)) (x .built) → {e : Element} (fs : List Element) → Small e → (xs : List Resource) → FineResources (e ∷ fs) xs
-    → FineResources fs (resourcesAfter x xs (keep isWork (e ∷ [])))
+pub fine-on : {rows : ℕ} (x : Context) → Each (λ (n : Named). Short (n .1 .name)) (x .built) → {e : Element} (fs : List Element) → Small e → (xs : List Resource) → FineResources rows (e ∷ fs) xs
+    → FineResources rows fs (resourcesAfter x xs (keep isWork (e ∷ [])))
 unfolding keep resourcesAfter
-fine-on x b {e} fs h xs f = by (isWork e) (f .few)
+fine-on {rows} x b {e} fs h xs f = by (isWork e) (f .few)
   where
     ids : List Text
     ids = map (λ (d : Resource). d .id) xs
 
-    by : (t : Bool) → length xs + length (if t then e ∷ keep isWork fs else keep isWork fs) ≤ mostElements
-        → FineResources fs (resourcesAfter x xs (if t then e ∷ [] else []))
-    by false k = record { fit = f .fit; few = k }
+    by : (t : Bool) → length xs + length (if t then e ∷ keep isWork fs else keep isWork fs) ≤ rows
+        → FineResources rows fs (resourcesAfter x xs (if t then e ∷ [] else []))
+    by false k = record { fit = f .fit; few = k; most = f .most }
     by true k =
         let n = length-append xs (resourceOf x ids e ∷ []) in
-        let m : length ids ≤ 5000000 = rw length-map (omega arith) in
-        record { fit = each-append (f .fit) (next (fit-resource slim-texts x ids h b m) empty); few = omega arith }
+        let m : length ids ≤ 5000000 = rw length-map (omega (arith, f .most)) in
+        record { fit = each-append (f .fit) (next (fit-resource slim-texts x ids h b m) empty); few = omega arith; most = f .most }
 
-pub fine-few : (c : Place) (root : Element) (p : Place) {d : List ℕ} {es : List Element} → calendarsBefore d c root p ≡ true → (xs : List Resource) → FineResources es xs → FewResources c root p d xs
-fine-few c root p b xs f = record { stand = b; fit = f .fit; few = omega (arith, f .few) }
+pub fine-few : (c : Place) (root : Element) (p : Place) {rows : ℕ} {d : List ℕ} (e : Element) (fs : List Element) → calendarsBefore d c root p ≡ true → (xs : List Resource) → FineResources rows (e ∷ fs) xs
+    → FewResources c root p rows (e ∷ []) d xs
+fine-few c root p e fs b xs f = record { stand = b; fit = f .fit; room = omega (arith, f .few, kept-some e fs); few = omega (arith, f .most) }

@@ -3,15 +3,13 @@ use Prim.Native.Nat.{ℕ, suc, _+_, _%_, _^_, _≤_, _<_, min}
 use native.Mathlib.Nat.{zero-add, mod-eq-of-lt}
 use native.Mathlib.Omega.{arith}
 use mathlib.Core.Path.{_≡_, refl, sym, ap, subst, _∙_}
-use mathlib.Core.Bool.{Bool, true, false, true≢false, _&&_, not, and-eq-true-iff}
-use mathlib.Core.List.{List, [], _∷_, _++_, map}
-use mathlib.Core.Option.{Option, some, none}
-use lib.Dec.{leb}
-use lib.Pow.{mod-mod-pow}
+use mathlib.Core.Bool.{Bool, true, false, true≢false, _&&_, _||_, not, and-eq-true-iff}
+use mathlib.Core.List.{List, [], _∷_, _++_, map, map-append}
+use lib.Dec.{leb, ltb, eqb}
 use lib.IntN.{ℤ}
-use lib.ListN.{length}
-use borrow.Author.Tests.{leb-true, leb-false, le-leb, lt-leb, not-true, not-false}
-use Rattle.definition.specs.Base.{if_then_else_, _>>=_, _or_, _orElse_, keep}
+use lib.ListN.{length, length-map, length-append}
+use borrow.Author.Tests.{eqb-true, ltb-false, leb-true, leb-false, le-leb, lt-leb, not-true, not-false}
+use Rattle.definition.specs.Base.{if_then_else_, _>>=_, _or_, keep}
 use Rattle.definition.specs.Ascii.{bytes}
 use Rattle.definition.specs.Text.{Text}
 use Rattle.definition.specs.Tree.{Element, child, allIn}
@@ -23,9 +21,13 @@ use Rattle.definition.specs.Calendar.{nameOf, free}
 use Rattle.definition.specs.Refusal.{mostElements}
 use Rattle.definition.specs.Task.{Context, unlessMain}
 use Rattle.definition.specs.Resource.{isResource, isCost, workResources, resourceKind, maxUnits, priceOf, resourceOf, resourcesAfter, resources}
+use Rattle.laws.specs.Each.{Each}
+use Rattle.laws.specs.Formats.{fills-whole, fills-times}
+use Rattle.laws.specs.FitRecords.{Short, FitsResourceBy}
 use Rattle.laws.specs.FitTrees.{Small}
-use Rattle.bits.specs.Places.{inside}
-use Rattle.bits.specs.Steps.{Puts}
+use Rattle.bits.specs.Clear.{cleared}
+use Rattle.bits.specs.Places.{inside, room-fits}
+use Rattle.bits.specs.Steps.{Puts, put-same, before-in}
 use Rattle.bits.specs.declared.Place.{Place}
 use Rattle.model.specs.declared.records.Kind.the-variants.{Resources}
 use Rattle.text.specs.Answers.{i64Of}
@@ -37,13 +39,19 @@ use Rattle.pack.specs.Writes.{noRecords, WritesIf, put-any, writes-if, writes-n
 use Rattle.pack.specs.declared.record.Records.{Records}
 use Rattle.names.specs.Texts.{textsAt}
 use Rattle.names.specs.Context.{contextAt, textWithUid, calendarsBefore}
-use Rattle.names.specs.Records.{texts-resources}
+use Rattle.names.specs.Ids.{idsOf, noIds, noted, freeIn}
+use Rattle.names.specs.Kept.{step-kept, put-ends}
+use Rattle.names.specs.Noted.{ids-placed, noted-none, noted-free, noted-put, cleared-none, cleared-noted}
+use Rattle.names.specs.Records.{ResourceFields, resourceFields, plain-resources, front-resources, resources-lie, texts-resources}
 use Rattle.names.specs.Carried.{context-carried}
 use Rattle.names.specs.Short.{built-short}
+use Rattle.names.specs.declared.ids.Ids.{Ids}
+use Rattle.names.specs.declared.ids.IdsMade.{IdsMade}
+use Rattle.names.specs.declared.ids.IdsMade.the-variants.{Ready, NoRoom}
 use Rattle.assignments.specs.declared.section.Done.{Done}
 use Rattle.assignments.specs.Section.{Wrote}
-use Rattle.assignments.specs.Records.{isWork, wantedId, FewResources, AddsResources}
-use Rattle.assignments.proofs.Turns.{wrote-more, wrote-as, writes, writes-none, Going, going-all, going-more, going-last}
+use Rattle.assignments.specs.Resources.{isWork, wantedId, resourceWith, NotedIn, notedIn, Held, HeldIn, Behind, MakesIds, FewResources, AddsResources, PutsResources}
+use Rattle.assignments.proofs.Turns.{put-began, wrote-more, wrote-as, writes, writes-none, Going, going-all, going-more, going-last}
 use Rattle.assignments.proofs.Fit.{FineResources, fine-all, fine-on, fine-few}
 
 -- ---- which they are
@@ -109,26 +117,38 @@ module _ {total n n' : ℕ} {t : Bool} (e : Element) (l : List Element) (is : t 
   unfolding keep
   counted-last z = let c = counted-more z in let m = c .most in let s = c .sums in omega arith
 
--- at most so many
-pub few-is : (l : List Element) (n : ℕ) → n ≡ min (length (keep isWork l)) (suc mostElements) → leb n mostElements ≡ leb (length (keep isWork l)) mostElements
-few-is l n e = by (leb (length (keep isWork l)) mostElements) refl
-  where
-    by : (t : Bool) → leb (length (keep isWork l)) mostElements ≡ t → leb n mostElements ≡ t
-    by true h = let m = leb-true (length (keep isWork l)) mostElements h in le-leb n mostElements (omega arith)
-    by false h = let m = leb-false (length (keep isWork l)) mostElements h in lt-leb n mostElements (omega arith)
-
-pub few-none : (l : List Element) → l ≡ [] → true ≡ leb (length (keep isWork l)) mostElements
+-- none, or all
+pub count-none : (root : Element) → allIn (child root (bytes "Resources")) (bytes "Resource") ≡ [] → 0 ≡ min (length (workResources root)) (suc mostElements)
 unfolding keep
-few-none l e = rw e
+count-none root e =
+    let z : workResources root ≡ [] = work-kept root ∙ ap (keep isWork) e in
+    rw z
+
+pub count-all : (root : Element) {es : List Element} {n : ℕ} → allIn (child root (bytes "Resources")) (bytes "Resource") ≡ es → n ≡ min (length (keep isWork es)) (suc mostElements)
+    → n ≡ min (length (workResources root)) (suc mostElements)
+count-all root e h = h ∙ ap (λ (l : List Element). min (length l) (suc mostElements)) (sym (work-kept root ∙ ap (keep isWork) e))
+
+-- at most so many
+pub few-is : (m n : ℕ) → n ≡ min m (suc mostElements) → leb n mostElements ≡ leb m mostElements
+few-is m n e = by (leb m mostElements) refl
+  where
+    by : (t : Bool) → leb m mostElements ≡ t → leb n mostElements ≡ t
+    by true h = let k = leb-true m mostElements h in le-leb n mostElements (omega arith)
+    by false h = let k = leb-false m mostElements h in lt-leb n mostElements (omega arith)
 
 -- ---- one
 
-pub resource-is : (x : Context) (ids : List Text) (r : Element) {id name unit : Text} (calendar : Text) (stars : ℕ) {kind : ℕ} {units : ℤ} (named : NameAnswer) (price : I64Answer)
-    → id ≡ wantedId r → starredBy (wantedId r) stars ≡ free ids (wantedId r) → name ≡ (textIn r "Name" or []) → kind ≡ resourceKind r → unit ≡ (textIn r "MaterialLabel" or [])
-    → units ≡ maxUnits r → nameMeaning calendar named ≡ (textIn r "CalendarUID" >>= nameOf (x .built) >>= unlessMain x) → i64Of price ≡ priceOf r
-    → resourceBy id stars name kind unit units calendar named price ≡ resourceOf x ids r
-unfolding resourceOf
-resource-is x ids r calendar stars named price a b c d e f g h = rw (ap (λ (t : Text). starredBy t stars) a ∙ b, c, d, e, f, g, h)
+pub resource-is : (x : Context) (r : Element) {id name unit : Text} (calendar : Text) (stars : ℕ) {kind : ℕ} {units : ℤ} (named : NameAnswer) (price : I64Answer)
+    → id ≡ wantedId r → name ≡ (textIn r "Name" or []) → kind ≡ resourceKind r → unit ≡ (textIn r "MaterialLabel" or []) → units ≡ maxUnits r
+    → nameMeaning calendar named ≡ (textIn r "CalendarUID" >>= nameOf (x .built) >>= unlessMain x) → i64Of price ≡ priceOf r
+    → resourceBy id stars name kind unit units calendar named price ≡ resourceWith x (starredBy (wantedId r) stars) r
+unfolding resourceWith
+resource-is x r calendar stars named price a c d e f g h = rw (ap (λ (t : Text). starredBy t stars) a, c, d, e, f, g, h)
+
+-- with the id that is free
+resource-free : (x : Context) (ids : List Text) (r : Element) {id : Text} → id ≡ free ids (wantedId r) → resourceWith x id r ≡ resourceOf x ids r
+unfolding resourceWith resourceOf
+resource-free x ids r e = rw e
 
 -- ---- one after another
 
@@ -163,25 +183,129 @@ no-resources x xs = refl
 
 -- ---- what is read in the buffer is what was put; past the end any record does
 
-module _ (c : Place) (root : Element) {start : Place} {d : List ℕ} {r : Done} {d' : List ℕ} {q : Place} {r' : Done} (a : Element) (t : isWork a ≡ true)
-    (puts : (x : Context) (ids : List Text) → free (textsAt Resources d start (r .count % 2 ^ 32)) (wantedId a) ≡ free ids (wantedId a) → contextAt d c root ≡ x
-    → Puts (whole resource) (resourceOf x ids a) d (r .next) d' q)
+abbrev namesOf : List Resource → List Text
+namesOf xs = map (λ (e : Resource). e .id) xs
+
+count-is : {n k : ℕ} → n ≡ k % 2 ^ 64 → k < 2 ^ 32 → n ≡ k
+count-is {n} {k} e h = e ∙ mod-eq-of-lt (omega arith)
+
+low-is : {n k : ℕ} → n ≡ k → k < 2 ^ 32 → n % 2 ^ 32 ≡ k
+low-is e h = rw e (mod-eq-of-lt h)
+
+-- the tables have those so far
+noted-in : (rows : ℕ) (m : IdsMade) (p : Place) (d w : List ℕ) (r : Done) {n : ℕ} → HeldIn rows m p d w r → inside (length d) (r .next) ≡ true → r .count ≡ n → NotedIn m d p w n
+noted-in rows NoRoom p d w r h i e = tt
+noted-in rows (Ready t) p d w r h i e = rw e at (h .noted i)
+
+abbrev fieldsOf : List Resource → List ResourceFields
+fieldsOf xs = map resourceFields xs
+
+-- one more record was put, and noted
+module _ {rows : ℕ} {i : Ids} {start : Place} {d₀ d d' w : List ℕ} {r r' : Done} {q : Place} {xs : List Resource} {y : Resource} (held : Held rows i start d w r)
+    (few : length xs < rows) (wrote : Wrote (whole resource) true xs d₀ start d r) (fit : Each (FitsResourceBy Short) xs) (puts : Puts (whole resource) y d (r .next) d' q)
+    (wrote' : Wrote (whole resource) true (xs ++ (y ∷ [])) d₀ start d' r') (fit' : Each (FitsResourceBy Short) (xs ++ (y ∷ []))) (next : r' .next ≡ q) where
+  held-more : rows < 2 ^ 32 → (u : Text) (stars : ℕ) → (inside (length d) (r .next) ≡ true → (starredBy u stars ≡ free (textsAt Resources d start (length xs)) u) × (y .id ≡ starredBy u stars))
+      → {w' : List ℕ} → w' ≡ noted w i (r .count % 2 ^ 32) u stars (r .next .byte % 2 ^ 32) → Held rows i start d' w' r'
+  held-more most u stars say e = record {
+    rows-are = held .rows-are;
+    begin = held .begin;
+    short = rw (puts .step .same) (held .short);
+    noted = λ there.
+        let here : inside (length d) (r .next) ≡ true = put-began puts (rw next at there) in
+        let f = room-fits (length d) (r .next) 0 here in
+        let n : length (fieldsOf xs) ≡ length xs = length-map xs resourceFields in
+        let count : r .count ≡ length (fieldsOf xs) = count-is (wrote .counts refl) (omega arith) ∙ sym n in
+        let low : r .count % 2 ^ 32 ≡ length (fieldsOf xs) = low-is count (omega arith) in
+        let byte : r .next .byte % 2 ^ 32 ≡ r .next .byte = low-is refl (omega (arith, f .ends, held .short)) in
+        let (free-is, id-is) = say here in
+        let lies = resources-lie (length xs) (wrote .puts) here fit in
+        let lies' = rw (map-append resourceFields xs (y ∷ [])) at (resources-lie (length (xs ++ (y ∷ []))) (wrote' .puts) there fit') in
+        let bit = put-ends (fills-times (length xs) (fills-whole resource)) (wrote .puts) here (held .begin) in
+        let x = noted-put plain-resources front-resources (rw count at (held .noted here)) (omega (arith, held .rows-are)) lies lies' (step-kept (puts .step)) (omega (arith, before-in (length d) (r .next) f)) bit
+        u stars (rw n free-is) id-is (e ∙ rw (low, byte)) in
+        let k = length-append xs (y ∷ []) in
+        let m : length (fieldsOf xs ++ (resourceFields y ∷ [])) ≡ length (xs ++ (y ∷ [])) = length-append (fieldsOf xs) (resourceFields y ∷ []) ∙ omega arith in
+        rw (m ∙ sym (count-is (wrote' .counts refl) (omega arith))) at x;
+  }
+
+keeps-noted : (from : ℕ) (w : List ℕ) (m : IdsMade) (row : ℕ) (u : Text) (stars byte : ℕ) → Behind from m → cleared from (notedIn w m row u stars byte) ≡ cleared from w
+keeps-noted from w NoRoom row u stars byte h = refl
+keeps-noted from w (Ready i) row u stars byte (k, l) = cleared-noted from w i k l row u stars byte
+
+one-room : (e : Element) (n rows : ℕ) → isWork e ≡ true → n + length (keep isWork (e ∷ [])) ≤ rows → n < rows
+unfolding keep
+one-room e n rows t h = let k : n + 1 ≤ rows = rw t at h in omega arith
+
+module _ (c : Place) (root : Element) {start : Place} {d : List ℕ} {r : Done} {d' : List ℕ} {q : Place} {r' : Done} (a : Element) (t : isWork a ≡ true) (m : IdsMade) (w w' : List ℕ) (stars : ℕ)
+    (say : NotedIn m d start w (r .count % 2 ^ 32) → starredBy (wantedId a) stars ≡ free (textsAt Resources d start (r .count % 2 ^ 32)) (wantedId a))
+    (puts : (x : Context) → contextAt d c root ≡ x → Puts (whole resource) (resourceWith x (starredBy (wantedId a) stars) a) d (r .next) d' q)
+    (notes : w' ≡ notedIn w m (r .count % 2 ^ 32) (wantedId a) stars (r .next .byte % 2 ^ 32))
     (n : (r' .count ≡ (r .count + 1) % 2 ^ 64) × (r' .next ≡ q)) where
-  adds-work : AddsResources c start root (a ∷ []) d r d' r'
-  adds-work = record { goes = λ d₀ xs ok w. wrote-as (one-work (contextAt d₀ c root) xs a t) (wrote-more w (by-end d₀ xs ok w (inside (length d) (r .next)) refl) n) }
-    where
-      by-end : (d₀ : List ℕ) (xs : List Resource) → FewResources c root start d₀ xs → Wrote (whole resource) true xs d₀ start d r → (i : Bool) → inside (length d) (r .next) ≡ i
-          → Puts (whole resource) (resourceOf (contextAt d₀ c root) (map (λ (e : Resource). e .id) xs) a) d (r .next) d' q
-      by-end d₀ xs ok w false i = put-any _ i (puts (contextAt d c root) (textsAt Resources d start (r .count % 2 ^ 32)) refl refl)
-      by-end d₀ xs ok w true i =
-          let few = ok .few in
-          let m : r .count % 2 ^ 32 ≡ length xs = rw (w .counts refl, mod-mod-pow (length xs) 32 32) (mod-eq-of-lt few) in
-          let z : textsAt Resources d start (r .count % 2 ^ 32) ≡ map (λ (e : Resource). e .id) xs = rw m (texts-resources (length xs) (w .puts) i (ok .fit)) in
-          puts (contextAt d₀ c root) (map (λ (e : Resource). e .id) xs) (ap (λ (ids : List Text). free ids (wantedId a)) z) (context-carried (w .puts .step) c root (ok .stand))
+  module _ (rows : ℕ) (d₀ : List ℕ) (xs : List Resource) (ok : FewResources c root start rows (a ∷ []) d₀ xs) (held : HeldIn rows m start d w r) (wrote : Wrote (whole resource) true xs d₀ start d r) where
+    few : length xs < rows
+    few = one-room a (length xs) rows t (ok .room)
+
+    short : length xs < 2 ^ 32
+    short = omega (arith, few, ok .few)
+
+    count-now : r .count ≡ length xs
+    count-now = count-is (wrote .counts refl) short
+
+    low-now : r .count % 2 ^ 32 ≡ length xs
+    low-now = low-is count-now short
+
+    made : Resource
+    made = resourceOf (contextAt d₀ c root) (namesOf xs) a
+
+    module _ (i : inside (length d) (r .next) ≡ true) where
+      texts-are : textsAt Resources d start (length xs) ≡ namesOf xs
+      texts-are = texts-resources (length xs) (wrote .puts) i (ok .fit)
+
+      stars-are : starredBy (wantedId a) stars ≡ free (textsAt Resources d start (length xs)) (wantedId a)
+      stars-are = say (noted-in rows m start d w r held i (count-now ∙ sym low-now)) ∙ ap (λ (k : ℕ). free (textsAt Resources d start k) (wantedId a)) low-now
+
+    put-made : Puts (whole resource) made d (r .next) d' q
+    unfolding made
+    put-made = by-end (inside (length d) (r .next)) refl
+      where
+        by-end : (i : Bool) → inside (length d) (r .next) ≡ i → Puts (whole resource) (resourceOf (contextAt d₀ c root) (namesOf xs) a) d (r .next) d' q
+        by-end false i = put-any _ i (puts (contextAt d c root) refl)
+        by-end true i =
+            put-same (resource-free (contextAt d₀ c root) (namesOf xs) a (stars-are i ∙ ap (λ (ids : List Text). free ids (wantedId a)) (texts-are i)))
+            (puts (contextAt d₀ c root) (context-carried (wrote .puts .step) c root (ok .stand)))
+
+    wrote-made : Wrote (whole resource) true (xs ++ (made ∷ [])) d₀ start d' r'
+    wrote-made = wrote-more wrote put-made n
+
+    after-is : xs ++ (made ∷ []) ≡ resourcesAfter (contextAt d₀ c root) xs (keep isWork (a ∷ []))
+    unfolding made
+    after-is = one-work (contextAt d₀ c root) xs a t
+
+    id-made : inside (length d) (r .next) ≡ true → made .id ≡ starredBy (wantedId a) stars
+    unfolding made resourceOf
+    id-made i = sym (stars-are i ∙ ap (λ (ids : List Text). free ids (wantedId a)) (texts-are i))
+
+    holds-made : Each (FitsResourceBy Short) (xs ++ (made ∷ [])) → HeldIn rows m start d' w' r'
+    holds-made f = by m held notes
+      where
+        by : (m : IdsMade) → HeldIn rows m start d w r → w' ≡ notedIn w m (r .count % 2 ^ 32) (wantedId a) stars (r .next .byte % 2 ^ 32) → HeldIn rows m start d' w' r'
+        by NoRoom h e = tt
+        by (Ready i) h e = held-more h few wrote (ok .fit) put-made wrote-made f (n .1) (ok .few) (wantedId a) stars (λ i. (stars-are i, id-made i)) e
+
+  adds-work : AddsResources c start root (a ∷ []) m d w r d' w' r'
+  adds-work = record {
+    adds = λ rows. record { goes = λ d₀ xs ok wrote. wrote-as (after-is rows d₀ xs (ok .0) (ok .1) wrote) (wrote-made rows d₀ xs (ok .0) (ok .1) wrote) };
+    holds = λ rows d₀ xs ok held wrote f. holds-made rows d₀ xs ok held wrote (subst (Each (FitsResourceBy Short)) (sym (after-is rows d₀ xs ok held wrote)) f);
+    keeps = λ from h. ap (cleared from) notes ∙ keeps-noted from w m (r .count % 2 ^ 32) (wantedId a) stars (r .next .byte % 2 ^ 32) h;
+  }
 
 -- not a work resource
-pub adds-other : (c : Place) (root : Element) {start : Place} {d : List ℕ} {r : Done} (a : Element) → isWork a ≡ false → AddsResources c start root (a ∷ []) d r d r
-adds-other c root a t = record { goes = λ d₀ xs ok w. wrote-as (no-work (contextAt d₀ c root) xs a t) w }
+pub adds-other : (c : Place) (root : Element) {start : Place} (m : IdsMade) {d w : List ℕ} {r : Done} (a : Element) → isWork a ≡ false → AddsResources c start root (a ∷ []) m d w r d w r
+adds-other c root m a t = record {
+  adds = λ rows. record { goes = λ d₀ xs ok wrote. wrote-as (no-work (contextAt d₀ c root) xs a t) wrote };
+  holds = λ rows d₀ xs ok held wrote f. held;
+  keeps = λ from h. refl;
+}
 
 -- ---- what the callees say, about the element's own texts
 
@@ -195,42 +319,82 @@ calendar-said a named f e u h z =
     ap (λ (t : Text). nameMeaning t named) (e ∙ ap f u) ∙ h ∙ ap (λ (x : Context). textIn a "CalendarUID" >>= nameOf (x .built) >>= unlessMain x) z
 
 -- a work resource is put
-pub adds-said : (c : Place) (root : Element) {start : Place} {d : List ℕ} {r : Done} {d' : List ℕ} {q : Place} {r' : Done} (a : Element) → isWork a ≡ true
-    → {id : Text} (stars : ℕ) → id ≡ wantedId a → starredBy id stars ≡ free (textsAt Resources d start (r .count % 2 ^ 32)) id
+pub adds-said : (c : Place) (root : Element) {start : Place} {d : List ℕ} {r : Done} {d' : List ℕ} {q : Place} {r' : Done} (a : Element) → isWork a ≡ true → (m : IdsMade) (w : List ℕ) {w' : List ℕ}
+    → {id : Text} (stars : ℕ) → id ≡ wantedId a → (NotedIn m d start w (r .count % 2 ^ 32) → starredBy id stars ≡ free (textsAt Resources d start (r .count % 2 ^ 32)) id)
     → {calendar uid : Text} (named : NameAnswer) → calendar ≡ textWithUid root uid → uid ≡ (textIn a "CalendarUID" or [])
     → nameMeaning (textWithUid root (textIn a "CalendarUID" or [])) named ≡ (textIn a "CalendarUID" >>= nameOf (contextAt d c root .built) >>= unlessMain (contextAt d c root))
-    → ((x : Context) (ids : List Text) → starredBy (wantedId a) stars ≡ free ids (wantedId a)
-    → nameMeaning calendar named ≡ (textIn a "CalendarUID" >>= nameOf (x .built) >>= unlessMain x) → Puts (whole resource) (resourceOf x ids a) d (r .next) d' q)
-    → (r' .count ≡ (r .count + 1) % 2 ^ 64) × (r' .next ≡ q) → AddsResources c start root (a ∷ []) d r d' r'
-adds-said c root {start} {d} {r} a t stars ei es named ec eu en puts n =
-    adds-work c root a t (λ x ids e z. puts x ids (stars-said stars (textsAt Resources d start (r .count % 2 ^ 32)) ei es ∙ e) (calendar-said a named (textWithUid root) ec eu en z)) n
+    → ((x : Context) → nameMeaning calendar named ≡ (textIn a "CalendarUID" >>= nameOf (x .built) >>= unlessMain x) → Puts (whole resource) (resourceWith x (starredBy (wantedId a) stars) a) d (r .next) d' q)
+    → w' ≡ notedIn w m (r .count % 2 ^ 32) id stars (r .next .byte % 2 ^ 32) → (r' .count ≡ (r .count + 1) % 2 ^ 64) × (r' .next ≡ q) → AddsResources c start root (a ∷ []) m d w r d' w' r'
+adds-said c root {start} {d} {r} a t m w {w'} stars ei es named ec eu en puts notes n =
+    adds-work c root a t m w w' stars (λ h. stars-said stars (textsAt Resources d start (r .count % 2 ^ 32)) ei (es h)) (λ x z. puts x (calendar-said a named (textWithUid root) ec eu en z))
+    (notes ∙ ap (λ (u : Text). notedIn w m (r .count % 2 ^ 32) u stars (r .next .byte % 2 ^ 32)) ei) n
 
 -- ---- a loop over elements
 
 -- some are done, and those of fs are left
-abbrev pub GoingOn : Context → Element → List Element → List Element → List ℕ → Place → List ℕ → Done → Type 0
-GoingOn x root es fs = Going (whole resource) true (λ xs es. resourcesAfter x xs (keep isWork es)) (FineResources fs) es fs
+abbrev GoingOn : ℕ → Context → List Element → List Element → List ℕ → Place → List ℕ → Done → Type 0
+GoingOn rows x es fs = Going (whole resource) true (λ xs es. resourcesAfter x xs (keep isWork es)) (FineResources rows fs) es fs
 
 -- in a buffer in which the calendars stand
-pub record Going-in (c : Place) (root : Element) (es fs : List Element) (d : List ℕ) (p : Place) (d' : List ℕ) (r : Done) : Type 0 where
-  pub going : calendarsBefore d c root p ≡ true → length (keep isWork es) ≤ mostElements → GoingOn (contextAt d c root) root es fs d p d' r
+pub record Going-in (c : Place) (root : Element) (m : IdsMade) (es fs : List Element) (d : List ℕ) (p : Place) (w d' w' : List ℕ) (r : Done) : Type 0 where
+  pub going : calendarsBefore d c root p ≡ true → length (keep isWork es) ≤ mostElements → HeldIn (length (keep isWork es)) m p d w (record { count = 0; next = p })
+      → GoingOn (length (keep isWork es)) (contextAt d c root) es fs d p d' r × HeldIn (length (keep isWork es)) m p d' w' r
+  pub keeps : (from : ℕ) → Behind from m → cleared from w' ≡ cleared from w
 
-module _ (c : Place) (root : Element) {es : List Element} {d : List ℕ} {p : Place} where
-  pub go-all : Going-in c root es es d p d (record { count = 0; next = p })
-  go-all = record { going = λ b h. going-all (fine-all es h) }
+module _ (c : Place) (root : Element) (m : IdsMade) {es : List Element} {d : List ℕ} {p : Place} {w : List ℕ} where
+  pub go-all : Going-in c root m es es d p w d w (record { count = 0; next = p })
+  go-all = record { going = λ b h held. (going-all (fine-all es h), held); keeps = λ from h. refl }
 
-  module _ {e : Element} {fs : List Element} {d1 : List ℕ} {r1 : Done} {d2 : List ℕ} {r2 : Done} (g : Going-in c root es (e ∷ fs) d p d1 r1) (h : AddsResources c p root (e ∷ []) d1 r1 d2 r2) where
-    pub go-more : {gs : List Element} → fs ≡ gs → Small root → Small e → Going-in c root es gs d p d2 r2
+  module _ {e : Element} {fs : List Element} {d1 w1 : List ℕ} {r1 : Done} {d2 w2 : List ℕ} {r2 : Done} (g : Going-in c root m es (e ∷ fs) d p w d1 w1 r1) (h : AddsResources c p root (e ∷ []) m d1 w1 r1 d2 w2 r2) where
+    pub go-more : {gs : List Element} → fs ≡ gs → Small root → Small e → Going-in c root m es gs d p w d2 w2 r2
     unfolding contextAt
-    go-more z m s = record {
-      going = λ b n.
+    go-more z s k = record {
+      going = λ b n held.
           let x = contextAt d c root in
-          going-more (g .going b n) h (fine-few c root p b) (more-resources x e fs) z
-          (λ xs f. subst (λ (l : List Element). FineResources l (resourcesAfter x xs (keep isWork (e ∷ [])))) z (fine-on x (built-short d c m) fs s xs f));
+          let rows = length (keep isWork es) in
+          let (go, now) = g .going b n held in
+          let short = built-short d c s in (
+            going-more go (h .adds rows) (λ xs f. (fine-few c root p e fs b xs f, now)) (more-resources x e fs) z
+                (λ xs f. subst (λ (l : List Element). FineResources rows l (resourcesAfter x xs (keep isWork (e ∷ [])))) z (fine-on x short fs k xs f)),
+            h .holds rows d (go .done) (fine-few c root p e fs b (go .done) (go .fine)) now (go .wrote) (fine-on x short fs k (go .done) (go .fine) .fit),
+          );
+      keeps = λ from l. h .keeps from l ∙ g .keeps from l;
     }
 
-    pub go-last : fs ≡ [] → calendarsBefore d c root p ≡ true → length (keep isWork es) ≤ mostElements → Wrote (whole resource) true (resourcesAfter (contextAt d c root) [] (keep isWork es)) d p d2 r2
-    go-last z b n = going-last (g .going b n) h (fine-few c root p b) (more-resources (contextAt d c root) e fs) z (no-resources (contextAt d c root))
+    pub go-last : fs ≡ [] → PutsResources c p root es m d w d2 w2 r2
+    go-last z = record {
+      puts = λ b n held.
+          let (go, now) = g .going b n held in
+          going-last go (h .adds (length (keep isWork es))) (λ xs f. (fine-few c root p e fs b xs f, now)) (more-resources (contextAt d c root) e fs) z (no-resources (contextAt d c root));
+      keeps = λ from l. h .keeps from l ∙ g .keeps from l;
+    }
+
+-- ---- the tables
+
+pub tables-may : (bit len : ℕ) → (not (eqb bit 0) || ltb 4294967295 len) ≡ false → (bit ≡ 0) × (len < 2 ^ 32)
+tables-may bit len h = by (eqb bit 0) refl h
+  where
+    by : (t : Bool) → eqb bit 0 ≡ t → (not t || ltb 4294967295 len) ≡ false → (bit ≡ 0) × (len < 2 ^ 32)
+    by true e h = let k = ltb-false 4294967295 len h in (eqb-true bit 0 e, omega arith)
+    by false e h = absurd (true≢false h)
+
+pub stars-by : (d : List ℕ) (p : Place) (w : List ℕ) (m : IdsMade) (n : ℕ) (u : Text) {i : Ids} {stars : ℕ} → m ≡ Ready i → stars ≡ freeIn d w i n u
+    → NotedIn m d p w n → starredBy u stars ≡ free (textsAt Resources d p n) u
+stars-by d p w m n u e h x = ap (starredBy u) h ∙ noted-free (subst (λ (m : IdsMade). NotedIn m d p w n) e x) u
+
+pub note-by : (w : List ℕ) (m : IdsMade) (row : ℕ) (u : Text) (stars byte : ℕ) {w' : List ℕ} {i : Ids} → m ≡ Ready i → w' ≡ noted w i row u stars byte → w' ≡ notedIn w m row u stars byte
+note-by w m row u stars byte e h = h ∙ ap (λ (m : IdsMade). notedIn w m row u stars byte) (sym e)
+
+pub makes-ids : (len : ℕ) (p : Place) (from rows : ℕ) (w : List ℕ) {w' : List ℕ} {i : Ids} → Ready i ≡ idsOf (length w) from rows → w' ≡ noIds w i → p .bit ≡ 0 → len < 2 ^ 32
+    → MakesIds len p from rows w w' (Ready i)
+makes-ids len p from rows w {w'} {i} e z b l =
+    let (x, n) = ids-placed (length w) from rows e in
+    let k : from ≤ i .wanted .at = omega (arith, x .begin, x .apart) in
+    record {
+      held = λ d h. record { rows-are = n; begin = b; short = rw h l; noted = λ there. rw z (noted-none Resources d p w x) };
+      behind = (omega (arith, x .begin), k);
+      keeps = ap (cleared from) z ∙ cleared-none from w i (omega (arith, x .begin)) k;
+    }
 
 -- ---- all
 
@@ -241,24 +405,29 @@ all-resources x root e = ap (resourcesAfter x []) (work-kept root ∙ ap (keep i
 abbrev Tested : List ℕ → Place → Element → Place → Bool
 Tested d c root p = leb (length (workResources root)) mostElements && calendarsBefore d c root p
 
-module _ (d : List ℕ) (c : Place) (root : Element) (p : Place) {t u : Bool} (et : t ≡ leb (length (workResources root)) mostElements) (eu : u ≡ calendarsBefore d c root p) where
-  tested : (t && u) ≡ Tested d c root p
-  tested = λ i. et i && eu i
+module _ (d : List ℕ) (c : Place) (root : Element) (p : Place) {n : ℕ} {u : Bool} (count : n ≡ min (length (workResources root)) (suc mostElements)) (eu : u ≡ calendarsBefore d c root p) where
+  tested : (leb n mostElements && u) ≡ Tested d c root p
+  tested = λ i. few-is (length (workResources root)) n count i && eu i
 
-  pub resources-not : not (t && u) ≡ true → WritesIf (Tested d c root p) (whole resource) (resources (contextAt d c root) root) d p d noRecords
-  resources-not h = writes-not (whole resource) (sym tested ∙ not-true (t && u) h) refl
+  pub resources-not : not (leb n mostElements && u) ≡ true → WritesIf (Tested d c root p) (whole resource) (resources (contextAt d c root) root) d p d noRecords
+  resources-not h = writes-not (whole resource) (sym tested ∙ not-true (leb n mostElements && u) h) refl
 
-  module _ (h : not (t && u) ≡ false) where
+  module _ (h : not (leb n mostElements && u) ≡ false) where
     holds : Tested d c root p ≡ true
-    holds = sym tested ∙ not-false (t && u) h
+    holds = sym tested ∙ not-false (leb n mostElements && u) h
 
     pub resources-none : allIn (child root (bytes "Resources")) (bytes "Resource") ≡ [] → WritesIf (Tested d c root p) (whole resource) (resources (contextAt d c root) root) d p d (record { count = 0; next = p })
     resources-none e = let x = contextAt d c root in writes-if (whole resource) holds (writes-none (all-resources x root e ∙ no-resources x []))
 
-    pub resources-all : {es : List Element} → allIn (child root (bytes "Resources")) (bytes "Resource") ≡ es → {d' : List ℕ} {r : Done} {w : Records}
-        → (calendarsBefore d c root p ≡ true → length (keep isWork es) ≤ mostElements → Wrote (whole resource) true (resourcesAfter (contextAt d c root) [] (keep isWork es)) d p d' r)
-        → (w .count ≡ r .count % 2 ^ 32) × (w .next ≡ r .next) → WritesIf (Tested d c root p) (whole resource) (resources (contextAt d c root) root) d p d' w
-    resources-all {es} e k n =
+    pub resources-all : {es : List Element} → allIn (child root (bytes "Resources")) (bytes "Resource") ≡ es → {from : ℕ} {m : IdsMade} {w w₁ w₂ d' : List ℕ} {r : Done} {a : Records}
+        → MakesIds (length d) p from n w w₁ m → PutsResources c p root es m d w₁ d' w₂ r → (a .count ≡ r .count % 2 ^ 32) × (a .next ≡ r .next)
+        → WritesIf (Tested d c root p) (whole resource) (resources (contextAt d c root) root) d p d' a × (cleared from w₂ ≡ cleared from w)
+    resources-all {es} e {from} {m} {w} {w₁} k g s =
         let (most, stand) = and-eq-true-iff (leb (length (workResources root)) mostElements) (calendarsBefore d c root p) .0 holds in
-        let few : length (keep isWork es) ≤ mostElements = subst (λ (l : List Element). length l ≤ mostElements) (work-kept root ∙ ap (keep isWork) e) (leb-true _ _ most) in
-        writes-if (whole resource) holds (writes (wrote-as (sym (all-resources (contextAt d c root) root e)) (k stand few)) n)
+        let z : length (workResources root) ≡ length (keep isWork es) = ap length (work-kept root ∙ ap (keep isWork) e) in
+        let l : length (workResources root) ≤ mostElements = leb-true _ _ most in
+        let rows : n ≡ length (keep isWork es) = omega arith in
+        let held = subst (λ (n : ℕ). HeldIn n m p d w₁ (record { count = 0; next = p })) rows (k .held d refl) in (
+          writes-if (whole resource) holds (writes (wrote-as (sym (all-resources (contextAt d c root) root e)) (g .puts stand (omega arith) held)) s),
+          g .keeps from (k .behind) ∙ k .keeps,
+        )

@@ -1,29 +1,27 @@
 -- The records of some elements, behind those that were made before. Assumes nothing: these are definitions.
 use Prim.Native.Nat.{ℕ, _^_, _<_}
 use mathlib.Core.Path.{_≡_}
-use mathlib.Core.Bool.{Bool, true, false, _&&_, not}
+use mathlib.Core.Bool.{Bool, true, false, _&&_}
 use mathlib.Core.List.{List, [], _∷_, _++_, map}
 use mathlib.Core.Option.{Option, some}
 use lib.Dec.{eqb}
 use lib.ListN.{length}
-use Rattle.definition.specs.Base.{_or_, _orElse_, keep, present, some?, same}
+use Rattle.definition.specs.Base.{_or_, present, some?, same}
 use Rattle.definition.specs.Text.{Text}
 use Rattle.definition.specs.Tree.{Element}
-use Rattle.definition.specs.Field.{textIn}
 use Rattle.definition.specs.Bits.{Bits}
 use Rattle.definition.specs.Format.{whole, times}
-use Rattle.definition.specs.Pack.{assignment, expense, resource}
-use Rattle.definition.specs.Model.{Resource, Assignment, Expense}
+use Rattle.definition.specs.Pack.{assignment, expense}
+use Rattle.definition.specs.Model.{Assignment, Expense}
 use Rattle.definition.specs.Task.{contextOf}
-use Rattle.definition.specs.Resource.{isResource, isCost, resourcesAfter, assignmentOf, expenseOf, firsts}
+use Rattle.definition.specs.Resource.{assignmentOf, expenseOf, firsts}
 use Rattle.laws.specs.Each.{Each}
-use Rattle.laws.specs.FitRecords.{Short, FitsResourceBy, FitsExpenseBy}
+use Rattle.laws.specs.FitRecords.{Short, FitsExpenseBy}
 use Rattle.bits.specs.Reads.{rest, Reads, takeAt}
 use Rattle.bits.specs.declared.Place.{Place}
 use Rattle.model.specs.Answers.{readAt}
 use Rattle.model.specs.Parts.{raw}
 use Rattle.names.specs.Records.{ExpenseFields, plainExpenses}
-use Rattle.names.specs.Context.{contextAt, calendarsBefore}
 use Rattle.assignments.specs.declared.section.Done.{Done}
 use Rattle.assignments.specs.Section.{Goes}
 
@@ -58,20 +56,3 @@ FewExpenses d₀ xs = Each (FitsExpenseBy Short) xs × (length xs < 2 ^ 64)
 
 abbrev pub AddsExpense : Place → Option Expense → List ℕ → Done → List ℕ → Done → Type 0
 AddsExpense p o d r d' r' = Goes (whole expense) false p FewExpenses (λ d₀ xs. firsts xs (present (o ∷ []))) d r d' r'
-
--- ---- resources
-
-abbrev pub isWork : Element → Bool
-isWork e = isResource e && not (isCost e)
-
-abbrev pub wantedId : Element → Text
-wantedId r = (textIn r "ID" orElse textIn r "UID") or []
-
--- the calendars stand before a place
-pub record FewResources (c : Place) (root : Element) (p : Place) (d₀ : List ℕ) (xs : List Resource) : Type 0 where
-  pub stand : calendarsBefore d₀ c root p ≡ true
-  pub fit : Each (FitsResourceBy Short) xs
-  pub few : length xs < 2 ^ 32
-
-abbrev pub AddsResources : Place → Place → Element → List Element → List ℕ → Done → List ℕ → Done → Type 0
-AddsResources c p root es d r d' r' = Goes (whole resource) true p (FewResources c root p) (λ d₀ xs. resourcesAfter (contextAt d₀ c root) xs (keep isWork es)) d r d' r'

@@ -1,34 +1,35 @@
 // The work resources. What is right is said in the crate definition, specs/Resource.antt.
 ghost use mathlib.Core.Path.{_≡_};
-ghost use mathlib.Core.Bool.{true, _&&_, not};
-ghost use mathlib.Core.List.{List, [], _∷_};
-ghost use Prim.Native.Nat.{ℕ, suc, min, _≤_};
+ghost use mathlib.Core.Bool.{_&&_, not};
+ghost use mathlib.Core.List.{[], _∷_};
+ghost use Prim.Native.Nat.{suc, _%_, _^_, min};
+ghost use lib.Dec.{leb};
+ghost use lib.ListN.{length};
 ghost use Rattle.definition.specs.Ascii.{bytes};
 ghost use Rattle.definition.specs.Base.{if_then_else_, _>>=_ as bind, _or_, keep};
 ghost use Rattle.definition.specs.Field.{textIn};
-ghost use Rattle.definition.specs.Calendar.{nameOf};
-ghost use Rattle.definition.specs.Task.{Context, unlessMain};
-ghost use Rattle.definition.specs.Text.{Text};
-ghost use Rattle.bits.specs.Steps.{Puts};
-ghost use Rattle.pack.specs.Value.{starredBy, nameMeaning};
-ghost use lib.Dec.{leb};
-ghost use lib.ListN.{length};
 ghost use Rattle.definition.specs.Format.{whole};
 ghost use Rattle.definition.specs.Pack.{resource};
+ghost use Rattle.definition.specs.Calendar.{nameOf, free};
 ghost use Rattle.definition.specs.Refusal.{mostElements};
-ghost use Rattle.definition.specs.Resource.{workResources, resourceOf, resourcesAfter, resources as resourcesOf};
+ghost use Rattle.definition.specs.Task.{Context, unlessMain};
+ghost use Rattle.definition.specs.Resource.{workResources, resources as resourcesOf};
+ghost use Rattle.bits.specs.Clear.{cleared};
+ghost use Rattle.bits.specs.Steps.{Puts};
 ghost use Rattle.tree.specs.Place.{elementAt, laterAt};
+ghost use Rattle.model.specs.declared.records.Kind.the-variants.{Resources};
+ghost use Rattle.pack.specs.Value.{starredBy, nameMeaning};
 ghost use Rattle.pack.specs.Writes.{WritesIf};
-ghost use Rattle.names.specs.Context.{contextAt, builtAt, textWithUid, calendarsBefore};
-ghost use Rattle.definition.specs.Calendar.{free};
-ghost use Rattle.assignments.specs.Section.{Wrote};
-ghost use Rattle.assignments.specs.Records.{isWork, wantedId, AddsResources};
+ghost use Rattle.names.specs.Texts.{textsAt};
+ghost use Rattle.names.specs.Context.{contextAt, textWithUid, calendarsBefore};
+ghost use Rattle.assignments.specs.Resources.{isWork, wantedId, resourceWith, NotedIn, notedIn, MakesIds, AddsResources, PutsResources};
 use crate::section::Done;
 use crate::section::more;
 use crate::section::records_of;
 use bits::PAST;
 use bits::Place;
 use model::records::Kind;
+use names::IdsMade;
 use pack::NameAnswer;
 use pack::Records;
 use tree::Found;
@@ -63,13 +64,13 @@ fn count_from(s: &[u8], first: usize) -> u32
     }
 }
 
-// Whether there are at most 5,000,000.
-fn few(s: &[u8], root: usize) -> bool
-    ensures { λ r. ⌜ r ≡ leb (length (workResources (elementAt (now (s .entry)) root))) mostElements ⌝ }
+// How many there are, as far as 5,000,001.
+fn count_work(s: &[u8], root: usize) -> u32
+    ensures { λ r. ⌜ r ≡ min (length (workResources (elementAt (now (s .entry)) root))) (suc mostElements) ⌝ }
 {
     match rows::first_in(s, root, b"Resources", b"Resource") {
-        Found::Nothing => true,
-        Found::At(first) => count_from(s, first) <= 5000000,
+        Found::Nothing => 0,
+        Found::At(first) => count_from(s, first),
     }
 }
 
@@ -96,6 +97,44 @@ fn calendar_of(out: &[u8], c: Place, s: &[u8], root: usize, at: usize) -> NameAn
     names::calendar_named(out, c, s, root, tree::text_of(s, at, b"CalendarUID"))
 }
 
+// ---- which ids are taken
+
+// Tables of the ids in the words from a place on, where there is room for them, each record begins at a whole byte and 32 bits hold its position.
+fn ids_for(len: usize, p: Place, words: &mut [u32], at: usize, rows: u32) -> IdsMade
+    ensures { λ r. ⌜ MakesIds len p at rows (now (words .entry)) (now (words .exit)) r ⌝ }
+{
+    if (p.bit != 0) | (4294967295 < len) {
+        return IdsMade::NoRoom;
+    }
+    let IdsMade::Ready(ids) = names::ids_at(words.len(), at, rows) else {
+        return IdsMade::NoRoom;
+    };
+    names::clear_ids(words, ids);
+    IdsMade::Ready(ids)
+}
+
+// How many `*` an id needs, by the tables, or by a look at all records.
+fn stars_for(out: &[u8], start: Place, count: u32, id: &[u8], words: &[u32], made: IdsMade) -> u32
+    ensures { λ r. ⌜ (NotedIn made (now (out .entry)) start (now (words .entry)) count → starredBy (now (id .entry)) r ≡ free (textsAt Resources (now (out .entry)) start count) (now (id .entry))) ⌝ }
+{
+    match made {
+        IdsMade::Ready(ids) => names::free_in(out, words, ids, count, id),
+        IdsMade::NoRoom => names::free_stars(out, start, Kind::Resources, count, id),
+    }
+}
+
+// Notes the id of the record of a row, which stands at a place.
+fn note(words: &mut [u32], made: IdsMade, row: u32, id: &[u8], stars: u32, p: Place)
+    ensures { λ _. ⌜ now (words .exit) ≡ notedIn (now (words .entry)) made row (now (id .entry)) stars (p .byte % 2 ^ 32) ⌝ }
+{
+    match made {
+        IdsMade::Ready(ids) => {
+            names::note_id(words, ids, row, id, stars, (p.byte % 4294967296) as u32)
+        }
+        IdsMade::NoRoom => {}
+    }
+}
+
 // ---- one after another
 
 // The values that need no other record.
@@ -108,7 +147,7 @@ fn put_said(
     calendar: &[u8],
     named: NameAnswer,
 ) -> Place
-    ensures { λ r. ⌜ ((x : Context) (ids : List Text) → starredBy (wantedId (elementAt (now (s .entry)) at)) stars ≡ free ids (wantedId (elementAt (now (s .entry)) at)) → nameMeaning (now (calendar .entry)) named ≡ bind (bind (textIn (elementAt (now (s .entry)) at) "CalendarUID") (nameOf (x .built))) (unlessMain x) → Puts (whole resource) (resourceOf x ids (elementAt (now (s .entry)) at)) (now (out .entry)) p (now (out .exit)) r) ⌝ }
+    ensures { λ r. ⌜ ((x : Context) → nameMeaning (now (calendar .entry)) named ≡ bind (bind (textIn (elementAt (now (s .entry)) at) "CalendarUID") (nameOf (x .built))) (unlessMain x) → Puts (whole resource) (resourceWith x (starredBy (wantedId (elementAt (now (s .entry)) at)) stars) (elementAt (now (s .entry)) at)) (now (out .entry)) p (now (out .exit)) r) ⌝ }
 {
     let id = wanted_id(s, at);
     let name = tree::text_of(s, at, b"Name");
@@ -140,31 +179,43 @@ fn put_one(
     root: usize,
     at: usize,
     c: Place,
+    words: &mut [u32],
+    made: IdsMade,
 ) -> Done
-    ensures { λ r. ⌜ AddsResources c start (elementAt (now (s .entry)) root) (elementAt (now (s .entry)) at ∷ []) (now (out .entry)) done (now (out .exit)) r ⌝ }
+    ensures { λ r. ⌜ AddsResources c start (elementAt (now (s .entry)) root) (elementAt (now (s .entry)) at ∷ []) made (now (out .entry)) (now (words .entry)) done (now (out .exit)) (now (words .exit)) r ⌝ }
 {
     if !is_work(s, at) {
         return done;
     }
     let id = wanted_id(s, at);
     let count = (done.count % 4294967296) as u32;
-    let stars = names::free_stars(out, start, Kind::Resources, count, id);
+    let stars = stars_for(out, start, count, id, words, made);
     let uid = tree::text_of(s, at, b"CalendarUID");
     let calendar = names::calendar_text(s, root, uid, b"Calendar");
     let named = calendar_of(out, c, s, root, at);
     let p = done.next;
     let next = put_said(out, p, s, at, stars, calendar, named);
+    note(words, made, count, id, stars, p);
     more(done, next)
 }
 
 // Those of a Resource and its later siblings.
-fn put_from(out: &mut [u8], p: Place, s: &[u8], root: usize, first: usize, c: Place) -> Done
-    ensures { λ r. ⌜ (calendarsBefore (now (out .entry)) c (elementAt (now (s .entry)) root) p ≡ true → length (keep isWork (elementAt (now (s .entry)) first ∷ laterAt (now (s .entry)) (bytes "Resource") first)) ≤ mostElements → Wrote (whole resource) true (resourcesAfter (contextAt (now (out .entry)) c (elementAt (now (s .entry)) root)) [] (keep isWork (elementAt (now (s .entry)) first ∷ laterAt (now (s .entry)) (bytes "Resource") first))) (now (out .entry)) p (now (out .exit)) r) ⌝ }
+fn put_from(
+    out: &mut [u8],
+    p: Place,
+    s: &[u8],
+    root: usize,
+    first: usize,
+    c: Place,
+    words: &mut [u32],
+    made: IdsMade,
+) -> Done
+    ensures { λ r. ⌜ PutsResources c p (elementAt (now (s .entry)) root) (elementAt (now (s .entry)) first ∷ laterAt (now (s .entry)) (bytes "Resource") first) made (now (out .entry)) (now (words .entry)) (now (out .exit)) (now (words .exit)) r ⌝ }
 {
     let mut done = Done { count: 0, next: p };
     let mut at = first;
     loop {
-        done = put_one(out, p, done, s, root, at, c);
+        done = put_one(out, p, done, s, root, at, c, words, made);
         let Found::At(next) = tree::next_child(s, at, b"Resource") else {
             return done;
         };
@@ -172,12 +223,20 @@ fn put_from(out: &mut [u8], p: Place, s: &[u8], root: usize, first: usize, c: Pl
     }
 }
 
-// The work resources, one after another; none where there are more than 5,000,000. The calendars stand at c in the same buffer, before p; else nothing is
-// written.
-pub fn put_resources(out: &mut [u8], p: Place, s: &[u8], root: usize, c: Place) -> Records
-    ensures { λ r. ⌜ WritesIf (leb (length (workResources (elementAt (now (s .entry)) root))) mostElements && calendarsBefore (now (out .entry)) c (elementAt (now (s .entry)) root) p) (whole resource) (resourcesOf (contextAt (now (out .entry)) c (elementAt (now (s .entry)) root)) (elementAt (now (s .entry)) root)) (now (out .entry)) p (now (out .exit)) r ⌝ }
+// All of them, with the ids in the words from a place on.
+fn put_all(
+    out: &mut [u8],
+    p: Place,
+    s: &[u8],
+    root: usize,
+    c: Place,
+    words: &mut [u32],
+    at: usize,
+) -> Records
+    ensures { λ r. ⌜ WritesIf (leb (length (workResources (elementAt (now (s .entry)) root))) mostElements && calendarsBefore (now (out .entry)) c (elementAt (now (s .entry)) root) p) (whole resource) (resourcesOf (contextAt (now (out .entry)) c (elementAt (now (s .entry)) root)) (elementAt (now (s .entry)) root)) (now (out .entry)) p (now (out .exit)) r × (cleared at (now (words .exit)) ≡ cleared at (now (words .entry))) ⌝ }
 {
-    if !(few(s, root) & names::calendars_before(out, c, s, root, p)) {
+    let count = count_work(s, root);
+    if !((count <= 5000000) & names::calendars_before(out, c, s, root, p)) {
         return Records {
             count: 0,
             next: PAST,
@@ -185,6 +244,27 @@ pub fn put_resources(out: &mut [u8], p: Place, s: &[u8], root: usize, c: Place) 
     }
     match rows::first_in(s, root, b"Resources", b"Resource") {
         Found::Nothing => Records { count: 0, next: p },
-        Found::At(first) => records_of(put_from(out, p, s, root, first, c)),
+        Found::At(first) => {
+            let made = ids_for(out.len(), p, words, at, count);
+            records_of(put_from(out, p, s, root, first, c, words, made))
+        }
     }
+}
+
+// The work resources, one after another; none where there are more than 5,000,000. The calendars stand at c in the same buffer, before p; else nothing is
+// written. The words from `at` on are lent for tables, and cleared.
+pub fn put_resources(
+    out: &mut [u8],
+    p: Place,
+    s: &[u8],
+    root: usize,
+    c: Place,
+    words: &mut [u32],
+    at: usize,
+) -> Records
+    ensures { λ r. ⌜ WritesIf (leb (length (workResources (elementAt (now (s .entry)) root))) mostElements && calendarsBefore (now (out .entry)) c (elementAt (now (s .entry)) root) p) (whole resource) (resourcesOf (contextAt (now (out .entry)) c (elementAt (now (s .entry)) root)) (elementAt (now (s .entry)) root)) (now (out .entry)) p (now (out .exit)) r × (now (words .exit) ≡ cleared at (now (words .entry))) ⌝ }
+{
+    let r = put_all(out, p, s, root, c, words, at);
+    bits::clear_words_from(words, at);
+    r
 }

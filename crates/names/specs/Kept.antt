@@ -14,7 +14,7 @@ use Rattle.laws.specs.Options.{never}
 use Rattle.laws.specs.Each.{each-drop}
 use Rattle.laws.specs.Bits.{bits-binary, length-bits}
 use Rattle.laws.specs.Buf.{Buf}
-use Rattle.laws.specs.Formats.{Ends, Good}
+use Rattle.laws.specs.Formats.{Ends, Good, Fills}
 use Rattle.bits.specs.Places.{at, place, inside, Fits, room-fits, fits-room, at-place, next-fits}
 use Rattle.bits.specs.Reads.{rest, rest-in, rest-out, length-rest, spot, spot-at, Reads}
 use Rattle.bits.specs.Round.{Stood, stood-from, stood-before, put-stood}
@@ -147,3 +147,7 @@ put-there {f = f} {a = a} {p = p} x h =
 pub put-reads : {A : Type 0} {f : Format A} {F : A → Type 0} {a : A} {d : List ℕ} {p : Place} {d' : List ℕ} {q : Place}
     → Good f F → F a → Puts f a d p d' q → inside (length d') q ≡ true → Reads f d' p a q
 put-reads g h x i = there-reads g h (put-there x i)
+
+-- what fills whole bytes ends at one
+pub put-ends : {A : Type 0} {f : Format A} {a : A} {d : List ℕ} {p : Place} {d' : List ℕ} {q : Place} → Fills f → Puts f a d p d' q → inside (length d') q ≡ true → p .bit ≡ 0 → q .bit ≡ 0
+put-ends {a = a} {p = p} fills x i b = ap (λ (r : Place). r .bit) (put-there x i .ends) ∙ fills .ends (at p) a (omega arith)

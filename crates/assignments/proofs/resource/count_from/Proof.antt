@@ -7,7 +7,7 @@ use Rattle.definition.specs.Ascii.{bytes}
 use Rattle.definition.specs.Base.{keep}
 use Rattle.tree.specs.Place.{elementAt, laterAt}
 use Rattle.tree.specs.Answer.{found-list, none-list, found-on}
-use Rattle.assignments.specs.Records.{isWork}
+use Rattle.assignments.specs.Resources.{isWork}
 use Rattle.assignments.proofs.Work.{Counted, counted-all, counted-more, counted-last}
 use Rattle.assignments.proofs.resource.count_from.Statement.{statement}
 use Rattle.assignments.proofs.resource.count_from.Tie as tie

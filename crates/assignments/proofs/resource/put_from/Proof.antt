@@ -14,13 +14,15 @@ use Rattle.assignments.proofs.resource.put_from.Statement.{statement}
 use Rattle.assignments.proofs.resource.put_from.Tie as tie
 
 abbrev Inv-loop : tie.InvT-loop
-Inv-loop out₀ p s root first c done₀ at₀ t10 out done at = (length out ≡ length out₀) × Going-in c (elementAt s root) (elementAt s first ∷ laterAt s (bytes "Resource") first) (elementAt s at ∷ laterAt s (bytes "Resource") at) out₀ p out done
+Inv-loop out₀ p s root first c words₀ made done₀ at₀ t12 out words done at =
+    (length out ≡ length out₀) × (length words ≡ length words₀)
+    × Going-in c (elementAt s root) made (elementAt s first ∷ laterAt s (bytes "Resource") first) (elementAt s at ∷ laterAt s (bytes "Resource") at) out₀ p words₀ out words done
 
 abbrev μ-loop : tie.MeasureT-loop
-μ-loop out₀ p s root first c done₀ at₀ t10 out done at = length s - at
+μ-loop out₀ p s root first c words₀ made done₀ at₀ t12 out words done at = length s - at
 
 loop-holds : tie.Need-loop-holds Inv-loop μ-loop
-loop-holds c = (refl, go-all _ _)
+loop-holds c = (refl, refl, go-all _ _ _)
 
 put-one-requires : tie.Need-put-one-requires Inv-loop μ-loop
 put-one-requires c κs = search needs
@@ -39,15 +41,19 @@ enum-told c = search needs
 
 same-length : tie.Need-same-length Inv-loop μ-loop
 same-length c =
-    let k = c .before .before .before .before .before .before in
-    let l = k .before .before in
-    k .put-one .kept .0 ∙ l .loop .inv .0
+    let k = c .before .before .before .before .before .before .before .before in
+    k .put-one .kept .0 ∙ k .before .before .before .loop .inv .0
+
+same-length-2 : tie.Need-same-length-2 Inv-loop μ-loop
+same-length-2 c =
+    let k = c .before .before .before .before .before .before .before .before in
+    k .put-one .kept .1 .1 .1 .1 .1 .1 .1 .0 ∙ k .before .before .before .loop .inv .1
 
 returns : tie.Need-returns Inv-loop μ-loop
 returns c =
-    let k = c .before .before .before .before .before .before in
-    let l = k .before .before in
-    go-last _ _ (l .loop .inv .1) (k .put-one .ensures) (none-list (c .before .before .next-child .ensures) (c .enum-told .given .1))
+    let k = c .before .before .before .before .before .before .before .before in
+    let l = k .before .before .before in
+    go-last _ _ _ (l .loop .inv .2) (k .put-one .ensures) (none-list (c .before .before .next-child .ensures) (c .enum-told .given .1))
 
 loop-less : tie.Need-loop-less Inv-loop μ-loop
 loop-less c =
@@ -57,13 +63,31 @@ loop-less c =
 loop-again : tie.Need-loop-again Inv-loop μ-loop
 loop-again c =
     let k = c .before .before .before in
-    let l = k .before .before .before .before in
-    let m = l .before .before in
-    let n = m .before in
+    let l = k .before .before .before .before .before .before in
+    let m = l .before .before .before in
+    let n = m .before .before in
     let o = n .before .before in
     let s = o .args .s .now in
-    let small = small-at s (bytes-of s (λ i. omega (arith, n .shared-slice-known .given i))) in
-    (l .put-one .kept .0 ∙ m .loop .inv .0, go-more _ _ (m .loop .inv .1) (l .put-one .ensures) (found-list (k .next-child .ensures) (c .before .next .given .1)) (small (o .args .root)) (small (m .loop .at)))
+    let small = small-at s (bytes-of s (λ i. omega (arith, n .shared-slice-known .given i))) in (
+      l .put-one .kept .0 ∙ m .loop .inv .0,
+      l .put-one .kept .1 .1 .1 .1 .1 .1 .1 .0 ∙ m .loop .inv .1,
+      go-more _ _ _ (m .loop .inv .2) (l .put-one .ensures) (found-list (k .next-child .ensures) (c .before .next .given .1)) (small (o .args .root)) (small (m .loop .at)),
+    )
 
 pub put-from-spec : {M : Type 1} → statement M
-put-from-spec = tie.close (tie.spec Inv-loop μ-loop loop-holds put-one-requires slice-aggregate-next-child next-child-requires enum-known-next enum-told same-length returns loop-less loop-again)
+put-from-spec =
+    tie.close
+    (tie.spec
+    Inv-loop
+    μ-loop
+    loop-holds
+    put-one-requires
+    slice-aggregate-next-child
+    next-child-requires
+    enum-known-next
+    enum-told
+    same-length
+    same-length-2
+    returns
+    loop-less
+    loop-again)

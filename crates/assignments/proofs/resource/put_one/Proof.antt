@@ -11,8 +11,8 @@ is-work-requires c κs = search needs
 
 returns : tie.Need-returns
 returns c =
-    let k = c .before .before .before .before in
-    adds-other (k .args .c) (elementAt (k .args .s .now) (k .args .root)) (elementAt (k .args .s .now) (k .args .at)) (sym (c .before .is-work .ensures) ∙ not-true _ (c .if1 .taken))
+    let k = c .before .before .before .before .before in
+    adds-other (k .args .c) (elementAt (k .args .s .now) (k .args .root)) (k .args .made) (elementAt (k .args .s .now) (k .args .at)) (sym (c .before .is-work .ensures) ∙ not-true _ (c .if1 .taken))
 
 wanted-id-requires : tie.Need-wanted-id-requires
 wanted-id-requires c κs = search needs
@@ -20,8 +20,8 @@ wanted-id-requires c κs = search needs
 cast-count : tie.Need-cast-count
 cast-count c = search needs
 
-free-stars-requires : tie.Need-free-stars-requires
-free-stars-requires c κs = search needs
+stars-for-requires : tie.Need-stars-for-requires
+stars-for-requires c κs = search needs
 
 slice-aggregate-text-of : tie.Need-slice-aggregate-text-of
 slice-aggregate-text-of c = search needs
@@ -41,26 +41,51 @@ calendar-of-requires c κs = search needs
 put-said-requires : tie.Need-put-said-requires
 put-said-requires c κs = search needs
 
+note-requires : tie.Need-note-requires
+note-requires c κs = search needs
+
 more-requires : tie.Need-more-requires
 more-requires c κs = search needs
 
 same-length : tie.Need-same-length
 same-length c = search needs
 
+same-length-2 : tie.Need-same-length-2
+same-length-2 c = search needs
+
 returns-2 : tie.Need-returns-2
 returns-2 c =
-    let k = c .before .before .before in
+    let j = c .before .before .before in
+    let k = j .before .before .before .before in
     let l = k .before .before .before in
     let m = l .before .before in
     let n = m .before .before in
     let o = n .before .before in
-    let q = o .before .before .before in
+    let q = o .before .before .before .before in
     let u = q .before in
     let v = u .before in
-    let w = v .before .before .before in
-    let root = elementAt (w .args .s .now) (w .args .root) in
-    let a = elementAt (w .args .s .now) (w .args .at) in
-    adds-said (w .args .c) root a (sym (v .is-work .ensures) ∙ not-false _ (u .if1 .left)) (o .free-stars .result) (q .wanted-id .ensures) (o .free-stars .ensures) (l .calendar-of .result) (m .calendar-text .ensures) (n .text-of .ensures) (l .calendar-of .ensures) (k .put-said .ensures) (c .more .ensures)
+    let a = v .before .before .before .before .args in
+    let root = elementAt (a .s .now) (a .root) in
+    let e = elementAt (a .s .now) (a .at) in
+    adds-said (a .c) root e (sym (v .is-work .ensures) ∙ not-false _ (u .if1 .left)) (a .made) (a .words .now) (o .stars-for .result) (q .wanted-id .ensures) (o .stars-for .ensures) (l .calendar-of .result) (m .calendar-text .ensures) (n .text-of .ensures) (l .calendar-of .ensures) (k .put-said .ensures) (j .note .ensures) (c .more .ensures)
 
 pub put-one-spec : {M : Type 1} → statement M
-put-one-spec = tie.close (tie.spec is-work-requires returns wanted-id-requires cast-count free-stars-requires slice-aggregate-text-of text-of-requires slice-aggregate-calendar-text calendar-text-requires calendar-of-requires put-said-requires more-requires same-length returns-2)
+put-one-spec =
+    tie.close
+    (tie.spec
+    is-work-requires
+    returns
+    wanted-id-requires
+    cast-count
+    stars-for-requires
+    slice-aggregate-text-of
+    text-of-requires
+    slice-aggregate-calendar-text
+    calendar-text-requires
+    calendar-of-requires
+    put-said-requires
+    note-requires
+    more-requires
+    same-length
+    same-length-2
+    returns-2)

@@ -1,70 +1,27 @@
 use borrow.Author.Needs.{needs}
-use Rattle.tree.specs.Place.{elementAt}
-use Rattle.tree.specs.Answer.{found-list, none-list}
-use Rattle.assignments.proofs.Work.{resources-not, resources-none, resources-all}
+use mathlib.Core.Path.{_∙_}
 use Rattle.assignments.proofs.resource.put_resources.Statement.{statement}
 use Rattle.assignments.proofs.resource.put_resources.Tie as tie
 
-few-requires : tie.Need-few-requires
-few-requires c κs = search needs
+put-all-requires : tie.Need-put-all-requires
+put-all-requires c κs = search needs
 
-calendars-before-requires : tie.Need-calendars-before-requires
-calendars-before-requires c κs = search needs
+clear-words-from-requires : tie.Need-clear-words-from-requires
+clear-words-from-requires c κs = search needs
 
 same-length : tie.Need-same-length
 same-length c = search needs
 
-returns : tie.Need-returns
-returns c =
-    let k = c .before .before .before in
-    let l = k .before .before .before in
-    resources-not (l .args .out .now) (l .args .c) (elementAt (l .args .s .now) (l .args .root)) (l .args .p) (k .few .ensures) (c .before .calendars-before .ensures) (c .if1 .taken)
-
-slice-aggregate-first-in : tie.Need-slice-aggregate-first-in
-slice-aggregate-first-in c = search needs
-
-slice-aggregate-first-in-2 : tie.Need-slice-aggregate-first-in-2
-slice-aggregate-first-in-2 c = search needs
-
-first-in-requires : tie.Need-first-in-requires
-first-in-requires c κs = search needs
-
-enum-told : tie.Need-enum-told
-enum-told c = search needs
-
-enum-known-first : tie.Need-enum-known-first
-enum-known-first c = search needs
-
-put-from-requires : tie.Need-put-from-requires
-put-from-requires c κs = search needs
-
-records-of-requires : tie.Need-records-of-requires
-records-of-requires c κs = search needs
-
 same-length-2 : tie.Need-same-length-2
 same-length-2 c = search needs
 
-returns-2 : tie.Need-returns-2
-returns-2 c =
-    let k = c .before .before .before .before .before in
-    let l = k .before in
-    let m = l .before .before in
-    let n = m .before .before .before in
-    resources-none (n .args .out .now) (n .args .c) (elementAt (n .args .s .now) (n .args .root)) (n .args .p) (m .few .ensures) (l .calendars-before .ensures) (k .if1 .left) (none-list (c .before .before .first-in .ensures) (c .enum-told .given .1))
-
-same-length-3 : tie.Need-same-length-3
-same-length-3 c = search needs
-
-returns-3 : tie.Need-returns-3
-returns-3 c =
-    let k = c .before .before .before in
-    let l = k .before .before .before in
-    let m = l .before .before in
-    let n = m .before .before .before in
-    let o = n .before in
-    let q = o .before .before in
-    let u = q .before .before .before in
-    resources-all (u .args .out .now) (u .args .c) (elementAt (u .args .s .now) (u .args .root)) (u .args .p) (q .few .ensures) (o .calendars-before .ensures) (n .if1 .left) (found-list (m .first-in .ensures) (l .first .given .1)) (k .put-from .ensures) (c .records-of .ensures)
+returns : tie.Need-returns
+returns c =
+    let k = c .before .before in
+    let l = k .before .before .before .before .before .before in
+    (l .put-all .ensures .0, k .clear-words-from .ensures ∙ l .put-all .ensures .1)
 
 pub put-resources-spec : {M : Type 1} → statement M
-put-resources-spec = tie.close (tie.spec few-requires calendars-before-requires same-length returns slice-aggregate-first-in slice-aggregate-first-in-2 first-in-requires enum-told enum-known-first put-from-requires records-of-requires same-length-2 returns-2 same-length-3 returns-3)
+put-resources-spec =
+    tie.close
+    (tie.spec put-all-requires clear-words-from-requires same-length same-length-2 returns)

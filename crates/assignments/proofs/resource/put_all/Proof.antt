@@ -1,0 +1,97 @@
+use borrow.Author.Needs.{needs}
+use mathlib.Core.Path.{refl}
+use Rattle.tree.specs.Place.{elementAt}
+use Rattle.tree.specs.Answer.{found-list, none-list}
+use Rattle.assignments.proofs.Work.{resources-not, resources-none, resources-all}
+use Rattle.assignments.proofs.resource.put_all.Statement.{statement}
+use Rattle.assignments.proofs.resource.put_all.Tie as tie
+
+count-work-requires : tie.Need-count-work-requires
+count-work-requires c κs = search needs
+
+calendars-before-requires : tie.Need-calendars-before-requires
+calendars-before-requires c κs = search needs
+
+same-length : tie.Need-same-length
+same-length c = search needs
+
+returns : tie.Need-returns
+returns c =
+    let k = c .before .before .before in
+    let a = k .before .before .before .before .args in
+    (resources-not (a .out .now) (a .c) (elementAt (a .s .now) (a .root)) (a .p) (k .count-work .ensures) (c .before .calendars-before .ensures) (c .if1 .taken), refl)
+
+slice-aggregate-first-in : tie.Need-slice-aggregate-first-in
+slice-aggregate-first-in c = search needs
+
+slice-aggregate-first-in-2 : tie.Need-slice-aggregate-first-in-2
+slice-aggregate-first-in-2 c = search needs
+
+first-in-requires : tie.Need-first-in-requires
+first-in-requires c κs = search needs
+
+enum-told : tie.Need-enum-told
+enum-told c = search needs
+
+enum-known-first : tie.Need-enum-known-first
+enum-known-first c = search needs
+
+ids-for-requires : tie.Need-ids-for-requires
+ids-for-requires c κs = search needs
+
+put-from-requires : tie.Need-put-from-requires
+put-from-requires c κs = search needs
+
+records-of-requires : tie.Need-records-of-requires
+records-of-requires c κs = search needs
+
+same-length-2 : tie.Need-same-length-2
+same-length-2 c = search needs
+
+returns-2 : tie.Need-returns-2
+returns-2 c =
+    let k = c .before .before .before .before .before in
+    let l = k .before in
+    let m = l .before .before in
+    let a = m .before .before .before .before .args in
+    (resources-none (a .out .now) (a .c) (elementAt (a .s .now) (a .root)) (a .p) (m .count-work .ensures) (l .calendars-before .ensures) (k .if1 .left) (none-list (c .before .before .first-in .ensures) (c .enum-told .given .1)), refl)
+
+same-length-3 : tie.Need-same-length-3
+same-length-3 c = search needs
+
+same-length-4 : tie.Need-same-length-4
+same-length-4 c = search needs
+
+returns-3 : tie.Need-returns-3
+returns-3 c =
+    let j = c .before .before .before .before .before in
+    let k = j .before .before .before .before .before in
+    let l = k .before .before .before in
+    let m = l .before .before in
+    let n = m .before .before .before in
+    let o = n .before in
+    let q = o .before .before in
+    let a = q .before .before .before .before .args in
+    resources-all (a .out .now) (a .c) (elementAt (a .s .now) (a .root)) (a .p) (q .count-work .ensures) (o .calendars-before .ensures) (n .if1 .left) (found-list (m .first-in .ensures) (l .first .given .1)) (k .ids-for .ensures) (j .put-from .ensures) (c .records-of .ensures)
+
+pub put-all-spec : {M : Type 1} → statement M
+put-all-spec =
+    tie.close
+    (tie.spec
+    count-work-requires
+    calendars-before-requires
+    same-length
+    returns
+    slice-aggregate-first-in
+    slice-aggregate-first-in-2
+    first-in-requires
+    enum-told
+    enum-known-first
+    ids-for-requires
+    put-from-requires
+    records-of-requires
+    same-length-2
+    returns-2
+    same-length-3
+    same-length-4
+    returns-3)

@@ -1,0 +1,101 @@
+-- The work resources, with their ids in tables in lent words where these fit. Assumes nothing: these are definitions.
+use Prim.Native.Nat.{ℕ, _+_, _^_, _≤_, _<_}
+use mathlib.Core.Path.{_≡_}
+use mathlib.Core.Bool.{Bool, true, _&&_, not}
+use mathlib.Core.List.{List, []}
+use lib.ListN.{length}
+use Rattle.definition.specs.Base.{_>>=_, _or_, _orElse_, keep}
+use Rattle.definition.specs.Text.{Text}
+use Rattle.definition.specs.Tree.{Element}
+use Rattle.definition.specs.Field.{textIn}
+use Rattle.definition.specs.Format.{whole}
+use Rattle.definition.specs.Pack.{resource}
+use Rattle.definition.specs.Model.{Resource}
+use Rattle.definition.specs.Calendar.{nameOf}
+use Rattle.definition.specs.Refusal.{mostElements}
+use Rattle.definition.specs.Task.{Context, unlessMain}
+use Rattle.definition.specs.Resource.{isResource, isCost, resourceKind, maxUnits, priceOf, resourcesAfter}
+use Rattle.laws.specs.Each.{Each}
+use Rattle.laws.specs.FitRecords.{Short, FitsResourceBy}
+use Rattle.bits.specs.Clear.{cleared}
+use Rattle.bits.specs.Places.{inside}
+use Rattle.bits.specs.declared.Place.{Place}
+use Rattle.model.specs.declared.records.Kind.the-variants.{Resources}
+use Rattle.names.specs.Context.{contextAt, calendarsBefore}
+use Rattle.names.specs.Ids.{noted}
+use Rattle.names.specs.Noted.{Noted}
+use Rattle.names.specs.declared.ids.Ids.{Ids}
+use Rattle.names.specs.declared.ids.IdsMade.{IdsMade}
+use Rattle.names.specs.declared.ids.IdsMade.the-variants.{Ready, NoRoom}
+use Rattle.assignments.specs.declared.section.Done.{Done}
+use Rattle.assignments.specs.Section.{Wrote, Goes}
+
+abbrev pub isWork : Element → Bool
+isWork e = isResource e && not (isCost e)
+
+abbrev pub wantedId : Element → Text
+wantedId r = (textIn r "ID" orElse textIn r "UID") or []
+
+-- what an element says, with an id
+unfoldable pub resourceWith : Context → Text → Element → Resource
+resourceWith x id r = record {
+  id = id;
+  name = textIn r "Name" or [];
+  kind = resourceKind r;
+  unit = textIn r "MaterialLabel" or [];
+  maxUnits = maxUnits r;
+  calendar = textIn r "CalendarUID" >>= nameOf (x .built) >>= unlessMain x;
+  price = priceOf r;
+}
+
+-- ---- the ids in the words
+
+-- those of so many records, where there are tables
+abbrev pub NotedIn : IdsMade → List ℕ → Place → List ℕ → ℕ → Type 0
+NotedIn NoRoom d p w n = Unit {0}
+NotedIn (Ready i) d p w n = Noted Resources d p w i n
+
+abbrev pub notedIn : List ℕ → IdsMade → ℕ → Text → ℕ → ℕ → List ℕ
+notedIn w NoRoom row id stars byte = w
+notedIn w (Ready i) row id stars byte = noted w i row id stars byte
+
+-- the records begin at whole bytes, 32 bits hold their positions, and all so far are noted where they fitted
+pub record Held (rows : ℕ) (i : Ids) (p : Place) (d w : List ℕ) (r : Done) : Type 0 where
+  pub rows-are : i .ids .rows ≡ rows
+  pub begin : p .bit ≡ 0
+  pub short : length d < 2 ^ 32
+  pub noted : inside (length d) (r .next) ≡ true → Noted Resources d p w i (r .count)
+
+abbrev pub HeldIn : ℕ → IdsMade → Place → List ℕ → List ℕ → Done → Type 0
+HeldIn rows NoRoom p d w r = Unit {0}
+HeldIn rows (Ready i) p d w r = Held rows i p d w r
+
+-- the tables stand behind a place
+abbrev pub Behind : ℕ → IdsMade → Type 0
+Behind from NoRoom = Unit {0}
+Behind from (Ready i) = (from ≤ i .ids .at) × (from ≤ i .wanted .at)
+
+pub record MakesIds (len : ℕ) (p : Place) (from rows : ℕ) (w w' : List ℕ) (m : IdsMade) : Type 0 where
+  pub held : (d : List ℕ) → length d ≡ len → HeldIn rows m p d w' (record { count = 0; next = p })
+  pub behind : Behind from m
+  pub keeps : cleared from w' ≡ cleared from w
+
+-- ---- resources one after another
+
+-- the calendars stand before a place, and those so far with those of some elements are no more than the rows
+pub record FewResources (c : Place) (root : Element) (p : Place) (rows : ℕ) (es : List Element) (d₀ : List ℕ) (xs : List Resource) : Type 0 where
+  pub stand : calendarsBefore d₀ c root p ≡ true
+  pub fit : Each (FitsResourceBy Short) xs
+  pub room : length xs + length (keep isWork es) ≤ rows
+  pub few : rows < 2 ^ 32
+
+pub record AddsResources (c p : Place) (root : Element) (es : List Element) (m : IdsMade) (d w : List ℕ) (r : Done) (d' w' : List ℕ) (r' : Done) : Type 0 where
+  pub adds : (rows : ℕ) → Goes (whole resource) true p (λ d₀ xs. FewResources c root p rows es d₀ xs × HeldIn rows m p d w r) (λ d₀ xs. resourcesAfter (contextAt d₀ c root) xs (keep isWork es)) d r d' r'
+  pub holds : (rows : ℕ) (d₀ : List ℕ) (xs : List Resource) → FewResources c root p rows es d₀ xs → HeldIn rows m p d w r → Wrote (whole resource) true xs d₀ p d r
+      → Each (FitsResourceBy Short) (resourcesAfter (contextAt d₀ c root) xs (keep isWork es)) → HeldIn rows m p d' w' r'
+  pub keeps : (from : ℕ) → Behind from m → cleared from w' ≡ cleared from w
+
+pub record PutsResources (c p : Place) (root : Element) (es : List Element) (m : IdsMade) (d w d' w' : List ℕ) (r : Done) : Type 0 where
+  pub puts : calendarsBefore d c root p ≡ true → length (keep isWork es) ≤ mostElements → HeldIn (length (keep isWork es)) m p d w (record { count = 0; next = p })
+      → Wrote (whole resource) true (resourcesAfter (contextAt d c root) [] (keep isWork es)) d p d' r
+  pub keeps : (from : ℕ) → Behind from m → cleared from w' ≡ cleared from w
