@@ -2,10 +2,10 @@
 use Prim.Native.Nat.{ℕ, zero, suc, _+_, _-_, _*_, _^_, _≤_, _<_}
 use native.Mathlib.Omega.{arith}
 use mathlib.Core.Path.{_≡_, refl, sym, ap, _∙_}
-use mathlib.Core.Bool.{Bool, true, false, _&&_}
+use mathlib.Core.Bool.{Bool, true, false}
 use mathlib.Core.List.{List, [], _∷_}
 use mathlib.Core.Option.{Option, some, none}
-use lib.Dec.{eqb, ltb, leb}
+use lib.Dec.{eqb, ltb}
 use lib.ListN.{length, getD, set}
 use lib.Seq.{getD-set-same, getD-set-other}
 use borrow.Author.Tests.{ltb-true, ltb-false, eqb-true, eqb-false, ne-eqb, lt-ltb, le-ltb, lt-leb, le-leb}
@@ -23,7 +23,7 @@ use Rattle.index.specs.declared.Made.{Made}
 use Rattle.index.specs.declared.Made.the-variants.{Ready, NoRoom}
 use Rattle.index.specs.Hash.{hashOf}
 use Rattle.index.specs.Chains.{placeAt, placeOf, endOf, tableOf}
-use Rattle.index.specs.Law.{indexed-same, table-placed}
+use Rattle.index.specs.Law.{indexed-same}
 use Rattle.index.specs.Frame.{SameIn, indexed-kept}
 use Rattle.index.specs.Steps.{table-none, table-short}
 use Rattle.bits.specs.declared.Place.{Place}
@@ -269,21 +269,9 @@ module _ (s : Text) (root : Element) (len at : ℕ) where
         go zero e = table-none (len - n - 1) at n e
         go (suc k) e = table-short (len - n - 1) at n (omega arith) (omega arith)
 
-  pub made-ripe : {t : Table} → Ready t ≡ madeIn s root len at → Ripe s root t len
-  made-ripe {t} e = go (ltb (length s) (2 ^ 32)) (leb (howMany root) mostElements) refl refl e
-    where
-      go : (a b : Bool) → ltb (length s) (2 ^ 32) ≡ a → leb (howMany root) mostElements ≡ b
-          → Ready t ≡ (if a && b then tableOf (len - suc (howMany root)) at (howMany root) else NoRoom) → Ripe s root t len
-      go true true f g e =
-          let p = table-placed (len - suc (howMany root)) at (howMany root) e in
-          let z : t .rows ≡ howMany root = ap (λ (t : Table). t .rows) (p .is) in
-          record { short = ltb-true (length s) (2 ^ 32) f; rows = z; some = p .fits .some; room = omega (arith, p .fits .room, p .fits .some) }
-      go true false f g e = let y : _≡_ {A = ℕ} 0 1 = cc in absurd (omega arith)
-      go false b f g e = let y : _≡_ {A = ℕ} 0 1 = cc in absurd (omega arith)
-
 module _ {d : List ℕ} {c : Place} {s : Text} {root : Element} {at : ℕ} {w : List ℕ} {m : Made} (h : m ≡ madeIn s root (length w) at) where
-  pub makes-none : m ≡ NoRoom → Makes d c s root at w w NoRoom
-  makes-none e = record { made = sym e ∙ h; words = refl }
+  pub makes-none : m ≡ NoRoom → Makes d c s root at w w (record { table = NoRoom; end = at })
+  makes-none e = record { made = sym e ∙ h; end = refl; words = refl }
 
-  pub makes-ready : {t : Table} {w′ : List ℕ} → m ≡ Ready t → Calendars d c s root t w′ × Stays (t .at) (namesEnd t) w w′ → Makes d c s root at w w′ (Ready t)
-  makes-ready e x = record { made = sym e ∙ h; words = x }
+  pub makes-ready : {t : Table} {w′ : List ℕ} → m ≡ Ready t → Calendars d c s root t w′ × Stays (t .at) (namesEnd t) w w′ → Makes d c s root at w w′ (record { table = Ready t; end = t .at + 4 * t .rows + 1 })
+  makes-ready e x = record { made = sym e ∙ h; end = omega arith; words = x }

@@ -29,6 +29,7 @@ use Rattle.rows.specs.Rows.{inOrder, mainIn}
 use Rattle.rows.specs.Tables.{uidOf, soughtIn, noElement}
 use Rattle.tree.specs.Place.{elementAt}
 use Rattle.names.specs.declared.named.CalendarName.{CalendarName}
+use Rattle.names.specs.declared.named.CalendarTable.{CalendarTable}
 use Rattle.names.specs.declared.named.Main.{Main}
 use Rattle.names.specs.Texts.{textAt}
 use Rattle.names.specs.Context.{sectionRow, wantedName, starsBy, starsIn, contextAt}
@@ -104,9 +105,15 @@ abbrev pub CalendarsIn : List ℕ → Place → Text → Element → Made → Li
 CalendarsIn d c s root made.NoRoom w w′ = w′ ≡ w
 CalendarsIn d c s root (made.Ready t) w w′ = Calendars d c s root t w′ × Stays (t .at) (namesEnd t) w w′
 
-pub record Makes (d : List ℕ) (c : Place) (s : Text) (root : Element) (at : ℕ) (w w′ : List ℕ) (m : Made) : Type 0 where
-  pub made : m ≡ madeIn s root (length w) at
-  pub words : CalendarsIn d c s root m w w′
+-- where the words behind a table begin, from a place on
+abbrev pub endFrom : ℕ → Made → ℕ
+endFrom at made.NoRoom = at
+endFrom at (made.Ready t) = namesEnd t
+
+pub record Makes (d : List ℕ) (c : Place) (s : Text) (root : Element) (at : ℕ) (w w′ : List ℕ) (r : CalendarTable) : Type 0 where
+  pub made : r .table ≡ madeIn s root (length w) at
+  pub end : r .end ≡ endFrom at (r .table)
+  pub words : CalendarsIn d c s root (r .table) w w′
 
 -- ---- while it is made
 

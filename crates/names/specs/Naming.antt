@@ -1,33 +1,39 @@
 -- What a table of the calendars says: the name of each UID, as the definition says it. Assumes nothing.
-use Prim.Native.Nat.{ℕ, suc, _+_, _-_, _<_}
+use Prim.Native.Nat.{ℕ, suc, _+_, _-_, _^_, _≤_, _<_}
 use native.Mathlib.Omega.{arith}
 use mathlib.Core.Path.{_≡_, refl, sym, ap, _∙_}
-use mathlib.Core.Bool.{Bool, true, false, not}
+use mathlib.Core.Bool.{Bool, true, false, _&&_, not}
 use mathlib.Core.List.{List, [], _∷_}
 use mathlib.Core.Option.{Option, some, none}
+use lib.Dec.{leb, ltb}
 use lib.ListN.{length, getD}
+use borrow.Author.Tests.{ltb-true}
 use Rattle.definition.specs.Base.{if_then_else_, _>>=_, when, keep, first, find, numbered, same}
 use Rattle.definition.specs.Calendar.{elapsedName}
+use Rattle.definition.specs.Refusal.{mostElements}
 use Rattle.definition.specs.Task.{Context, unlessMain}
 use Rattle.definition.specs.Text.{Text}
 use Rattle.definition.specs.Tree.{Element}
 use Rattle.index.specs.declared.Table.{Table}
 use Rattle.index.specs.declared.Made.{Made}
 use Rattle.index.specs.declared.Made.the-variants.{Ready, NoRoom}
-use Rattle.index.specs.Below.{SameBelow, below-in}
+use Rattle.index.specs.Below.{SameBelow, below-refl, below-in}
 use Rattle.index.specs.Hash.{hashOf, same-hash}
 use Rattle.index.specs.Last.{lastBelow, last-none, last-yes, last-no, last-same, last-in}
-use Rattle.index.specs.Law.{find-by-place, indexed-same}
-use Rattle.index.specs.Frame.{indexed-kept, place-same}
+use Rattle.index.specs.Law.{Placed, table-placed, find-by-place}
+use Rattle.index.specs.Frame.{SameIn, find-same, place-same}
+use Rattle.index.specs.Chains.{tableOf, placeOf}
 use Rattle.bits.specs.declared.Place.{Place}
 use Rattle.pack.specs.Value.{starredBy}
 use Rattle.rows.specs.Rows.{inOrder, hasUid, withUidIn}
 use Rattle.rows.specs.Tables.{uidOf, soughtIn, noElement}
+use Rattle.rows.specs.Tabled.{chain-row}
 use Rattle.tree.specs.Place.{elementAt}
+use Rattle.names.specs.declared.named.CalendarTable.{CalendarTable}
 use Rattle.names.specs.Context.{wantedName, starsIn, nameIn, contextAt}
 use Rattle.names.specs.Stars.{star-none}
 use Rattle.names.specs.ByUid.{name-with}
-use Rattle.names.specs.Named.{nameWord, nameBy, nameAt, namesEnd, namedBy, nameOfRow, namedIn, elapsedIn, howMany, ofRow, Calendars, CalendarsIn, Makes}
+use Rattle.names.specs.Named.{nameWord, nameBy, nameAt, namesEnd, namedBy, nameOfRow, namedIn, elapsedIn, howMany, madeIn, ofRow, endFrom, Calendars, CalendarsIn, Makes, Ripe}
 
 -- ---- the first of a list is the last of the list turned round
 
@@ -136,36 +142,87 @@ module _ {d : List ℕ} {c : Place} {s : Text} {root : Element} {t : Table} {w :
   unfolding elapsedIn
   calendars-elapsed = ap (nameBy elapsedName) (x .elapsed) ∙ name-said (contextAt d c root) elapsedName 0 ∙ ap (unlessMain (contextAt d c root)) (star-none elapsedName)
 
-  -- what stands behind the table does not count
-  pub calendars-kept : {w′ : List ℕ} → SameBelow (namesEnd t) w w′ → Calendars d c s root t w′
-  calendars-kept {w′} y =
-      let i = below-in y {t = t} (omega arith) in
-      record {
-        rows = x .rows;
-        indexed = indexed-same (indexed-kept i (x .indexed)) (λ r h. refl) (λ r h. sym (place-same i r h));
-        stands = λ r h. ap (elementAt s) (place-same i r h) ∙ x .stands r h;
-        names = λ r h. y .words (nameAt t r) (omega arith) ∙ x .names r h;
-        elapsed = y .words (nameAt t (t .rows)) (omega arith) ∙ x .elapsed;
-      }
+-- ---- where it stands
+
+module _ (s : Text) (root : Element) (len at : ℕ) {t : Table} (e : Ready t ≡ madeIn s root len at) where
+  placed : (length s < 2 ^ 32) × Placed (len - suc (howMany root)) at (howMany root) t
+  placed = go (ltb (length s) (2 ^ 32)) (leb (howMany root) mostElements) refl refl e
+    where
+      go : (a b : Bool) → ltb (length s) (2 ^ 32) ≡ a → leb (howMany root) mostElements ≡ b
+          → Ready t ≡ (if a && b then tableOf (len - suc (howMany root)) at (howMany root) else NoRoom) → (length s < 2 ^ 32) × Placed (len - suc (howMany root)) at (howMany root) t
+      go true true f g e = (ltb-true (length s) (2 ^ 32) f, table-placed (len - suc (howMany root)) at (howMany root) e)
+      go true false f g e = let y : _≡_ {A = ℕ} 0 1 = cc in absurd (omega arith)
+      go false b f g e = let y : _≡_ {A = ℕ} 0 1 = cc in absurd (omega arith)
+
+  pub made-at : t .at ≡ at
+  made-at = ap (λ (t : Table). t .at) (placed .1 .is)
+
+  pub made-ripe : Ripe s root t len
+  made-ripe =
+      let z : t .rows ≡ howMany root = ap (λ (t : Table). t .rows) (placed .1 .is) in
+      record { short = placed .0; rows = z; some = placed .1 .fits .some; room = omega (arith, placed .1 .fits .room, placed .1 .fits .some) }
+
+-- ---- nothing but its own words counts
+
+module _ (x : Context) (s : Text) (t : Table) {w w′ : List ℕ} (y : SameBelow (namesEnd t) w w′) where
+  in-table : SameIn t w w′
+  in-table = below-in y (omega arith)
+
+  pub named-same : (u : Text) → namedIn x s w′ (Ready t) u ≡ namedIn x s w (Ready t) u
+  unfolding namedIn
+  named-same u =
+      ap (nameOfRow s w′ t) (find-same in-table (λ v. same (uidOf (elementAt s v)) u) (hashOf u))
+      ∙ go (soughtIn s w t u) (λ r e. chain-row (λ r. same (uidOf (elementAt s (placeOf w t r))) u) w t (hashOf u) e)
+    where
+      go : (o : Option ℕ) → ((r : ℕ) → o ≡ some r → r < t .rows) → nameOfRow s w′ t o ≡ nameOfRow s w t o
+      go none h = refl
+      go (some r) h =
+          let k : r < t .rows = h r refl in
+          ap (λ (p : ℕ). nameBy (wantedName (elementAt s p)) (getD w′ (nameAt t r) 0)) (place-same in-table r k)
+          ∙ ap (nameBy (wantedName (elementAt s (placeOf w t r)))) (y .words (nameAt t r) (omega arith))
+
+  pub elapsed-same : elapsedIn x w′ (Ready t) ≡ elapsedIn x w (Ready t)
+  unfolding elapsedIn
+  elapsed-same = ap (nameBy elapsedName) (y .words (nameAt t (t .rows)) (omega arith))
 
 -- ---- whether there is a table or none
 
 abbrev pub endNames : Made → ℕ
-endNames NoRoom = 0
-endNames (Ready t) = namesEnd t
+endNames = endFrom 0
 
 -- words that say of each UID what the definition says
 pub record Finds (x : Context) (s : Text) (m : Made) (w : List ℕ) : Type 0 where
   pub named : (u : Text) → namedIn x s w m u ≡ namedBy x u
   pub elapsed : elapsedIn x w m ≡ unlessMain x elapsedName
 
-pub makes-finds : {d : List ℕ} {c : Place} {s : Text} {root : Element} {at : ℕ} {w w′ : List ℕ} {m : Made} → Makes d c s root at w w′ m
-    → {w″ : List ℕ} → SameBelow (endNames m) w′ w″ → Finds (contextAt d c root) s m w″
+pub finds-kept : {x : Context} {s : Text} {m : Made} {w w′ : List ℕ} → SameBelow (endNames m) w w′ → Finds x s m w → Finds x s m w′
 unfolding namedIn elapsedIn
-makes-finds {d} {c} {s} {root} {w = w} {w′} {m} h {w″} y = go m (h .words) y
+finds-kept {x} {s} {m} {w} {w′} y h = go m y h
   where
-    go : (m : Made) → CalendarsIn d c s root m w w′ → SameBelow (endNames m) w′ w″ → Finds (contextAt d c root) s m w″
-    go NoRoom h y = record { named = λ u. refl; elapsed = refl }
-    go (Ready t) h y =
-        let k = calendars-kept (h .0) y in
-        record { named = calendars-named k; elapsed = calendars-elapsed k }
+    go : (m : Made) → SameBelow (endNames m) w w′ → Finds x s m w → Finds x s m w′
+    go NoRoom y h = record { named = λ u. refl; elapsed = refl }
+    go (Ready t) y h = record { named = λ u. named-same x s t y u ∙ h .named u; elapsed = elapsed-same x s t y ∙ h .elapsed }
+
+module _ {d : List ℕ} {c : Place} {s : Text} {root : Element} {at : ℕ} {w w′ : List ℕ} {r : CalendarTable} (h : Makes d c s root at w w′ r) where
+  pub makes-finds : Finds (contextAt d c root) s (r .table) w′
+  unfolding namedIn elapsedIn
+  makes-finds = go (r .table) (h .words)
+    where
+      go : (m : Made) → CalendarsIn d c s root m w w′ → Finds (contextAt d c root) s m w′
+      go NoRoom x = record { named = λ u. refl; elapsed = refl }
+      go (Ready t) x = record { named = calendars-named (x .0); elapsed = calendars-elapsed (x .0) }
+
+  -- it stands behind the place, and what is before stays
+  pub makes-behind : (at ≤ r .end) × (endNames (r .table) ≤ r .end)
+  makes-behind = go (r .table) (h .made) (h .end)
+    where
+      go : (m : Made) → m ≡ madeIn s root (length w) at → r .end ≡ endFrom at m → (at ≤ r .end) × (endNames m ≤ r .end)
+      go NoRoom i e = (omega arith, omega arith)
+      go (Ready t) i e = (omega (arith, made-at s root (length w) at i), omega arith)
+
+  pub makes-below : SameBelow at w w′
+  makes-below = go (r .table) (h .made) (h .words)
+    where
+      go : (m : Made) → m ≡ madeIn s root (length w) at → CalendarsIn d c s root m w w′ → SameBelow at w w′
+      go NoRoom i x = rw x (below-refl at w)
+      go (Ready t) i x = record { long = x .1 .long; words = λ j k. x .1 .outside j (λ a b. omega (arith, made-at s root (length w) at i)) }

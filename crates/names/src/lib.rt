@@ -18,6 +18,7 @@ pub use ids::free_in;
 pub use ids::ids_at;
 pub use ids::note_id;
 pub use named::CalendarName;
+pub use named::CalendarTable;
 pub use named::calendar_in;
 pub use named::elapsed_in;
 pub use named::index_calendars;

@@ -181,6 +181,12 @@ fn fill(out: &[u8], c: Place, s: &[u8], root: usize, words: &mut [u32], t: Table
     index::set_word(words, t.at, 4 * (t.rows as usize), elapsed);
 }
 
+// A table, and where the words behind it begin.
+pub struct CalendarTable {
+    pub table: Made,
+    pub end: usize,
+}
+
 // A table of the calendars, which stand at c, in the words from a place on, where there is room for it.
 pub fn index_calendars(
     out: &[u8],
@@ -189,15 +195,21 @@ pub fn index_calendars(
     root: usize,
     words: &mut [u32],
     at: usize,
-) -> Made
+) -> CalendarTable
     ensures { λ r. ⌜ Makes (now (out .entry)) c (now (s .entry)) (elementAt (now (s .entry)) root) at (now (words .entry)) (now (words .exit)) r ⌝ }
 {
-    let made = room_for(s, root, words.len(), at);
-    let Made::Ready(t) = made else {
-        return Made::NoRoom;
+    let table = room_for(s, root, words.len(), at);
+    let Made::Ready(t) = table else {
+        return CalendarTable {
+            table: Made::NoRoom,
+            end: at,
+        };
     };
     fill(out, c, s, root, words, t);
-    Made::Ready(t)
+    CalendarTable {
+        table: Made::Ready(t),
+        end: t.at + 4 * (t.rows as usize) + 1,
+    }
 }
 
 // ---- names by it
@@ -259,12 +271,12 @@ pub fn calendar_in(
     s: &[u8],
     root: usize,
     words: &[u32],
-    made: Made,
+    table: Made,
     uid: &[u8],
 ) -> CalendarName
-    ensures { λ r. ⌜ calendarName (now (s .entry)) r ≡ namedIn (contextAt (now (out .entry)) c (elementAt (now (s .entry)) root)) (now (s .entry)) (now (words .entry)) made (now (uid .entry)) ⌝ }
+    ensures { λ r. ⌜ calendarName (now (s .entry)) r ≡ namedIn (contextAt (now (out .entry)) c (elementAt (now (s .entry)) root)) (now (s .entry)) (now (words .entry)) table (now (uid .entry)) ⌝ }
 {
-    match made {
+    match table {
         Made::Ready(t) => name_of(s, words, t, rows::seek(s, words, t, uid)),
         Made::NoRoom => scan(out, c, s, root, uid),
     }
@@ -277,11 +289,11 @@ pub fn elapsed_in(
     s: &[u8],
     root: usize,
     words: &[u32],
-    made: Made,
+    table: Made,
 ) -> NameAnswer
-    ensures { λ r. ⌜ nameMeaning elapsedName r ≡ elapsedIn (contextAt (now (out .entry)) c (elementAt (now (s .entry)) root)) (now (words .entry)) made ⌝ }
+    ensures { λ r. ⌜ nameMeaning elapsedName r ≡ elapsedIn (contextAt (now (out .entry)) c (elementAt (now (s .entry)) root)) (now (words .entry)) table ⌝ }
 {
-    match made {
+    match table {
         Made::Ready(t) => by_word(index::word(words, t.at, 4 * (t.rows as usize))),
         Made::NoRoom => elapsed_named(out, c, s, root),
     }

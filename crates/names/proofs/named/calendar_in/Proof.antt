@@ -4,8 +4,8 @@ use borrow.Author.Needs.{needs}
 use Rattle.names.proofs.named.calendar_in.Statement.{statement}
 use Rattle.names.proofs.named.calendar_in.Tie as tie
 
-enum-known-made : tie.Need-enum-known-made
-enum-known-made c = search needs
+enum-known-table : tie.Need-enum-known-table
+enum-known-table c = search needs
 
 seek-requires : tie.Need-seek-requires
 seek-requires c κs = search needs
@@ -20,7 +20,7 @@ scan-requires : tie.Need-scan-requires
 scan-requires c κs = search needs
 
 returns : tie.Need-returns
-returns c = named-ready _ _ _ _ (c .before .before .before .made .given .1) (c .before .seek .ensures) (c .name-of .ensures)
+returns c = named-ready _ _ _ _ (c .before .before .before .table .given .1) (c .before .seek .ensures) (c .name-of .ensures)
 
 returns-2 : tie.Need-returns-2
 returns-2 c = named-none _ _ _ _ (c .before .enum-told .given .1) (c .scan .ensures)
@@ -29,7 +29,7 @@ pub calendar-in-spec : {M : Type 1} → statement M
 calendar-in-spec =
     tie.close
     (tie.spec
-    enum-known-made
+    enum-known-table
     seek-requires
     name-of-requires
     enum-told

@@ -4,8 +4,8 @@ use borrow.Author.Needs.{needs}
 use Rattle.names.proofs.named.elapsed_in.Statement.{statement}
 use Rattle.names.proofs.named.elapsed_in.Tie as tie
 
-enum-known-made : tie.Need-enum-known-made
-enum-known-made c = search needs
+enum-known-table : tie.Need-enum-known-table
+enum-known-table c = search needs
 
 cast-word : tie.Need-cast-word
 cast-word c = search needs
@@ -26,7 +26,7 @@ elapsed-named-requires : tie.Need-elapsed-named-requires
 elapsed-named-requires c κs = search needs
 
 returns : tie.Need-returns
-returns c = elapsed-ready _ _ (c .before .before .before .before .made .given .1) (c .before .word .ensures) (c .by-word .result) (c .by-word .ensures)
+returns c = elapsed-ready _ _ (c .before .before .before .before .table .given .1) (c .before .word .ensures) (c .by-word .result) (c .by-word .ensures)
 
 returns-2 : tie.Need-returns-2
 returns-2 c = elapsed-none _ _ (c .before .enum-told .given .1) (c .elapsed-named .ensures)
@@ -35,7 +35,7 @@ pub elapsed-in-spec : {M : Type 1} → statement M
 elapsed-in-spec =
     tie.close
     (tie.spec
-    enum-known-made
+    enum-known-table
     cast-word
     mul-word
     word-requires
