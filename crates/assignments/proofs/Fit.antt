@@ -1,21 +1,21 @@
 -- What is made of a tree's elements fits its fields, so it is read back as it was put. Assumes nothing.
 use Prim.Native.Nat.{ℕ, _+_, _^_, _≤_, _<_}
 use native.Mathlib.Omega.{arith}
-use mathlib.Core.Path.{_≡_, refl, sym, ap, subst, _∙_}
+use mathlib.Core.Path.{_≡_}
 use mathlib.Core.Bool.{Bool, true, false, not}
 use mathlib.Core.List.{List, [], _∷_, _++_, map}
-use mathlib.Core.Option.{Option, some, none}
+use mathlib.Core.Option.{Option, some}
 use lib.ListN.{length, drop, length-append, length-map}
 use Rattle.definition.specs.Ascii.{bytes}
-use Rattle.definition.specs.Base.{if_then_else_, _>>=_, _or_, keep, present, some?, same, numbered}
+use Rattle.definition.specs.Base.{if_then_else_, _>>=_, _or_, keep, present, some?, same}
 use Rattle.definition.specs.Text.{Text}
-use Rattle.definition.specs.Tree.{Element, child, allIn}
+use Rattle.definition.specs.Tree.{Element}
 use Rattle.definition.specs.Field.{textIn}
 use Rattle.definition.specs.Model.{Resource, Expense}
 use Rattle.definition.specs.Calendar.{Named}
 use Rattle.definition.specs.Refusal.{mostElements}
 use Rattle.definition.specs.Task.{Context, contextOf, keptTasks, rowOf}
-use Rattle.definition.specs.Resource.{isResource, isCost, costOf, taskRow, expenseFrom, expenseOf, sameExpense, firsts, resourceOf, resourcesAfter}
+use Rattle.definition.specs.Resource.{isResource, isCost, costOf, expenseFrom, expenseOf, sameExpense, firsts, resourceOf, resourcesAfter}
 use Rattle.laws.specs.Bits.{Bytes}
 use Rattle.laws.specs.Each.{Each, empty, next, each-append, each-drop}
 use Rattle.laws.specs.FitRecords.{Short, FitsResourceBy, FitsExpenseBy}
@@ -24,7 +24,9 @@ use Rattle.laws.specs.FitTrees.{Small, small-element, slim-texts, holds-child, 
 use Rattle.laws.specs.FitResources.{fit-expense, fit-resource}
 use Rattle.tree.specs.Place.{elementAt}
 use Rattle.bits.specs.declared.Place.{Place}
-use Rattle.names.specs.Context.{calendarsBefore}
+use Rattle.index.specs.declared.Made.{Made}
+use Rattle.names.specs.Context.{contextAt, calendarsBefore}
+use Rattle.names.specs.Naming.{Finds}
 use Rattle.assignments.specs.Resources.{isWork, FewResources}
 
 -- the element at a position of bytes
@@ -104,6 +106,6 @@ fine-on {rows} x b {e} fs h xs f = by (isWork e) (f .few)
         let m : length ids ≤ 5000000 = rw length-map (omega (arith, f .most)) in
         record { fit = each-append (f .fit) (next (fit-resource slim-texts x ids h b m) empty); few = omega arith; most = f .most }
 
-pub fine-few : (c : Place) (root : Element) (p : Place) {rows : ℕ} {d : List ℕ} (e : Element) (fs : List Element) → calendarsBefore d c root p ≡ true → (xs : List Resource) → FineResources rows (e ∷ fs) xs
-    → FewResources c root p rows (e ∷ []) d xs
-fine-few c root p e fs b xs f = record { stand = b; fit = f .fit; room = omega (arith, f .few, kept-some e fs); few = omega (arith, f .most) }
+pub fine-few : (c p : Place) (s : Text) (root : Element) (k : Made) {w : List ℕ} {rows : ℕ} {d : List ℕ} (e : Element) (fs : List Element) → calendarsBefore d c root p ≡ true → Finds (contextAt d c root) s k w
+    → (xs : List Resource) → FineResources rows (e ∷ fs) xs → FewResources c p s root k w rows (e ∷ []) d xs
+fine-few c p s root k e fs b h xs f = record { stand = b; finds = h; fit = f .fit; room = omega (arith, f .few, kept-some e fs); few = omega (arith, f .most) }

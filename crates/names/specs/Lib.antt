@@ -13,3 +13,4 @@ pub mod Turned
 pub mod ByUid
 pub mod Named
 pub mod Naming
+pub mod Cleared
