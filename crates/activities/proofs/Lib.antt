@@ -1,3 +1,5 @@
 pub mod Values
+pub mod Words
+pub mod Ids
 pub mod Loop
 pub mod Turn

@@ -1,46 +1,144 @@
 -- A turn of the loop over the kept tasks: what is read in the buffer is what was put. Assumes nothing.
-use Prim.Native.Nat.{ℕ, _+_, _^_, _≤_}
+use Prim.Native.Nat.{ℕ, _+_, _%_, _^_, _≤_, _<_}
+use native.Mathlib.Nat.{mod-eq-of-lt}
 use native.Mathlib.Omega.{arith}
-use mathlib.Core.Path.{_≡_, sym, ap, _∙_}
+use mathlib.Core.Path.{_≡_, refl, sym, ap, subst, _∙_}
 use mathlib.Core.Bool.{true}
-use mathlib.Core.List.{List, _∷_, map}
-use lib.ListN.{length, take, length-map}
+use mathlib.Core.List.{List, [], _∷_, _++_, map, map-append}
+use mathlib.Core.Option.{Option}
+use lib.ListN.{length, getD, take, length-map, length-append}
+use lib.Seq.{getD-at}
+use Rattle.definition.specs.Calendar.{free}
 use Rattle.definition.specs.Format.{whole}
-use Rattle.definition.specs.Link.{links, entered}
+use Rattle.definition.specs.Link.{entered}
 use Rattle.definition.specs.Pack.{activity}
-use Rattle.definition.specs.Task.{contextOf, keptTasks, levelOf, activityOf, mostTasks}
+use Rattle.definition.specs.Task.{Context, contextOf, keptTasks, levelOf, wantedId, activityOf, activities, mostTasks}
+use Rattle.definition.specs.Text.{Text}
 use Rattle.definition.specs.Tree.{Element}
+use Rattle.laws.specs.Each.{empty, next, each-append}
 use Rattle.laws.specs.FitActivities.{fit-activity}
 use Rattle.laws.specs.FitRecords.{Short, FitsActivityBy}
 use Rattle.laws.specs.FitTrees.{Small, slim-texts}
-use Rattle.bits.specs.Steps.{Puts}
+use Rattle.bits.specs.Places.{at, inside, fits-room}
+use Rattle.bits.specs.Round.{put-stood}
+use Rattle.bits.specs.Steps.{Puts, before-in, put-more}
 use Rattle.bits.specs.declared.Place.{Place}
 use Rattle.links.specs.Entered.{entered-is}
-use Rattle.links.specs.Fates.{isEntered}
+use Rattle.index.specs.Below.{SameBelow, below-refl, below-in}
+use Rattle.index.specs.Chains.{endOf, endIn}
+use Rattle.index.specs.declared.Made.{Made}
+use Rattle.index.specs.declared.Made.the-variants.{Ready as ReadyTable}
+use Rattle.index.specs.declared.Table.{Table}
+use Rattle.links.specs.Fates.{Finder, taskIn, linksBy, isEntered}
 use Rattle.model.specs.declared.records.Kind.the-variants.{Activities}
 use Rattle.names.specs.Carried.{context-carried}
 use Rattle.names.specs.Context.{contextAt, calendarsBefore}
-use Rattle.names.specs.Records.{texts-activities}
+use Rattle.names.specs.Kept.{step-kept}
+use Rattle.names.specs.Noted.{noted-put}
+use Rattle.names.specs.Records.{Lies, FitsActivityFields, activityFields, plainActivities, plain-activities, front-activities, activities-lie, texts-activities}
 use Rattle.names.specs.Short.{built-short}
 use Rattle.names.specs.Texts.{textsAt}
-use Rattle.activities.proofs.Loop.{Written, written-more, next-put, tasks-before, idsOf}
+use Rattle.names.specs.Whole.{puts-whole}
+use Rattle.pack.specs.Writes.{Writes}
+use Rattle.pack.specs.declared.record.Records.{Records}
+use Rattle.rows.specs.Tables.{noElement}
+use Rattle.rows.specs.Tabled.{row-same}
+use Rattle.rows.specs.declared.kept.KeptAnswer.{KeptAnswer}
+use Rattle.rows.specs.declared.kept.KeptAnswer.the-variants.{Is}
+use Rattle.rows.specs.declared.table.Listed.the-variants.{Tasks}
+use Rattle.tree.specs.Place.{elementAt}
+use Rattle.activities.specs.Own.{IdsOpen, IdsNoted, OwnRoom, RowNoted}
+use Rattle.activities.specs.Parents.{taskAt, Held, Ready}
+use Rattle.activities.specs.declared.own.Own.{Own}
+use Rattle.activities.proofs.Ids.{ids-moved, noted-of}
+use Rattle.activities.proofs.Loop.{Written, nextOf, written-more, next-put, tasks-before, idsOf}
+
+-- what a turn leaves of the words: those of the table before them, and those of the rows before
+pub record Stays (s : Text) (root : Element) (tasks : Made) (own : Own) (start : Place) (w₀ w d : List ℕ) (q : Place) (row : ℕ) (task : KeptAnswer) : Type 0 where
+  pub same : SameBelow (endIn tasks) w₀ w
+  pub held : row ≤ own .columns .rows → Held s root (own .columns .at) row w
+  pub ids : inside (length d) q ≡ true → IdsNoted (own .ids) d start w row
+  pub there : (at left : ℕ) → task ≡ Is at left → at < length s
+
+module _ {s : Text} {root : Element} {tasks : Made} {own : Own} {start : Place} {w₀ : List ℕ} where
+  pub stays-begin : {d : List ℕ} {bytes : ℕ} → OwnRoom own tasks d start w₀ bytes → {q : Place} {task : KeptAnswer} → ((at left : ℕ) → task ≡ Is at left → at < length s) → Stays s root tasks own start w₀ w₀ d q 0 task
+  stays-begin r h = record {
+    same = below-refl _ w₀;
+    held = λ k. record { stands = λ r j. absurd (omega arith); parents = λ r j. absurd (omega arith) };
+    ids = λ i. r .ids;
+    there = h;
+  }
+
+  module _ {w d : List ℕ} {q : Place} {row : ℕ} {task : KeptAnswer} (x : Stays s root tasks own start w₀ w d q row task) where
+    pub stays-ready : {d₀ : List ℕ} → OwnRoom own tasks d₀ start w₀ (length s) → {at left : ℕ} → task ≡ Is at left → row ≤ length (keptTasks root) → Ready s root (own .columns) row at w
+    stays-ready r {at} {left} e few = record { own-room = rw (x .same .long) (r .room); held = x .held; few = few; there = x .there at left e }
+
+-- the same rows are found
+pub found-same : (s : Text) (root : ℕ) (tasks : Made) {w w′ : List ℕ} → SameBelow (endIn tasks) w w′ → taskIn s root w′ tasks ≡ taskIn s root w tasks
+found-same s root tasks {w} {w′} x = row-same s (elementAt s root) Tasks (record { same = λ t e. below-in x (by e) })
+  where
+    by : {t : Table} → tasks ≡ ReadyTable t → endOf t ≤ endIn tasks
+    by e = rw e (omega arith)
+
+pub writes-found : (root : Element) {f find : Finder} → f ≡ find → (x : Context) {d : List ℕ} {p : Place} {d' : List ℕ} {r : Records} → Writes (whole activity) (activities x (entered (linksBy f (contextOf root)))) d p d' r
+    → Writes (whole activity) (activities x (entered (linksBy find (contextOf root)))) d p d' r
+writes-found root e x {d} {p} {d'} {r} h = subst (λ f. Writes (whole activity) (activities x (entered (linksBy f (contextOf root)))) d p d' r) e h
 
 -- the activities of some tasks are put, and those of ts are left
-abbrev pub Goes : List ℕ → Place → Element → Place → List ℕ → Place → ℕ → List Element → Type 0
-Goes d₀ c root p = Written (FitsActivityBy Short) (contextAt d₀ c root) (entered (links (contextOf root))) d₀ p
+abbrev pub Goes : Finder → List ℕ → Place → Element → Place → List ℕ → Place → ℕ → List Element → Type 0
+Goes find d₀ c root p = Written (FitsActivityBy Short) (contextAt d₀ c root) (entered (linksBy find (contextOf root))) d₀ p
 
-module _ {d₀ : List ℕ} (c : Place) (root : Element) {p : Place} (stand : calendarsBefore d₀ c root p ≡ true) (small : Small root) {d : List ℕ} {q : Place} {row : ℕ} {t : Element} {ts : List Element}
-    (w : Goes d₀ c root p d q row (t ∷ ts)) where
-  pub goes-on : {d' : List ℕ} {r : Place}
-      → Puts (whole activity) (activityOf (contextAt d c root) (textsAt Activities d p row) (map levelOf (take row (keptTasks root))) (isEntered (keptTasks root) t) t) d q d' r
-      → row ≤ mostTasks → Small t → {us : List Element} → ts ≡ us → Goes d₀ c root p d' r (row + 1) us
-  unfolding contextAt contextOf
-  goes-on h n s z =
-      let li : length (idsOf (w .done)) ≤ 5000000 = rw (length-map) (omega (arith, w .done-are)) in
-      let ll : length (map levelOf (w .before)) ≤ 2 ^ 32 = rw (length-map) (omega (arith, w .tasks-are)) in
-      written-more w (fit-activity slim-texts (contextAt d₀ c root) (idsOf (w .done)) (map levelOf (w .before)) _ s (built-short d₀ c small) li ll)
-      (next-put w (contextAt d c root) _ _ _ h
-      (λ i. (context-carried (w .puts .step) c root stand, ap (textsAt Activities d p) (sym (w .done-are)) ∙ texts-activities _ (w .puts) i (w .fits)))
-      (ap (map levelOf) (tasks-before w))
-      (sym (entered-is (contextOf root) (w .before) t ts (sym (w .split))) ∙ ap (entered (links (contextOf root))) (w .tasks-are ∙ sym (w .done-are))))
-      z
+module _ (find : Finder) {d₀ : List ℕ} (c : Place) (root : Element) {p : Place} (stand : calendarsBefore d₀ c root p ≡ true) (small : Small root) {d : List ℕ} {q : Place} {row : ℕ} {t : Element} {ts : List Element}
+    (w : Goes find d₀ c root p d q row (t ∷ ts)) where
+  -- the task of the row
+  pub goes-task : (t ≡ taskAt root row) × (row ≤ length (keptTasks root))
+  unfolding contextAt
+  goes-task =
+      let e : w .before ++ (t ∷ ts) ≡ keptTasks root = w .split in
+      let l : length (w .before) + length (t ∷ ts) ≡ length (keptTasks root) = sym (length-append (w .before) (t ∷ ts)) ∙ ap length e in
+      (sym (ap (λ (l : List Element). getD l row noElement) (sym e) ∙ getD-at (w .before) t ts noElement row (w .tasks-are)), omega (arith, w .tasks-are))
+
+  module _ {f : Finder} (found : f ≡ find) {d' : List ℕ} {r : Place} (h : Puts (whole activity) (activityOf (contextAt d c root) (textsAt Activities d p row) (map levelOf (take row (keptTasks root))) (isEntered f t) t) d q d' r) (n : row ≤ mostTasks) (s : Small t) where
+    new-fits : FitsActivityBy Short (nextOf w)
+    unfolding contextAt
+    new-fits =
+        let li : length (idsOf (w .done)) ≤ 5000000 = rw (length-map) (omega (arith, w .done-are)) in
+        let ll : length (map levelOf (w .before)) ≤ 2 ^ 32 = rw (length-map) (omega (arith, w .tasks-are)) in
+        fit-activity slim-texts (contextAt d₀ c root) (idsOf (w .done)) (map levelOf (w .before)) _ s (built-short d₀ c small) li ll
+
+    new-put : Puts (whole activity) (nextOf w) d q d' r
+    unfolding contextAt contextOf
+    new-put =
+        next-put w (contextAt d c root) _ _ _ h
+        (λ i. (context-carried (w .puts .step) c root stand, ap (textsAt Activities d p) (sym (w .done-are)) ∙ texts-activities _ (w .puts) i (w .fits)))
+        (ap (map levelOf) (tasks-before w))
+        (ap (λ (f : Finder). isEntered f t) found ∙ sym (entered-is find (contextOf root) (w .before) t ts (sym (w .split))) ∙ ap (entered (linksBy find (contextOf root))) (w .tasks-are ∙ sym (w .done-are)))
+
+    next-id : nextOf w .id ≡ free (idsOf (w .done)) (wantedId t)
+    unfolding activityOf
+    next-id = refl
+
+    pub goes-on : {us : List Element} → ts ≡ us → Goes find d₀ c root p d' r (row + 1) us
+    goes-on z = written-more w new-fits new-put z
+
+    -- the ids of the rows are noted
+    module _ {own : Own} {at₀ : ℕ} {o : Option ℕ} {u : List ℕ} {u₂ : List ℕ} (y : RowNoted own row at₀ o (wantedId t) (q .byte % 2 ^ 32) (textsAt Activities d p row) (inside (length d) q) u u₂)
+        (open-at : IdsOpen (own .ids) (own .columns) p (length d)) (before-it : inside (length d) q ≡ true → IdsNoted (own .ids) d p u row) where
+      pub ids-on : inside (length d') r ≡ true → IdsNoted (own .ids) d' p u₂ (row + 1)
+      ids-on i j g few =
+          let b = put-stood new-put i .began in
+          let i₀ : inside (length d) q ≡ true = fits-room {n = length d} {p = q} {w = 0} (record { bit = b .bit; ends = omega (arith, b .ends) }) in
+          let x = open-at j g in
+          let long : length (map activityFields (w .done)) ≡ row = length-map (w .done) activityFields ∙ w .done-are in
+          let texts : textsAt Activities d p row ≡ idsOf (w .done) = ap (textsAt Activities d p) (sym (w .done-are)) ∙ texts-activities _ (w .puts) i₀ (w .fits) in
+          let byte : q .byte % 2 ^ 32 ≡ q .byte = mod-eq-of-lt (omega (arith, b .ends, x .short)) in
+          let made = noted-of g row (wantedId t) (y .stars) (q .byte % 2 ^ 32) _ (y .is) in
+          let n₁ : length (map activityFields (w .done) ++ (activityFields (nextOf w) ∷ [])) ≡ row + 1 = length-append (map activityFields (w .done)) (activityFields (nextOf w) ∷ []) ∙ ap (λ (m : ℕ). m + 1) long in
+          rw n₁ at
+          (noted-put plain-activities front-activities (rw (sym long) at (ids-moved open-at (before-it i₀) at₀ o refl j g (omega arith))) (omega arith)
+          (activities-lie _ (w .puts) i₀ (w .fits))
+          (subst (λ l. Lies plainActivities FitsActivityFields d' p l r) (map-append activityFields (w .done) (nextOf w ∷ [])) (activities-lie _ (put-more _ (w .puts) new-put) i (each-append (w .fits) (next new-fits empty))))
+          (step-kept (new-put .step)) (omega (arith, before-in (length d) q b)) (puts-whole activity _ (w .puts) i₀ (x .whole)) (wantedId t) (y .stars)
+          (rw (sym long) at (y .free-is i₀))
+          (next-id ∙ ap (λ (l : List Text). free l (wantedId t)) (sym texts) ∙ sym (y .free-is i₀))
+          (rw (byte, sym long) at made))

@@ -4,41 +4,61 @@ use mathlib.Core.Path.{_≡_, refl, sym, ap, _∙_}
 use mathlib.Core.Bool.{Bool, true, false, true≢false, _&&_, not}
 use mathlib.Core.List.{List, []}
 use mathlib.Core.Option.{Option, some, none}
+use borrow.Author.Tests.{not-true, not-false}
 use lib.Dec.{eqb}
+use lib.ListN.{length}
 use Rattle.definition.specs.Ascii.{bytes}
 use Rattle.definition.specs.Base.{if_then_else_, _>>=_, _or_, _orElse_, when, given, same, within}
 use Rattle.definition.specs.Calendar.{elapsedName, nameOf, free}
 use Rattle.definition.specs.Date.{Date}
 use Rattle.definition.specs.Field.{textIn}
-use Rattle.definition.specs.Task.{Context, isElapsed, unlessMain, wantedId, constraintFrom, activityOf}
+use Rattle.definition.specs.Format.{whole}
+use Rattle.definition.specs.Pack.{activity}
+use Rattle.definition.specs.Task.{Context, isElapsed, levelOf, unlessMain, wantedId, parentOf, constraintFrom, activityOf}
 use Rattle.definition.specs.Text.{Text}
 use Rattle.definition.specs.Tree.{Element}
-use Rattle.names.specs.Context.{textWithUid}
+use Rattle.bits.specs.Places.{inside}
+use Rattle.bits.specs.Steps.{Puts, put-same}
+use Rattle.bits.specs.declared.Place.{Place}
+use Rattle.fields.proofs.Empty.{length-given}
 use Rattle.laws.specs.Fields.{InYears}
 use Rattle.laws.specs.Formats.{IfGiven}
+use Rattle.links.specs.Given.{given-none, given-some}
 use Rattle.pack.specs.Record.{activityBy}
 use Rattle.pack.specs.Value.{starredBy, nameMeaning}
+use Rattle.pack.specs.Writes.{put-any}
 use Rattle.pack.specs.declared.stars.NameAnswer.{NameAnswer}
 use Rattle.pack.specs.declared.record.Plan.{Plan}
 use Rattle.pack.specs.declared.record.Dates.{Dates}
 use Rattle.pack.specs.declared.record.Progress.{Progress}
-use Rattle.activities.specs.Values.{namesCalendar, calendarText, calendarNamed, PlanOf, DatesOf, ProgressOf, activityNamed}
+use Rattle.activities.specs.Values.{dayBy, namesCalendar, calendarBy, PlanOf, DatesOf, ProgressOf, activityPlanned}
 
 -- ---- the first of three texts that is there
 
-pub first-text : (a b c : Option Text) → given a ≡ true → (a or []) ≡ ((a orElse b orElse c) or [])
+first-text : (a b c : Option Text) → given a ≡ true → (a or []) ≡ ((a orElse b orElse c) or [])
 first-text none b c h = absurd (true≢false (sym h))
 first-text (some t) b c h = refl
 
-pub second-text : (a b c : Option Text) → given a ≡ false → given b ≡ true → (b or []) ≡ ((a orElse b orElse c) or [])
+second-text : (a b c : Option Text) → given a ≡ false → given b ≡ true → (b or []) ≡ ((a orElse b orElse c) or [])
 second-text (some t) b c g h = absurd (true≢false g)
 second-text none none c g h = absurd (true≢false (sym h))
 second-text none (some t) c g h = refl
 
-pub third-text : (a b c : Option Text) → given a ≡ false → given b ≡ false → (c or []) ≡ ((a orElse b orElse c) or [])
+third-text : (a b c : Option Text) → given a ≡ false → given b ≡ false → (c or []) ≡ ((a orElse b orElse c) or [])
 third-text (some t) b c g h = absurd (true≢false g)
 third-text none (some t) c g h = absurd (true≢false h)
 third-text none none c g h = refl
+
+module _ (e : Element) (wbs : Text) (i : wbs ≡ (textIn e "WBS" or [])) where
+  pub first-id : (length wbs ≡ 0 → ⊥) → wbs ≡ wantedId e
+  first-id h = i ∙ first-text (textIn e "WBS") (textIn e "ID") (textIn e "UID") (given-some e (bytes "WBS") wbs i h)
+
+  module _ (h : length wbs ≡ 0) (id : Text) (j : id ≡ (textIn e "ID" or [])) where
+    pub second-id : (length id ≡ 0 → ⊥) → id ≡ wantedId e
+    second-id k = j ∙ second-text (textIn e "WBS") (textIn e "ID") (textIn e "UID") (given-none e (bytes "WBS") wbs i h) (given-some e (bytes "ID") id j k)
+
+    pub third-id : length id ≡ 0 → {uid : Text} → uid ≡ (textIn e "UID" or []) → uid ≡ wantedId e
+    third-id k l = l ∙ third-text (textIn e "WBS") (textIn e "ID") (textIn e "UID") (given-none e (bytes "WBS") wbs i h) (given-none e (bytes "ID") id j k)
 
 -- ---- the calendar's name
 
@@ -52,30 +72,24 @@ own-calendar : (o : Option Text) (f : Text → Option Text) → (given o && not 
 own-calendar none f h = absurd (true≢false (sym h))
 own-calendar (some u) f h = rw h
 
-module _ (x : Context) (root t : Element) (r : NameAnswer) where
-  pub elapsed-named : isElapsed t ≡ true → nameMeaning elapsedName r ≡ unlessMain x elapsedName → nameMeaning (calendarText root t) r ≡ calendarNamed x t
-  elapsed-named e h = rw e h
+module _ (x : Context) (t : Element) {e : Bool} where
+  pub by-elapsed : e ≡ true → {o : Option Text} → o ≡ unlessMain x elapsedName → o ≡ calendarBy x e t
+  by-elapsed i h = rw i h
 
-  pub none-named : isElapsed t ≡ false → namesCalendar t ≡ false → none ≡ calendarNamed x t
-  none-named e h = rw (e, no-calendar (textIn t "CalendarUID") (nameOf (x .built)) h)
+  module _ (i : e ≡ false) (u : Text) (j : u ≡ (textIn t "CalendarUID" or [])) {b : Bool} (k : b ≡ namesCalendar u) where
+    names-is : b ≡ (given (textIn t "CalendarUID") && not (same (textIn t "CalendarUID" or []) (bytes "-1")))
+    names-is =
+        k
+        ∙ ap (λ (u : Text). namesCalendar u) j
+        ∙ ap (λ (b : Bool). b && not (same (textIn t "CalendarUID" or []) (bytes "-1"))) (length-given t (bytes "CalendarUID"))
 
-  pub own-named : isElapsed t ≡ false → namesCalendar t ≡ true
-      → nameMeaning (textWithUid root (textIn t "CalendarUID" or [])) r ≡ (nameOf (x .built) (textIn t "CalendarUID" or []) >>= unlessMain x)
-      → nameMeaning (calendarText root t) r ≡ calendarNamed x t
-  own-named e h k = rw (e, own-calendar (textIn t "CalendarUID") (nameOf (x .built)) h) k
+    pub by-none : not b ≡ true → none ≡ calendarBy x e t
+    by-none h = rw (i, no-calendar (textIn t "CalendarUID") (nameOf (x .built)) (sym names-is ∙ not-true b h))
 
-  -- back to the text beside the name
-  pub named-elapsed : isElapsed t ≡ true → nameMeaning (calendarText root t) r ≡ calendarNamed x t → nameMeaning elapsedName r ≡ calendarNamed x t
-  named-elapsed e h = ap (λ (s : Text). nameMeaning s r) (text-elapsed e) ∙ h
-    where
-      text-elapsed : isElapsed t ≡ true → elapsedName ≡ calendarText root t
-      text-elapsed e = rw e
-
-  pub named-own : {s : Text} → isElapsed t ≡ false → s ≡ textWithUid root (textIn t "CalendarUID" or []) → nameMeaning (calendarText root t) r ≡ calendarNamed x t → nameMeaning s r ≡ calendarNamed x t
-  named-own e k h = ap (λ (s : Text). nameMeaning s r) (k ∙ text-own e) ∙ h
-    where
-      text-own : isElapsed t ≡ false → textWithUid root (textIn t "CalendarUID" or []) ≡ calendarText root t
-      text-own e = rw e
+    pub by-own : not b ≡ false → {o : Option Text} → o ≡ (nameOf (x .built) u >>= unlessMain x) → o ≡ calendarBy x e t
+    by-own h m =
+        rw (i, own-calendar (textIn t "CalendarUID") (nameOf (x .built)) (sym names-is ∙ not-false b h))
+        (m ∙ ap (λ (u : Text). nameOf (x .built) u >>= unlessMain x) j)
 
 -- ---- dates
 
@@ -95,19 +109,17 @@ constraint-years k (some d) h = dated (eqb k 1) (within 2 7 k)
 
 -- ---- the record
 
-module _ (id : Text) (stars : ℕ) (name : Text) (plan : Plan) (notes calendar : Text) (named : NameAnswer) (dates : Dates) (progress : Progress) (uid : Text)
-    {perDay : ℕ} (ids : List Text) {levels : List ℕ} {entered : Bool} {t : Element} where
-  pub activity-is : starredBy id stars ≡ free ids (wantedId t) → name ≡ (textIn t "Name" or []) → PlanOf perDay levels entered t plan → notes ≡ (textIn t "Notes" or [])
-      → DatesOf t dates → ProgressOf t progress → uid ≡ (textIn t "UID" or [])
-      → activityBy id stars name plan notes calendar named dates progress uid ≡ activityNamed (nameMeaning calendar named) perDay ids levels entered t
-  unfolding activityNamed
-  activity-is i n p o d g u = λ k. record {
-    id = i k;
+module _ (id : Text) (stars : ℕ) (name : Text) (plan : Plan) (notes calendar : Text) (named : NameAnswer) (dates : Dates) (progress : Progress) (uid : Text) {t : Element} where
+  pub activity-is : name ≡ (textIn t "Name" or []) → notes ≡ (textIn t "Notes" or []) → DatesOf t dates → ProgressOf t progress → uid ≡ (textIn t "UID" or [])
+      → activityBy id stars name plan notes calendar named dates progress uid ≡ activityPlanned (nameMeaning calendar named) (starredBy id stars) plan t
+  unfolding activityPlanned
+  activity-is n o d g u = λ k. record {
+    id = starredBy id stars;
     name = n k;
-    kind = p .kind-is k;
-    duration = p .days-is k;
-    minutes = p .minutes-is k;
-    parent = p .parent-is k;
+    kind = plan .kind;
+    duration = activityPlanned (nameMeaning calendar named) (starredBy id stars) plan t .duration;
+    minutes = activityPlanned (nameMeaning calendar named) (starredBy id stars) plan t .minutes;
+    parent = activityPlanned (nameMeaning calendar named) (starredBy id stars) plan t .parent;
     notes = o k;
     calendar = nameMeaning calendar named;
     constraint = d .constraint-is k;
@@ -120,8 +132,38 @@ module _ (id : Text) (stars : ℕ) (name : Text) (plan : Plan) (notes calendar :
     uid = u k;
   }
 
--- by the context
-pub activity-of : (x : Context) (ids : List Text) (levels : List ℕ) (entered : Bool) (t : Element) {o : Option Text} {perDay : ℕ} → o ≡ calendarNamed x t → perDay ≡ x .perDay
-    → activityNamed o perDay ids levels entered t ≡ activityOf x ids levels entered t
-unfolding activityNamed activityOf
-activity-of x ids levels entered t e h = rw (e, h)
+-- by the context, and those before it
+pub activity-of : (x : Context) (ids : List Text) (levels : List ℕ) (entered : Bool) (t : Element) (plan : Plan) {calendar : Option Text} {id : Text} {e : Bool} {day perDay : ℕ} {parent : Option ℕ}
+    → e ≡ isElapsed t → calendar ≡ calendarBy x e t → id ≡ free ids (wantedId t) → day ≡ dayBy e perDay → perDay ≡ x .perDay → parent ≡ parentOf levels (levelOf t) → PlanOf day parent entered t plan
+    → activityPlanned calendar id plan t ≡ activityOf x ids levels entered t
+unfolding activityPlanned activityOf
+activity-of x ids levels entered t plan {day = day} he hc hi hd hp hq p =
+    let d : day ≡ (if isElapsed t then 1440 else x .perDay) = hd ∙ (λ k. dayBy (he k) (hp k)) in
+    λ k. record {
+      id = hi k;
+      name = textIn t "Name" or [];
+      kind = p .kind-is k;
+      duration = (rw d at (p .days-is)) k;
+      minutes = (rw d at (p .minutes-is)) k;
+      parent = (p .parent-is ∙ hq) k;
+      notes = textIn t "Notes" or [];
+      calendar = (hc ∙ ap (λ (e : Bool). calendarBy x e t) he) k;
+      constraint = activityOf x ids levels entered t .constraint;
+      deadline = activityOf x ids levels entered t .deadline;
+      start = activityOf x ids levels entered t .start;
+      finish = activityOf x ids levels entered t .finish;
+      percent = activityOf x ids levels entered t .percent;
+      durationType = activityOf x ids levels entered t .durationType;
+      remaining = activityOf x ids levels entered t .remaining;
+      uid = textIn t "UID" or [];
+    }
+
+-- a record that does not fit may be any
+pub row-puts : (x : Context) (ids : List Text) (levels : List ℕ) (entered : Bool) (t : Element) (plan : Plan) (id : Text) (stars : ℕ) {e : Bool} {day perDay : ℕ} {parent : Option ℕ} {d : List ℕ} {p : Place} {d' : List ℕ} {r : Place}
+    → e ≡ isElapsed t → id ≡ wantedId t → (inside (length d) p ≡ true → starredBy id stars ≡ free ids id) → day ≡ dayBy e perDay → perDay ≡ x .perDay → parent ≡ parentOf levels (levelOf t) → PlanOf day parent entered t plan
+    → Puts (whole activity) (activityPlanned (calendarBy x e t) (starredBy id stars) plan t) d p d' r → Puts (whole activity) (activityOf x ids levels entered t) d p d' r
+row-puts x ids levels entered t plan id stars {d = d} {p} {d'} {r} he hi hf hd hp hq pl h = by (inside (length d) p) refl
+  where
+    by : (b : Bool) → inside (length d) p ≡ b → Puts (whole activity) (activityOf x ids levels entered t) d p d' r
+    by true i = put-same (activity-of x ids levels entered t plan he refl (hf i ∙ ap (free ids) hi) hd hp hq pl) h
+    by false i = put-any (activityOf x ids levels entered t) i h

@@ -1,1 +1,4 @@
 pub mod Values
+pub mod Parents
+pub mod Own
+pub mod Climbing

@@ -2,33 +2,20 @@
 use Prim.Native.Nat.{ℕ}
 use mathlib.Core.Path.{_≡_}
 use mathlib.Core.Bool.{Bool, _&&_, not}
-use mathlib.Core.List.{List, []}
-use mathlib.Core.Option.{Option}
+use mathlib.Core.List.{[]}
+use mathlib.Core.Option.{Option, some}
+use lib.Dec.{eqb}
+use lib.ListN.{length}
 use Rattle.definition.specs.Answer.{rowMeaning}
 use Rattle.definition.specs.Ascii.{bytes}
-use Rattle.definition.specs.Base.{if_then_else_, _>>=_, _or_, given, same}
-use Rattle.definition.specs.Calendar.{elapsedName, free}
+use Rattle.definition.specs.Base.{if_then_else_, _>>=_, _or_, when, same}
+use Rattle.definition.specs.Calendar.{elapsedName, nameOf}
 use Rattle.definition.specs.Field.{textIn, yesIn, dateIn, minutesIn}
 use Rattle.definition.specs.Model.{Activity}
-use Rattle.definition.specs.Task.{
-  Context,
-  levelOf,
-  isElapsed,
-  wantedId,
-  parentOf,
-  durationDays,
-  durationMinutes,
-  durationTypeOf,
-  constraintOf,
-  percentOf,
-  remainingOf,
-  calendarNameOf,
-  unlessMain,
-}
+use Rattle.definition.specs.Task.{Context, durationDays, durationMinutes, durationTypeOf, constraintOf, percentOf, remainingOf, unlessMain}
 use Rattle.definition.specs.Text.{Text}
 use Rattle.definition.specs.Tree.{Element}
 use Rattle.text.specs.Answers.{i64Of}
-use Rattle.names.specs.Context.{textWithUid}
 use Rattle.pack.specs.Value.{dateGiven, constraintGiven}
 use Rattle.pack.specs.declared.record.Plan.{Plan}
 use Rattle.pack.specs.declared.record.Dates.{Dates}
@@ -39,14 +26,14 @@ abbrev pub kindBy : Bool → Element → ℕ
 kindBy entered t = if yesIn t "Milestone" then (if entered then 2 else 1) else 0
 
 -- the minutes of its day, of all the minutes of a day of the file
-abbrev pub dayBy : ℕ → Element → ℕ
-dayBy perDay t = if isElapsed t then 1440 else perDay
+abbrev pub dayBy : Bool → ℕ → ℕ
+dayBy elapsed perDay = if elapsed then 1440 else perDay
 
-pub record PlanOf (perDay : ℕ) (levels : List ℕ) (entered : Bool) (t : Element) (r : Plan) : Type 0 where
+pub record PlanOf (day : ℕ) (parent : Option ℕ) (entered : Bool) (t : Element) (r : Plan) : Type 0 where
   pub kind-is : r .kind ≡ kindBy entered t
-  pub days-is : r .duration .days ≡ durationDays (minutesIn t "Duration" or 0) (dayBy perDay t)
-  pub minutes-is : i64Of (r .duration .minutes) ≡ durationMinutes (minutesIn t "Duration" or 0) (dayBy perDay t)
-  pub parent-is : rowMeaning (r .parent) ≡ parentOf levels (levelOf t)
+  pub days-is : r .duration .days ≡ durationDays (minutesIn t "Duration" or 0) day
+  pub minutes-is : i64Of (r .duration .minutes) ≡ durationMinutes (minutesIn t "Duration" or 0) day
+  pub parent-is : rowMeaning (r .parent) ≡ parent
 
 pub record DatesOf (t : Element) (r : Dates) : Type 0 where
   pub constraint-is : constraintGiven (r .constraint) ≡ constraintOf t
@@ -61,27 +48,26 @@ pub record ProgressOf (t : Element) (r : Progress) : Type 0 where
 
 -- ---- its calendar
 
--- it names one
-abbrev pub namesCalendar : Element → Bool
-namesCalendar t = given (textIn t "CalendarUID") && not (same (textIn t "CalendarUID" or []) (bytes "-1"))
+-- its CalendarUID, no text where there is none, names one
+abbrev pub namesCalendar : Text → Bool
+namesCalendar u = not (eqb (length u) 0) && not (same u (bytes "-1"))
 
--- the text beside its name
-abbrev pub calendarText : Element → Element → Text
-calendarText root t = if isElapsed t then elapsedName else textWithUid root (textIn t "CalendarUID" or [])
+-- the calendar's name, unless it is the main one's
+abbrev pub calendarBy : Context → Bool → Element → Option Text
+calendarBy x elapsed t =
+    (if elapsed then some elapsedName else
+    (textIn t "CalendarUID" >>= λ u. when (not (same u (bytes "-1"))) u >>= nameOf (x .built))) >>= unlessMain x
 
-abbrev pub calendarNamed : Context → Element → Option Text
-calendarNamed x t = calendarNameOf x t >>= unlessMain x
+-- ---- the whole, by the name of its calendar, its id and its plan
 
--- ---- the whole, by the name of its calendar and the minutes of a day
-
-unfoldable pub activityNamed : Option Text → ℕ → List Text → List ℕ → Bool → Element → Activity
-activityNamed calendar perDay ids levels entered t = record {
-  id = free ids (wantedId t);
+unfoldable pub activityPlanned : Option Text → Text → Plan → Element → Activity
+activityPlanned calendar id plan t = record {
+  id = id;
   name = textIn t "Name" or [];
-  kind = kindBy entered t;
-  duration = durationDays (minutesIn t "Duration" or 0) (dayBy perDay t);
-  minutes = durationMinutes (minutesIn t "Duration" or 0) (dayBy perDay t);
-  parent = parentOf levels (levelOf t);
+  kind = plan .kind;
+  duration = plan .duration .days;
+  minutes = i64Of (plan .duration .minutes);
+  parent = rowMeaning (plan .parent);
   notes = textIn t "Notes" or [];
   calendar = calendar;
   constraint = constraintOf t;

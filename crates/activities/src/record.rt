@@ -1,42 +1,52 @@
 // One activity's record.
+ghost use mathlib.Core.Path.{_≡_};
+ghost use mathlib.Core.Bool.{true};
 ghost use mathlib.Core.List.{map};
-ghost use lib.ListN.{take};
+ghost use Prim.Native.Nat.{_%_, _^_};
+ghost use lib.ListN.{length, take};
 ghost use Rattle.definition.specs.Format.{whole};
 ghost use Rattle.definition.specs.Pack.{activity};
-ghost use Rattle.definition.specs.Task.{levelOf, keptTasks, perDayOf, activityOf};
+ghost use Rattle.definition.specs.Task.{levelOf, keptTasks, perDayOf, wantedId, parentOf, activityOf};
+ghost use Rattle.bits.specs.Places.{inside};
 ghost use Rattle.bits.specs.Steps.{Puts};
-ghost use Rattle.links.specs.Fates.{isEntered};
+ghost use Rattle.links.specs.Fates.{taskIn, isEntered};
 ghost use Rattle.names.specs.Texts.{textsAt};
 ghost use Rattle.names.specs.Context.{contextAt};
-ghost use Rattle.pack.specs.Value.{nameMeaning};
+ghost use Rattle.pack.specs.Value.{nameMeaning, starredBy};
 ghost use Rattle.tree.specs.Place.{elementAt};
-ghost use Rattle.activities.specs.Values.{activityNamed};
+ghost use Rattle.activities.specs.Own.{IdsOpen, IdsNoted, RowNoted};
+ghost use Rattle.activities.specs.Parents.{Ready};
+ghost use Rattle.activities.specs.Values.{calendarBy, activityPlanned};
+use crate::own::Own;
+use crate::own::note_stars;
+use crate::own::stars_for;
+use crate::parents::parent_of;
 use crate::value::dates_of;
-use crate::value::named_of;
+use crate::value::day_of;
+use crate::value::names_calendar;
 use crate::value::plan_of;
 use crate::value::progress_of;
 use crate::value::wanted_id;
 use bits::Place;
+use index::Made;
 use model::records::Kind;
 use pack::NameAnswer;
+use pack::Plan;
 
-// The task of a row, with its calendar's name. The section begins at `start`.
+// The task at `at` with its id, its plan and its calendar's name.
 fn put_named(
     out: &mut [u8],
-    start: Place,
     p: Place,
     s: &[u8],
-    root: usize,
     at: usize,
-    row: u32,
+    id: &[u8],
+    stars: u32,
+    plan: Plan,
     calendar: &[u8],
     named: NameAnswer,
 ) -> Place
-    ensures { λ r. ⌜ Puts (whole activity) (activityNamed (nameMeaning (now (calendar .entry)) named) (perDayOf (elementAt (now (s .entry)) root)) (textsAt Kind.Activities (now (out .entry)) start row) (map levelOf (take row (keptTasks (elementAt (now (s .entry)) root)))) (isEntered (keptTasks (elementAt (now (s .entry)) root)) (elementAt (now (s .entry)) at)) (elementAt (now (s .entry)) at)) (now (out .entry)) p (now (out .exit)) r ⌝ }
+    ensures { λ r. ⌜ Puts (whole activity) (activityPlanned (nameMeaning (now (calendar .entry)) named) (starredBy (now (id .entry)) stars) plan (elementAt (now (s .entry)) at)) (now (out .entry)) p (now (out .exit)) r ⌝ }
 {
-    let id = wanted_id(s, at);
-    let stars = names::free_stars(out, start, Kind::Activities, row, id);
-    let plan = plan_of(s, root, at, row);
     let dates = dates_of(s, at);
     let progress = progress_of(s, at);
     let name = tree::text_of(s, at, b"Name");
@@ -58,8 +68,36 @@ fn put_named(
     )
 }
 
+// The task at `at` with its id and its plan; the calendars stand at c.
+fn put_task(
+    out: &mut [u8],
+    p: Place,
+    s: &[u8],
+    root: usize,
+    at: usize,
+    c: Place,
+    elapsed: bool,
+    id: &[u8],
+    stars: u32,
+    plan: Plan,
+) -> Place
+    ensures { λ r. ⌜ Puts (whole activity) (activityPlanned (calendarBy (contextAt (now (out .entry)) c (elementAt (now (s .entry)) root)) elapsed (elementAt (now (s .entry)) at)) (starredBy (now (id .entry)) stars) plan (elementAt (now (s .entry)) at)) (now (out .entry)) p (now (out .exit)) r ⌝ }
+{
+    if elapsed {
+        let named = names::elapsed_named(out, c, s, root);
+        return put_named(out, p, s, at, id, stars, plan, b"Elapsed (24 hours)", named);
+    }
+    let uid = tree::text_of(s, at, b"CalendarUID");
+    if !names_calendar(uid) {
+        return put_named(out, p, s, at, id, stars, plan, uid, NameAnswer::Absent);
+    }
+    let named = names::calendar_named(out, c, s, root, uid);
+    let text = names::calendar_text(s, root, uid, b"Calendar");
+    put_named(out, p, s, at, id, stars, plan, text, named)
+}
+
 // The task of a row. The section begins at `start`; the calendars stand at c.
-pub(crate) fn put_task(
+pub(crate) fn put_row(
     out: &mut [u8],
     start: Place,
     p: Place,
@@ -68,24 +106,22 @@ pub(crate) fn put_task(
     at: usize,
     row: u32,
     c: Place,
+    words: &mut [u32],
+    tasks: Made,
+    own: Own,
+    per_day: u64,
 ) -> Place
-    ensures { λ r. ⌜ Puts (whole activity) (activityOf (contextAt (now (out .entry)) c (elementAt (now (s .entry)) root)) (textsAt Kind.Activities (now (out .entry)) start row) (map levelOf (take row (keptTasks (elementAt (now (s .entry)) root)))) (isEntered (keptTasks (elementAt (now (s .entry)) root)) (elementAt (now (s .entry)) at)) (elementAt (now (s .entry)) at)) (now (out .entry)) p (now (out .exit)) r ⌝ }
+    requires { ⌜ Ready (now s) (elementAt (now s) root) (own .columns) row at (now words) × («per_day» ≡ perDayOf (elementAt (now s) root)) × IdsOpen (own .ids) (own .columns) start (length (now out)) × (inside (length (now out)) p ≡ true → IdsNoted (own .ids) (now out) start (now words) row) ⌝ }
+    ensures { λ r. ⌜ Puts (whole activity) (activityOf (contextAt (now (out .entry)) c (elementAt (now (s .entry)) root)) (textsAt Kind.Activities (now (out .entry)) start row) (map levelOf (take row (keptTasks (elementAt (now (s .entry)) root)))) (isEntered (taskIn (now (s .entry)) root (now (words .exit)) tasks) (elementAt (now (s .entry)) at)) (elementAt (now (s .entry)) at)) (now (out .entry)) p (now (out .exit)) r × RowNoted own row at (parentOf (map levelOf (take row (keptTasks (elementAt (now (s .entry)) root)))) (levelOf (elementAt (now (s .entry)) at))) (wantedId (elementAt (now (s .entry)) at)) (p .byte % 2 ^ 32) (textsAt Kind.Activities (now (out .entry)) start row) (inside (length (now (out .entry))) p) (now (words .entry)) (now (words .exit)) ⌝ }
 {
-    let named = named_of(out, c, s, root, at);
-    if tasks::is_elapsed(s, at) {
-        return put_named(
-            out,
-            start,
-            p,
-            s,
-            root,
-            at,
-            row,
-            b"Elapsed (24 hours)",
-            named,
-        );
-    }
-    let uid = tree::text_of(s, at, b"CalendarUID");
-    let text = names::calendar_text(s, root, uid, b"Calendar");
-    put_named(out, start, p, s, root, at, row, text, named)
+    let columns = own.columns;
+    let ids = own.ids;
+    let parent = parent_of(s, root, at, words, columns, row);
+    let id = wanted_id(s, at);
+    let stars = stars_for(out, start, p, words, ids, row, id);
+    note_stars(words, ids, row, id, stars, p);
+    let elapsed = tasks::is_elapsed(s, at);
+    let day = day_of(elapsed, per_day);
+    let plan = plan_of(s, root, at, words, tasks, day, parent);
+    put_task(out, p, s, root, at, c, elapsed, id, stars, plan)
 }

@@ -1,19 +1,16 @@
 // What an activity's record holds, each value from the task in the tree.
 ghost use mathlib.Core.Path.{_≡_};
-ghost use mathlib.Core.List.{map};
-ghost use lib.ListN.{take};
+ghost use Rattle.definition.specs.Answer.{rowMeaning};
 ghost use Rattle.definition.specs.Base.{_or_};
-ghost use Rattle.definition.specs.Task.{levelOf, keptTasks, perDayOf, wantedId};
+ghost use Rattle.definition.specs.Task.{wantedId};
 ghost use Rattle.fields.specs.Answers.{minutesMeans};
-ghost use Rattle.links.specs.Fates.{isEntered};
-ghost use Rattle.names.specs.Context.{contextAt};
-ghost use Rattle.pack.specs.Value.{nameMeaning};
+ghost use Rattle.links.specs.Fates.{taskIn, isEntered};
 ghost use Rattle.tree.specs.Place.{elementAt};
-ghost use Rattle.activities.specs.Values.{kindBy, dayBy, namesCalendar, calendarText, calendarNamed, PlanOf, DatesOf, ProgressOf};
-use bits::Place;
+ghost use Rattle.activities.specs.Values.{kindBy, dayBy, namesCalendar, PlanOf, DatesOf, ProgressOf};
+use definition::RowAnswer;
 use fields::MinutesAnswer;
+use index::Made;
 use pack::Dates;
-use pack::NameAnswer;
 use pack::Plan;
 use pack::Progress;
 
@@ -21,13 +18,22 @@ use pack::Progress;
 pub(crate) fn wanted_id(s: &[u8], at: usize) -> &[u8]
     ensures { λ r. ⌜ now r ≡ wantedId (elementAt (now (s .entry)) at) ⌝ }
 {
-    if fields::given(s, at, b"WBS") {
-        return tree::text_of(s, at, b"WBS");
+    let wbs = tree::text_of(s, at, b"WBS");
+    if wbs.len() != 0 {
+        return wbs;
     }
-    if fields::given(s, at, b"ID") {
-        return tree::text_of(s, at, b"ID");
+    let id = tree::text_of(s, at, b"ID");
+    if id.len() != 0 {
+        return id;
     }
     tree::text_of(s, at, b"UID")
+}
+
+// Whether a task with a CalendarUID names a calendar.
+pub(crate) fn names_calendar(uid: &[u8]) -> bool
+    ensures { λ r. ⌜ r ≡ namesCalendar (now (uid .entry)) ⌝ }
+{
+    (uid.len() != 0) & !text::same(uid, b"-1")
 }
 
 // ---- what an activity is
@@ -42,36 +48,40 @@ fn minutes_or_0(a: MinutesAnswer) -> u32
 }
 
 // The minutes of a day of the task.
-fn day_of(s: &[u8], root: usize, at: usize) -> u64
-    ensures { λ r. ⌜ r ≡ dayBy (perDayOf (elementAt (now (s .entry)) root)) (elementAt (now (s .entry)) at) ⌝ }
+pub(crate) fn day_of(elapsed: bool, per_day: u64) -> u64
+    ensures { λ r. ⌜ r ≡ dayBy elapsed «per_day» ⌝ }
 {
-    if tasks::is_elapsed(s, at) {
-        return 1440;
-    }
-    tasks::per_day(s, root)
+    if elapsed { 1440 } else { per_day }
 }
 
 // 0 a task, 1 a start milestone, 2 a finish milestone: one that a kept link enters.
-fn kind_of(s: &[u8], root: usize, at: usize) -> u32
-    ensures { λ r. ⌜ r ≡ kindBy (isEntered (keptTasks (elementAt (now (s .entry)) root)) (elementAt (now (s .entry)) at)) (elementAt (now (s .entry)) at) ⌝ }
+fn kind_of(s: &[u8], root: usize, at: usize, words: &[u32], tasks: Made) -> u32
+    ensures { λ r. ⌜ r ≡ kindBy (isEntered (taskIn (now (s .entry)) root (now (words .entry)) tasks) (elementAt (now (s .entry)) at)) (elementAt (now (s .entry)) at) ⌝ }
 {
     if !tasks::milestone(s, at) {
         return 0;
     }
-    if links::is_entered(s, root, at) {
+    if links::is_entered(s, root, at, words, tasks) {
         return 2;
     }
     1
 }
 
-// Of the task of a row.
-pub(crate) fn plan_of(s: &[u8], root: usize, at: usize, row: u32) -> Plan
-    ensures { λ r. ⌜ PlanOf (perDayOf (elementAt (now (s .entry)) root)) (map levelOf (take row (keptTasks (elementAt (now (s .entry)) root)))) (isEntered (keptTasks (elementAt (now (s .entry)) root)) (elementAt (now (s .entry)) at)) (elementAt (now (s .entry)) at) r ⌝ }
+// With its parent, and the minutes of its day.
+pub(crate) fn plan_of(
+    s: &[u8],
+    root: usize,
+    at: usize,
+    words: &[u32],
+    tasks: Made,
+    day: u64,
+    parent: RowAnswer,
+) -> Plan
+    ensures { λ r. ⌜ PlanOf day (rowMeaning parent) (isEntered (taskIn (now (s .entry)) root (now (words .entry)) tasks) (elementAt (now (s .entry)) at)) (elementAt (now (s .entry)) at) r ⌝ }
 {
-    let kind = kind_of(s, root, at);
+    let kind = kind_of(s, root, at, words, tasks);
     let minutes = minutes_or_0(fields::minutes_in(s, at, b"Duration"));
-    let duration = tasks::duration_parts(minutes, day_of(s, root, at));
-    let parent = rows::parent_row(s, root, row, tasks::level_of(s, at));
+    let duration = tasks::duration_parts(minutes, day);
     Plan {
         kind,
         duration,
@@ -107,26 +117,4 @@ pub(crate) fn progress_of(s: &[u8], at: usize) -> Progress
         duration_type,
         remaining,
     }
-}
-
-// ---- its calendar
-
-// Whether the task names a calendar.
-fn names_calendar(s: &[u8], at: usize) -> bool
-    ensures { λ r. ⌜ r ≡ namesCalendar (elementAt (now (s .entry)) at) ⌝ }
-{
-    fields::given(s, at, b"CalendarUID") & !fields::text_is(s, at, b"CalendarUID", b"-1")
-}
-
-// The calendar's name, beside the text that calendarText says, unless it is the main one's. The calendars stand at c.
-pub(crate) fn named_of(out: &[u8], c: Place, s: &[u8], root: usize, at: usize) -> NameAnswer
-    ensures { λ r. ⌜ nameMeaning (calendarText (elementAt (now (s .entry)) root) (elementAt (now (s .entry)) at)) r ≡ calendarNamed (contextAt (now (out .entry)) c (elementAt (now (s .entry)) root)) (elementAt (now (s .entry)) at) ⌝ }
-{
-    if tasks::is_elapsed(s, at) {
-        return names::elapsed_named(out, c, s, root);
-    }
-    if !names_calendar(s, at) {
-        return NameAnswer::Absent;
-    }
-    names::calendar_named(out, c, s, root, tree::text_of(s, at, b"CalendarUID"))
 }

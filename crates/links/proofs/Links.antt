@@ -1,13 +1,11 @@
 -- Link elements: what becomes of one, and the kept ones written one after another. Assumes nothing.
 use Prim.Native.Nat.{ℕ, _+_, _%_, _^_}
 use mathlib.Core.Path.{_≡_, sym, ap, _∙_}
-use mathlib.Core.Bool.{Bool, true, false, not}
+use mathlib.Core.Bool.{Bool, true, false}
 use mathlib.Core.List.{List, [], _∷_}
 use mathlib.Core.Option.{Option}
-use borrow.Author.Tests.{eq-eqb, ne-eqb}
-use lib.Dec.{eqb}
 use lib.ListN.{length}
-use Rattle.definition.specs.Base.{_>>=_, _or_, given}
+use Rattle.definition.specs.Base.{_>>=_, _or_}
 use Rattle.definition.specs.Ascii.{bytes}
 use Rattle.definition.specs.Text.{Text}
 use Rattle.definition.specs.Tree.{Element, all}
@@ -24,9 +22,9 @@ use Rattle.tasks.specs.Link.{lagMeans}
 use Rattle.tasks.specs.declared.link.Lag.{Lag}
 use Rattle.pack.specs.Record.{linkBy}
 use Rattle.pack.specs.declared.record.Records.{Records}
-use Rattle.fields.proofs.Empty.{length-given}
 use Rattle.rows.specs.Turns.{text-given, text-missing}
 use Rattle.links.specs.Fates.{Finder, fateByRow, fateFor, keptFate, isKeptLink, linksBy, dayOnly, linksFor, linksIn, linksFrom}
+use Rattle.links.specs.Given.{given-none, given-some}
 use Rattle.links.specs.Entered.{kept-is, links-are}
 use Rattle.links.specs.More.{More, more-none, more-one, more-as, Left, left-all, left-next, left-end}
 use Rattle.links.specs.declared.fate.LinkFate.{LinkFate}
@@ -40,17 +38,14 @@ module _ (find : Finder) (l : Element) where
   fate-across e = rw e
 
   module _ (e : yesIn l "CrossProject" ≡ false) (t : Text) (j : t ≡ (textIn l "PredecessorUID" or [])) where
-    uid-given : (b : Bool) → eqb (length t) 0 ≡ b → given (textIn l "PredecessorUID") ≡ not b
-    uid-given b h = sym (length-given l (bytes "PredecessorUID")) ∙ ap (λ (t : Text). not (eqb (length t) 0)) (sym j) ∙ ap not h
-
     pub fate-none : length t ≡ 0 → Dangling ≡ fateFor find l
     unfolding fateFor
-    fate-none h = rw (e, ← text-missing (textIn l "PredecessorUID") find (uid-given true (eq-eqb (length t) 0 h)))
+    fate-none h = rw (e, ← text-missing (textIn l "PredecessorUID") find (given-none l (bytes "PredecessorUID") t j h))
 
     pub fate-row : (length t ≡ 0 → ⊥) → {a : Option ℕ} → a ≡ find t → {r : LinkFate} → r ≡ fateByRow a → r ≡ fateFor find l
     unfolding fateFor
     fate-row h {a} k m =
-        let z : a ≡ (textIn l "PredecessorUID" >>= find) = k ∙ text-given (textIn l "PredecessorUID") find (uid-given false (ne-eqb (length t) 0 h)) j in
+        let z : a ≡ (textIn l "PredecessorUID" >>= find) = k ∙ text-given (textIn l "PredecessorUID") find (given-some l (bytes "PredecessorUID") t j h) j in
         rw e (m ∙ ap (λ (o : Option ℕ). fateByRow o) z)
 
   pub fate-kept : {f : LinkFate} {b v : Bool} → f ≡ fateFor find l → b ≡ keptFate f → b ≡ v → isKeptLink find l ≡ v

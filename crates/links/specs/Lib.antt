@@ -1,3 +1,4 @@
 pub mod Fates
+pub mod Given
 pub mod More
 pub mod Entered

@@ -14,3 +14,4 @@ pub mod ByUid
 pub mod Named
 pub mod Naming
 pub mod Cleared
+pub mod Whole

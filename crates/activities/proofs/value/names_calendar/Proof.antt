@@ -1,33 +1,20 @@
-use mathlib.Core.Bool.{_&&_, not}
+use mathlib.Core.Path.{ap}
+use mathlib.Core.Bool.{Bool, _&&_, not}
+use lib.Dec.{eqb}
+use lib.ListN.{length}
+use denote.Ref.{now}
 use borrow.Author.Needs.{needs}
 use Rattle.activities.proofs.value.names_calendar.Statement.{statement}
 use Rattle.activities.proofs.value.names_calendar.Tie as tie
 
-slice-aggregate-given : tie.Need-slice-aggregate-given
-slice-aggregate-given c = search needs
+slice-aggregate-same : tie.Need-slice-aggregate-same
+slice-aggregate-same c = search needs
 
-given-requires : tie.Need-given-requires
-given-requires c κs = search needs
-
-slice-aggregate-text-is : tie.Need-slice-aggregate-text-is
-slice-aggregate-text-is c = search needs
-
-slice-aggregate-text-is-2 : tie.Need-slice-aggregate-text-is-2
-slice-aggregate-text-is-2 c = search needs
-
-text-is-requires : tie.Need-text-is-requires
-text-is-requires c κs = search needs
+same-requires : tie.Need-same-requires
+same-requires c κs = search needs
 
 returns : tie.Need-returns
-returns c = λ i. c .before .before .before .given .ensures i && not (c .text-is .ensures i)
+returns c = ap (λ (b : Bool). not (eqb (length (now (c .before .before .before .args .uid))) 0) && not b) (c .same .ensures)
 
 pub names-calendar-spec : {M : Type 1} → statement M
-names-calendar-spec =
-    tie.close
-    (tie.spec
-    slice-aggregate-given
-    given-requires
-    slice-aggregate-text-is
-    slice-aggregate-text-is-2
-    text-is-requires
-    returns)
+names-calendar-spec = tie.close (tie.spec slice-aggregate-same same-requires returns)

@@ -1,5 +1,5 @@
 use Prim.Native.Nat.{ℕ}
-use mathlib.Core.Path.{ap, _∙_}
+use mathlib.Core.Path.{refl, ap, _∙_}
 use mathlib.Core.Option.{Option}
 use Rattle.definition.specs.Base.{_or_}
 use Rattle.definition.specs.Field.{minutesIn}
@@ -20,33 +20,22 @@ minutes-in-requires c κs = search needs
 minutes-or-0-requires : tie.Need-minutes-or-0-requires
 minutes-or-0-requires c κs = search needs
 
-day-of-requires : tie.Need-day-of-requires
-day-of-requires c κs = search needs
-
 duration-parts-requires : tie.Need-duration-parts-requires
 duration-parts-requires c κs = search needs
-
-level-of-requires : tie.Need-level-of-requires
-level-of-requires c κs = search needs
-
-parent-row-requires : tie.Need-parent-row-requires
-parent-row-requires c κs = search needs
 
 returns : tie.Need-returns
 unfolding minutesIn
 returns c =
-    let l = c .before in
-    let d = l .before in
-    let y = d .before in
-    let m = y .before in
+    let m = c .before in
     let n = m .before in
     let k = n .before .before in
+    let day = k .before .before .before .args .day in
     let e = m .minutes-or-0 .ensures ∙ ap (λ (o : Option ℕ). o or 0) (n .minutes-in .ensures) in
     record {
       kind-is = k .kind-of .ensures;
-      days-is = d .duration-parts .ensures .0 ∙ (λ i. durationDays (e i) (y .day-of .ensures i));
-      minutes-is = d .duration-parts .ensures .1 ∙ (λ i. durationMinutes (e i) (y .day-of .ensures i));
-      parent-is = rw (l .level-of .ensures) at (c .parent-row .ensures);
+      days-is = c .duration-parts .ensures .0 ∙ ap (λ (n : ℕ). durationDays n day) e;
+      minutes-is = c .duration-parts .ensures .1 ∙ ap (λ (n : ℕ). durationMinutes n day) e;
+      parent-is = refl;
     }
 
 pub plan-of-spec : {M : Type 1} → statement M
@@ -57,8 +46,5 @@ plan-of-spec =
     slice-aggregate-minutes-in
     minutes-in-requires
     minutes-or-0-requires
-    day-of-requires
     duration-parts-requires
-    level-of-requires
-    parent-row-requires
     returns)
