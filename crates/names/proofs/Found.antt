@@ -13,7 +13,7 @@ use Rattle.definition.specs.Ascii.{bytes}
 use Rattle.definition.specs.Text.{Text, trim}
 use Rattle.definition.specs.Tree.{Element, all, child, nonEmpty, textOf}
 use Rattle.definition.specs.Model.{Calendar}
-use Rattle.definition.specs.Calendar.{nameOf, calendarElements}
+use Rattle.definition.specs.Calendar.{calendarElements}
 use Rattle.definition.specs.Refusal.{mostElements}
 use Rattle.definition.specs.Task.{unlessMain}
 use Rattle.bits.specs.Places.{at, upTo}
@@ -22,7 +22,7 @@ use Rattle.model.specs.declared.records.Kind.the-variants.{Calendars}
 use Rattle.pack.specs.Value.{starredBy, nameMeaning}
 use Rattle.pack.specs.declared.stars.NameAnswer.{NameAnswer}
 use Rattle.pack.specs.declared.stars.NameAnswer.the-variants as name
-use Rattle.rows.specs.Rows.{withUidIn, calendarMeaning}
+use Rattle.rows.specs.Rows.{calendarMeaning}
 use Rattle.rows.specs.declared.CalendarAnswer.{CalendarAnswer}
 use Rattle.rows.specs.declared.CalendarAnswer.the-variants.{Is, Absent}
 use Rattle.tree.specs.Place.{elementAt}
@@ -31,8 +31,7 @@ use Rattle.model.specs.Parts.{raw}
 use Rattle.names.specs.Texts.{placeOfRow}
 use Rattle.names.specs.Turned.{order-length}
 use Rattle.names.specs.Seen.{row-text, raw-length}
-use Rattle.names.specs.ByUid.{name-with}
-use Rattle.names.specs.Context.{mainRow, sectionRow, wantedName, starsBy, starsIn, nameIn, builtAt, contextAt, textWithUid, calendarsBefore}
+use Rattle.names.specs.Context.{mainRow, sectionRow, wantedName, starsBy, starsIn, nameIn, contextAt, calendarsBefore}
 
 -- ---- what a look-up answered
 
@@ -91,22 +90,10 @@ module _ (d : List ℕ) (p : Place) (e : Element) {t w : Text} (ht : t ≡ (read
 module _ (d : List ℕ) (c : Place) (root : Element) where
   -- ---- what the functions answer
 
-  -- the name of a UID, beside its text
-  pub named-there : (u : Text) (row : ℕ) (e : Element) (r : NameAnswer) → withUidIn root u ≡ some (row, e)
-      → nameMeaning (wantedName e) r ≡ unlessMain (contextAt d c root) (starredBy (wantedName e) (starsIn d c root row e))
-      → nameMeaning (textWithUid root u) r ≡ (nameOf (builtAt d c root) u >>= unlessMain (contextAt d c root))
-  named-there u row e r h k =
-      ap (λ (o : Option (ℕ × Element)). nameMeaning ((o >>= λ x. some (wantedName (x .1))) or []) r) h ∙ k
-      ∙ sym (ap (λ (o : Option Text). o >>= unlessMain (contextAt d c root)) (name-with d c root u ∙ ap (λ (o : Option (ℕ × Element)). o >>= λ x. some (nameIn d c root x)) h))
-
   -- the text beside it and its `*`, as they were found
   pub beside : (row : ℕ) (e : Element) {t : Text} {k : ℕ} (r : NameAnswer) → t ≡ wantedName e → k ≡ starsIn d c root row e → nameMeaning t r ≡ unlessMain (contextAt d c root) (starredBy t k)
       → nameMeaning (wantedName e) r ≡ unlessMain (contextAt d c root) (starredBy (wantedName e) (starsIn d c root row e))
   beside row e {t} {k} r h i x = ap (λ (t : Text). nameMeaning t r) (sym h) ∙ x ∙ ap (λ (t : Text). unlessMain (contextAt d c root) (starredBy t k)) h ∙ ap (λ (k : ℕ). unlessMain (contextAt d c root) (starredBy (wantedName e) k)) i
-
-  pub named-absent : (u : Text) → withUidIn root u ≡ none → nameMeaning (textWithUid root u) name.Absent ≡ (nameOf (builtAt d c root) u >>= unlessMain (contextAt d c root))
-  unfolding nameMeaning
-  named-absent u h = sym (ap (λ (o : Option Text). o >>= unlessMain (contextAt d c root)) (name-with d c root u ∙ ap (λ (o : Option (ℕ × Element)). o >>= λ x. some (nameIn d c root x)) h))
 
   pub unless-is : (t : Text) (k : ℕ) → same (starredBy t k) (contextAt d c root .main .name) ≡ true → nameMeaning t name.Absent ≡ unlessMain (contextAt d c root) (starredBy t k)
   unfolding nameMeaning

@@ -1,5 +1,5 @@
 -- Words that are the same once those from a place on are cleared: those before it agree. Assumes nothing.
-use Prim.Native.Nat.{ℕ, _-_, _≤_, _<_}
+use Prim.Native.Nat.{ℕ, _-_, _≤_, _<_, min}
 use native.Mathlib.Omega.{arith}
 use mathlib.Core.Path.{_≡_, refl, sym, ap, _∙_}
 use mathlib.Core.Bool.{Bool, true, false}
@@ -39,3 +39,13 @@ cleared-below {n} {w} {w′} x = cleared-same n w w′ (x .long) (x .words)
 
 pub below-less : {m n : ℕ} {w w′ : List ℕ} → m ≤ n → SameBelow n w w′ → SameBelow m w w′
 below-less k x = record { long = x .long; words = λ j h. x .words j (omega arith) }
+
+-- past the end there is nothing that could differ
+pub below-cap : {m n : ℕ} {w w′ : List ℕ} → m ≡ min n (length w) → SameBelow m w w′ → SameBelow n w w′
+below-cap {m} {n} {w} {w′} e x = record { long = x .long; words = λ j h. go j h (ltb j (length w)) refl }
+  where
+    go : (j : ℕ) → j < n → (b : Bool) → ltb j (length w) ≡ b → getD w′ j 0 ≡ getD w j 0
+    go j h true i = x .words j (omega (arith, ltb-true j (length w) i))
+    go j h false i =
+        let k : length w ≤ j = ltb-false j (length w) i in
+        List·getD-eq-default w′ 0 {n = j} (omega (arith, x .long)) ∙ sym (List·getD-eq-default w 0 {n = j} k)

@@ -2,17 +2,17 @@
 ghost use mathlib.Core.Path.{_≡_};
 ghost use mathlib.Core.List.{[], _∷_};
 ghost use lib.ListN.{length};
-ghost use Rattle.definition.specs.Base.{_>>=_ as bind, _or_, same};
+ghost use Rattle.definition.specs.Base.{_or_, same};
 ghost use Rattle.definition.specs.Ascii.{bytes};
 ghost use Rattle.definition.specs.Tree.{all};
-ghost use Rattle.definition.specs.Calendar.{calendarElements, nameOf, elapsedName};
+ghost use Rattle.definition.specs.Calendar.{calendarElements, elapsedName};
 ghost use Rattle.definition.specs.Task.{unlessMain};
 ghost use Rattle.bits.specs.Places.{upTo};
 ghost use Rattle.model.specs.Answers.{readAt};
 ghost use Rattle.model.specs.Parts.{raw};
 ghost use Rattle.tree.specs.Place.{elementAt, laterAt};
 ghost use Rattle.pack.specs.Value.{starredBy, nameMeaning};
-ghost use Rattle.names.specs.Context.{mainRow, sectionRow, wantedBy, starsBy, starsIn, builtAt, contextAt, textWithUidBy, textWithUid, calendarsBefore};
+ghost use Rattle.names.specs.Context.{mainRow, sectionRow, wantedBy, starsBy, starsIn, contextAt, calendarsBefore};
 use crate::records::place_of_row;
 use crate::records::raw_text;
 use crate::stars::same_starred;
@@ -99,16 +99,6 @@ pub fn wanted_name<'a>(s: &'a [u8], at: usize, unnamed: &'a [u8]) -> &'a [u8]
     n
 }
 
-// The wanted name of the calendar with a UID, no text where there is none.
-pub fn calendar_text<'a>(s: &'a [u8], root: usize, uid: &[u8], unnamed: &'a [u8]) -> &'a [u8]
-    ensures { λ r. ⌜ now r ≡ textWithUidBy (now (unnamed .entry)) (elementAt (now (s .entry)) root) (now (uid .entry)) ⌝ }
-{
-    match rows::calendar_with(s, root, uid) {
-        CalendarAnswer::Is(_, at) => wanted_name(s, at, unnamed),
-        CalendarAnswer::Absent => &s[0..0],
-    }
-}
-
 // The row of the main calendar among those in the order in which they are built.
 fn main_row(s: &[u8], root: usize) -> usize
     ensures { λ r. ⌜ r ≡ mainRow (elementAt (now (s .entry)) root) ⌝ }
@@ -182,21 +172,8 @@ pub(crate) fn unless_main(
     NameAnswer::Starred(stars)
 }
 
-// The name of the calendar with a UID, beside that text, unless it is the main one's. The calendars stand at c.
-pub fn calendar_named(out: &[u8], c: Place, s: &[u8], root: usize, uid: &[u8]) -> NameAnswer
-    ensures { λ r. ⌜ nameMeaning (textWithUid (elementAt (now (s .entry)) root) (now (uid .entry))) r ≡ bind (nameOf (builtAt (now (out .entry)) c (elementAt (now (s .entry)) root)) (now (uid .entry))) (unlessMain (contextAt (now (out .entry)) c (elementAt (now (s .entry)) root))) ⌝ }
-{
-    match rows::calendar_with(s, root, uid) {
-        CalendarAnswer::Is(row, at) => {
-            let stars = stars_of(out, c, s, root, row, at);
-            unless_main(out, c, s, root, wanted_name(s, at, b"Calendar"), stars)
-        }
-        CalendarAnswer::Absent => NameAnswer::Absent,
-    }
-}
-
 // The elapsed calendar's name, unless it is the main one's.
-pub fn elapsed_named(out: &[u8], c: Place, s: &[u8], root: usize) -> NameAnswer
+pub(crate) fn elapsed_named(out: &[u8], c: Place, s: &[u8], root: usize) -> NameAnswer
     ensures { λ r. ⌜ nameMeaning elapsedName r ≡ unlessMain (contextAt (now (out .entry)) c (elementAt (now (s .entry)) root)) elapsedName ⌝ }
 {
     unless_main(out, c, s, root, b"Elapsed (24 hours)", 0)

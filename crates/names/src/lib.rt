@@ -5,11 +5,8 @@ mod named; // a calendar's name by its UID, from a table in lent words
 mod records; // records by their rows, and the texts at their fronts
 mod stars; // texts with `*` behind them
 
-pub use calendars::calendar_named;
-pub use calendars::calendar_text;
 pub use calendars::calendars_before;
 pub use calendars::count_calendars;
-pub use calendars::elapsed_named;
 pub use calendars::wanted_name;
 pub use ids::Ids;
 pub use ids::IdsMade;
