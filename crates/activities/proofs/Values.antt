@@ -28,6 +28,7 @@ use Rattle.pack.specs.Record.{activityBy}
 use Rattle.pack.specs.Value.{starredBy, nameMeaning}
 use Rattle.pack.specs.Writes.{put-any}
 use Rattle.index.specs.declared.Made.{Made}
+use Rattle.names.specs.Context.{wantedName}
 use Rattle.names.specs.Named.{namedIn, elapsedIn, calendarName}
 use Rattle.names.specs.Naming.{Finds}
 use Rattle.names.specs.declared.named.CalendarName.{CalendarName}
@@ -35,6 +36,7 @@ use Rattle.pack.specs.declared.stars.NameAnswer.{NameAnswer}
 use Rattle.pack.specs.declared.record.Plan.{Plan}
 use Rattle.pack.specs.declared.record.Dates.{Dates}
 use Rattle.pack.specs.declared.record.Progress.{Progress}
+use Rattle.tree.specs.Place.{elementAt}
 use Rattle.activities.specs.Values.{dayBy, namesCalendar, calendarBy, calendarIn, nameFound, PlanOf, DatesOf, ProgressOf, activityPlanned}
 
 -- ---- the first of three texts that is there
@@ -93,6 +95,14 @@ module _ (x : Context) (s : Text) (w : List ℕ) (k : Made) (t : Element) {e : B
 
     pub by-own : not b ≡ false → (r : CalendarName) → calendarName s r ≡ namedIn x s w k u → nameFound s e r ≡ calendarIn x s w k e t
     by-own h r m = rw (i, own-calendar (textIn t "CalendarUID") (namedIn x s w k) (sym names-is ∙ not-false b h)) (m ∙ ap (namedIn x s w k) j)
+
+-- beside its text
+module _ (s : Text) {e : Bool} (r : CalendarName) where
+  pub name-elapsed : e ≡ true → nameMeaning elapsedName (r .name) ≡ nameFound s e r
+  name-elapsed i = rw i
+
+  pub name-own : e ≡ false → {text : Text} → text ≡ wantedName (elementAt s (r .at)) → nameMeaning text (r .name) ≡ nameFound s e r
+  name-own i h = rw (i, h)
 
 -- words that say the names give the calendar's
 pub calendar-found : {x : Context} {s : Text} {k : Made} {w : List ℕ} → Finds x s k w → (e : Bool) (t : Element) → calendarIn x s w k e t ≡ calendarBy x e t

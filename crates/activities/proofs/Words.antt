@@ -1,5 +1,5 @@
--- The columns of parents: where they begin, and a row of them. Assumes nothing.
-use Prim.Native.Nat.{ℕ, suc, _+_, _-_, _*_, _/_, _^_, _≤_, _<_}
+-- The columns of parents: a row of them. Assumes nothing.
+use Prim.Native.Nat.{ℕ, suc, _+_, _-_, _*_, _^_, _≤_, _<_}
 use native.Mathlib.Omega.{arith}
 use mathlib.Core.Path.{_≡_, refl, sym, ap, _∙_}
 use mathlib.Core.List.{List, map}
@@ -13,12 +13,8 @@ use Rattle.definition.specs.declared.RowAnswer.{RowAnswer}
 use Rattle.index.specs.Last.{lastBelow, wordOf}
 use Rattle.tree.specs.Place.{elementAt}
 use Rattle.activities.specs.Climbing.{parents-are, held-lower, held-climbs, noted-not, noted-is}
-use Rattle.activities.specs.Parents.{Room, Behind, placeAt, parentAt, noted, lower, levelIn, Climbs, Ready}
+use Rattle.activities.specs.Parents.{placeAt, parentAt, noted, lower, levelIn, Climbs, Ready}
 use Rattle.activities.specs.declared.parents.Columns.{Columns}
-
--- from a place on, where so many words are left
-pub columns-fit : {len bytes from rows : ℕ} → bytes ≤ 4294967295 → from < len → rows ≤ (len - from) / 2 → Room (record { at = from; rows = rows }) len bytes × Behind (record { at = from; rows = rows }) from
-columns-fit i j k = (record { room = λ h. omega arith; short = λ h. omega arith }, λ h. omega arith)
 
 -- ---- a row as a word
 
