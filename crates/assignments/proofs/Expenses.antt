@@ -2,25 +2,21 @@
 use Prim.Native.Nat.{ℕ, _+_, _-_, _%_, _^_, _≤_, _<_}
 use native.Mathlib.Nat.{sub-zero, mod-eq-of-lt}
 use native.Mathlib.Omega.{arith}
-use mathlib.Core.Path.{_≡_, refl, sym, ap, subst, _∙_}
+use mathlib.Core.Path.{_≡_, refl, sym, ap, _∙_}
 use mathlib.Core.Bool.{Bool, true, false, _&&_, _||_}
 use mathlib.Core.List.{List, [], _∷_, _++_, map, append-nil}
-use mathlib.Core.Option.{Option, some, none}
+use mathlib.Core.Option.{some}
 use lib.Dec.{eqb}
 use lib.ListN.{length, drop, drop-of-length-le}
 use Rattle.definition.specs.Base.{if_then_else_, _or_, present, some?, same}
 use Rattle.definition.specs.Bits.{Bits}
 use Rattle.definition.specs.Text.{Text}
 use Rattle.definition.specs.Tree.{Element}
-use Rattle.definition.specs.Answer.{rowMeaning}
 use Rattle.definition.specs.Field.{textIn}
 use Rattle.definition.specs.Format.{times, whole}
 use Rattle.definition.specs.Model.{Expense}
 use Rattle.definition.specs.Pack.{expense}
-use Rattle.definition.specs.Task.{contextOf}
-use Rattle.definition.specs.Resource.{moneyIn, accrualOf, taskRow, costOf, expenseFrom, expenseOf, sameExpense, firsts, expenses, assignmentElements}
-use Rattle.definition.specs.declared.RowAnswer.{RowAnswer}
-use Rattle.laws.specs.FitTrees.{Small}
+use Rattle.definition.specs.Resource.{moneyIn, accrualOf, expenseFrom, sameExpense, firsts}
 use Rattle.laws.specs.Tests.{some-map}
 use Rattle.bits.specs.Places.{inside, room-fits}
 use Rattle.bits.specs.Reads.{rest, rest-in, Reads, takeAt, read-field}
@@ -33,19 +29,15 @@ use Rattle.model.specs.Lax.{lax-like, lax-same}
 use Rattle.model.specs.Passes.{Passes, pass-read}
 use Rattle.model.specs.Splits.{Stands, stands-is, stands-read, stands-whole, stands-first, stands-pass, Step, step, read-length}
 use Rattle.model.specs.declared.records.Kind.the-variants.{Expenses}
-use Rattle.tree.specs.Place.{elementAt}
-use Rattle.tree.specs.declared.Found.{Found}
-use Rattle.rows.specs.Rows.{foundMeaning}
 use Rattle.resources.specs.Assignment.{Means}
 use Rattle.resources.specs.declared.assignment.Amounts.{Amounts}
 use Rattle.pack.specs.Record.{expenseBy}
-use Rattle.pack.specs.declared.record.Records.{Records}
 use Rattle.names.specs.Records.{ExpenseFields, expenseFields, plainExpenses, plain-expenses, run-expenses}
 use Rattle.assignments.specs.declared.section.Done.{Done}
-use Rattle.assignments.specs.Section.{WritesIn, Wrote}
-use Rattle.assignments.specs.Records.{expensesAfter, isExpenseAt, isKey, Tells, FewExpenses, AddsExpense}
-use Rattle.assignments.proofs.Turns.{wrote-more, wrote-as, wrote-still, wrote-past, writes-in, writes-in-none, Going, going-all, going-more, going-last}
-use Rattle.assignments.proofs.Fit.{FineExpenses, fine-none, fine-more, expense-fits}
+use Rattle.assignments.specs.Section.{Wrote}
+use Rattle.assignments.specs.Records.{isExpenseAt, isKey, Tells, FewExpenses}
+use Rattle.assignments.specs.InUse.{isOf}
+use Rattle.assignments.proofs.Turns.{wrote-more, wrote-as, wrote-still, wrote-past}
 
 -- ---- the expense at a place
 
@@ -54,7 +46,7 @@ pub expense-at : (d : List ℕ) (p : Place) (activity : ℕ) (name : Text) {x : 
 unfolding isExpenseAt
 expense-at d p activity name e h i = rw (i, h, e)
 
-key-at : {d : List ℕ} {p : Place} {t : ExpenseFields} (activity : ℕ) (name : Text) → Stands plainExpenses d p t → isExpenseAt d p activity name ≡ isKey activity name t
+pub key-at : {d : List ℕ} {p : Place} {t : ExpenseFields} (activity : ℕ) (name : Text) → Stands plainExpenses d p t → isExpenseAt d p activity name ≡ isKey activity name t
 unfolding isExpenseAt expenseParts
 key-at {d} {p} {t} activity name h =
     let k = stands-whole h in
@@ -110,13 +102,13 @@ module _ {d : List ℕ} {p : Place} {n activity : ℕ} {name : Text} where
   }
 
 -- what the search tells of the records that were written
-told-of : {xs : List Expense} {d₀ : List ℕ} {p : Place} {d : List ℕ} {r : Done} {t : Bool} (e : Expense) → FewExpenses d₀ xs → Wrote (whole expense) false xs d₀ p d r
-    → inside (length d) (r .next) ≡ true → Tells d p (r .count) (e .activity) (e .name) t → t ≡ some? (sameExpense e) xs
-told-of {xs} {d₀} {p} {d} {r} e (fit, few) w i h =
+pub told-of : {xs : List Expense} {d₀ : List ℕ} {p : Place} {d : List ℕ} {r : Done} {t : Bool} (activity : ℕ) (name : Text) → FewExpenses d₀ xs → Wrote (whole expense) false xs d₀ p d r
+    → inside (length d) (r .next) ≡ true → Tells d p (r .count) activity name t → t ≡ some? (isOf activity name) xs
+told-of {xs} {d₀} {p} {d} {r} activity name (fit, few) w i h =
     let n : r .count ≡ length xs = w .counts i ∙ mod-eq-of-lt few in
     let f = room-fits (length d) (r .next) 0 i in
     let z : Reads (times (r .count) plainExpenses) d p (map expenseFields xs) (r .next) = rw n (run-expenses (length xs) (w .puts) i fit) in
-    h .tells (map expenseFields xs) (r .next) _ (rest-in d (r .next) f) z ∙ some-map (isKey (e .activity) (e .name)) expenseFields xs
+    h .tells (map expenseFields xs) (r .next) _ (rest-in d (r .next) f) z ∙ some-map (isKey activity name) expenseFields xs
 
 -- ---- one
 
@@ -125,15 +117,9 @@ pub expense-is : (activity : ℕ) (r a : Element) {name : Text} (w : Amounts) {a
 unfolding expenseFrom
 expense-is activity r a w e m h = rw (e, m .planned-is, m .actual-is, m .remaining-is, h)
 
--- the search for its name
-pub tells-as : {d : List ℕ} {p : Place} {n activity : ℕ} (a r : Element) {name : Text} {t : Bool} → name ≡ (textIn r "Name" or []) → Tells d p n activity name t
-    → Tells d p n (expenseFrom activity r a .activity) (expenseFrom activity r a .name) t
-unfolding expenseFrom
-tells-as {d} {p} {n} {activity} a r {t = t} e h = subst (λ (u : Text). Tells d p n activity u t) e h
-
 -- ---- the first of equal ones
 
-one-first : (xs : List Expense) (e : Expense) (t : Bool) → some? (sameExpense e) xs ≡ t → firsts xs (present (some e ∷ [])) ≡ (if t then xs else xs ++ (e ∷ []))
+pub one-first : (xs : List Expense) (e : Expense) (t : Bool) → some? (sameExpense e) xs ≡ t → firsts xs (present (some e ∷ [])) ≡ (if t then xs else xs ++ (e ∷ []))
 unfolding firsts present
 one-first xs e t h = rw h
 
@@ -144,93 +130,20 @@ one-more xs e = by (some? (sameExpense e) xs) refl
     by true h = ([], one-first xs e true h ∙ sym (append-nil xs))
     by false h = (e ∷ [], one-first xs e false h)
 
-module _ {start : Place} {d : List ℕ} {r : Done} (e : Expense) {t : Bool} (h : Tells d start (r .count) (e .activity) (e .name) t) where
+module _ {start : Place} {d₀ d : List ℕ} {r : Done} {xs : List Expense} (e : Expense) {t : Bool} (h : inside (length d) (r .next) ≡ true → t ≡ some? (sameExpense e) xs) where
   -- it is there
-  pub adds-known : t ≡ true → AddsExpense start (some e) d r d r
-  adds-known b = record { goes = λ d₀ xs ok w. by-end d₀ xs ok w (inside (length d) (r .next)) refl }
+  pub adds-known : t ≡ true → Wrote (whole expense) false xs d₀ start d r → Wrote (whole expense) false (firsts xs (present (some e ∷ []))) d₀ start d r
+  adds-known b w = by-end (inside (length d) (r .next)) refl
     where
-      by-end : (d₀ : List ℕ) (xs : List Expense) → FewExpenses d₀ xs → Wrote (whole expense) false xs d₀ start d r → (i : Bool) → inside (length d) (r .next) ≡ i
-          → Wrote (whole expense) false (firsts xs (present (some e ∷ []))) d₀ start d r
-      by-end d₀ xs ok w true i = wrote-as (sym (one-first xs e true (sym (told-of e ok w i h) ∙ b))) w
-      by-end d₀ xs ok w false i = let (ys, z) = one-more xs e in wrote-as (sym z) (wrote-still i w ys)
+      by-end : (i : Bool) → inside (length d) (r .next) ≡ i → Wrote (whole expense) false (firsts xs (present (some e ∷ []))) d₀ start d r
+      by-end true i = wrote-as (sym (one-first xs e true (sym (h i) ∙ b))) w
+      by-end false i = let (ys, z) = one-more xs e in wrote-as (sym z) (wrote-still i w ys)
 
   -- it is new
-  pub adds-new : t ≡ false → {d' : List ℕ} {q : Place} {r' : Done} → Puts (whole expense) e d (r .next) d' q → (r' .count ≡ (r .count + 1) % 2 ^ 64) × (r' .next ≡ q) → AddsExpense start (some e) d r d' r'
-  adds-new b {d'} {q} {r'} x n = record { goes = λ d₀ xs ok w. by-end d₀ xs ok w (inside (length d) (r .next)) refl }
+  pub adds-new : t ≡ false → Wrote (whole expense) false xs d₀ start d r → {d' : List ℕ} {q : Place} {r' : Done} → Puts (whole expense) e d (r .next) d' q
+      → (r' .count ≡ (r .count + 1) % 2 ^ 64) × (r' .next ≡ q) → Wrote (whole expense) false (firsts xs (present (some e ∷ []))) d₀ start d' r'
+  adds-new b w {d'} {q} {r'} x n = by-end (inside (length d) (r .next)) refl
     where
-      by-end : (d₀ : List ℕ) (xs : List Expense) → FewExpenses d₀ xs → Wrote (whole expense) false xs d₀ start d r → (i : Bool) → inside (length d) (r .next) ≡ i
-          → Wrote (whole expense) false (firsts xs (present (some e ∷ []))) d₀ start d' r'
-      by-end d₀ xs ok w true i = wrote-as (sym (one-first xs e false (sym (told-of e ok w i h) ∙ b))) (wrote-more w x n)
-      by-end d₀ xs ok w false i = let (ys, z) = one-more xs e in wrote-as (sym z) (wrote-past i w ys x (n .1))
-
--- ---- one that may be missing
-
-pub adds-missing : {o : Option Expense} {start : Place} {d : List ℕ} {r : Done} → o ≡ none → AddsExpense start o d r d r
-unfolding present firsts
-adds-missing e = rw e (record { goes = λ d₀ xs ok w. w })
-
-module _ {task : RowAnswer} (root a : Element) (et : rowMeaning task ≡ taskRow (contextOf root) a) {start : Place} {d : List ℕ} {r : Done} where
-  pub no-task : task ≡ RowAnswer.Absent → AddsExpense start (expenseOf (contextOf root) root a) d r d r
-  unfolding rowMeaning expenseOf
-  no-task z = let k : none ≡ taskRow (contextOf root) a = sym (rw z) ∙ et in adds-missing (rw (← k))
-
-  module _ (s : Text) {f : Found} (ec : foundMeaning s f ≡ costOf root a) {t : ℕ} (z : task ≡ RowAnswer.Is t) where
-    pub no-cost-there : f ≡ Found.Nothing → AddsExpense start (expenseOf (contextOf root) root a) d r d r
-    unfolding rowMeaning foundMeaning expenseOf
-    no-cost-there y =
-        let k : some t ≡ taskRow (contextOf root) a = sym (rw z) ∙ et in
-        let c : none ≡ costOf root a = sym (rw y) ∙ ec in
-        adds-missing (rw (← k, ← c))
-
-    pub cost-there : {q : ℕ} → f ≡ Found.At q → {d' : List ℕ} {r' : Done} → AddsExpense start (some (expenseFrom t (elementAt s q) a)) d r d' r' → AddsExpense start (expenseOf (contextOf root) root a) d r d' r'
-    unfolding rowMeaning foundMeaning expenseOf
-    cost-there {q} y h =
-        let k : some t ≡ taskRow (contextOf root) a = sym (rw z) ∙ et in
-        let c : some (elementAt s q) ≡ costOf root a = sym (rw y) ∙ ec in
-        rw (← k, ← c) h
-
--- ---- one after another
-
-more-expenses : (root e : Element) (fs : List Element) (xs : List Expense)
-    → expensesAfter root xs (e ∷ fs) ≡ expensesAfter root (firsts xs (present (expenseOf (contextOf root) root e ∷ []))) fs
-unfolding present firsts
-more-expenses root e fs xs = by (expenseOf (contextOf root) root e)
-  where
-    by : (o : Option Expense) → firsts xs (present (o ∷ map (expenseOf (contextOf root) root) fs)) ≡ expensesAfter root (firsts xs (present (o ∷ []))) fs
-    by none = refl
-    by (some x) = refl
-
-no-expenses : (root : Element) (xs : List Expense) → expensesAfter root xs [] ≡ xs
-unfolding present firsts
-no-expenses root xs = refl
-
--- some are done, and those of fs are left
-abbrev pub GoingOn : Text → ℕ → Element → List Element → List Element → List ℕ → Place → List ℕ → Done → Type 0
-GoingOn s at root = Going (whole expense) false (expensesAfter root) (FineExpenses s at)
-
-module _ {s : Text} (root : Element) {es : List Element} {d : List ℕ} {p : Place} where
-  pub go-all : {at : ℕ} → GoingOn s at root es es d p d (record { count = 0; next = p })
-  go-all = going-all fine-none
-
-  module _ (few : length s < 2 ^ 63) {at : ℕ} {e : Element} {fs : List Element} {d1 : List ℕ} {r1 : Done} {d2 : List ℕ} {r2 : Done} (g : GoingOn s at root es (e ∷ fs) d p d1 r1)
-      (h : AddsExpense p (expenseOf (contextOf root) root e) d1 r1 d2 r2) where
-    ok : (xs : List Expense) → FineExpenses s at xs → FewExpenses d xs
-    ok xs f = (f .fit, omega (arith, f .most))
-
-    pub go-more : {gs : List Element} → fs ≡ gs → {on : ℕ} → (at + 1 ≤ on) × (on < length s) → Small root → GoingOn s on root es gs d p d2 r2
-    go-more z o m = going-more g h ok (more-expenses root e fs) z (λ xs f. fine-more o (expense-fits e m) xs f)
-
-    pub go-last : fs ≡ [] → Wrote (whole expense) false (expensesAfter root [] es) d p d2 r2
-    go-last z = going-last g h ok (more-expenses root e fs) z (no-expenses root)
-
--- ---- all
-
-module _ (root : Element) {d : List ℕ} {p : Place} where
-  pub expenses-none : assignmentElements root ≡ [] → WritesIn (whole expense) (expenses (contextOf root) root) d p d (record { count = 0; next = p })
-  unfolding expenses
-  expenses-none e = writes-in-none (ap (expensesAfter root []) e ∙ no-expenses root [])
-
-  pub expenses-all : {es : List Element} → assignmentElements root ≡ es → {d' : List ℕ} {r : Done} {w : Records} → Wrote (whole expense) false (expensesAfter root [] es) d p d' r
-      → (w .count ≡ r .count % 2 ^ 32) × (w .next ≡ r .next) → WritesIn (whole expense) (expenses (contextOf root) root) d p d' w
-  unfolding expenses
-  expenses-all e h n = writes-in (wrote-as (ap (expensesAfter root []) (sym e)) h) n
+      by-end : (i : Bool) → inside (length d) (r .next) ≡ i → Wrote (whole expense) false (firsts xs (present (some e ∷ []))) d₀ start d' r'
+      by-end true i = wrote-as (sym (one-first xs e false (sym (h i) ∙ b))) (wrote-more w x n)
+      by-end false i = let (ys, z) = one-more xs e in wrote-as (sym z) (wrote-past i w ys x (n .1))

@@ -1,32 +1,39 @@
 -- What is made of a tree's elements fits its fields, so it is read back as it was put. Assumes nothing.
 use Prim.Native.Nat.{ℕ, _+_, _^_, _≤_, _<_}
 use native.Mathlib.Omega.{arith}
-use mathlib.Core.Path.{_≡_}
+use mathlib.Core.Path.{_≡_, refl}
 use mathlib.Core.Bool.{Bool, true, false, not}
 use mathlib.Core.List.{List, [], _∷_, _++_, map}
 use mathlib.Core.Option.{Option, some}
 use lib.ListN.{length, drop, length-append, length-map}
 use Rattle.definition.specs.Ascii.{bytes}
-use Rattle.definition.specs.Base.{if_then_else_, _>>=_, _or_, keep, present, some?, same}
+use Rattle.definition.specs.Base.{if_then_else_, _>>=_, keep, present, some?}
 use Rattle.definition.specs.Text.{Text}
 use Rattle.definition.specs.Tree.{Element}
 use Rattle.definition.specs.Field.{textIn}
 use Rattle.definition.specs.Model.{Resource, Expense}
 use Rattle.definition.specs.Calendar.{Named}
 use Rattle.definition.specs.Refusal.{mostElements}
-use Rattle.definition.specs.Task.{Context, contextOf, keptTasks, rowOf}
-use Rattle.definition.specs.Resource.{isResource, isCost, costOf, expenseFrom, expenseOf, sameExpense, firsts, resourceOf, resourcesAfter}
+use Rattle.definition.specs.Task.{Context}
+use Rattle.definition.specs.Resource.{isResource, isCost, expenseFrom, sameExpense, firsts, resourceOf, resourcesAfter}
 use Rattle.laws.specs.Bits.{Bytes}
 use Rattle.laws.specs.Each.{Each, empty, next, each-append, each-drop}
 use Rattle.laws.specs.FitRecords.{Short, FitsResourceBy, FitsExpenseBy}
-use Rattle.laws.specs.FitLists.{Perhaps, missing, there, perhaps-bind, perhaps-any, each-keep, each-last, each-row}
-use Rattle.laws.specs.FitTrees.{Small, small-element, slim-texts, holds-child, holds-in, tasks-most}
+use Rattle.laws.specs.FitLists.{Perhaps, missing, there, perhaps-any, each-keep, each-last}
+use Rattle.laws.specs.FitTrees.{Small, small-element, slim-texts, holds-child, holds-in}
 use Rattle.laws.specs.FitResources.{fit-expense, fit-resource}
 use Rattle.tree.specs.Place.{elementAt}
 use Rattle.bits.specs.declared.Place.{Place}
-use Rattle.index.specs.declared.Made.{Made}
 use Rattle.names.specs.Context.{contextAt, calendarsBefore}
 use Rattle.names.specs.Naming.{Finds}
+use Rattle.index.specs.declared.Made.{Made}
+use Rattle.index.specs.declared.Made.the-variants.{Ready, NoRoom}
+use Rattle.index.specs.Chains.{placeOf}
+use Rattle.rows.specs.Rows.{hasUid}
+use Rattle.rows.specs.Tables.{soughtIn, costIn}
+use Rattle.assignments.specs.declared.section.Tables.{Tables}
+use Rattle.assignments.specs.Finders.{taskBy, expenseFor}
+use Rattle.assignments.specs.Records.{findersAt}
 use Rattle.assignments.specs.Resources.{isWork, FewResources}
 
 -- the element at a position of bytes
@@ -35,20 +42,21 @@ small-at s b at = small-element (drop at s) (each-drop at b)
 
 -- ---- expenses
 
-row-most : (root : Element) (u : Text) → Perhaps (λ n. n < 2 ^ 32) (rowOf (keptTasks root) u)
-unfolding rowOf
-row-most root u =
-    let k = tasks-most root in
-    perhaps-bind (each-last _ (each-row 0 (keptTasks root))) (λ x h. there (omega arith))
+module _ (s : Text) (b : Bytes s) (root : ℕ) (w : List ℕ) where
+  cost-small : (m : Made) (u : Text) → Perhaps Small (costIn s (elementAt s root) w m u)
+  unfolding costIn
+  cost-small NoRoom u = each-last (hasUid u) (each-keep isCost (each-keep isResource (holds-in (holds-child (small-at s b root) (bytes "Resources")) (bytes "Resource"))))
+  cost-small (Ready t) u = perhaps-any {P = Small} (soughtIn s w t u) (λ r. there (small-at s b (placeOf w t r)))
 
-cost-small : {root : Element} (a : Element) → Small root → Perhaps Small (costOf root a)
-cost-small {root} a h = perhaps-any {P = Small} (textIn a "ResourceUID") (λ u. each-last (λ r. same (textIn r "UID" or []) u) (each-keep isCost (each-keep isResource (holds-in (holds-child h (bytes "Resources")) (bytes "Resource")))))
-
-pub expense-fits : {root : Element} (a : Element) → Small root → Perhaps (FitsExpenseBy Short) (expenseOf (contextOf root) root a)
-unfolding expenseOf contextOf
-expense-fits {root} a h =
-    perhaps-bind {f = λ t. costOf root a >>= λ r. some (expenseFrom t r a)} (perhaps-any {P = λ n. n < 2 ^ 32} {f = rowOf (keptTasks root)} (textIn a "TaskUID") (row-most root))
-    (λ t k. perhaps-bind {f = λ r. some (expenseFrom t r a)} (cost-small a h) (λ r i. there {a = expenseFrom t r a} (fit-expense slim-texts t a i k)))
+  pub expense-fits : (t : Tables) (a : Element) → ((e : Expense) → expenseFor (findersAt s root w t) a ≡ some e → e .activity < 2 ^ 32) → Perhaps (FitsExpenseBy Short) (expenseFor (findersAt s root w t) a)
+  unfolding expenseFor expenseFrom
+  expense-fits t a h = by (taskBy (findersAt s root w t) a) (perhaps-any {P = Small} (textIn a "ResourceUID") (cost-small (t .cost))) h
+    where
+      by : (o : Option ℕ) {c : Option Element} → Perhaps Small c → ((e : Expense) → (o >>= λ n. c >>= λ r. some (expenseFrom n r a)) ≡ some e → e .activity < 2 ^ 32)
+          → Perhaps (FitsExpenseBy Short) (o >>= λ n. c >>= λ r. some (expenseFrom n r a))
+      by none k h = missing
+      by (some n) missing h = missing
+      by (some n) (there {a = r} k) h = there {a = expenseFrom n r a} (fit-expense slim-texts n a k (h (expenseFrom n r a) refl))
 
 -- those so far fit, and are not more than the bytes before
 pub record FineExpenses (s : Text) (at : ℕ) (xs : List Expense) : Type 0 where

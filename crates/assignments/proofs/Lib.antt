@@ -4,3 +4,5 @@ pub mod Fit
 pub mod Assignments
 pub mod Work
 pub mod Expenses
+pub mod Noting
+pub mod Writing

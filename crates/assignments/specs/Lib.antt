@@ -1,3 +1,5 @@
 pub mod Section
+pub mod Finders
 pub mod Records
+pub mod InUse
 pub mod Resources

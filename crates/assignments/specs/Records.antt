@@ -1,7 +1,7 @@
 -- The records of some elements, behind those that were made before. Assumes nothing: these are definitions.
 use Prim.Native.Nat.{ℕ, _^_, _<_}
 use mathlib.Core.Path.{_≡_}
-use mathlib.Core.Bool.{Bool, true, false, _&&_}
+use mathlib.Core.Bool.{Bool, true, _&&_}
 use mathlib.Core.List.{List, [], _∷_, _++_, map}
 use mathlib.Core.Option.{Option, some}
 use lib.Dec.{eqb}
@@ -11,10 +11,9 @@ use Rattle.definition.specs.Text.{Text}
 use Rattle.definition.specs.Tree.{Element}
 use Rattle.definition.specs.Bits.{Bits}
 use Rattle.definition.specs.Format.{whole, times}
-use Rattle.definition.specs.Pack.{assignment, expense}
+use Rattle.definition.specs.Pack.{assignment}
 use Rattle.definition.specs.Model.{Assignment, Expense}
-use Rattle.definition.specs.Task.{contextOf}
-use Rattle.definition.specs.Resource.{assignmentOf, expenseOf, firsts}
+use Rattle.definition.specs.Resource.{firsts}
 use Rattle.laws.specs.Each.{Each}
 use Rattle.laws.specs.FitRecords.{Short, FitsExpenseBy}
 use Rattle.bits.specs.Reads.{rest, Reads, takeAt}
@@ -22,13 +21,20 @@ use Rattle.bits.specs.declared.Place.{Place}
 use Rattle.model.specs.Answers.{readAt}
 use Rattle.model.specs.Parts.{raw}
 use Rattle.names.specs.Records.{ExpenseFields, plainExpenses}
+use Rattle.tree.specs.Place.{elementAt}
 use Rattle.assignments.specs.declared.section.Done.{Done}
+use Rattle.assignments.specs.declared.section.Tables.{Tables}
 use Rattle.assignments.specs.Section.{Goes}
+use Rattle.assignments.specs.Finders.{Finders, findersIn, assignmentFor, expenseFor}
 
 -- ---- assignments
 
-abbrev pub assignmentsIn : Element → List Element → List Assignment
-assignmentsIn root es = present (map (assignmentOf (contextOf root) root) es)
+-- by the tables of a section
+abbrev pub findersAt : Text → ℕ → List ℕ → Tables → Finders
+findersAt s root w t = findersIn s (elementAt s root) w (t .tasks) (t .work) (t .cost)
+
+abbrev pub assignmentsIn : Finders → List Element → List Assignment
+assignmentsIn f es = present (map (assignmentFor f) es)
 
 -- one that may be missing is added
 abbrev pub AddsAssignment : Option Assignment → List ℕ → Done → List ℕ → Done → Type 0
@@ -36,8 +42,8 @@ AddsAssignment o d r d' r' = (p : Place) → Goes (whole assignment) true p (λ 
 
 -- ---- expenses
 
-abbrev pub expensesAfter : Element → List Expense → List Element → List Expense
-expensesAfter root done es = firsts done (present (map (expenseOf (contextOf root) root) es))
+abbrev pub expensesAfter : Finders → List Expense → List Element → List Expense
+expensesAfter f done es = firsts done (present (map (expenseFor f) es))
 
 -- whether the expense at a place is of an activity and has a name
 unfoldable pub isExpenseAt : List ℕ → Place → ℕ → Text → Bool
@@ -53,6 +59,3 @@ pub record Tells (d : List ℕ) (p : Place) (n activity : ℕ) (name : Text) (t 
 
 abbrev pub FewExpenses : List ℕ → List Expense → Type 0
 FewExpenses d₀ xs = Each (FitsExpenseBy Short) xs × (length xs < 2 ^ 64)
-
-abbrev pub AddsExpense : Place → Option Expense → List ℕ → Done → List ℕ → Done → Type 0
-AddsExpense p o d r d' r' = Goes (whole expense) false p FewExpenses (λ d₀ xs. firsts xs (present (o ∷ []))) d r d' r'

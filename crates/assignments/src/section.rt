@@ -2,7 +2,15 @@
 ghost use mathlib.Core.Path.{_≡_};
 ghost use Prim.Native.Nat.{_+_, _%_, _^_};
 use bits::Place;
+use index::Made;
 use pack::Records;
+
+// The tables of tasks, of work resources and of cost resources, in lent words.
+pub(crate) struct Tables {
+    pub tasks: Made,
+    pub work: Made,
+    pub cost: Made,
+}
 
 pub(crate) struct Done {
     pub count: usize,

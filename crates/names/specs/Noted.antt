@@ -1,5 +1,5 @@
 -- The law of the tables of ids: where the rows of a list in the buffer were noted, so many `*` are free as the tables say. Assumes nothing.
-use mathlib.Core.Path.{_≡_, refl, sym, ap, subst, _∙_}
+use mathlib.Core.Path.{_≡_, refl, sym, ap, _∙_}
 use mathlib.Core.Bool.{Bool, true, false, _&&_, _||_}
 use mathlib.Core.List.{List, [], _∷_, _++_, map}
 use mathlib.Core.Option.{Option, some, none}
@@ -7,8 +7,8 @@ use Prim.Native.Nat.{ℕ, zero, suc, _+_, _-_, _*_, _≤_, _<_, min}
 use native.Mathlib.Numerals.{add-one}
 use native.Mathlib.Decide.{decLt}
 use native.Mathlib.Omega.{arith}
-use borrow.Author.Tests.{ltb-true, leb-true, eq-eqb, ne-eqb}
-use lib.Dec.{ltb, leb, eqb}
+use borrow.Author.Tests.{ltb-true, leb-true}
+use lib.Dec.{ltb, leb}
 use lib.ListN.{length, take, getD, length-take, length-append}
 use lib.Seq.{getD-take, ext-getD}
 use Rattle.definition.specs.Base.{if_then_else_, _>>=_, _or_, _orElse_, when, given, find, findLast, count, same, some?}
@@ -24,6 +24,7 @@ use Rattle.index.specs.Chains.{zeros, added, placeOf, chainOf, endOf}
 use Rattle.index.specs.Steps.{length-zeros}
 use Rattle.index.specs.Last.{lastBelow, last-yes, last-no, last-in}
 use Rattle.index.specs.Law.{Fits, Indexed, length-added, indexed-none, indexed-by, indexed-same, find-like}
+use Rattle.index.specs.With.{with, with-here, with-before, one-more}
 use Rattle.index.specs.Frame.{before, zeros-outside, added-outside, apart-before, apart-behind, same-added, same-zeros, indexed-kept}
 use Rattle.model.specs.Answers.{readAt}
 use Rattle.model.specs.Parts.{raw}
@@ -77,24 +78,6 @@ module _ (kind : Kind) (d : List ℕ) (p : Place) (q : Text → Bool) (n : ℕ) 
 
 some-later : (kind : Kind) (d : List ℕ) (p : Place) (q : Text → Bool) (n : ℕ) → some? q (textsAt kind d p n) ≡ true → some? q (textsAt kind d p (suc n)) ≡ true
 some-later kind d p q n h = some-last kind d p q (suc n) ∙ last-later (λ r. q (textAt kind d p r)) n (sym (some-last kind d p q n) ∙ h)
-
--- ---- a row more
-
-one-more : (P : ℕ → Type 0) (n : ℕ) → ((r : ℕ) → r < n → P r) → P n → (r : ℕ) → r < suc n → P r
-one-more P n before here r h = by (decLt r n)
-  where
-    by : Dec (r < n) → P r
-    by (yes k) = before r k
-    by (no k) = let z : n ≡ r = omega arith in subst P z here
-
-abbrev with : {A : Type 0} → (ℕ → A) → ℕ → A → ℕ → A
-with f n a r = if eqb r n then a else f r
-
-with-here : {A : Type 0} (f : ℕ → A) (n : ℕ) (a : A) → with f n a n ≡ a
-with-here f n a = rw (eq-eqb n n refl)
-
-with-before : {A : Type 0} (f : ℕ → A) (n : ℕ) (a : A) (r : ℕ) → r < n → with f n a r ≡ f r
-with-before f n a r h = rw (ne-eqb r n (λ e. omega arith))
 
 -- ---- tables that were placed
 

@@ -3,13 +3,10 @@ use Prim.Native.Nat.{ℕ, suc, _+_, _^_, _≤_, _<_}
 use native.Mathlib.Numerals.{add-one}
 use native.Mathlib.Omega.{arith}
 use mathlib.Core.Path.{_≡_, refl, sym, ap, _∙_}
-use mathlib.Core.Bool.{Bool, true, false}
 use mathlib.Core.List.{List, [], _∷_}
-use lib.Dec.{eqb}
 use lib.ListN.{length, getD, drop, length-drop}
 use lib.Seq.{drop-cons}
-use borrow.Author.Tests.{eqb-true, eqb-false, ne-eqb, eq-eqb, lt-ltb, le-ltb}
-use Rattle.definition.specs.Base.{if_then_else_}
+use borrow.Author.Tests.{lt-ltb, le-ltb}
 use Rattle.definition.specs.Text.{Text}
 use Rattle.definition.specs.Tree.{Element}
 use Rattle.index.specs.declared.Table.{Table}
@@ -18,6 +15,7 @@ use Rattle.index.specs.declared.Made.{Made}
 use Rattle.index.specs.declared.Made.the-variants.{Ready, NoRoom}
 use Rattle.index.specs.Chains.{tableOf, zeros, added}
 use Rattle.index.specs.Law.{table-placed, Indexed, indexed-none, indexed-by, indexed-same, length-added}
+use Rattle.index.specs.With.{with, with-here, with-before, one-more}
 use Rattle.index.specs.Frame.{Outside, added-outside, zeros-outside}
 use Rattle.index.specs.Steps.{length-zeros}
 use Rattle.tree.specs.Place.{elementAt}
@@ -95,23 +93,9 @@ module _ {s : Text} {root : Element} {l : Listed} {t : Table} {w : List ℕ} (ri
       pub fill-row : row + 1 < 2 ^ 32
       fill-row = omega (arith, fill-in, ripe .small)
 
-      placed : ℕ → ℕ
-      placed r = if eqb r row then at else f .places r
-
-      old-place : (r : ℕ) → r < row → f .places r ≡ placed r
-      unfolding placed
-      old-place r k = rw (ne-eqb r row (λ z. omega arith))
-
-      new-place : at ≡ placed row
-      unfolding placed
-      new-place = rw (eq-eqb row row refl)
-
-      stood : elementAt s at ≡ nth l root row → (r : ℕ) → r < row + 1 → (b : Bool) → eqb r row ≡ b → elementAt s (placed r) ≡ nth l root r
-      stood x r k true e = let z : r ≡ row = eqb-true r row e in rw z (ap (elementAt s) (sym new-place) ∙ x)
-      stood x r k false e =
-          let z : r ≡ row → ⊥ = eqb-false r row e in
-          let y : r < row = omega (arith, z) in
-          ap (elementAt s) (sym (old-place r y)) ∙ f .stands r y
+      stood : elementAt s at ≡ nth l root row → (r : ℕ) → r < suc row → elementAt s (with (f .places) row at r) ≡ nth l root r
+      stood x =
+          one-more (λ r. elementAt s (with (f .places) row at r) ≡ nth l root r) row (λ r k. rw (with-before (f .places) row at r k) (f .stands r k)) (rw (with-here (f .places) row at) x)
 
       module _ {n : ℕ} {r : KeptAnswer} (m : Lists s l (laterIn s l at left) n r) where
         here : nth l root row ∷ drop (row + 1) (listed l root) ≡ elementAt s at ∷ listedBy s l r
@@ -122,9 +106,9 @@ module _ {s : Text} {root : Element} {l : Listed} {t : Table} {w : List ℕ} (ri
             let few : row < t .rows = omega (arith, fill-in, ripe .rows) in
             let x : nth l root row ≡ elementAt s at = cons-head here in
             record {
-              places = placed;
-              indexed = indexed-by (indexed-same (f .indexed) (λ q z. refl) old-place) few (j ∙ ap hashOf d ∙ ap (λ (e : Element). hashOf (uidOf e)) (sym x)) new-place k;
-              stands = λ q z. stood (sym x) q z (eqb q row) refl;
+              places = with (f .places) row at;
+              indexed = indexed-by (indexed-same (f .indexed) (λ q z. refl) (λ q z. sym (with-before (f .places) row at q z))) few (j ∙ ap hashOf d ∙ ap (λ (e : Element). hashOf (uidOf e)) (sym x)) (sym (with-here (f .places) row at)) k;
+              stands = λ q z. stood (sym x) q (omega arith);
               left = cons-tail here;
               there = m .there;
               length-same = ap length k ∙ length-added w₁ t row h at ∙ f .length-same;

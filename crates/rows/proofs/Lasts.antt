@@ -100,9 +100,6 @@ module _ {A : Type 0} {next : ℕ → ℕ} {p : A → Bool} {t : Option ℕ} whe
     unfolding rowBy
     row-end i = sym (h .is ∙ rw i)
 
-pub rows-begin : (es : List Element) (u : Text) {l : List Element} → es ≡ l → RowIn up (hasUid u) (rowOf es u) 0 l RowAnswer.Absent
-rows-begin es u e = row-all (row-of es u ∙ ap (rowBy up (hasUid u) 0) e)
-
 pub within-begin : (m : ℕ) (es : List Element) (u : Text) {l : List Element} → es ≡ l → RowIn (upWithin m) (hasUid u) (rowOf es u >>= λ n. some (n % m)) 0 l RowAnswer.Absent
 within-begin m es u e = row-all (row-within m es u ∙ ap (rowBy (upWithin m) (hasUid u) 0) e)
 

@@ -5,7 +5,7 @@ ghost use lib.ListN.{take};
 ghost use Rattle.definition.specs.Base.{_orElse_, when, keep, some?};
 ghost use Rattle.definition.specs.Ascii.{bytes};
 ghost use Rattle.definition.specs.Answer.{rowMeaning};
-ghost use Rattle.definition.specs.Task.{levelOf, mostTasks, isKept, keptTasks, rowOf, parentOf, isElapsed};
+ghost use Rattle.definition.specs.Task.{levelOf, mostTasks, isKept, keptTasks, parentOf, isElapsed};
 ghost use Rattle.tree.specs.Place.{elementAt, laterAt, listOf};
 ghost use Rattle.rows.specs.Walks.{Kept};
 use crate::section::first_in;
@@ -71,24 +71,6 @@ pub(crate) fn or_row(a: RowAnswer, b: RowAnswer) -> RowAnswer
     match a {
         RowAnswer::Is(n) => RowAnswer::Is(n),
         RowAnswer::Absent => b,
-    }
-}
-
-// The row of the last kept task with a UID.
-pub fn task_row(s: &[u8], root: usize, uid: &[u8]) -> RowAnswer
-    ensures { λ r. ⌜ rowMeaning r ≡ rowOf (keptTasks (elementAt (now (s .entry)) root)) (now (uid .entry)) ⌝ }
-{
-    let mut found = RowAnswer::Absent;
-    let mut row: u32 = 0;
-    let mut task = first_kept(s, root);
-    loop {
-        let KeptAnswer::Is(at, left) = task else {
-            return found;
-        };
-        let named = row_when(fields::text_is(s, at, b"UID", uid), row);
-        found = or_row(named, found);
-        row += 1;
-        task = next_kept(s, at, left);
     }
 }
 

@@ -15,7 +15,6 @@ pub use kept::any_elapsed;
 pub use kept::first_kept;
 pub use kept::next_kept;
 pub use kept::parent_row;
-pub use kept::task_row;
 pub use section::Which;
 pub use section::first_in;
 pub use section::first_which;

@@ -1,7 +1,8 @@
-use borrow.Author.Needs.{needs}
 use Rattle.tree.specs.Place.{elementAt}
 use Rattle.tree.specs.Answer.{found-list, none-list}
+use Rattle.assignments.specs.Finders.{findersIn}
 use Rattle.assignments.proofs.Assignments.{assignments-none, assignments-all}
+use borrow.Author.Needs.{needs}
 use Rattle.assignments.proofs.assignment.put_assignments.Statement.{statement}
 use Rattle.assignments.proofs.assignment.put_assignments.Tie as tie
 
@@ -28,19 +29,30 @@ records-of-requires c κs = search needs
 
 returns : tie.Need-returns
 returns c =
-    let k = c .before .before .before .before .before .before .before in
-    assignments-none (elementAt (k .args .s .now) (k .args .root)) (none-list (c .before .before .first-in .ensures) (c .enum-told .given .1))
+    let a = c .before .before .before .before .before .before .before .before .args in
+    let root = elementAt (a .s .now) (a .root) in
+    assignments-none (findersIn (a .s .now) root (a .words .now) (a .tasks) (a .work) (a .cost)) root (none-list (c .before .before .first-in .ensures) (c .enum-told .given .1))
 
 same-length : tie.Need-same-length
 same-length c = search needs
 
 returns-2 : tie.Need-returns-2
 returns-2 c =
-    let k = c .before .before .before in
-    let l = k .before .before .before in
-    let m = l .before .before in
-    let n = m .before .before .before .before .before in
-    assignments-all (elementAt (n .args .s .now) (n .args .root)) (found-list (m .first-in .ensures) (l .first .given .1)) (k .put-from .ensures) (c .records-of .ensures)
+    let a = c .before .before .before .before .before .before .before .before .before .before .before .before .before .before .args in
+    let root = elementAt (a .s .now) (a .root) in
+    assignments-all (findersIn (a .s .now) root (a .words .now) (a .tasks) (a .work) (a .cost)) root (found-list (c .before .before .before .before .before .before .before .before .first-in .ensures) (c .before .before .before .before .before .before .first .given .1)) (c .before .before .before .put-from .ensures) (c .records-of .ensures)
 
 pub put-assignments-spec : {M : Type 1} → statement M
-put-assignments-spec = tie.close (tie.spec slice-aggregate-first-in slice-aggregate-first-in-2 first-in-requires enum-told enum-known-first put-from-requires records-of-requires returns same-length returns-2)
+put-assignments-spec =
+    tie.close
+    (tie.spec
+    slice-aggregate-first-in
+    slice-aggregate-first-in-2
+    first-in-requires
+    enum-told
+    enum-known-first
+    put-from-requires
+    records-of-requires
+    returns
+    same-length
+    returns-2)

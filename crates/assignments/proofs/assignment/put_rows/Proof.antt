@@ -1,6 +1,6 @@
-use borrow.Author.Needs.{needs}
 use Rattle.tree.specs.Place.{elementAt}
 use Rattle.assignments.proofs.Assignments.{adds-no-task, adds-no-row, adds-rows}
+use borrow.Author.Needs.{needs}
 use Rattle.assignments.proofs.assignment.put_rows.Statement.{statement}
 use Rattle.assignments.proofs.assignment.put_rows.Tie as tie
 
@@ -12,8 +12,8 @@ enum-told c = search needs
 
 returns : tie.Need-returns
 returns c =
-    let k = c .before .before .before .before in
-    λ row e. adds-no-task (k .args .task) row (elementAt (k .args .s .now) (k .args .at)) (c .enum-told .given .1)
+    let a = c .before .before .before .before .args in
+    adds-no-task (a .task) (a .resource) (elementAt (a .s .now) (a .at)) (c .enum-told .given .1)
 
 enum-known-resource : tie.Need-enum-known-resource
 enum-known-resource c = search needs
@@ -23,8 +23,8 @@ enum-told-2 c = search needs
 
 returns-2 : tie.Need-returns-2
 returns-2 c =
-    let k = c .before .before .before .before .before .before .before in
-    λ row e. adds-no-row (k .args .task) row (elementAt (k .args .s .now) (k .args .at)) (c .enum-told2 .given .1) e
+    let a = c .before .before .before .before .before .before .before .args in
+    adds-no-row (a .task) (a .resource) (elementAt (a .s .now) (a .at)) (c .enum-told2 .given .1)
 
 work-requires : tie.Need-work-requires
 work-requires c κs = search needs
@@ -43,13 +43,25 @@ same-length c = search needs
 
 returns-3 : tie.Need-returns-3
 returns-3 c =
-    let k = c .before .before .before in
-    let l = k .before .before .before in
-    let m = l .before in
-    let n = m .before .before in
-    let o = n .before .before .before in
-    let q = o .before .before .before .before in
-    λ row e. adds-rows (q .args .task) row (elementAt (q .args .s .now) (q .args .at)) (m .work .result) (l .rate .result) (o .task .given .1) (n .resource .given .1) (m .work .ensures) (l .rate .ensures) (k .put-assignment .ensures) (c .more .ensures) e
+    let r = c .before .before .before .before .before .before in
+    let m = c .before .before .before .before .before .before .before .before .before in
+    let t = c .before .before .before .before .before .before .before .before .before .before .before .before in
+    let a = c .before .before .before .before .before .before .before .before .before .before .before .before .before .before .before .before .args in
+    adds-rows (a .task) (a .resource) (elementAt (a .s .now) (a .at)) (r .before .work .result) (r .rate .result) (t .task .given .1) (m .resource .given .1) (r .before .work .ensures) (r .rate .ensures) (c .before .before .before .put-assignment .ensures) (c .more .ensures)
 
 pub put-rows-spec : {M : Type 1} → statement M
-put-rows-spec = tie.close (tie.spec enum-known-task enum-told returns enum-known-resource enum-told-2 returns-2 work-requires rate-requires put-assignment-requires more-requires same-length returns-3)
+put-rows-spec =
+    tie.close
+    (tie.spec
+    enum-known-task
+    enum-told
+    returns
+    enum-known-resource
+    enum-told-2
+    returns-2
+    work-requires
+    rate-requires
+    put-assignment-requires
+    more-requires
+    same-length
+    returns-3)

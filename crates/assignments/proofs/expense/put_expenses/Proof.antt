@@ -1,46 +1,38 @@
+use Rattle.assignments.proofs.Turns.{writes-in}
+use Rattle.assignments.proofs.Writing.{cleared-behind}
 use borrow.Author.Needs.{needs}
-use Rattle.tree.specs.Place.{elementAt}
-use Rattle.tree.specs.Answer.{found-list, none-list}
-use Rattle.assignments.proofs.Expenses.{expenses-none, expenses-all}
 use Rattle.assignments.proofs.expense.put_expenses.Statement.{statement}
 use Rattle.assignments.proofs.expense.put_expenses.Tie as tie
 
-slice-aggregate-first-in : tie.Need-slice-aggregate-first-in
-slice-aggregate-first-in c = search needs
+put-all-requires : tie.Need-put-all-requires
+put-all-requires c κs = search needs
 
-slice-aggregate-first-in-2 : tie.Need-slice-aggregate-first-in-2
-slice-aggregate-first-in-2 c = search needs
+ends-of-requires : tie.Need-ends-of-requires
+ends-of-requires c κs = search needs
 
-first-in-requires : tie.Need-first-in-requires
-first-in-requires c κs = search needs
-
-enum-told : tie.Need-enum-told
-enum-told c = search needs
-
-enum-known-first : tie.Need-enum-known-first
-enum-known-first c = search needs
-
-put-from-requires : tie.Need-put-from-requires
-put-from-requires c κs = search needs
+clear-words-from-requires : tie.Need-clear-words-from-requires
+clear-words-from-requires c κs = search needs
 
 records-of-requires : tie.Need-records-of-requires
 records-of-requires c κs = search needs
 
-returns : tie.Need-returns
-returns c =
-    let k = c .before .before .before .before .before .before .before in
-    expenses-none (elementAt (k .args .s .now) (k .args .root)) (none-list (c .before .before .first-in .ensures) (c .enum-told .given .1))
-
 same-length : tie.Need-same-length
 same-length c = search needs
 
-returns-2 : tie.Need-returns-2
-returns-2 c =
-    let k = c .before .before .before in
-    let l = k .before .before .before in
-    let m = l .before .before in
-    let n = m .before .before .before .before .before in
-    expenses-all (elementAt (n .args .s .now) (n .args .root)) (found-list (m .first-in .ensures) (l .first .given .1)) (k .put-from .ensures) (c .records-of .ensures)
+same-length-2 : tie.Need-same-length-2
+same-length-2 c = search needs
+
+returns : tie.Need-returns
+returns c = (writes-in (c .before .before .before .before .before .before .before .before .before .before .put-all .ensures .wrote) (c .records-of .ensures), cleared-behind (c .before .before .before .before .before .before .before .before .before .before .put-all .ensures .below) (c .before .before .before .before .before .ends-of .ensures) (c .before .before .before .clear-words-from .ensures))
 
 pub put-expenses-spec : {M : Type 1} → statement M
-put-expenses-spec = tie.close (tie.spec slice-aggregate-first-in slice-aggregate-first-in-2 first-in-requires enum-told enum-known-first put-from-requires records-of-requires returns same-length returns-2)
+put-expenses-spec =
+    tie.close
+    (tie.spec
+    put-all-requires
+    ends-of-requires
+    clear-words-from-requires
+    records-of-requires
+    same-length
+    same-length-2
+    returns)

@@ -1,0 +1,48 @@
+use Rattle.definition.specs.Answer.{rowMeaning}
+use Rattle.definition.specs.Field.{textIn}
+use Rattle.tree.specs.Place.{elementAt}
+use Rattle.rows.specs.Tables.{rowIn}
+use Rattle.rows.specs.declared.table.Listed.{Listed}
+use Rattle.assignments.proofs.Given.{look-not, look-up}
+use borrow.Author.Needs.{needs}
+use Rattle.assignments.proofs.assignment.work_of.Statement.{statement}
+use Rattle.assignments.proofs.assignment.work_of.Tie as tie
+
+slice-aggregate-given : tie.Need-slice-aggregate-given
+slice-aggregate-given c = search needs
+
+given-requires : tie.Need-given-requires
+given-requires c κs = search needs
+
+returns : tie.Need-returns
+unfolding rowMeaning
+returns c =
+    let a = c .before .before .before .before .before .args in
+    look-not (textIn (elementAt (a .s .now) (a .at)) "ResourceUID") (c .before .given .ensures) _ (c .if1 .taken)
+
+slice-aggregate-text-of : tie.Need-slice-aggregate-text-of
+slice-aggregate-text-of c = search needs
+
+text-of-requires : tie.Need-text-of-requires
+text-of-requires c κs = search needs
+
+row-with-requires : tie.Need-row-with-requires
+row-with-requires c κs = search needs
+
+returns-2 : tie.Need-returns-2
+returns-2 c =
+    let g = c .before .before .before .before in
+    let a = c .before .before .before .before .before .before .before .before .args in
+    look-up (textIn (elementAt (a .s .now) (a .at)) "ResourceUID") (g .given .ensures) (rowIn (a .s .now) (elementAt (a .s .now) (a .root)) Listed.Work (a .words .now) (a .t .work)) (c .before .before .before .if1 .left) (c .before .text-of .ensures) (c .row-with .ensures)
+
+pub work-of-spec : {M : Type 1} → statement M
+work-of-spec =
+    tie.close
+    (tie.spec
+    slice-aggregate-given
+    given-requires
+    returns
+    slice-aggregate-text-of
+    text-of-requires
+    row-with-requires
+    returns-2)

@@ -1,0 +1,56 @@
+use Rattle.tree.specs.Place.{elementAt}
+use Rattle.tree.specs.Answer.{found-list, none-list}
+use Rattle.assignments.specs.Records.{findersAt}
+use Rattle.assignments.proofs.Writing.{section-none, section-all}
+use borrow.Author.Needs.{needs}
+use Rattle.assignments.proofs.expense.put_all.Statement.{statement}
+use Rattle.assignments.proofs.expense.put_all.Tie as tie
+
+slice-aggregate-first-in : tie.Need-slice-aggregate-first-in
+slice-aggregate-first-in c = search needs
+
+slice-aggregate-first-in-2 : tie.Need-slice-aggregate-first-in-2
+slice-aggregate-first-in-2 c = search needs
+
+first-in-requires : tie.Need-first-in-requires
+first-in-requires c κs = search needs
+
+enum-told : tie.Need-enum-told
+enum-told c = search needs
+
+enum-known-first : tie.Need-enum-known-first
+enum-known-first c = search needs
+
+put-from-requires : tie.Need-put-from-requires
+put-from-requires c κs = search needs
+
+returns : tie.Need-returns
+returns c =
+    let a = c .before .before .before .before .before .before .before .before .args in
+    section-none _ (findersAt (a .s .now) (a .root) (a .words .now) (a .t)) (elementAt (a .s .now) (a .root)) (none-list (c .before .before .first-in .ensures) (c .enum-told .given .1))
+
+same-length : tie.Need-same-length
+same-length c = search needs
+
+same-length-2 : tie.Need-same-length-2
+same-length-2 c = search needs
+
+returns-2 : tie.Need-returns-2
+returns-2 c =
+    let a = c .before .before .before .before .before .before .before .before .before .before .before .before .before .before .before .before .args in
+    section-all _ (findersAt (a .s .now) (a .root) (a .words .now) (a .t)) (elementAt (a .s .now) (a .root)) (found-list (c .before .before .before .before .before .before .before .before .before .before .first-in .ensures) (c .before .before .before .before .before .before .before .before .first .given .1)) (c .before .before .before .before .put-from .ensures)
+
+pub put-all-spec : {M : Type 1} → statement M
+put-all-spec =
+    tie.close
+    (tie.spec
+    slice-aggregate-first-in
+    slice-aggregate-first-in-2
+    first-in-requires
+    enum-told
+    enum-known-first
+    put-from-requires
+    returns
+    same-length
+    same-length-2
+    returns-2)
