@@ -20,10 +20,15 @@ use Rattle.index.specs.Frame.{SameIn, indexed-kept}
 use Rattle.index.specs.Last.{lastBelow}
 use Rattle.index.specs.declared.Made.{Made}
 use Rattle.model.specs.declared.records.Kind.the-variants.{Activities}
+use Rattle.names.specs.Cleared.{below-cap}
+use Rattle.names.specs.Context.{contextAt}
 use Rattle.names.specs.Ids as names
+use Rattle.names.specs.Named.{Makes}
+use Rattle.names.specs.Naming.{Finds, endNames, finds-kept, makes-finds, makes-behind, makes-below}
 use Rattle.names.specs.Noted.{Noted, ids-placed, noted-none, noted-free, cleared-same}
 use Rattle.names.specs.Texts.{textsAt}
 use Rattle.names.specs.declared.ids.Ids.{Ids}
+use Rattle.names.specs.declared.named.CalendarTable.{CalendarTable}
 use Rattle.names.specs.declared.ids.IdsMade.{IdsMade}
 use Rattle.names.specs.declared.ids.IdsMade.the-variants.{Ready, NoRoom}
 use Rattle.pack.specs.Value.{starredBy}
@@ -64,11 +69,21 @@ noted-of e row u k byte w h = h ∙ ap (λ (ids : IdsMade). idNoted ids row u k 
 
 -- ---- all words of the section
 
-pub own-begun : {columns : Columns} {ids : IdsMade} {tasks : Made} {d : List ℕ} {start : Place} {w w′ : List ℕ} {bytes : ℕ} → Room columns (length w) bytes × Behind columns tasks → IdsBegun ids columns d start w w′
-    → OwnRoom (record { columns = columns; ids = ids }) tasks d start w′ bytes × SameBelow (endIn tasks) w w′
-own-begun {columns} {tasks = tasks} r b =
-    let same : SameBelow (endIn tasks) _ _ = b .same (λ h. let z = r .1 h in omega arith) in
-    (record { room = rw (same .long) (r .0); behind = r .1; opened = b .opened; ids = b .noted-none }, same)
+-- the calendars behind the table of the tasks, the columns behind them, and the ids
+pub own-begun : {columns : Columns} {ids : IdsMade} {tasks : Made} {d : List ℕ} {start : Place} {w w₁ w₂ : List ℕ} {bytes end : ℕ} {c : Place} {s : Text} {root : Element} {t : CalendarTable}
+    → end ≡ min (endIn tasks) (length w) → Makes d c s root end w w₁ t → Room columns (length w₁) bytes × Behind columns (t .end) → IdsBegun ids columns d start w₁ w₂
+    → OwnRoom (record { calendars = t .table; columns = columns; ids = ids }) tasks d start w₂ bytes × SameBelow (endIn tasks) w w₂ × Finds (contextAt d c root) s (t .table) w₂
+own-begun {columns} {tasks = tasks} {w = w} {w₁} {w₂} {t = t} e m r b =
+    let (begin, names) = makes-behind m in
+    let first = makes-below m in
+    let behind : Behind columns (endIn tasks) = λ h. let z = r .1 h in let y = r .0 .room h in omega (arith, first .long) in
+    let behind-names : Behind columns (endNames (t .table)) = λ h. let z = r .1 h in omega arith in
+    let then : SameBelow (endIn tasks) w₁ w₂ = b .same (λ h. let z = behind h in omega arith) in
+    let keeps : SameBelow (endNames (t .table)) w₁ w₂ = b .same (λ h. let z = behind-names h in omega arith) in (
+      record { room = rw (then .long) (r .0); behind = behind; behind-names = behind-names; opened = b .opened; ids = b .noted-none },
+      below-then (below-cap e first) then,
+      finds-kept keeps (makes-finds m),
+    )
 
 -- ---- a row
 
@@ -116,8 +131,8 @@ module _ {own : Own} {row at : ℕ} {o : Option ℕ} {u : Text} {byte : ℕ} {ta
           let z = h (y .some) in
           below-then (below-added (i .ids) first row _ byte (omega (arith, y .behind))) (below-added (i .wanted) _ row _ (n .stars) (omega (arith, y .behind, y .apart)))
 
-  pub row-below : (tasks : Made) → Behind (own .columns) tasks → SameBelow (endIn tasks) w w₂
-  row-below tasks b = below-then (noted-below (own .columns) row at o w b) (ids-below (λ h. let z = b h in omega arith))
+  pub row-below : {m : ℕ} → Behind (own .columns) m → SameBelow m w w₂
+  row-below b = below-then (noted-below (own .columns) row at o w b) (ids-below (λ h. let z = b h in omega arith))
 
   pub row-held : {s : Text} {root : Element} {bytes : ℕ} → Room (own .columns) (length w) bytes → (row ≤ own .columns .rows → Held s root (own .columns .at) row w) → elementAt s at ≡ taskAt root row
       → row ≤ length (keptTasks root) → o ≡ parentOf (map levelOf (take row (keptTasks root))) (levelOf (elementAt s at)) → row + 1 ≤ own .columns .rows → Held s root (own .columns .at) (row + 1) w₂

@@ -35,6 +35,7 @@ use Rattle.model.specs.declared.records.Kind.the-variants.{Activities}
 use Rattle.names.specs.Carried.{context-carried}
 use Rattle.names.specs.Context.{contextAt, calendarsBefore}
 use Rattle.names.specs.Kept.{step-kept, put-ends}
+use Rattle.names.specs.Naming.{Finds, endNames, finds-kept}
 use Rattle.names.specs.Noted.{noted-put}
 use Rattle.names.specs.Records.{Lies, FitsActivityFields, activityFields, plainActivities, plain-activities, front-activities, activities-lie, texts-activities}
 use Rattle.names.specs.Short.{built-short}
@@ -53,9 +54,10 @@ use Rattle.activities.specs.declared.own.Own.{Own}
 use Rattle.activities.proofs.Ids.{ids-moved, noted-of}
 use Rattle.activities.proofs.Loop.{Written, nextOf, written-more, next-put, tasks-before, idsOf}
 
--- what a turn leaves of the words: those of the table before them, and those of the rows before
+-- what a turn leaves of the words: those of the tables before them, and those of the rows before
 pub record Stays (s : Text) (root : Element) (tasks : Made) (own : Own) (start : Place) (w₀ w d : List ℕ) (q : Place) (row : ℕ) (task : KeptAnswer) : Type 0 where
   pub same : SameBelow (endIn tasks) w₀ w
+  pub names : SameBelow (endNames (own .calendars)) w₀ w
   pub held : row ≤ own .columns .rows → Held s root (own .columns .at) row w
   pub ids : inside (length d) q ≡ true → IdsNoted (own .ids) d start w row
   pub there : (at left : ℕ) → task ≡ Is at left → at < length s
@@ -64,6 +66,7 @@ module _ {s : Text} {root : Element} {tasks : Made} {own : Own} {start : Place} 
   pub stays-begin : {d : List ℕ} {bytes : ℕ} → OwnRoom own tasks d start w₀ bytes → {q : Place} {task : KeptAnswer} → ((at left : ℕ) → task ≡ Is at left → at < length s) → Stays s root tasks own start w₀ w₀ d q 0 task
   stays-begin r h = record {
     same = below-refl _ w₀;
+    names = below-refl _ w₀;
     held = λ k. record { stands = λ r j. absurd (omega arith); parents = λ r j. absurd (omega arith) };
     ids = λ i. r .ids;
     there = h;
@@ -97,6 +100,10 @@ module _ (find : Finder) {d₀ : List ℕ} (c : Place) (root : Element) {p : Pla
       let e : w .before ++ (t ∷ ts) ≡ keptTasks root = w .split in
       let l : length (w .before) + length (t ∷ ts) ≡ length (keptTasks root) = sym (length-append (w .before) (t ∷ ts)) ∙ ap length e in
       (sym (ap (λ (l : List Element). getD l row noElement) (sym e) ∙ getD-at (w .before) t ts noElement row (w .tasks-are)), omega (arith, w .tasks-are))
+
+  -- words that say the calendars' names say them still
+  pub goes-finds : {s : Text} {k : Made} {u₀ u : List ℕ} → SameBelow (endNames k) u₀ u → Finds (contextAt d₀ c root) s k u₀ → Finds (contextAt d c root) s k u
+  goes-finds {s} {k} {u = u} y h = subst (λ (x : Context). Finds x s k u) (sym (context-carried (w .puts .step) c root stand)) (finds-kept y h)
 
   module _ {f : Finder} (found : f ≡ find) {d' : List ℕ} {r : Place} (h : Puts (whole activity) (activityOf (contextAt d c root) (textsAt Activities d p row) (map levelOf (take row (keptTasks root))) (isEntered f t) t) d q d' r) (n : row ≤ mostTasks) (s : Small t) where
     new-fits : FitsActivityBy Short (nextOf w)

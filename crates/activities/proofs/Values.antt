@@ -27,11 +27,17 @@ use Rattle.links.specs.Given.{given-none, given-some}
 use Rattle.pack.specs.Record.{activityBy}
 use Rattle.pack.specs.Value.{starredBy, nameMeaning}
 use Rattle.pack.specs.Writes.{put-any}
+use Rattle.index.specs.declared.Made.{Made}
+use Rattle.names.specs.Context.{wantedName}
+use Rattle.names.specs.Named.{namedIn, elapsedIn, calendarName}
+use Rattle.names.specs.Naming.{Finds}
+use Rattle.names.specs.declared.named.CalendarName.{CalendarName}
 use Rattle.pack.specs.declared.stars.NameAnswer.{NameAnswer}
 use Rattle.pack.specs.declared.record.Plan.{Plan}
 use Rattle.pack.specs.declared.record.Dates.{Dates}
 use Rattle.pack.specs.declared.record.Progress.{Progress}
-use Rattle.activities.specs.Values.{dayBy, namesCalendar, calendarBy, PlanOf, DatesOf, ProgressOf, activityPlanned}
+use Rattle.tree.specs.Place.{elementAt}
+use Rattle.activities.specs.Values.{dayBy, namesCalendar, calendarBy, calendarIn, nameFound, PlanOf, DatesOf, ProgressOf, activityPlanned}
 
 -- ---- the first of three texts that is there
 
@@ -72,24 +78,44 @@ own-calendar : (o : Option Text) (f : Text → Option Text) → (given o && not 
 own-calendar none f h = absurd (true≢false (sym h))
 own-calendar (some u) f h = rw h
 
-module _ (x : Context) (t : Element) {e : Bool} where
-  pub by-elapsed : e ≡ true → {o : Option Text} → o ≡ unlessMain x elapsedName → o ≡ calendarBy x e t
-  by-elapsed i h = rw i h
+module _ (x : Context) (s : Text) (w : List ℕ) (k : Made) (t : Element) {e : Bool} where
+  pub by-elapsed : e ≡ true → (r : CalendarName) → nameMeaning elapsedName (r .name) ≡ elapsedIn x w k → nameFound s e r ≡ calendarIn x s w k e t
+  by-elapsed i r h = rw i h
 
-  module _ (i : e ≡ false) (u : Text) (j : u ≡ (textIn t "CalendarUID" or [])) {b : Bool} (k : b ≡ namesCalendar u) where
+  module _ (i : e ≡ false) (u : Text) (j : u ≡ (textIn t "CalendarUID" or [])) {b : Bool} (l : b ≡ namesCalendar u) where
     names-is : b ≡ (given (textIn t "CalendarUID") && not (same (textIn t "CalendarUID" or []) (bytes "-1")))
     names-is =
-        k
+        l
         ∙ ap (λ (u : Text). namesCalendar u) j
         ∙ ap (λ (b : Bool). b && not (same (textIn t "CalendarUID" or []) (bytes "-1"))) (length-given t (bytes "CalendarUID"))
 
-    pub by-none : not b ≡ true → none ≡ calendarBy x e t
-    by-none h = rw (i, no-calendar (textIn t "CalendarUID") (nameOf (x .built)) (sym names-is ∙ not-true b h))
+    pub by-none : not b ≡ true → (p : ℕ) → nameFound s e (record { at = p; name = NameAnswer.Absent }) ≡ calendarIn x s w k e t
+    unfolding nameMeaning
+    by-none h p = rw (i, no-calendar (textIn t "CalendarUID") (namedIn x s w k) (sym names-is ∙ not-true b h))
 
-    pub by-own : not b ≡ false → {o : Option Text} → o ≡ (nameOf (x .built) u >>= unlessMain x) → o ≡ calendarBy x e t
-    by-own h m =
-        rw (i, own-calendar (textIn t "CalendarUID") (nameOf (x .built)) (sym names-is ∙ not-false b h))
-        (m ∙ ap (λ (u : Text). nameOf (x .built) u >>= unlessMain x) j)
+    pub by-own : not b ≡ false → (r : CalendarName) → calendarName s r ≡ namedIn x s w k u → nameFound s e r ≡ calendarIn x s w k e t
+    by-own h r m = rw (i, own-calendar (textIn t "CalendarUID") (namedIn x s w k) (sym names-is ∙ not-false b h)) (m ∙ ap (namedIn x s w k) j)
+
+-- beside its text
+module _ (s : Text) {e : Bool} (r : CalendarName) where
+  pub name-elapsed : e ≡ true → nameMeaning elapsedName (r .name) ≡ nameFound s e r
+  name-elapsed i = rw i
+
+  pub name-own : e ≡ false → {text : Text} → text ≡ wantedName (elementAt s (r .at)) → nameMeaning text (r .name) ≡ nameFound s e r
+  name-own i h = rw (i, h)
+
+-- words that say the names give the calendar's
+pub calendar-found : {x : Context} {s : Text} {k : Made} {w : List ℕ} → Finds x s k w → (e : Bool) (t : Element) → calendarIn x s w k e t ≡ calendarBy x e t
+calendar-found f true t = f .elapsed
+calendar-found {x} {s} {k} {w} f false t = go (textIn t "CalendarUID")
+  where
+    own : (b : Bool) (u : Text) → (when b u >>= namedIn x s w k) ≡ (when b u >>= nameOf (x .built) >>= unlessMain x)
+    own true u = f .named u
+    own false u = refl
+
+    go : (o : Option Text) → (o >>= λ u. when (not (same u (bytes "-1"))) u >>= namedIn x s w k) ≡ (o >>= λ u. when (not (same u (bytes "-1"))) u >>= nameOf (x .built)) >>= unlessMain x
+    go none = refl
+    go (some u) = own (not (same u (bytes "-1"))) u
 
 -- ---- dates
 
@@ -160,10 +186,10 @@ activity-of x ids levels entered t plan {day = day} he hc hi hd hp hq p =
 
 -- a record that does not fit may be any
 pub row-puts : (x : Context) (ids : List Text) (levels : List ℕ) (entered : Bool) (t : Element) (plan : Plan) (id : Text) (stars : ℕ) {e : Bool} {day perDay : ℕ} {parent : Option ℕ} {d : List ℕ} {p : Place} {d' : List ℕ} {r : Place}
-    → e ≡ isElapsed t → id ≡ wantedId t → (inside (length d) p ≡ true → starredBy id stars ≡ free ids id) → day ≡ dayBy e perDay → perDay ≡ x .perDay → parent ≡ parentOf levels (levelOf t) → PlanOf day parent entered t plan
-    → Puts (whole activity) (activityPlanned (calendarBy x e t) (starredBy id stars) plan t) d p d' r → Puts (whole activity) (activityOf x ids levels entered t) d p d' r
-row-puts x ids levels entered t plan id stars {d = d} {p} {d'} {r} he hi hf hd hp hq pl h = by (inside (length d) p) refl
+    → e ≡ isElapsed t → {calendar : Option Text} → calendar ≡ calendarBy x e t → id ≡ wantedId t → (inside (length d) p ≡ true → starredBy id stars ≡ free ids id) → day ≡ dayBy e perDay → perDay ≡ x .perDay → parent ≡ parentOf levels (levelOf t) → PlanOf day parent entered t plan
+    → Puts (whole activity) (activityPlanned calendar (starredBy id stars) plan t) d p d' r → Puts (whole activity) (activityOf x ids levels entered t) d p d' r
+row-puts x ids levels entered t plan id stars {d = d} {p} {d'} {r} he hc hi hf hd hp hq pl h = by (inside (length d) p) refl
   where
     by : (b : Bool) → inside (length d) p ≡ b → Puts (whole activity) (activityOf x ids levels entered t) d p d' r
-    by true i = put-same (activity-of x ids levels entered t plan he refl (hf i ∙ ap (free ids) hi) hd hp hq pl) h
+    by true i = put-same (activity-of x ids levels entered t plan he hc (hf i ∙ ap (free ids) hi) hd hp hq pl) h
     by false i = put-any (activityOf x ids levels entered t) i h

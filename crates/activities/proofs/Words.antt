@@ -1,5 +1,5 @@
--- The columns of parents: where they begin, and a row of them. Assumes nothing.
-use Prim.Native.Nat.{ℕ, suc, _+_, _-_, _*_, _/_, _^_, _≤_, _<_, min}
+-- The columns of parents: a row of them. Assumes nothing.
+use Prim.Native.Nat.{ℕ, suc, _+_, _-_, _*_, _^_, _≤_, _<_}
 use native.Mathlib.Omega.{arith}
 use mathlib.Core.Path.{_≡_, refl, sym, ap, _∙_}
 use mathlib.Core.List.{List, map}
@@ -10,20 +10,11 @@ use Rattle.definition.specs.Task.{levelOf, keptTasks, parentOf}
 use Rattle.definition.specs.Text.{Text}
 use Rattle.definition.specs.Tree.{Element}
 use Rattle.definition.specs.declared.RowAnswer.{RowAnswer}
-use Rattle.index.specs.Chains.{endIn}
 use Rattle.index.specs.Last.{lastBelow, wordOf}
-use Rattle.index.specs.declared.Made.{Made}
-use Rattle.index.specs.declared.Made.the-variants.{Ready as ReadyTable}
-use Rattle.index.specs.declared.Table.{Table}
 use Rattle.tree.specs.Place.{elementAt}
 use Rattle.activities.specs.Climbing.{parents-are, held-lower, held-climbs, noted-not, noted-is}
-use Rattle.activities.specs.Parents.{Room, Behind, placeAt, parentAt, noted, lower, levelIn, Climbs, Ready}
+use Rattle.activities.specs.Parents.{placeAt, parentAt, noted, lower, levelIn, Climbs, Ready}
 use Rattle.activities.specs.declared.parents.Columns.{Columns}
-
--- behind a table, where so many words are left
-pub columns-fit : {tasks : Made} {t : Table} → tasks ≡ ReadyTable t → {len bytes end rows : ℕ} → end ≡ min (endIn (ReadyTable t)) len → bytes ≤ 4294967295 → rows ≤ (len - end) / 2
-    → Room (record { at = end; rows = rows }) len bytes × Behind (record { at = end; rows = rows }) tasks
-columns-fit e h i j = (record { room = λ k. omega arith; short = λ k. omega arith }, rw e (λ k. omega arith))
 
 -- ---- a row as a word
 

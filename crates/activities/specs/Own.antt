@@ -1,4 +1,4 @@
--- The tables of ids behind the columns of parents: what they hold. Assumes nothing: these are definitions.
+-- The section's own words, and the tables of ids behind the columns of parents: what they hold. Assumes nothing: these are definitions.
 use Prim.Native.Nat.{ℕ, _^_, _≤_, _<_}
 use mathlib.Core.Path.{_≡_}
 use mathlib.Core.Bool.{Bool, true}
@@ -9,9 +9,11 @@ use Rattle.definition.specs.Calendar.{free}
 use Rattle.definition.specs.Text.{Text}
 use Rattle.bits.specs.declared.Place.{Place}
 use Rattle.index.specs.Below.{SameBelow}
+use Rattle.index.specs.Chains.{endIn}
 use Rattle.index.specs.declared.Made.{Made}
 use Rattle.model.specs.declared.records.Kind.the-variants.{Activities}
 use Rattle.names.specs.Ids as names
+use Rattle.names.specs.Naming.{endNames}
 use Rattle.names.specs.Noted.{Noted}
 use Rattle.names.specs.declared.ids.Ids.{Ids}
 use Rattle.names.specs.declared.ids.IdsMade.{IdsMade}
@@ -50,7 +52,8 @@ pub record IdsBegun (ids : IdsMade) (columns : Columns) (d : List ℕ) (start : 
 -- all words of the section, before its first row
 pub record OwnRoom (own : Own) (tasks : Made) (d : List ℕ) (start : Place) (w : List ℕ) (bytes : ℕ) : Type 0 where
   pub room : Room (own .columns) (length w) bytes
-  pub behind : Behind (own .columns) tasks
+  pub behind : Behind (own .columns) (endIn tasks)
+  pub behind-names : Behind (own .columns) (endNames (own .calendars))
   pub opened : IdsOpen (own .ids) (own .columns) start (length d)
   pub ids : IdsNoted (own .ids) d start w 0
 

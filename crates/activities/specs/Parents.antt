@@ -10,9 +10,7 @@ use Rattle.definition.specs.Base.{if_then_else_}
 use Rattle.definition.specs.Task.{levelOf, keptTasks}
 use Rattle.definition.specs.Text.{Text}
 use Rattle.definition.specs.Tree.{Element}
-use Rattle.index.specs.Chains.{endIn}
 use Rattle.index.specs.Last.{lastBelow, wordOf}
-use Rattle.index.specs.declared.Made.{Made}
 use Rattle.rows.specs.Tables.{noElement}
 use Rattle.tree.specs.Place.{elementAt}
 use Rattle.activities.specs.declared.parents.Columns.{Columns}
@@ -40,9 +38,9 @@ pub record Room (own : Columns) (len bytes : ℕ) : Type 0 where
   pub room : 0 < own .rows → endOf own ≤ len
   pub short : 0 < own .rows → bytes < 2 ^ 32
 
--- behind a table
-abbrev pub Behind : Columns → Made → Type 0
-Behind own tasks = 0 < own .rows → endIn tasks ≤ own .at
+-- behind a place
+abbrev pub Behind : Columns → ℕ → Type 0
+Behind own from = 0 < own .rows → from ≤ own .at
 
 -- ---- climbing
 

@@ -2,7 +2,7 @@
 use Prim.Native.Nat.{ℕ}
 use mathlib.Core.Path.{_≡_}
 use mathlib.Core.Bool.{Bool, _&&_, not}
-use mathlib.Core.List.{[]}
+use mathlib.Core.List.{List, []}
 use mathlib.Core.Option.{Option, some}
 use lib.Dec.{eqb}
 use lib.ListN.{length}
@@ -16,10 +16,15 @@ use Rattle.definition.specs.Task.{Context, durationDays, durationMinutes, durat
 use Rattle.definition.specs.Text.{Text}
 use Rattle.definition.specs.Tree.{Element}
 use Rattle.text.specs.Answers.{i64Of}
-use Rattle.pack.specs.Value.{dateGiven, constraintGiven}
+use Rattle.index.specs.declared.Made.{Made}
+use Rattle.names.specs.Context.{wantedName}
+use Rattle.names.specs.Named.{namedIn, elapsedIn}
+use Rattle.names.specs.declared.named.CalendarName.{CalendarName}
+use Rattle.pack.specs.Value.{dateGiven, constraintGiven, nameMeaning}
 use Rattle.pack.specs.declared.record.Plan.{Plan}
 use Rattle.pack.specs.declared.record.Dates.{Dates}
 use Rattle.pack.specs.declared.record.Progress.{Progress}
+use Rattle.tree.specs.Place.{elementAt}
 
 -- 0 a task, 1 a start milestone, 2 a finish milestone: one that a kept link enters
 abbrev pub kindBy : Bool → Element → ℕ
@@ -57,6 +62,15 @@ abbrev pub calendarBy : Context → Bool → Element → Option Text
 calendarBy x elapsed t =
     (if elapsed then some elapsedName else
     (textIn t "CalendarUID" >>= λ u. when (not (same u (bytes "-1"))) u >>= nameOf (x .built))) >>= unlessMain x
+
+-- the same, as words say it where there is a table
+abbrev pub calendarIn : Context → Text → List ℕ → Made → Bool → Element → Option Text
+calendarIn x s w k elapsed t =
+    if elapsed then elapsedIn x w k else (textIn t "CalendarUID" >>= λ u. when (not (same u (bytes "-1"))) u >>= namedIn x s w k)
+
+-- what was found, beside its text
+abbrev pub nameFound : Text → Bool → CalendarName → Option Text
+nameFound s elapsed r = nameMeaning (if elapsed then elapsedName else wantedName (elementAt s (r .at))) (r .name)
 
 -- ---- the whole, by the name of its calendar, its id and its plan
 

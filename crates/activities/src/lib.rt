@@ -13,6 +13,7 @@ ghost use Rattle.links.specs.Fates.{taskIn, linksBy};
 ghost use Rattle.tree.specs.Place.{elementAt};
 ghost use Rattle.pack.specs.Writes.{Writes, WritesIf};
 ghost use Rattle.names.specs.Context.{contextAt, calendarsBefore};
+ghost use Rattle.names.specs.Naming.{Finds};
 ghost use Rattle.activities.specs.Own.{OwnRoom};
 use crate::own::Own;
 use crate::own::own_for;
@@ -23,7 +24,7 @@ use index::Made;
 use pack::Records;
 use rows::KeptAnswer;
 
-mod own; // words for parents and ids
+mod own; // words for calendars, parents and ids
 mod parents; // the parent of a row
 mod record;
 mod value;
@@ -39,7 +40,7 @@ fn put_tasks(
     tasks: Made,
     own: Own,
 ) -> Records
-    requires { ⌜ (calendarsBefore (now out) c (elementAt (now s) root) p ≡ true) × OwnRoom own tasks (now out) p (now words) (length (now s)) ⌝ }
+    requires { ⌜ (calendarsBefore (now out) c (elementAt (now s) root) p ≡ true) × OwnRoom own tasks (now out) p (now words) (length (now s)) × Finds (contextAt (now out) c (elementAt (now s) root)) (now s) (own .calendars) (now words) ⌝ }
     ensures { λ r. ⌜ Writes (whole activity) (activitiesOf (contextAt (now (out .entry)) c (elementAt (now (s .entry)) root)) (entered (linksBy (taskIn (now (s .entry)) root (now (words .entry)) tasks) (contextOf (elementAt (now (s .entry)) root))))) (now (out .entry)) p (now (out .exit)) r × SameBelow (endIn tasks) (now (words .entry)) (now (words .exit)) ⌝ }
 {
     let per_day = tasks::per_day(s, root);
@@ -80,7 +81,7 @@ pub fn put_activities(
             next: PAST,
         };
     }
-    let own = own_for(out, p, words, tasks, s.len());
+    let own = own_for(out, p, s, root, c, words, tasks);
     let r = put_tasks(out, p, s, root, c, words, tasks, own);
     bits::clear_words_from(words, end);
     r

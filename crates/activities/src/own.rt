@@ -1,4 +1,4 @@
-// The section's own words, behind the table of the kept tasks: columns of parents, and tables of the ids that are taken.
+// The section's own words, behind the table of the kept tasks: a table of the calendars, columns of parents, and tables of the ids that are taken.
 ghost use mathlib.Core.Path.{_≡_};
 ghost use mathlib.Core.Bool.{true};
 ghost use Prim.Native.Nat.{_%_, _^_, _<_, _≤_};
@@ -7,8 +7,11 @@ ghost use Rattle.definition.specs.Calendar.{free};
 ghost use Rattle.bits.specs.Places.{inside};
 ghost use Rattle.index.specs.Below.{SameBelow};
 ghost use Rattle.index.specs.Chains.{endIn};
+ghost use Rattle.names.specs.Context.{contextAt};
+ghost use Rattle.names.specs.Naming.{Finds};
 ghost use Rattle.names.specs.Texts.{textsAt};
 ghost use Rattle.pack.specs.Value.{starredBy};
+ghost use Rattle.tree.specs.Place.{elementAt};
 ghost use Rattle.activities.specs.Parents.{endOf};
 ghost use Rattle.activities.specs.Own.{IdsBegun, IdsNoted, idNoted, OwnRoom};
 use crate::parents::Columns;
@@ -19,6 +22,7 @@ use model::records::Kind;
 use names::IdsMade;
 
 pub(crate) struct Own {
+    pub calendars: Made,
     pub columns: Columns,
     pub ids: IdsMade,
 }
@@ -47,13 +51,28 @@ fn ids_for(out: &[u8], p: Place, words: &mut [u32], columns: Columns) -> IdsMade
     IdsMade::Ready(ids)
 }
 
-// For a section that begins at p.
-pub(crate) fn own_for(out: &[u8], p: Place, words: &mut [u32], tasks: Made, bytes: usize) -> Own
-    ensures { λ r. ⌜ OwnRoom r tasks (now (out .entry)) p (now (words .exit)) bytes × SameBelow (endIn tasks) (now (words .entry)) (now (words .exit)) ⌝ }
+// For a section that begins at p. The calendars stand at c.
+pub(crate) fn own_for(
+    out: &[u8],
+    p: Place,
+    s: &[u8],
+    root: usize,
+    c: Place,
+    words: &mut [u32],
+    tasks: Made,
+) -> Own
+    ensures { λ r. ⌜ OwnRoom r tasks (now (out .entry)) p (now (words .exit)) (length (now (s .entry))) × SameBelow (endIn tasks) (now (words .entry)) (now (words .exit)) × Finds (contextAt (now (out .entry)) c (elementAt (now (s .entry)) root)) (now (s .entry)) (r .calendars) (now (words .exit)) ⌝ }
 {
-    let columns = columns_for(tasks, words.len(), bytes);
+    let end = index::end_of(tasks, words.len());
+    let made = names::index_calendars(out, c, s, root, words, end);
+    let calendars = made.table;
+    let columns = columns_for(tasks, made.end, words.len(), s.len());
     let ids = ids_for(out, p, words, columns);
-    Own { columns, ids }
+    Own {
+        calendars,
+        columns,
+        ids,
+    }
 }
 
 // How many `*` an id needs that is wanted for the row at p. The section begins at `start`. Once the room is spent nothing is tried.

@@ -20,9 +20,9 @@ pub(crate) struct Columns {
 
 const NONE: Columns = Columns { at: 0, rows: 0 };
 
-// Behind the table of the kept tasks, for as many rows, where there is room and 32 bits hold each position in the tree.
-pub(crate) fn columns_for(tasks: Made, len: usize, bytes: usize) -> Columns
-    ensures { λ r. ⌜ Room r len bytes × Behind r tasks ⌝ }
+// From a place on, for as many rows as the table of the kept tasks has, where there is room and 32 bits hold each position in the tree.
+pub(crate) fn columns_for(tasks: Made, from: usize, len: usize, bytes: usize) -> Columns
+    ensures { λ r. ⌜ Room r len bytes × Behind r from ⌝ }
 {
     let Made::Ready(t) = tasks else {
         return NONE;
@@ -30,12 +30,14 @@ pub(crate) fn columns_for(tasks: Made, len: usize, bytes: usize) -> Columns
     if 4294967295 < bytes {
         return NONE;
     }
-    let end = index::end_of(tasks, len);
-    if (len - end) / 2 < t.rows as usize {
+    if len <= from {
+        return NONE;
+    }
+    if (len - from) / 2 < t.rows as usize {
         return NONE;
     }
     Columns {
-        at: end,
+        at: from,
         rows: t.rows,
     }
 }

@@ -12,24 +12,26 @@ ghost use Rattle.bits.specs.Steps.{Puts};
 ghost use Rattle.links.specs.Fates.{taskIn, isEntered};
 ghost use Rattle.names.specs.Texts.{textsAt};
 ghost use Rattle.names.specs.Context.{contextAt};
+ghost use Rattle.names.specs.Naming.{Finds};
 ghost use Rattle.pack.specs.Value.{nameMeaning, starredBy};
 ghost use Rattle.tree.specs.Place.{elementAt};
 ghost use Rattle.activities.specs.Own.{IdsOpen, IdsNoted, RowNoted};
 ghost use Rattle.activities.specs.Parents.{Ready};
-ghost use Rattle.activities.specs.Values.{calendarBy, activityPlanned};
+ghost use Rattle.activities.specs.Values.{nameFound, activityPlanned};
 use crate::own::Own;
 use crate::own::note_stars;
 use crate::own::stars_for;
 use crate::parents::parent_of;
+use crate::value::calendar_for;
 use crate::value::dates_of;
 use crate::value::day_of;
-use crate::value::names_calendar;
 use crate::value::plan_of;
 use crate::value::progress_of;
 use crate::value::wanted_id;
 use bits::Place;
 use index::Made;
 use model::records::Kind;
+use names::CalendarName;
 use pack::NameAnswer;
 use pack::Plan;
 
@@ -68,31 +70,25 @@ fn put_named(
     )
 }
 
-// The task at `at` with its id and its plan; the calendars stand at c.
+// The task at `at` with its id, its plan and what was found of its calendar.
 fn put_task(
     out: &mut [u8],
     p: Place,
     s: &[u8],
-    root: usize,
     at: usize,
-    c: Place,
     elapsed: bool,
+    found: CalendarName,
     id: &[u8],
     stars: u32,
     plan: Plan,
 ) -> Place
-    ensures { λ r. ⌜ Puts (whole activity) (activityPlanned (calendarBy (contextAt (now (out .entry)) c (elementAt (now (s .entry)) root)) elapsed (elementAt (now (s .entry)) at)) (starredBy (now (id .entry)) stars) plan (elementAt (now (s .entry)) at)) (now (out .entry)) p (now (out .exit)) r ⌝ }
+    ensures { λ r. ⌜ Puts (whole activity) (activityPlanned (nameFound (now (s .entry)) elapsed found) (starredBy (now (id .entry)) stars) plan (elementAt (now (s .entry)) at)) (now (out .entry)) p (now (out .exit)) r ⌝ }
 {
+    let named = found.name;
     if elapsed {
-        let named = names::elapsed_named(out, c, s, root);
         return put_named(out, p, s, at, id, stars, plan, b"Elapsed (24 hours)", named);
     }
-    let uid = tree::text_of(s, at, b"CalendarUID");
-    if !names_calendar(uid) {
-        return put_named(out, p, s, at, id, stars, plan, uid, NameAnswer::Absent);
-    }
-    let named = names::calendar_named(out, c, s, root, uid);
-    let text = names::calendar_text(s, root, uid, b"Calendar");
+    let text = names::wanted_name(s, found.at, b"Calendar");
     put_named(out, p, s, at, id, stars, plan, text, named)
 }
 
@@ -111,17 +107,19 @@ pub(crate) fn put_row(
     own: Own,
     per_day: u64,
 ) -> Place
-    requires { ⌜ Ready (now s) (elementAt (now s) root) (own .columns) row at (now words) × («per_day» ≡ perDayOf (elementAt (now s) root)) × IdsOpen (own .ids) (own .columns) start (length (now out)) × (inside (length (now out)) p ≡ true → IdsNoted (own .ids) (now out) start (now words) row) ⌝ }
+    requires { ⌜ Ready (now s) (elementAt (now s) root) (own .columns) row at (now words) × («per_day» ≡ perDayOf (elementAt (now s) root)) × Finds (contextAt (now out) c (elementAt (now s) root)) (now s) (own .calendars) (now words) × IdsOpen (own .ids) (own .columns) start (length (now out)) × (inside (length (now out)) p ≡ true → IdsNoted (own .ids) (now out) start (now words) row) ⌝ }
     ensures { λ r. ⌜ Puts (whole activity) (activityOf (contextAt (now (out .entry)) c (elementAt (now (s .entry)) root)) (textsAt Kind.Activities (now (out .entry)) start row) (map levelOf (take row (keptTasks (elementAt (now (s .entry)) root)))) (isEntered (taskIn (now (s .entry)) root (now (words .exit)) tasks) (elementAt (now (s .entry)) at)) (elementAt (now (s .entry)) at)) (now (out .entry)) p (now (out .exit)) r × RowNoted own row at (parentOf (map levelOf (take row (keptTasks (elementAt (now (s .entry)) root)))) (levelOf (elementAt (now (s .entry)) at))) (wantedId (elementAt (now (s .entry)) at)) (p .byte % 2 ^ 32) (textsAt Kind.Activities (now (out .entry)) start row) (inside (length (now (out .entry))) p) (now (words .entry)) (now (words .exit)) ⌝ }
 {
+    let calendars = own.calendars;
     let columns = own.columns;
     let ids = own.ids;
+    let elapsed = tasks::is_elapsed(s, at);
+    let found = calendar_for(out, c, s, root, at, words, calendars, elapsed);
     let parent = parent_of(s, root, at, words, columns, row);
     let id = wanted_id(s, at);
     let stars = stars_for(out, start, p, words, ids, row, id);
     note_stars(words, ids, row, id, stars, p);
-    let elapsed = tasks::is_elapsed(s, at);
     let day = day_of(elapsed, per_day);
     let plan = plan_of(s, root, at, words, tasks, day, parent);
-    put_task(out, p, s, root, at, c, elapsed, id, stars, plan)
+    put_task(out, p, s, at, elapsed, found, id, stars, plan)
 }

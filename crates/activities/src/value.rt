@@ -5,12 +5,16 @@ ghost use Rattle.definition.specs.Base.{_or_};
 ghost use Rattle.definition.specs.Task.{wantedId};
 ghost use Rattle.fields.specs.Answers.{minutesMeans};
 ghost use Rattle.links.specs.Fates.{taskIn, isEntered};
+ghost use Rattle.names.specs.Context.{contextAt};
 ghost use Rattle.tree.specs.Place.{elementAt};
-ghost use Rattle.activities.specs.Values.{kindBy, dayBy, namesCalendar, PlanOf, DatesOf, ProgressOf};
+ghost use Rattle.activities.specs.Values.{kindBy, dayBy, namesCalendar, nameFound, calendarIn, PlanOf, DatesOf, ProgressOf};
+use bits::Place;
 use definition::RowAnswer;
 use fields::MinutesAnswer;
 use index::Made;
+use names::CalendarName;
 use pack::Dates;
+use pack::NameAnswer;
 use pack::Plan;
 use pack::Progress;
 
@@ -30,10 +34,37 @@ pub(crate) fn wanted_id(s: &[u8], at: usize) -> &[u8]
 }
 
 // Whether a task with a CalendarUID names a calendar.
-pub(crate) fn names_calendar(uid: &[u8]) -> bool
+fn names_calendar(uid: &[u8]) -> bool
     ensures { λ r. ⌜ r ≡ namesCalendar (now (uid .entry)) ⌝ }
 {
     (uid.len() != 0) & !text::same(uid, b"-1")
+}
+
+// What is found of the calendar of the task at `at`. The calendars stand at c.
+pub(crate) fn calendar_for(
+    out: &[u8],
+    c: Place,
+    s: &[u8],
+    root: usize,
+    at: usize,
+    words: &[u32],
+    calendars: Made,
+    elapsed: bool,
+) -> CalendarName
+    ensures { λ r. ⌜ nameFound (now (s .entry)) elapsed r ≡ calendarIn (contextAt (now (out .entry)) c (elementAt (now (s .entry)) root)) (now (s .entry)) (now (words .entry)) calendars elapsed (elementAt (now (s .entry)) at) ⌝ }
+{
+    if elapsed {
+        let name = names::elapsed_in(out, c, s, root, words, calendars);
+        return CalendarName { at, name };
+    }
+    let uid = tree::text_of(s, at, b"CalendarUID");
+    if !names_calendar(uid) {
+        return CalendarName {
+            at: s.len(),
+            name: NameAnswer::Absent,
+        };
+    }
+    names::calendar_in(out, c, s, root, words, calendars, uid)
 }
 
 // ---- what an activity is

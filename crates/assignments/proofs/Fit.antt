@@ -4,7 +4,7 @@ use native.Mathlib.Omega.{arith}
 use mathlib.Core.Path.{_≡_, refl}
 use mathlib.Core.Bool.{Bool, true, false, not}
 use mathlib.Core.List.{List, [], _∷_, _++_, map}
-use mathlib.Core.Option.{Option, some, none}
+use mathlib.Core.Option.{Option, some}
 use lib.ListN.{length, drop, length-append, length-map}
 use Rattle.definition.specs.Ascii.{bytes}
 use Rattle.definition.specs.Base.{if_then_else_, _>>=_, keep, present, some?}
@@ -24,7 +24,8 @@ use Rattle.laws.specs.FitTrees.{Small, small-element, slim-texts, holds-child, 
 use Rattle.laws.specs.FitResources.{fit-expense, fit-resource}
 use Rattle.tree.specs.Place.{elementAt}
 use Rattle.bits.specs.declared.Place.{Place}
-use Rattle.names.specs.Context.{calendarsBefore}
+use Rattle.names.specs.Context.{contextAt, calendarsBefore}
+use Rattle.names.specs.Naming.{Finds}
 use Rattle.index.specs.declared.Made.{Made}
 use Rattle.index.specs.declared.Made.the-variants.{Ready, NoRoom}
 use Rattle.index.specs.Chains.{placeOf}
@@ -113,6 +114,6 @@ fine-on {rows} x b {e} fs h xs f = by (isWork e) (f .few)
         let m : length ids ≤ 5000000 = rw length-map (omega (arith, f .most)) in
         record { fit = each-append (f .fit) (next (fit-resource slim-texts x ids h b m) empty); few = omega arith; most = f .most }
 
-pub fine-few : (c : Place) (root : Element) (p : Place) {rows : ℕ} {d : List ℕ} (e : Element) (fs : List Element) → calendarsBefore d c root p ≡ true → (xs : List Resource) → FineResources rows (e ∷ fs) xs
-    → FewResources c root p rows (e ∷ []) d xs
-fine-few c root p e fs b xs f = record { stand = b; fit = f .fit; room = omega (arith, f .few, kept-some e fs); few = omega (arith, f .most) }
+pub fine-few : (c p : Place) (s : Text) (root : Element) (k : Made) {w : List ℕ} {rows : ℕ} {d : List ℕ} (e : Element) (fs : List Element) → calendarsBefore d c root p ≡ true → Finds (contextAt d c root) s k w
+    → (xs : List Resource) → FineResources rows (e ∷ fs) xs → FewResources c p s root k w rows (e ∷ []) d xs
+fine-few c p s root k e fs b h xs f = record { stand = b; finds = h; fit = f .fit; room = omega (arith, f .few, kept-some e fs); few = omega (arith, f .most) }

@@ -34,9 +34,6 @@ module _ {B C : Type 0} (o : Option Text) {g : Bool} (e : g ≡ given o) (f : Te
   pub then-look : {t : Text} {m : Option C} → not g ≡ false → t ≡ (o or []) → m ≡ (f t >>= k) → m ≡ (o >>= f >>= k)
   then-look h z u = look-up o e (λ t. f t >>= k) h z u ∙ sym (bind-assoc o f k)
 
-  pub then-up : (m : Text → Option C) {t : Text} → not g ≡ false → t ≡ (o or []) → m t ≡ (f t >>= k) → m (o or []) ≡ (o >>= f >>= k)
-  then-up m h z u = ap m (sym z) ∙ then-look h z u
-
 -- the first of two
 pub first-given : (o p : Option Text) {g : Bool} → g ≡ given o → g ≡ true → (o or []) ≡ ((o orElse p) or [])
 first-given o p e h = by o (sym e ∙ h)

@@ -5,6 +5,7 @@ use native.Mathlib.Omega.{arith}
 use mathlib.Core.Path.{_≡_, refl, sym, ap, subst, _∙_}
 use mathlib.Core.Bool.{Bool, true, false, true≢false, _&&_, _||_, not, and-eq-true-iff}
 use mathlib.Core.List.{List, [], _∷_, _++_, map, map-append}
+use mathlib.Core.Option.{Option, some, none}
 use lib.Dec.{leb, ltb, eqb}
 use lib.IntN.{ℤ}
 use lib.ListN.{length, length-map, length-append}
@@ -29,7 +30,9 @@ use Rattle.bits.specs.Clear.{cleared}
 use Rattle.bits.specs.Places.{inside, room-fits}
 use Rattle.bits.specs.Steps.{Puts, put-same, before-in}
 use Rattle.bits.specs.declared.Place.{Place}
+use Rattle.index.specs.declared.Made.{Made}
 use Rattle.model.specs.declared.records.Kind.the-variants.{Resources}
+use Rattle.tree.specs.Place.{elementAt}
 use Rattle.text.specs.Answers.{i64Of}
 use Rattle.text.specs.declared.I64Answer.{I64Answer}
 use Rattle.pack.specs.Value.{starredBy, nameMeaning}
@@ -38,13 +41,18 @@ use Rattle.pack.specs.declared.stars.NameAnswer.{NameAnswer}
 use Rattle.pack.specs.Writes.{noRecords, WritesIf, put-any, writes-if, writes-not}
 use Rattle.pack.specs.declared.record.Records.{Records}
 use Rattle.names.specs.Texts.{textsAt}
-use Rattle.names.specs.Context.{contextAt, textWithUid, calendarsBefore}
+use Rattle.names.specs.Cleared.{below-cleared, cleared-below, below-less}
+use Rattle.names.specs.Context.{wantedName, contextAt, calendarsBefore}
 use Rattle.names.specs.Ids.{idsOf, noIds, noted, freeIn}
 use Rattle.names.specs.Kept.{step-kept, put-ends}
+use Rattle.names.specs.Named.{namedIn, calendarName, Makes}
+use Rattle.names.specs.Naming.{Finds, endNames, finds-kept, makes-finds, makes-behind, makes-below}
 use Rattle.names.specs.Noted.{ids-placed, noted-none, noted-free, noted-put, cleared-none, cleared-noted}
 use Rattle.names.specs.Records.{ResourceFields, resourceFields, plain-resources, front-resources, resources-lie, texts-resources}
 use Rattle.names.specs.Carried.{context-carried}
 use Rattle.names.specs.Short.{built-short}
+use Rattle.names.specs.declared.named.CalendarName.{CalendarName}
+use Rattle.names.specs.declared.named.CalendarTable.{CalendarTable}
 use Rattle.names.specs.declared.ids.Ids.{Ids}
 use Rattle.names.specs.declared.ids.IdsMade.{IdsMade}
 use Rattle.names.specs.declared.ids.IdsMade.the-variants.{Ready, NoRoom}
@@ -138,17 +146,22 @@ few-is m n e = by (leb m mostElements) refl
 
 -- ---- one
 
-pub resource-is : (x : Context) (r : Element) {id name unit : Text} (calendar : Text) (stars : ℕ) {kind : ℕ} {units : ℤ} (named : NameAnswer) (price : I64Answer)
-    → id ≡ wantedId r → name ≡ (textIn r "Name" or []) → kind ≡ resourceKind r → unit ≡ (textIn r "MaterialLabel" or []) → units ≡ maxUnits r
-    → nameMeaning calendar named ≡ (textIn r "CalendarUID" >>= nameOf (x .built) >>= unlessMain x) → i64Of price ≡ priceOf r
-    → resourceBy id stars name kind unit units calendar named price ≡ resourceWith x (starredBy (wantedId r) stars) r
+pub resource-is : (r : Element) {id name unit : Text} (calendar : Text) (stars : ℕ) {kind : ℕ} {units : ℤ} (named : NameAnswer) (price : I64Answer)
+    → id ≡ wantedId r → name ≡ (textIn r "Name" or []) → kind ≡ resourceKind r → unit ≡ (textIn r "MaterialLabel" or []) → units ≡ maxUnits r → i64Of price ≡ priceOf r
+    → resourceBy id stars name kind unit units calendar named price ≡ resourceWith (nameMeaning calendar named) (starredBy (wantedId r) stars) r
 unfolding resourceWith
-resource-is x r calendar stars named price a c d e f g h = rw (ap (λ (t : Text). starredBy t stars) a, c, d, e, f, g, h)
+resource-is r calendar stars named price a c d e f h = rw (ap (λ (t : Text). starredBy t stars) a, c, d, e, f, h)
 
--- with the id that is free
-resource-free : (x : Context) (ids : List Text) (r : Element) {id : Text} → id ≡ free ids (wantedId r) → resourceWith x id r ≡ resourceOf x ids r
+-- with the id that is free, and the calendar's name by the context
+resource-free : (x : Context) (ids : List Text) (r : Element) {n : Option Text} {id : Text} → n ≡ (textIn r "CalendarUID" >>= nameOf (x .built) >>= unlessMain x) → id ≡ free ids (wantedId r)
+    → resourceWith n id r ≡ resourceOf x ids r
 unfolding resourceWith resourceOf
-resource-free x ids r e = rw e
+resource-free x ids r h e = rw (h, e)
+
+-- the words say the name
+name-found : (x : Context) {s : Text} {k : Made} {w : List ℕ} → Finds x s k w → (o : Option Text) → (o >>= namedIn x s w k) ≡ (o >>= nameOf (x .built) >>= unlessMain x)
+name-found x f none = refl
+name-found x f (some u) = f .named u
 
 -- ---- one after another
 
@@ -236,12 +249,12 @@ one-room : (e : Element) (n rows : ℕ) → isWork e ≡ true → n + length (ke
 unfolding keep
 one-room e n rows t h = let k : n + 1 ≤ rows = rw t at h in omega arith
 
-module _ (c : Place) (root : Element) {start : Place} {d : List ℕ} {r : Done} {d' : List ℕ} {q : Place} {r' : Done} (a : Element) (t : isWork a ≡ true) (m : IdsMade) (w w' : List ℕ) (stars : ℕ)
+module _ (c : Place) (s : Text) (root : Element) (k : Made) {start : Place} {d : List ℕ} {r : Done} {d' : List ℕ} {q : Place} {r' : Done} (a : Element) (t : isWork a ≡ true) (m : IdsMade) (w w' : List ℕ) (stars : ℕ) {name : Option Text}
     (say : NotedIn m d start w (r .count % 2 ^ 32) → starredBy (wantedId a) stars ≡ free (textsAt Resources d start (r .count % 2 ^ 32)) (wantedId a))
-    (puts : (x : Context) → contextAt d c root ≡ x → Puts (whole resource) (resourceWith x (starredBy (wantedId a) stars) a) d (r .next) d' q)
+    (named : name ≡ (textIn a "CalendarUID" >>= namedIn (contextAt d c root) s w k)) (puts : Puts (whole resource) (resourceWith name (starredBy (wantedId a) stars) a) d (r .next) d' q)
     (notes : w' ≡ notedIn w m (r .count % 2 ^ 32) (wantedId a) stars (r .next .byte % 2 ^ 32))
     (n : (r' .count ≡ (r .count + 1) % 2 ^ 64) × (r' .next ≡ q)) where
-  module _ (rows : ℕ) (d₀ : List ℕ) (xs : List Resource) (ok : FewResources c root start rows (a ∷ []) d₀ xs) (held : HeldIn rows m start d w r) (wrote : Wrote (whole resource) true xs d₀ start d r) where
+  module _ (rows : ℕ) (d₀ : List ℕ) (xs : List Resource) (ok : FewResources c start s root k w rows (a ∷ []) d₀ xs) (held : HeldIn rows m start d w r) (wrote : Wrote (whole resource) true xs d₀ start d r) where
     few : length xs < rows
     few = one-room a (length xs) rows t (ok .room)
 
@@ -269,10 +282,12 @@ module _ (c : Place) (root : Element) {start : Place} {d : List ℕ} {r : Done} 
     put-made = by-end (inside (length d) (r .next)) refl
       where
         by-end : (i : Bool) → inside (length d) (r .next) ≡ i → Puts (whole resource) (resourceOf (contextAt d₀ c root) (namesOf xs) a) d (r .next) d' q
-        by-end false i = put-any _ i (puts (contextAt d c root) refl)
+        by-end false i = put-any _ i puts
         by-end true i =
-            put-same (resource-free (contextAt d₀ c root) (namesOf xs) a (stars-are i ∙ ap (λ (ids : List Text). free ids (wantedId a)) (texts-are i)))
-            (puts (contextAt d₀ c root) (context-carried (wrote .puts .step) c root (ok .stand)))
+            let x = contextAt d₀ c root in
+            let y : name ≡ (textIn a "CalendarUID" >>= nameOf (x .built) >>= unlessMain x) =
+            named ∙ ap (λ (x : Context). textIn a "CalendarUID" >>= namedIn x s w k) (context-carried (wrote .puts .step) c root (ok .stand)) ∙ name-found x (ok .finds) (textIn a "CalendarUID") in
+            put-same (resource-free x (namesOf xs) a y (stars-are i ∙ ap (λ (ids : List Text). free ids (wantedId a)) (texts-are i))) puts
 
     wrote-made : Wrote (whole resource) true (xs ++ (made ∷ [])) d₀ start d' r'
     wrote-made = wrote-more wrote put-made n
@@ -292,7 +307,7 @@ module _ (c : Place) (root : Element) {start : Place} {d : List ℕ} {r : Done} 
         by NoRoom h e = tt
         by (Ready i) h e = held-more h few wrote (ok .fit) put-made wrote-made f (n .1) (ok .few) (wantedId a) stars (λ i. (stars-are i, id-made i)) e
 
-  adds-work : AddsResources c start root (a ∷ []) m d w r d' w' r'
+  adds-work : AddsResources c start s root (a ∷ []) k m d w r d' w' r'
   adds-work = record {
     adds = λ rows. record { goes = λ d₀ xs ok wrote. wrote-as (after-is rows d₀ xs (ok .0) (ok .1) wrote) (wrote-made rows d₀ xs (ok .0) (ok .1) wrote) };
     holds = λ rows d₀ xs ok held wrote f. holds-made rows d₀ xs ok held wrote (subst (Each (FitsResourceBy Short)) (sym (after-is rows d₀ xs ok held wrote)) f);
@@ -300,8 +315,8 @@ module _ (c : Place) (root : Element) {start : Place} {d : List ℕ} {r : Done} 
   }
 
 -- not a work resource
-pub adds-other : (c : Place) (root : Element) {start : Place} (m : IdsMade) {d w : List ℕ} {r : Done} (a : Element) → isWork a ≡ false → AddsResources c start root (a ∷ []) m d w r d w r
-adds-other c root m a t = record {
+pub adds-other : (c : Place) (s : Text) (root : Element) {start : Place} (k : Made) (m : IdsMade) {d w : List ℕ} {r : Done} (a : Element) → isWork a ≡ false → AddsResources c start s root (a ∷ []) k m d w r d w r
+adds-other c s root k m a t = record {
   adds = λ rows. record { goes = λ d₀ xs ok wrote. wrote-as (no-work (contextAt d₀ c root) xs a t) wrote };
   holds = λ rows d₀ xs ok held wrote f. held;
   keeps = λ from h. refl;
@@ -312,21 +327,14 @@ adds-other c root m a t = record {
 stars-said : {id w : Text} (stars : ℕ) (ids : List Text) → id ≡ w → starredBy id stars ≡ free ids id → starredBy w stars ≡ free ids w
 stars-said stars ids e h = subst (λ (t : Text). starredBy t stars ≡ free ids t) e h
 
-calendar-said : {x y : Context} (a : Element) {calendar uid : Text} (named : NameAnswer) (f : Text → Text) → calendar ≡ f uid → uid ≡ (textIn a "CalendarUID" or [])
-    → nameMeaning (f (textIn a "CalendarUID" or [])) named ≡ (textIn a "CalendarUID" >>= nameOf (x .built) >>= unlessMain x) → x ≡ y
-    → nameMeaning calendar named ≡ (textIn a "CalendarUID" >>= nameOf (y .built) >>= unlessMain y)
-calendar-said a named f e u h z =
-    ap (λ (t : Text). nameMeaning t named) (e ∙ ap f u) ∙ h ∙ ap (λ (x : Context). textIn a "CalendarUID" >>= nameOf (x .built) >>= unlessMain x) z
-
 -- a work resource is put
-pub adds-said : (c : Place) (root : Element) {start : Place} {d : List ℕ} {r : Done} {d' : List ℕ} {q : Place} {r' : Done} (a : Element) → isWork a ≡ true → (m : IdsMade) (w : List ℕ) {w' : List ℕ}
+pub adds-said : (c : Place) (s : Text) (root : Element) (k : Made) {start : Place} {d : List ℕ} {r : Done} {d' : List ℕ} {q : Place} {r' : Done} (a : Element) → isWork a ≡ true → (m : IdsMade) (w : List ℕ) {w' : List ℕ}
     → {id : Text} (stars : ℕ) → id ≡ wantedId a → (NotedIn m d start w (r .count % 2 ^ 32) → starredBy id stars ≡ free (textsAt Resources d start (r .count % 2 ^ 32)) id)
-    → {calendar uid : Text} (named : NameAnswer) → calendar ≡ textWithUid root uid → uid ≡ (textIn a "CalendarUID" or [])
-    → nameMeaning (textWithUid root (textIn a "CalendarUID" or [])) named ≡ (textIn a "CalendarUID" >>= nameOf (contextAt d c root .built) >>= unlessMain (contextAt d c root))
-    → ((x : Context) → nameMeaning calendar named ≡ (textIn a "CalendarUID" >>= nameOf (x .built) >>= unlessMain x) → Puts (whole resource) (resourceWith x (starredBy (wantedId a) stars) a) d (r .next) d' q)
-    → w' ≡ notedIn w m (r .count % 2 ^ 32) id stars (r .next .byte % 2 ^ 32) → (r' .count ≡ (r .count + 1) % 2 ^ 64) × (r' .next ≡ q) → AddsResources c start root (a ∷ []) m d w r d' w' r'
-adds-said c root {start} {d} {r} a t m w {w'} stars ei es named ec eu en puts notes n =
-    adds-work c root a t m w w' stars (λ h. stars-said stars (textsAt Resources d start (r .count % 2 ^ 32)) ei (es h)) (λ x z. puts x (calendar-said a named (textWithUid root) ec eu en z))
+    → (found : CalendarName) → calendarName s found ≡ (textIn a "CalendarUID" >>= namedIn (contextAt d c root) s w k) → {calendar : Text} → calendar ≡ wantedName (elementAt s (found .at))
+    → Puts (whole resource) (resourceWith (nameMeaning calendar (found .name)) (starredBy (wantedId a) stars) a) d (r .next) d' q
+    → w' ≡ notedIn w m (r .count % 2 ^ 32) id stars (r .next .byte % 2 ^ 32) → (r' .count ≡ (r .count + 1) % 2 ^ 64) × (r' .next ≡ q) → AddsResources c start s root (a ∷ []) k m d w r d' w' r'
+adds-said c s root k {start} {d} {r} a t m w {w'} stars ei es found en ec puts notes n =
+    adds-work c s root k a t m w w' stars (λ h. stars-said stars (textsAt Resources d start (r .count % 2 ^ 32)) ei (es h)) (ap (λ (t : Text). nameMeaning t (found .name)) ec ∙ en) puts
     (notes ∙ ap (λ (u : Text). notedIn w m (r .count % 2 ^ 32) u stars (r .next .byte % 2 ^ 32)) ei) n
 
 -- ---- a loop over elements
@@ -335,41 +343,51 @@ adds-said c root {start} {d} {r} a t m w {w'} stars ei es named ec eu en puts no
 abbrev GoingOn : ℕ → Context → List Element → List Element → List ℕ → Place → List ℕ → Done → Type 0
 GoingOn rows x es fs = Going (whole resource) true (λ xs es. resourcesAfter x xs (keep isWork es)) (FineResources rows fs) es fs
 
--- in a buffer in which the calendars stand
-pub record Going-in (c : Place) (root : Element) (m : IdsMade) (es fs : List Element) (d : List ℕ) (p : Place) (w d' w' : List ℕ) (r : Done) : Type 0 where
+-- in a buffer in which the calendars stand, with words that say their names before those of the ids
+pub record Going-in (c : Place) (s : Text) (root : Element) (k : Made) (m : IdsMade) (es fs : List Element) (d : List ℕ) (p : Place) (w d' w' : List ℕ) (r : Done) : Type 0 where
   pub going : calendarsBefore d c root p ≡ true → length (keep isWork es) ≤ mostElements → HeldIn (length (keep isWork es)) m p d w (record { count = 0; next = p })
+      → Finds (contextAt d c root) s k w → Behind (endNames k) m
       → GoingOn (length (keep isWork es)) (contextAt d c root) es fs d p d' r × HeldIn (length (keep isWork es)) m p d' w' r
   pub keeps : (from : ℕ) → Behind from m → cleared from w' ≡ cleared from w
 
-module _ (c : Place) (root : Element) (m : IdsMade) {es : List Element} {d : List ℕ} {p : Place} {w : List ℕ} where
-  pub go-all : Going-in c root m es es d p w d w (record { count = 0; next = p })
-  go-all = record { going = λ b h held. (going-all (fine-all es h), held); keeps = λ from h. refl }
+module _ (c : Place) (s : Text) (root : Element) (k : Made) (m : IdsMade) {es : List Element} {d : List ℕ} {p : Place} {w : List ℕ} where
+  pub go-all : Going-in c s root k m es es d p w d w (record { count = 0; next = p })
+  go-all = record { going = λ b h held f l. (going-all (fine-all es h), held); keeps = λ from h. refl }
 
-  module _ {e : Element} {fs : List Element} {d1 w1 : List ℕ} {r1 : Done} {d2 w2 : List ℕ} {r2 : Done} (g : Going-in c root m es (e ∷ fs) d p w d1 w1 r1) (h : AddsResources c p root (e ∷ []) m d1 w1 r1 d2 w2 r2) where
-    pub go-more : {gs : List Element} → fs ≡ gs → Small root → Small e → Going-in c root m es gs d p w d2 w2 r2
+  module _ {e : Element} {fs : List Element} {d1 w1 : List ℕ} {r1 : Done} {d2 w2 : List ℕ} {r2 : Done} (g : Going-in c s root k m es (e ∷ fs) d p w d1 w1 r1) (h : AddsResources c p s root (e ∷ []) k m d1 w1 r1 d2 w2 r2) where
+    -- the words still say the names
+    finds-now : Finds (contextAt d c root) s k w → Behind (endNames k) m → Finds (contextAt d c root) s k w1
+    finds-now f l = finds-kept (below-cleared (g .keeps (endNames k) l)) f
+
+    pub go-more : {gs : List Element} → fs ≡ gs → Small root → Small e → Going-in c s root k m es gs d p w d2 w2 r2
     unfolding contextAt
-    go-more z s k = record {
-      going = λ b n held.
+    go-more z small slim = record {
+      going = λ b n held f l.
           let x = contextAt d c root in
           let rows = length (keep isWork es) in
-          let (go, now) = g .going b n held in
-          let short = built-short d c s in (
-            going-more go (h .adds rows) (λ xs f. (fine-few c root p e fs b xs f, now)) (more-resources x e fs) z
-                (λ xs f. subst (λ (l : List Element). FineResources rows l (resourcesAfter x xs (keep isWork (e ∷ [])))) z (fine-on x short fs k xs f)),
-            h .holds rows d (go .done) (fine-few c root p e fs b (go .done) (go .fine)) now (go .wrote) (fine-on x short fs k (go .done) (go .fine) .fit),
+          let (go, now) = g .going b n held f l in
+          let few : (xs : List Resource) → FineResources rows (e ∷ fs) xs → FewResources c p s root k w1 rows (e ∷ []) d xs = fine-few c p s root k e fs b (finds-now f l) in
+          let short = built-short d c small in (
+            going-more go (h .adds rows) (λ xs i. (few xs i, now)) (more-resources x e fs) z
+                (λ xs i. subst (λ (l : List Element). FineResources rows l (resourcesAfter x xs (keep isWork (e ∷ [])))) z (fine-on x short fs slim xs i)),
+            h .holds rows d (go .done) (few (go .done) (go .fine)) now (go .wrote) (fine-on x short fs slim (go .done) (go .fine) .fit),
           );
       keeps = λ from l. h .keeps from l ∙ g .keeps from l;
     }
 
-    pub go-last : fs ≡ [] → PutsResources c p root es m d w d2 w2 r2
+    pub go-last : fs ≡ [] → PutsResources c p s root es k m d w d2 w2 r2
     go-last z = record {
-      puts = λ b n held.
-          let (go, now) = g .going b n held in
-          going-last go (h .adds (length (keep isWork es))) (λ xs f. (fine-few c root p e fs b xs f, now)) (more-resources (contextAt d c root) e fs) z (no-resources (contextAt d c root));
+      puts = λ b n held f l.
+          let (go, now) = g .going b n held f l in
+          going-last go (h .adds (length (keep isWork es))) (λ xs i. (fine-few c p s root k e fs b (finds-now f l) xs i, now)) (more-resources (contextAt d c root) e fs) z (no-resources (contextAt d c root));
       keeps = λ from l. h .keeps from l ∙ g .keeps from l;
     }
 
 -- ---- the tables
+
+behind-less : {from to : ℕ} → from ≤ to → (m : IdsMade) → Behind to m → Behind from m
+behind-less k NoRoom h = tt
+behind-less k (Ready i) (a, b) = (omega arith, omega arith)
 
 pub tables-may : (bit len : ℕ) → (not (eqb bit 0) || ltb 4294967295 len) ≡ false → (bit ≡ 0) × (len < 2 ^ 32)
 tables-may bit len h = by (eqb bit 0) refl h
@@ -419,15 +437,18 @@ module _ (d : List ℕ) (c : Place) (root : Element) (p : Place) {n : ℕ} {u : 
     pub resources-none : allIn (child root (bytes "Resources")) (bytes "Resource") ≡ [] → WritesIf (Tested d c root p) (whole resource) (resources (contextAt d c root) root) d p d (record { count = 0; next = p })
     resources-none e = let x = contextAt d c root in writes-if (whole resource) holds (writes-none (all-resources x root e ∙ no-resources x []))
 
-    pub resources-all : {es : List Element} → allIn (child root (bytes "Resources")) (bytes "Resource") ≡ es → {from : ℕ} {m : IdsMade} {w w₁ w₂ d' : List ℕ} {r : Done} {a : Records}
-        → MakesIds (length d) p from n w w₁ m → PutsResources c p root es m d w₁ d' w₂ r → (a .count ≡ r .count % 2 ^ 32) × (a .next ≡ r .next)
-        → WritesIf (Tested d c root p) (whole resource) (resources (contextAt d c root) root) d p d' a × (cleared from w₂ ≡ cleared from w)
-    resources-all {es} e {from} {m} {w} {w₁} k g s =
+    pub resources-all : {es : List Element} → allIn (child root (bytes "Resources")) (bytes "Resource") ≡ es → {s : Text} {from : ℕ} {t : CalendarTable} {m : IdsMade} {w w₁ w₂ w₃ d' : List ℕ} {r : Done} {a : Records}
+        → Makes d c s root from w w₁ t → MakesIds (length d) p (t .end) n w₁ w₂ m → PutsResources c p s root es (t .table) m d w₂ d' w₃ r → (a .count ≡ r .count % 2 ^ 32) × (a .next ≡ r .next)
+        → WritesIf (Tested d c root p) (whole resource) (resources (contextAt d c root) root) d p d' a × (cleared from w₃ ≡ cleared from w)
+    resources-all {es} e {s} {from} {t} {m} {w} {w₁} {w₂} i k g o =
         let (most, stand) = and-eq-true-iff (leb (length (workResources root)) mostElements) (calendarsBefore d c root p) .0 holds in
         let z : length (workResources root) ≡ length (keep isWork es) = ap length (work-kept root ∙ ap (keep isWork) e) in
         let l : length (workResources root) ≤ mostElements = leb-true _ _ most in
         let rows : n ≡ length (keep isWork es) = omega arith in
-        let held = subst (λ (n : ℕ). HeldIn n m p d w₁ (record { count = 0; next = p })) rows (k .held d refl) in (
-          writes-if (whole resource) holds (writes (wrote-as (sym (all-resources (contextAt d c root) root e)) (g .puts stand (omega arith) held)) s),
-          g .keeps from (k .behind) ∙ k .keeps,
+        let held = subst (λ (n : ℕ). HeldIn n m p d w₂ (record { count = 0; next = p })) rows (k .held d refl) in
+        let (at, end) = makes-behind i in
+        let ids = below-cleared (k .keeps) in
+        let found = finds-kept (below-less end ids) (makes-finds i) in (
+          writes-if (whole resource) holds (writes (wrote-as (sym (all-resources (contextAt d c root) root e)) (g .puts stand (omega arith) held found (behind-less end m (k .behind)))) o),
+          g .keeps from (behind-less at m (k .behind)) ∙ cleared-below (below-less at ids) ∙ cleared-below (makes-below i),
         )

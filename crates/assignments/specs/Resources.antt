@@ -3,26 +3,27 @@ use Prim.Native.Nat.{ℕ, _+_, _^_, _≤_, _<_}
 use mathlib.Core.Path.{_≡_}
 use mathlib.Core.Bool.{Bool, true, _&&_, not}
 use mathlib.Core.List.{List, []}
+use mathlib.Core.Option.{Option}
 use lib.ListN.{length}
-use Rattle.definition.specs.Base.{_>>=_, _or_, _orElse_, keep}
+use Rattle.definition.specs.Base.{_or_, _orElse_, keep}
 use Rattle.definition.specs.Text.{Text}
 use Rattle.definition.specs.Tree.{Element}
 use Rattle.definition.specs.Field.{textIn}
 use Rattle.definition.specs.Format.{whole}
 use Rattle.definition.specs.Pack.{resource}
 use Rattle.definition.specs.Model.{Resource}
-use Rattle.definition.specs.Calendar.{nameOf}
 use Rattle.definition.specs.Refusal.{mostElements}
-use Rattle.definition.specs.Task.{Context, unlessMain}
 use Rattle.definition.specs.Resource.{isResource, isCost, resourceKind, maxUnits, priceOf, resourcesAfter}
 use Rattle.laws.specs.Each.{Each}
 use Rattle.laws.specs.FitRecords.{Short, FitsResourceBy}
 use Rattle.bits.specs.Clear.{cleared}
 use Rattle.bits.specs.Places.{inside}
 use Rattle.bits.specs.declared.Place.{Place}
+use Rattle.index.specs.declared.Made.{Made}
 use Rattle.model.specs.declared.records.Kind.the-variants.{Resources}
 use Rattle.names.specs.Context.{contextAt, calendarsBefore}
 use Rattle.names.specs.Ids.{noted}
+use Rattle.names.specs.Naming.{Finds, endNames}
 use Rattle.names.specs.Noted.{Noted}
 use Rattle.names.specs.declared.ids.Ids.{Ids}
 use Rattle.names.specs.declared.ids.IdsMade.{IdsMade}
@@ -36,15 +37,15 @@ isWork e = isResource e && not (isCost e)
 abbrev pub wantedId : Element → Text
 wantedId r = (textIn r "ID" orElse textIn r "UID") or []
 
--- what an element says, with an id
-unfoldable pub resourceWith : Context → Text → Element → Resource
-resourceWith x id r = record {
+-- what an element says, with an id and a calendar's name
+unfoldable pub resourceWith : Option Text → Text → Element → Resource
+resourceWith calendar id r = record {
   id = id;
   name = textIn r "Name" or [];
   kind = resourceKind r;
   unit = textIn r "MaterialLabel" or [];
   maxUnits = maxUnits r;
-  calendar = textIn r "CalendarUID" >>= nameOf (x .built) >>= unlessMain x;
+  calendar = calendar;
   price = priceOf r;
 }
 
@@ -82,20 +83,21 @@ pub record MakesIds (len : ℕ) (p : Place) (from rows : ℕ) (w w' : List ℕ) 
 
 -- ---- resources one after another
 
--- the calendars stand before a place, and those so far with those of some elements are no more than the rows
-pub record FewResources (c : Place) (root : Element) (p : Place) (rows : ℕ) (es : List Element) (d₀ : List ℕ) (xs : List Resource) : Type 0 where
+-- the calendars stand before a place, the words say their names, and those so far with those of some elements are no more than the rows
+pub record FewResources (c p : Place) (s : Text) (root : Element) (k : Made) (w : List ℕ) (rows : ℕ) (es : List Element) (d₀ : List ℕ) (xs : List Resource) : Type 0 where
   pub stand : calendarsBefore d₀ c root p ≡ true
+  pub finds : Finds (contextAt d₀ c root) s k w
   pub fit : Each (FitsResourceBy Short) xs
   pub room : length xs + length (keep isWork es) ≤ rows
   pub few : rows < 2 ^ 32
 
-pub record AddsResources (c p : Place) (root : Element) (es : List Element) (m : IdsMade) (d w : List ℕ) (r : Done) (d' w' : List ℕ) (r' : Done) : Type 0 where
-  pub adds : (rows : ℕ) → Goes (whole resource) true p (λ d₀ xs. FewResources c root p rows es d₀ xs × HeldIn rows m p d w r) (λ d₀ xs. resourcesAfter (contextAt d₀ c root) xs (keep isWork es)) d r d' r'
-  pub holds : (rows : ℕ) (d₀ : List ℕ) (xs : List Resource) → FewResources c root p rows es d₀ xs → HeldIn rows m p d w r → Wrote (whole resource) true xs d₀ p d r
+pub record AddsResources (c p : Place) (s : Text) (root : Element) (es : List Element) (k : Made) (m : IdsMade) (d w : List ℕ) (r : Done) (d' w' : List ℕ) (r' : Done) : Type 0 where
+  pub adds : (rows : ℕ) → Goes (whole resource) true p (λ d₀ xs. FewResources c p s root k w rows es d₀ xs × HeldIn rows m p d w r) (λ d₀ xs. resourcesAfter (contextAt d₀ c root) xs (keep isWork es)) d r d' r'
+  pub holds : (rows : ℕ) (d₀ : List ℕ) (xs : List Resource) → FewResources c p s root k w rows es d₀ xs → HeldIn rows m p d w r → Wrote (whole resource) true xs d₀ p d r
       → Each (FitsResourceBy Short) (resourcesAfter (contextAt d₀ c root) xs (keep isWork es)) → HeldIn rows m p d' w' r'
   pub keeps : (from : ℕ) → Behind from m → cleared from w' ≡ cleared from w
 
-pub record PutsResources (c p : Place) (root : Element) (es : List Element) (m : IdsMade) (d w d' w' : List ℕ) (r : Done) : Type 0 where
+pub record PutsResources (c p : Place) (s : Text) (root : Element) (es : List Element) (k : Made) (m : IdsMade) (d w d' w' : List ℕ) (r : Done) : Type 0 where
   pub puts : calendarsBefore d c root p ≡ true → length (keep isWork es) ≤ mostElements → HeldIn (length (keep isWork es)) m p d w (record { count = 0; next = p })
-      → Wrote (whole resource) true (resourcesAfter (contextAt d c root) [] (keep isWork es)) d p d' r
+      → Finds (contextAt d c root) s k w → Behind (endNames k) m → Wrote (whole resource) true (resourcesAfter (contextAt d c root) [] (keep isWork es)) d p d' r
   pub keeps : (from : ℕ) → Behind from m → cleared from w' ≡ cleared from w

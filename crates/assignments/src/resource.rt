@@ -1,6 +1,6 @@
 // The work resources. What is right is said in the crate definition, specs/Resource.antt.
 ghost use mathlib.Core.Path.{_≡_};
-ghost use mathlib.Core.Bool.{_&&_, not};
+ghost use mathlib.Core.Bool.{_&&_};
 ghost use mathlib.Core.List.{[], _∷_};
 ghost use Prim.Native.Nat.{suc, _%_, _^_, min};
 ghost use lib.Dec.{leb};
@@ -10,9 +10,8 @@ ghost use Rattle.definition.specs.Base.{if_then_else_, _>>=_ as bind, _or_, kee
 ghost use Rattle.definition.specs.Field.{textIn};
 ghost use Rattle.definition.specs.Format.{whole};
 ghost use Rattle.definition.specs.Pack.{resource};
-ghost use Rattle.definition.specs.Calendar.{nameOf, free};
+ghost use Rattle.definition.specs.Calendar.{free};
 ghost use Rattle.definition.specs.Refusal.{mostElements};
-ghost use Rattle.definition.specs.Task.{Context, unlessMain};
 ghost use Rattle.definition.specs.Resource.{workResources, resources as resourcesOf};
 ghost use Rattle.bits.specs.Clear.{cleared};
 ghost use Rattle.bits.specs.Steps.{Puts};
@@ -21,14 +20,17 @@ ghost use Rattle.model.specs.declared.records.Kind.the-variants.{Resources};
 ghost use Rattle.pack.specs.Value.{starredBy, nameMeaning};
 ghost use Rattle.pack.specs.Writes.{WritesIf};
 ghost use Rattle.names.specs.Texts.{textsAt};
-ghost use Rattle.names.specs.Context.{contextAt, textWithUid, calendarsBefore};
+ghost use Rattle.names.specs.Context.{contextAt, calendarsBefore};
+ghost use Rattle.names.specs.Named.{namedIn, calendarName};
 ghost use Rattle.assignments.specs.Resources.{isWork, wantedId, resourceWith, NotedIn, notedIn, MakesIds, AddsResources, PutsResources};
 use crate::section::Done;
 use crate::section::more;
 use crate::section::records_of;
 use bits::PAST;
 use bits::Place;
+use index::Made;
 use model::records::Kind;
+use names::CalendarName;
 use names::IdsMade;
 use pack::NameAnswer;
 use pack::Records;
@@ -87,14 +89,26 @@ fn wanted_id<'a>(s: &'a [u8], at: usize) -> &'a [u8]
     }
 }
 
-// Its calendar's name, beside the text of that UID, unless it is the main one's.
-fn calendar_of(out: &[u8], c: Place, s: &[u8], root: usize, at: usize) -> NameAnswer
-    ensures { λ r. ⌜ nameMeaning (textWithUid (elementAt (now (s .entry)) root) (textIn (elementAt (now (s .entry)) at) "CalendarUID" or [])) r ≡ bind (bind (textIn (elementAt (now (s .entry)) at) "CalendarUID") (nameOf (contextAt (now (out .entry)) c (elementAt (now (s .entry)) root) .built))) (unlessMain (contextAt (now (out .entry)) c (elementAt (now (s .entry)) root))) ⌝ }
+// Its calendar's name, unless it is the main one's.
+fn calendar_of(
+    out: &[u8],
+    c: Place,
+    s: &[u8],
+    root: usize,
+    at: usize,
+    words: &[u32],
+    calendars: Made,
+) -> CalendarName
+    ensures { λ r. ⌜ calendarName (now (s .entry)) r ≡ bind (textIn (elementAt (now (s .entry)) at) "CalendarUID") (namedIn (contextAt (now (out .entry)) c (elementAt (now (s .entry)) root)) (now (s .entry)) (now (words .entry)) calendars) ⌝ }
 {
     if !fields::given(s, at, b"CalendarUID") {
-        return NameAnswer::Absent;
+        return CalendarName {
+            at: s.len(),
+            name: NameAnswer::Absent,
+        };
     }
-    names::calendar_named(out, c, s, root, tree::text_of(s, at, b"CalendarUID"))
+    let uid = tree::text_of(s, at, b"CalendarUID");
+    names::calendar_in(out, c, s, root, words, calendars, uid)
 }
 
 // ---- which ids are taken
@@ -147,7 +161,7 @@ fn put_said(
     calendar: &[u8],
     named: NameAnswer,
 ) -> Place
-    ensures { λ r. ⌜ ((x : Context) → nameMeaning (now (calendar .entry)) named ≡ bind (bind (textIn (elementAt (now (s .entry)) at) "CalendarUID") (nameOf (x .built))) (unlessMain x) → Puts (whole resource) (resourceWith x (starredBy (wantedId (elementAt (now (s .entry)) at)) stars) (elementAt (now (s .entry)) at)) (now (out .entry)) p (now (out .exit)) r) ⌝ }
+    ensures { λ r. ⌜ Puts (whole resource) (resourceWith (nameMeaning (now (calendar .entry)) named) (starredBy (wantedId (elementAt (now (s .entry)) at)) stars) (elementAt (now (s .entry)) at)) (now (out .entry)) p (now (out .exit)) r ⌝ }
 {
     let id = wanted_id(s, at);
     let name = tree::text_of(s, at, b"Name");
@@ -180,22 +194,23 @@ fn put_one(
     at: usize,
     c: Place,
     words: &mut [u32],
-    made: IdsMade,
+    calendars: Made,
+    ids: IdsMade,
 ) -> Done
-    ensures { λ r. ⌜ AddsResources c start (elementAt (now (s .entry)) root) (elementAt (now (s .entry)) at ∷ []) made (now (out .entry)) (now (words .entry)) done (now (out .exit)) (now (words .exit)) r ⌝ }
+    ensures { λ r. ⌜ AddsResources c start (now (s .entry)) (elementAt (now (s .entry)) root) (elementAt (now (s .entry)) at ∷ []) calendars ids (now (out .entry)) (now (words .entry)) done (now (out .exit)) (now (words .exit)) r ⌝ }
 {
     if !is_work(s, at) {
         return done;
     }
     let id = wanted_id(s, at);
     let count = (done.count % 4294967296) as u32;
-    let stars = stars_for(out, start, count, id, words, made);
-    let uid = tree::text_of(s, at, b"CalendarUID");
-    let calendar = names::calendar_text(s, root, uid, b"Calendar");
-    let named = calendar_of(out, c, s, root, at);
+    let stars = stars_for(out, start, count, id, words, ids);
+    let found = calendar_of(out, c, s, root, at, words, calendars);
+    let calendar = names::wanted_name(s, found.at, b"Calendar");
+    let named = found.name;
     let p = done.next;
     let next = put_said(out, p, s, at, stars, calendar, named);
-    note(words, made, count, id, stars, p);
+    note(words, ids, count, id, stars, p);
     more(done, next)
 }
 
@@ -208,14 +223,15 @@ fn put_from(
     first: usize,
     c: Place,
     words: &mut [u32],
-    made: IdsMade,
+    calendars: Made,
+    ids: IdsMade,
 ) -> Done
-    ensures { λ r. ⌜ PutsResources c p (elementAt (now (s .entry)) root) (elementAt (now (s .entry)) first ∷ laterAt (now (s .entry)) (bytes "Resource") first) made (now (out .entry)) (now (words .entry)) (now (out .exit)) (now (words .exit)) r ⌝ }
+    ensures { λ r. ⌜ PutsResources c p (now (s .entry)) (elementAt (now (s .entry)) root) (elementAt (now (s .entry)) first ∷ laterAt (now (s .entry)) (bytes "Resource") first) calendars ids (now (out .entry)) (now (words .entry)) (now (out .exit)) (now (words .exit)) r ⌝ }
 {
     let mut done = Done { count: 0, next: p };
     let mut at = first;
     loop {
-        done = put_one(out, p, done, s, root, at, c, words, made);
+        done = put_one(out, p, done, s, root, at, c, words, calendars, ids);
         let Found::At(next) = tree::next_child(s, at, b"Resource") else {
             return done;
         };
@@ -223,7 +239,7 @@ fn put_from(
     }
 }
 
-// All of them, with the ids in the words from a place on.
+// All of them, with the calendars and the ids in the words from a place on.
 fn put_all(
     out: &mut [u8],
     p: Place,
@@ -245,8 +261,11 @@ fn put_all(
     match rows::first_in(s, root, b"Resources", b"Resource") {
         Found::Nothing => Records { count: 0, next: p },
         Found::At(first) => {
-            let made = ids_for(out.len(), p, words, at, count);
-            records_of(put_from(out, p, s, root, first, c, words, made))
+            let calendars = names::index_calendars(out, c, s, root, words, at);
+            let table = calendars.table;
+            let ids = ids_for(out.len(), p, words, calendars.end, count);
+            let done = put_from(out, p, s, root, first, c, words, table, ids);
+            records_of(done)
         }
     }
 }

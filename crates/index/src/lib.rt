@@ -122,7 +122,7 @@ pub fn hash_of(s: &[u8]) -> u32
     hash_starred(s, 0)
 }
 
-fn word(words: &[u32], from: usize, i: usize) -> u32
+pub fn word(words: &[u32], from: usize, i: usize) -> u32
     ensures { λ r. ⌜ r ≡ getD (now (words .entry)) (from + i) 0 ⌝ }
 {
     let n = words.len();
@@ -135,7 +135,7 @@ fn word(words: &[u32], from: usize, i: usize) -> u32
     words[from + i]
 }
 
-fn set_word(words: &mut [u32], from: usize, i: usize, value: u32)
+pub fn set_word(words: &mut [u32], from: usize, i: usize, value: u32)
     ensures { λ _. ⌜ now (words .exit) ≡ set (now (words .entry)) (from + i) value ⌝ }
 {
     let n = words.len();

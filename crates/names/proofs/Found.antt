@@ -1,20 +1,19 @@
 -- The calendars of a tree and the names by which they are found. Assumes nothing.
 use mathlib.Core.Path.{_≡_, refl, sym, ap, _∙_}
 use mathlib.Core.Bool.{Bool, true, false, _&&_}
-use mathlib.Core.List.{List, [], _∷_, map}
+use mathlib.Core.List.{List, [], _∷_}
 use mathlib.Core.Option.{Option, some, none}
 use Prim.Native.Nat.{ℕ, _+_, _*_, _-_, _/_, _^_, _≤_, _<_}
 use native.Mathlib.Omega.{arith}
 use lib.Dec.{leb, ltb}
 use lib.ListN.{length}
 use borrow.Author.Tests.{lt-ltb, le-ltb, le-leb, lt-leb, ltb-true, leb-true, leb-false, eq-eqb, ne-eqb}
-use Rattle.definition.specs.Base.{if_then_else_, _>>=_, _or_, _orElse_, keep, first, find, numbered, same}
+use Rattle.definition.specs.Base.{_>>=_, _or_, same}
 use Rattle.definition.specs.Ascii.{bytes}
 use Rattle.definition.specs.Text.{Text, trim}
 use Rattle.definition.specs.Tree.{Element, all, child, nonEmpty, textOf}
-use Rattle.definition.specs.Field.{textIn}
 use Rattle.definition.specs.Model.{Calendar}
-use Rattle.definition.specs.Calendar.{Named, plainCalendar, defaultCalendar, mainCalendar, withUid, nameOf, calendarElements}
+use Rattle.definition.specs.Calendar.{calendarElements}
 use Rattle.definition.specs.Refusal.{mostElements}
 use Rattle.definition.specs.Task.{unlessMain}
 use Rattle.bits.specs.Places.{at, upTo}
@@ -23,16 +22,16 @@ use Rattle.model.specs.declared.records.Kind.the-variants.{Calendars}
 use Rattle.pack.specs.Value.{starredBy, nameMeaning}
 use Rattle.pack.specs.declared.stars.NameAnswer.{NameAnswer}
 use Rattle.pack.specs.declared.stars.NameAnswer.the-variants as name
-use Rattle.rows.specs.Rows.{inOrder, withUidIn, mainIn, calendarMeaning}
+use Rattle.rows.specs.Rows.{calendarMeaning}
 use Rattle.rows.specs.declared.CalendarAnswer.{CalendarAnswer}
 use Rattle.rows.specs.declared.CalendarAnswer.the-variants.{Is, Absent}
 use Rattle.tree.specs.Place.{elementAt}
 use Rattle.model.specs.Answers.{readAt}
 use Rattle.model.specs.Parts.{raw}
-use Rattle.names.specs.Texts.{placeOfRow, textAt}
+use Rattle.names.specs.Texts.{placeOfRow}
 use Rattle.names.specs.Turned.{order-length}
 use Rattle.names.specs.Seen.{row-text, raw-length}
-use Rattle.names.specs.Context.{mainRow, sectionRow, wantedName, starsIn, nameIn, builtAt, contextAt, textWithUid, calendarsBefore}
+use Rattle.names.specs.Context.{mainRow, sectionRow, wantedName, starsBy, starsIn, nameIn, contextAt, calendarsBefore}
 
 -- ---- what a look-up answered
 
@@ -77,96 +76,24 @@ module _ (e : Element) (n other : Text) {t : Text} (h : t ≡ (textOf e n or [])
       by-text none k = absurd (z (ap length k))
       by-text (some s) k = k
 
-module _ (f : ℕ × Element → Named) where
-  first-map : (l : List (ℕ × Element)) → first (map f l) ≡ (first l >>= λ x. some (f x))
-  unfolding first
-  first-map [] = refl
-  first-map (x ∷ l) = refl
+-- how many `*` a name has, by its length and that of the wanted name
+module _ (d : List ℕ) (p : Place) (e : Element) {t w : Text} (ht : t ≡ (readAt raw d p .0 or [])) (hw : w ≡ wantedName e) where
+  pub stars-is : length t - length w ≡ starsBy (readAt raw d p .0 or []) e
+  stars-is = ap (λ (x : Text). length x - length w) ht ∙ ap (λ (x : Text). length (readAt raw d p .0 or []) - length x) hw
 
-  find-map : (p : Named → Bool) (l : List (ℕ × Element)) → find p (map f l) ≡ (find (λ x. p (f x)) l >>= λ x. some (f x))
-  unfolding keep first
-  find-map p [] = first-map []
-  find-map p (x ∷ l) = by-test (p (f x)) (keep p (map f l)) (keep (λ x. p (f x)) l) (find-map p l)
-    where
-      by-test : (t : Bool) (a : List Named) (b : List (ℕ × Element)) → first a ≡ (first b >>= λ x. some (f x)) → first (if t then f x ∷ a else a) ≡ (first (if t then x ∷ b else b) >>= λ x. some (f x))
-      by-test true a b e = refl
-      by-test false a b e = e
+  pub stars-none : length t < length w → 0 ≡ starsBy (readAt raw d p .0 or []) e
+  stars-none h = let z : 0 ≡ length t - length w = omega arith in z ∙ stars-is
+
+  pub stars-fit : length t - length w < 2 ^ 32
+  stars-fit = let z : length t < 2 ^ 32 = rw ht (raw-length d p) in omega arith
 
 module _ (d : List ℕ) (c : Place) (root : Element) where
-  abbrev entry : ℕ × Element → Named
-  entry x = (textIn (x .1) "UID" or [], plainCalendar (nameIn d c root x) [] [])
-
-  with-uid : (u : Text) → withUid u (builtAt d c root) ≡ (withUidIn root u >>= λ x. some (entry x .1))
-  unfolding builtAt
-  with-uid u = ap (λ (o : Option Named). o >>= λ x. some (x .1)) (find-map entry (λ (x : Named). same (x .0) u) (numbered 0 (inOrder root))) ∙ by-found (withUidIn root u)
-    where
-      by-found : (o : Option (ℕ × Element)) → (o >>= (λ x. some (entry x)) >>= λ x. some (x .1)) ≡ (o >>= λ x. some (entry x .1))
-      by-found none = refl
-      by-found (some x) = refl
-
-  first-entry : (first (builtAt d c root) >>= λ x. some (x .1)) ≡ (first (numbered 0 (inOrder root)) >>= λ x. some (entry x .1))
-  unfolding builtAt
-  first-entry = ap (λ (o : Option Named). o >>= λ x. some (x .1)) (first-map entry (numbered 0 (inOrder root))) ∙ by-found (first (numbered 0 (inOrder root)))
-    where
-      by-found : (o : Option (ℕ × Element)) → (o >>= (λ x. some (entry x)) >>= λ x. some (x .1)) ≡ (o >>= λ x. some (entry x .1))
-      by-found none = refl
-      by-found (some x) = refl
-
-  -- the name of a UID
-  pub name-with : (u : Text) → nameOf (builtAt d c root) u ≡ (withUidIn root u >>= λ x. some (nameIn d c root x))
-  name-with u = ap (λ (o : Option Calendar). o >>= λ x. some (x .name)) (with-uid u) ∙ by-found (withUidIn root u)
-    where
-      by-found : (o : Option (ℕ × Element)) → (o >>= (λ x. some (entry x .1)) >>= λ x. some (x .name)) ≡ (o >>= λ x. some (nameIn d c root x))
-      by-found none = refl
-      by-found (some x) = refl
-
-  main-is : ((textIn root "CalendarUID" >>= λ u. withUid u (builtAt d c root)) orElse (first (builtAt d c root) >>= λ x. some (x .1))) ≡ (mainIn root >>= λ x. some (entry x .1))
-  unfolding mainIn
-  main-is = by-uid (textIn root "CalendarUID")
-    where
-      by-found : (o : Option (ℕ × Element)) → (o >>= (λ x. some (entry x .1))) orElse (first (builtAt d c root) >>= λ x. some (x .1)) ≡ ((o orElse first (numbered 0 (inOrder root))) >>= λ x. some (entry x .1))
-      by-found none = first-entry
-      by-found (some x) = refl
-
-      by-uid : (o : Option Text) → ((o >>= λ u. withUid u (builtAt d c root)) orElse (first (builtAt d c root) >>= λ x. some (x .1))) ≡ (((o >>= withUidIn root) orElse first (numbered 0 (inOrder root))) >>= λ x. some (entry x .1))
-      by-uid none = first-entry
-      by-uid (some u) = ap (λ (o : Option Calendar). o orElse (first (builtAt d c root) >>= λ x. some (x .1))) (with-uid u) ∙ by-found (withUidIn root u)
-
-  main-calendar : mainCalendar root (builtAt d c root) ≡ ((mainIn root >>= λ x. some (entry x .1)) or defaultCalendar)
-  unfolding mainCalendar
-  main-calendar = ap (λ (o : Option Calendar). o or defaultCalendar) main-is
-
-  -- the main one's name
-  pub main-there : (x : ℕ × Element) → mainIn root ≡ some x → contextAt d c root .main .name ≡ nameIn d c root x
-  unfolding contextAt
-  main-there x h =
-      let z : mainCalendar root (builtAt d c root) ≡ entry x .1 = main-calendar ∙ ap (λ (o : Option (ℕ × Element)). (o >>= λ x. some (entry x .1)) or defaultCalendar) h in
-      ap (λ (y : Calendar). y .name) z
-
-  pub main-absent : mainIn root ≡ none → contextAt d c root .main .name ≡ bytes "Standard"
-  unfolding contextAt defaultCalendar
-  main-absent h =
-      let z : mainCalendar root (builtAt d c root) ≡ defaultCalendar = main-calendar ∙ ap (λ (o : Option (ℕ × Element)). (o >>= λ x. some (entry x .1)) or defaultCalendar) h in
-      ap (λ (y : Calendar). y .name) z
-
   -- ---- what the functions answer
-
-  -- the name of a UID, beside its text
-  pub named-there : (u : Text) (row : ℕ) (e : Element) (r : NameAnswer) → withUidIn root u ≡ some (row, e)
-      → nameMeaning (wantedName e) r ≡ unlessMain (contextAt d c root) (starredBy (wantedName e) (starsIn d c root row e))
-      → nameMeaning (textWithUid root u) r ≡ (nameOf (builtAt d c root) u >>= unlessMain (contextAt d c root))
-  named-there u row e r h k =
-      ap (λ (o : Option (ℕ × Element)). nameMeaning ((o >>= λ x. some (wantedName (x .1))) or []) r) h ∙ k
-      ∙ sym (ap (λ (o : Option Text). o >>= unlessMain (contextAt d c root)) (name-with u ∙ ap (λ (o : Option (ℕ × Element)). o >>= λ x. some (nameIn d c root x)) h))
 
   -- the text beside it and its `*`, as they were found
   pub beside : (row : ℕ) (e : Element) {t : Text} {k : ℕ} (r : NameAnswer) → t ≡ wantedName e → k ≡ starsIn d c root row e → nameMeaning t r ≡ unlessMain (contextAt d c root) (starredBy t k)
       → nameMeaning (wantedName e) r ≡ unlessMain (contextAt d c root) (starredBy (wantedName e) (starsIn d c root row e))
   beside row e {t} {k} r h i x = ap (λ (t : Text). nameMeaning t r) (sym h) ∙ x ∙ ap (λ (t : Text). unlessMain (contextAt d c root) (starredBy t k)) h ∙ ap (λ (k : ℕ). unlessMain (contextAt d c root) (starredBy (wantedName e) k)) i
-
-  pub named-absent : (u : Text) → withUidIn root u ≡ none → nameMeaning (textWithUid root u) name.Absent ≡ (nameOf (builtAt d c root) u >>= unlessMain (contextAt d c root))
-  unfolding nameMeaning
-  named-absent u h = sym (ap (λ (o : Option Text). o >>= unlessMain (contextAt d c root)) (name-with u ∙ ap (λ (o : Option (ℕ × Element)). o >>= λ x. some (nameIn d c root x)) h))
 
   pub unless-is : (t : Text) (k : ℕ) → same (starredBy t k) (contextAt d c root .main .name) ≡ true → nameMeaning t name.Absent ≡ unlessMain (contextAt d c root) (starredBy t k)
   unfolding nameMeaning
@@ -180,18 +107,12 @@ module _ (d : List ℕ) (c : Place) (root : Element) where
     pub main-same : (t : Text) {k : ℕ} → k ≡ starsIn d c root row e → same t (starredBy w k) ≡ same t (nameIn d c root (row, e))
     main-same t {k} h = ap (λ (x : Text). same t (starredBy x k)) hw ∙ ap (λ (k : ℕ). same t (starredBy (wantedName e) k)) h
 
-    module _ {m k : ℕ} {q : Place} {t : Text} (hm : m ≡ mainRow root) (hk : k ≡ sectionRow m row) (hq : q ≡ placeOfRow Calendars d c k) (ht : t ≡ (readAt raw d q .0 or [])) where
-      pub stars-is : length t - length w ≡ starsIn d c root row e
-      stars-is =
-          let r : k ≡ sectionRow (mainRow root) row = hk ∙ ap (λ (m : ℕ). sectionRow m row) hm in
-          let z : t ≡ textAt Calendars d c (sectionRow (mainRow root) row) = row-text Calendars (sectionRow (mainRow root) row) d c (hq ∙ ap (placeOfRow Calendars d c) r) ht in
-          ap (λ (x : Text). length x - length w) z ∙ ap (λ (x : Text). length (textAt Calendars d c (sectionRow (mainRow root) row)) - length x) hw
-
-      pub stars-none : length t < length w → 0 ≡ starsIn d c root row e
-      stars-none h = let z : 0 ≡ length t - length w = omega arith in z ∙ stars-is
-
-      pub stars-fit : length t - length w < 2 ^ 32
-      stars-fit = let z : length t < 2 ^ 32 = rw ht (raw-length d q) in omega arith
+  -- the row's record, and how many `*` its name has
+  pub stars-row : (row : ℕ) (e : Element) {m k : ℕ} {q : Place} {n : ℕ} → m ≡ mainRow root → k ≡ sectionRow m row → q ≡ placeOfRow Calendars d c k → n ≡ starsBy (readAt raw d q .0 or []) e
+      → n ≡ starsIn d c root row e
+  stars-row row e {m} {k} {q} hm hk hq h =
+      let r : k ≡ sectionRow (mainRow root) row = hk ∙ ap (λ (m : ℕ). sectionRow m row) hm in
+      h ∙ ap (λ (t : Text). starsBy t e) (row-text Calendars (sectionRow (mainRow root) row) d c (hq ∙ ap (placeOfRow Calendars d c) r) refl)
 
   pub too-many : (p : Place) → mostElements < length (calendarElements root) → false ≡ calendarsBefore d c root p
   unfolding calendarsBefore

@@ -19,7 +19,7 @@ use Rattle.bits.specs.Places.{upTo}
 use Rattle.bits.specs.declared.Place.{Place}
 use Rattle.model.specs.declared.records.Kind.the-variants.{Calendars}
 use Rattle.pack.specs.Value.{starredBy}
-use Rattle.rows.specs.Rows.{inOrder, mainIn, withUidIn}
+use Rattle.rows.specs.Rows.{inOrder, mainIn}
 use Rattle.names.specs.Texts.{placeOfRow, textAt}
 
 -- the row of the main calendar among those in the order in which they are built
@@ -37,9 +37,12 @@ wantedBy unnamed e = textIn e "Name" or unnamed
 abbrev pub wantedName : Element → Text
 wantedName = wantedBy (bytes "Calendar")
 
--- how many `*` the name of a row's calendar has
+-- how many `*` the name of a calendar has; that of a row's calendar
+abbrev pub starsBy : Text → Element → ℕ
+starsBy name e = length name - length (wantedName e)
+
 abbrev pub starsIn : List ℕ → Place → Element → ℕ → Element → ℕ
-starsIn d c root row e = length (textAt Calendars d c (sectionRow (mainRow root) row)) - length (wantedName e)
+starsIn d c root row e = starsBy (textAt Calendars d c (sectionRow (mainRow root) row)) e
 
 abbrev pub nameIn : List ℕ → Place → Element → ℕ × Element → Text
 nameIn d c root x = starredBy (wantedName (x .1)) (starsIn d c root (x .0) (x .1))
@@ -50,13 +53,6 @@ builtAt d c root = map (λ (x : ℕ × Element). (textIn (x .1) "UID" or [], pla
 unfoldable pub contextAt : List ℕ → Place → Element → Context
 contextAt d c root =
     record { perDay = perDayOf root; built = builtAt d c root; main = mainCalendar root (builtAt d c root); tasks = keptTasks root }
-
--- the wanted name of the first calendar with a UID, no text where there is none
-abbrev pub textWithUidBy : Text → Element → Text → Text
-textWithUidBy unnamed root u = (withUidIn root u >>= λ x. some (wantedBy unnamed (x .1))) or []
-
-abbrev pub textWithUid : Element → Text → Text
-textWithUid = textWithUidBy (bytes "Calendar")
 
 -- all calendars are read before a place, and there are no more than 5,000,000
 unfoldable pub calendarsBefore : List ℕ → Place → Element → Place → Bool

@@ -10,3 +10,7 @@ pub mod Short
 pub mod Carried
 pub mod Agree
 pub mod Turned
+pub mod ByUid
+pub mod Named
+pub mod Naming
+pub mod Cleared

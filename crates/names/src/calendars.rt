@@ -1,16 +1,18 @@
 // The calendars of a tree, and their names as they stand in the buffer.
 ghost use mathlib.Core.Path.{_≡_};
-ghost use mathlib.Core.List.{_∷_};
+ghost use mathlib.Core.List.{[], _∷_};
 ghost use lib.ListN.{length};
-ghost use Rattle.definition.specs.Base.{_>>=_ as bind, same};
+ghost use Rattle.definition.specs.Base.{_or_, same};
 ghost use Rattle.definition.specs.Ascii.{bytes};
 ghost use Rattle.definition.specs.Tree.{all};
-ghost use Rattle.definition.specs.Calendar.{calendarElements, nameOf, elapsedName};
+ghost use Rattle.definition.specs.Calendar.{calendarElements, elapsedName};
 ghost use Rattle.definition.specs.Task.{unlessMain};
 ghost use Rattle.bits.specs.Places.{upTo};
+ghost use Rattle.model.specs.Answers.{readAt};
+ghost use Rattle.model.specs.Parts.{raw};
 ghost use Rattle.tree.specs.Place.{elementAt, laterAt};
 ghost use Rattle.pack.specs.Value.{starredBy, nameMeaning};
-ghost use Rattle.names.specs.Context.{mainRow, sectionRow, wantedBy, starsIn, builtAt, contextAt, textWithUidBy, textWithUid, calendarsBefore};
+ghost use Rattle.names.specs.Context.{mainRow, sectionRow, wantedBy, starsBy, starsIn, contextAt, calendarsBefore};
 use crate::records::place_of_row;
 use crate::records::raw_text;
 use crate::stars::same_starred;
@@ -97,16 +99,6 @@ pub fn wanted_name<'a>(s: &'a [u8], at: usize, unnamed: &'a [u8]) -> &'a [u8]
     n
 }
 
-// The wanted name of the calendar with a UID, no text where there is none.
-pub fn calendar_text<'a>(s: &'a [u8], root: usize, uid: &[u8], unnamed: &'a [u8]) -> &'a [u8]
-    ensures { λ r. ⌜ now r ≡ textWithUidBy (now (unnamed .entry)) (elementAt (now (s .entry)) root) (now (uid .entry)) ⌝ }
-{
-    match rows::calendar_with(s, root, uid) {
-        CalendarAnswer::Is(_, at) => wanted_name(s, at, unnamed),
-        CalendarAnswer::Absent => &s[0..0],
-    }
-}
-
 // The row of the main calendar among those in the order in which they are built.
 fn main_row(s: &[u8], root: usize) -> usize
     ensures { λ r. ⌜ r ≡ mainRow (elementAt (now (s .entry)) root) ⌝ }
@@ -129,18 +121,25 @@ fn section_row(main: usize, row: usize) -> usize
     row
 }
 
-// How many `*` the name of the calendar of a row has in the buffer behind its wanted name.
-fn stars_of(out: &[u8], c: Place, s: &[u8], root: usize, row: usize, at: usize) -> u32
-    ensures { λ r. ⌜ r ≡ starsIn (now (out .entry)) c (elementAt (now (s .entry)) root) row (elementAt (now (s .entry)) at) ⌝ }
+// How many `*` the name of the calendar at `at` has behind its wanted name; its record in the buffer stands at p.
+pub(crate) fn stars_at(out: &[u8], p: Place, s: &[u8], at: usize) -> u32
+    ensures { λ r. ⌜ r ≡ starsBy (readAt raw (now (out .entry)) p .0 or []) (elementAt (now (s .entry)) at) ⌝ }
 {
-    let k = section_row(main_row(s, root), row);
-    let p = place_of_row(out, c, Kind::Calendars, k);
     let long = raw_text(out, p).len();
     let short = wanted_name(s, at, b"Calendar").len();
     if long < short {
         return 0;
     }
     (long - short) as u32
+}
+
+// That of the calendar of a row.
+pub(crate) fn stars_of(out: &[u8], c: Place, s: &[u8], root: usize, row: usize, at: usize) -> u32
+    ensures { λ r. ⌜ r ≡ starsIn (now (out .entry)) c (elementAt (now (s .entry)) root) row (elementAt (now (s .entry)) at) ⌝ }
+{
+    let k = section_row(main_row(s, root), row);
+    let p = place_of_row(out, c, Kind::Calendars, k);
+    stars_at(out, p, s, at)
 }
 
 // Whether a text with so many `*` is the main calendar's name.
@@ -157,7 +156,14 @@ fn is_main(out: &[u8], c: Place, s: &[u8], root: usize, text: &[u8], stars: u32)
 }
 
 // A text with so many `*`, unless it is the main calendar's name.
-fn unless_main(out: &[u8], c: Place, s: &[u8], root: usize, text: &[u8], stars: u32) -> NameAnswer
+pub(crate) fn unless_main(
+    out: &[u8],
+    c: Place,
+    s: &[u8],
+    root: usize,
+    text: &[u8],
+    stars: u32,
+) -> NameAnswer
     ensures { λ r. ⌜ nameMeaning (now (text .entry)) r ≡ unlessMain (contextAt (now (out .entry)) c (elementAt (now (s .entry)) root)) (starredBy (now (text .entry)) stars) ⌝ }
 {
     if is_main(out, c, s, root, text, stars) {
@@ -166,21 +172,8 @@ fn unless_main(out: &[u8], c: Place, s: &[u8], root: usize, text: &[u8], stars: 
     NameAnswer::Starred(stars)
 }
 
-// The name of the calendar with a UID, beside that text, unless it is the main one's. The calendars stand at c.
-pub fn calendar_named(out: &[u8], c: Place, s: &[u8], root: usize, uid: &[u8]) -> NameAnswer
-    ensures { λ r. ⌜ nameMeaning (textWithUid (elementAt (now (s .entry)) root) (now (uid .entry))) r ≡ bind (nameOf (builtAt (now (out .entry)) c (elementAt (now (s .entry)) root)) (now (uid .entry))) (unlessMain (contextAt (now (out .entry)) c (elementAt (now (s .entry)) root))) ⌝ }
-{
-    match rows::calendar_with(s, root, uid) {
-        CalendarAnswer::Is(row, at) => {
-            let stars = stars_of(out, c, s, root, row, at);
-            unless_main(out, c, s, root, wanted_name(s, at, b"Calendar"), stars)
-        }
-        CalendarAnswer::Absent => NameAnswer::Absent,
-    }
-}
-
 // The elapsed calendar's name, unless it is the main one's.
-pub fn elapsed_named(out: &[u8], c: Place, s: &[u8], root: usize) -> NameAnswer
+pub(crate) fn elapsed_named(out: &[u8], c: Place, s: &[u8], root: usize) -> NameAnswer
     ensures { λ r. ⌜ nameMeaning elapsedName r ≡ unlessMain (contextAt (now (out .entry)) c (elementAt (now (s .entry)) root)) elapsedName ⌝ }
 {
     unless_main(out, c, s, root, b"Elapsed (24 hours)", 0)

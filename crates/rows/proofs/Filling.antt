@@ -28,19 +28,19 @@ use Rattle.rows.proofs.Listing.{lists-end, lists-next}
 -- ---- where a list stands
 
 module _ {A : Type 0} (n : ℕ) (l : List A) where
-  drop-in : {x : A} {k : List A} → drop n l ≡ x ∷ k → n < length l
+  pub drop-in : {x : A} {k : List A} → drop n l ≡ x ∷ k → n < length l
   drop-in e = let z : length (drop n l) ≡ suc _ = ap length e in omega (arith, length-drop n l)
 
-  drop-out : drop n l ≡ [] → length l ≤ n
+  pub drop-out : drop n l ≡ [] → length l ≤ n
   drop-out e = let z : length (drop n l) ≡ 0 = ap length e in omega (arith, length-drop n l)
 
-  drop-is : (d : A) {x : A} {k : List A} → drop n l ≡ x ∷ k → getD l n d ∷ drop (n + 1) l ≡ x ∷ k
+  pub drop-is : (d : A) {x : A} {k : List A} → drop n l ≡ x ∷ k → getD l n d ∷ drop (n + 1) l ≡ x ∷ k
   drop-is d e = rw (add-one n) (sym (drop-cons l n d (drop-in e)) ∙ e)
 
-cons-head : {A : Type 0} {x y : A} {k m : List A} → x ∷ k ≡ y ∷ m → x ≡ y
+pub cons-head : {A : Type 0} {x y : A} {k m : List A} → x ∷ k ≡ y ∷ m → x ≡ y
 cons-head e = cc
 
-cons-tail : {A : Type 0} {x y : A} {k m : List A} → x ∷ k ≡ y ∷ m → k ≡ m
+pub cons-tail : {A : Type 0} {x y : A} {k m : List A} → x ∷ k ≡ y ∷ m → k ≡ m
 cons-tail e = cc
 
 -- ---- the rows so far

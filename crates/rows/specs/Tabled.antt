@@ -127,7 +127,7 @@ find-passes p l {r} e = go (keep p l) refl e
     go (x ∷ k) i j = let z : x ≡ r = cc in rw (← z) (keep-head p l i)
 
 -- a row that a chain has is one of the table's
-chain-row : (p : ℕ → Bool) (w : List ℕ) (t : Table) (h : ℕ) {r : ℕ} → find p (chainOf w t h) ≡ some r → r < t .rows
+pub chain-row : (p : ℕ → Bool) (w : List ℕ) (t : Table) (h : ℕ) {r : ℕ} → find p (chainOf w t h) ≡ some r → r < t .rows
 chain-row p w t h {r} e =
     let q : ℕ → Bool = λ r. p r && ltb r (t .rows) in
     let agree : (r : ℕ) → r < t .rows → q r ≡ p r = λ r k. by (p r) (lt-ltb r (t .rows) k) in

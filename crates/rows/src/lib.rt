@@ -23,6 +23,7 @@ pub use table::Listed;
 pub use table::cost_with;
 pub use table::index_rows;
 pub use table::row_with;
+pub use table::seek;
 
 // A calendar's row in the order in which calendars are built, and where it stands in the tree.
 pub enum CalendarAnswer {

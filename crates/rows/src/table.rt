@@ -123,7 +123,7 @@ pub fn index_rows(s: &[u8], root: usize, list: Listed, words: &mut [u32], at: us
 // ---- the last with a UID
 
 // The first row of a chain whose element has the UID.
-fn seek(s: &[u8], words: &[u32], t: Table, uid: &[u8]) -> RowAnswer
+pub fn seek(s: &[u8], words: &[u32], t: Table, uid: &[u8]) -> RowAnswer
     ensures { λ r. ⌜ rowMeaning r ≡ soughtIn (now (s .entry)) (now (words .entry)) t (now (uid .entry)) ⌝ }
 {
     let mut row = index::first(words, t, index::hash_of(uid));

@@ -42,7 +42,7 @@ put-tasks-requires : tie.Need-put-tasks-requires
 put-tasks-requires c κs =
     let o = c .before .before .before .before in
     let i = o .before .before .before in
-    (sym (i .before .calendars-before .ensures) ∙ not-false _ (i .if1 .left), o .own-for .ensures .0)
+    (sym (i .before .calendars-before .ensures) ∙ not-false _ (i .if1 .left), o .own-for .ensures .0, o .own-for .ensures .2)
 
 clear-words-from-requires-2 : tie.Need-clear-words-from-requires-2
 clear-words-from-requires-2 c κs = search needs

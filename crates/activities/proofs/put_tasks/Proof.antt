@@ -16,7 +16,7 @@ use Rattle.rows.specs.Walks.{keptBy, room}
 use Rattle.tree.specs.Place.{elementAt}
 use Rattle.activities.proofs.Ids.{row-below, row-held}
 use Rattle.activities.proofs.Loop.{written-none, written-all}
-use Rattle.activities.proofs.Turn.{Stays, stays-begin, stays-ready, found-same, Goes, goes-task, goes-on, ids-on}
+use Rattle.activities.proofs.Turn.{Stays, stays-begin, stays-ready, found-same, Goes, goes-task, goes-finds, goes-on, ids-on}
 use borrow.Author.Needs.{needs}
 use Rattle.activities.proofs.put_tasks.Statement.{statement}
 use Rattle.activities.proofs.put_tasks.Tie as tie
@@ -70,8 +70,9 @@ put-row-requires c κs =
     let bytes = bytes-of (now (a .s)) (λ i. omega (arith, b .shared-slice-known .given i)) in
     let root = elementAt (now (a .s)) (a .root) in
     let small = small-element (drop (a .root) (now (a .s))) (each-drop (a .root) bytes) in
-    let g = goes-task _ (a .c) root (s .pre .0) small (rw (kept-at (now (a .s)) (t .task .given .1)) at (l .loop .inv .2)) in
-    (stays-ready (l .loop .inv .3) (s .pre .1) (t .task .given .1) (g .1), d .per-day .ensures, rw (l .loop .inv .0) (s .pre .1 .opened), l .loop .inv .3 .ids)
+    let w = rw (kept-at (now (a .s)) (t .task .given .1)) at (l .loop .inv .2) in
+    let g = goes-task _ (a .c) root (s .pre .0) small w in
+    (stays-ready (l .loop .inv .3) (s .pre .1) (t .task .given .1) (g .1), d .per-day .ensures, goes-finds _ (a .c) root (s .pre .0) small w (l .loop .inv .3 .names) (s .pre .2), rw (l .loop .inv .0) (s .pre .1 .opened), l .loop .inv .3 .ids)
 
 add-row : tie.Need-add-row Inv-loop μ-loop
 add-row c =
@@ -107,13 +108,14 @@ loop-again c =
     let g = goes-task _ (a .c) root (z .pre .0) small w in
     let n = u .put-row .ensures .1 in
     let opened = rw (sym (l .loop .inv .0)) at (z .pre .1 .opened) in
-    let same = below-then (x .same) (row-below n opened (a .tasks) (z .pre .1 .behind)) in
+    let same = below-then (x .same) (row-below n opened (z .pre .1 .behind)) in
     let found = found-same (now (a .s)) (a .root) (a .tasks) same in (
       u .put-row .kept .0 ∙ l .loop .inv .0,
       omega (arith, k, l .loop .inv .1, c .next-kept .ensures .on),
       goes-on _ (a .c) root (z .pre .0) small w found (u .put-row .ensures .0) (omega (arith, l .loop .inv .1)) own (c .next-kept .ensures .is),
       record {
         same = same;
+        names = below-then (x .names) (row-below n opened (z .pre .1 .behind-names));
         held = row-held n opened (rw (sym (x .same .long)) at (z .pre .1 .room)) (x .held) (g .0) (g .1) refl;
         ids = ids-on _ (a .c) root (z .pre .0) small w found (u .put-row .ensures .0) (omega (arith, l .loop .inv .1)) own n opened (x .ids);
         there = next-tasks (now (a .s)) at (t .task .given .0 .1 .0) (c .next-kept .ensures) .there;

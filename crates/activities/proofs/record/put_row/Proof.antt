@@ -1,3 +1,4 @@
+-- `activities::record::put_row` meets its contract. Assumes nothing.
 use mathlib.Core.Path.{_∙_}
 use mathlib.Core.List.{map}
 use lib.ListN.{take}
@@ -9,10 +10,16 @@ use Rattle.names.specs.Context.{contextAt}
 use Rattle.names.specs.Texts.{textsAt}
 use Rattle.tree.specs.Place.{elementAt}
 use Rattle.activities.proofs.Ids.{ids-moved, row-noted}
-use Rattle.activities.proofs.Values.{row-puts}
+use Rattle.activities.proofs.Values.{calendar-found, row-puts}
 use borrow.Author.Needs.{needs}
 use Rattle.activities.proofs.record.put_row.Statement.{statement}
 use Rattle.activities.proofs.record.put_row.Tie as tie
+
+is-elapsed-requires : tie.Need-is-elapsed-requires
+is-elapsed-requires c κs = search needs
+
+calendar-for-requires : tie.Need-calendar-for-requires
+calendar-for-requires c κs = search needs
 
 parent-of-requires : tie.Need-parent-of-requires
 parent-of-requires c κs = search needs
@@ -22,15 +29,12 @@ wanted-id-requires c κs = search needs
 
 stars-for-requires : tie.Need-stars-for-requires
 stars-for-requires c κs =
-    let p = c .before .before .before .before .before in
-    let s = p .before .before .before .before .before .before in
-    λ h. ids-moved (s .pre .2) (s .pre .3 h) (s .args .at) _ (p .parent-of .ensures .1)
+    let po = c .before .before .before .before .before in
+    let start = po .before .before .before .before .before .before .before .before .before .before in
+    λ h. ids-moved (start .pre .3) (start .pre .4 h) (start .args .at) _ (po .parent-of .ensures .1)
 
 note-stars-requires : tie.Need-note-stars-requires
 note-stars-requires c κs = search needs
-
-is-elapsed-requires : tie.Need-is-elapsed-requires
-is-elapsed-requires c κs = search needs
 
 day-of-requires : tie.Need-day-of-requires
 day-of-requires c κs = search needs
@@ -46,39 +50,41 @@ same-length c = search needs
 
 same-length-2 : tie.Need-same-length-2
 same-length-2 c =
-    let n = c .before .before .before .before .before .before .before .before .before .before in
-    let p = n .before .before .before .before .before .before .before .before in
-    n .note-stars .kept .0 ∙ p .parent-of .kept .1 .1 .1 .0
+    let ns = c .before .before .before .before .before .before .before .before .before in
+    let po = ns .before .before .before .before .before .before .before .before in
+    ns .note-stars .kept .0 ∙ po .parent-of .kept .1 .1 .1 .0
 
 returns : tie.Need-returns
 unfolding contextAt
 returns c =
-    let k = c .before .before in
-    let l = k .before .before in
-    let d = l .before .before in
-    let e = d .before in
-    let n = e .before .before .before in
-    let f = n .before .before in
-    let w = f .before .before .before in
-    let p = w .before .before .before in
-    let s = p .before .before .before .before .before .before in
-    let a = s .args in
+    let pt = c .before .before in
+    let plan = pt .before .before in
+    let day = plan .before .before in
+    let ns = day .before .before .before in
+    let sf = ns .before .before in
+    let wi = sf .before .before .before in
+    let po = wi .before .before .before in
+    let cf = po .before .before in
+    let ie = cf .before .before .before in
+    let start = ie .before .before .before .before .before in
+    let a = start .args in
     let root = elementAt (now (a .s)) (a .root) in
     let t = elementAt (now (a .s)) (a .at) in (
-      row-puts (contextAt (now (a .out)) (a .c) root) (textsAt Activities (now (a .out)) (a .start) (a .row)) (map levelOf (take (a .row) (keptTasks root))) _ t (l .plan-of .result) (now (w .wanted-id .result)) (f .stars-for .result)
-          (e .is-elapsed .ensures) (w .wanted-id .ensures) (f .stars-for .ensures) (d .day-of .ensures) (s .pre .1) (p .parent-of .ensures .0) (l .plan-of .ensures) (k .put-task .ensures),
-      row-noted (a .own) (a .row) (a .at) (p .parent-of .ensures .0) (w .wanted-id .ensures) (f .stars-for .result) (a .p .byte % 2 ^ 32) (now (a .words)) (p .parent-of .ensures .1) (n .note-stars .ensures) (f .stars-for .ensures),
+      row-puts (contextAt (now (a .out)) (a .c) root) (textsAt Activities (now (a .out)) (a .start) (a .row)) (map levelOf (take (a .row) (keptTasks root))) _ t (plan .plan-of .result) (now (wi .wanted-id .result)) (sf .stars-for .result)
+          (ie .is-elapsed .ensures) (cf .calendar-for .ensures ∙ calendar-found (start .pre .2) (ie .is-elapsed .result) t) (wi .wanted-id .ensures) (sf .stars-for .ensures) (day .day-of .ensures) (start .pre .1) (po .parent-of .ensures .0) (plan .plan-of .ensures) (pt .put-task .ensures),
+      row-noted (a .own) (a .row) (a .at) (po .parent-of .ensures .0) (wi .wanted-id .ensures) (sf .stars-for .result) (a .p .byte % 2 ^ 32) (now (a .words)) (po .parent-of .ensures .1) (ns .note-stars .ensures) (sf .stars-for .ensures),
     )
 
 pub put-row-spec : {M : Type 1} → statement M
 put-row-spec =
     tie.close
     (tie.spec
+    is-elapsed-requires
+    calendar-for-requires
     parent-of-requires
     wanted-id-requires
     stars-for-requires
     note-stars-requires
-    is-elapsed-requires
     day-of-requires
     plan-of-requires
     put-task-requires

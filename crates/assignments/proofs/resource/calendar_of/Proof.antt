@@ -1,11 +1,11 @@
-use borrow.Author.Needs.{needs}
+-- `assignments::resource::calendar_of` meets its contract. Assumes nothing.
 use Rattle.definition.specs.Field.{textIn}
-use Rattle.definition.specs.Calendar.{nameOf}
-use Rattle.definition.specs.Task.{unlessMain}
+use Rattle.names.specs.Context.{contextAt}
+use Rattle.names.specs.Named.{namedIn}
 use Rattle.pack.specs.Value.{nameMeaning}
-use Rattle.names.specs.Context.{contextAt, builtAt, textWithUid}
 use Rattle.tree.specs.Place.{elementAt}
-use Rattle.assignments.proofs.Given.{then-not, then-up}
+use Rattle.assignments.proofs.Given.{look-not, look-up}
+use borrow.Author.Needs.{needs}
 use Rattle.assignments.proofs.resource.calendar_of.Statement.{statement}
 use Rattle.assignments.proofs.resource.calendar_of.Tie as tie
 
@@ -17,9 +17,7 @@ given-requires c κs = search needs
 
 returns : tie.Need-returns
 unfolding nameMeaning
-returns c =
-    let k = c .before .before .before .before .before in
-    then-not (textIn (elementAt (k .args .s .now) (k .args .at)) "CalendarUID") (c .before .given .ensures) _ _ (c .if1 .taken)
+returns c = look-not (textIn (elementAt (c .before .before .before .before .before .before .args .s .now) (c .before .before .before .before .before .before .args .at)) "CalendarUID") (c .before .given .ensures) _ (c .if1 .taken)
 
 slice-aggregate-text-of : tie.Need-slice-aggregate-text-of
 slice-aggregate-text-of c = search needs
@@ -27,18 +25,26 @@ slice-aggregate-text-of c = search needs
 text-of-requires : tie.Need-text-of-requires
 text-of-requires c κs = search needs
 
-calendar-named-requires : tie.Need-calendar-named-requires
-calendar-named-requires c κs = search needs
+calendar-in-requires : tie.Need-calendar-in-requires
+calendar-in-requires c κs = search needs
 
 returns-2 : tie.Need-returns-2
-unfolding contextAt
 returns-2 c =
-    let k = c .before .before .before in
-    let l = k .before in
-    let m = l .before .before .before .before in
-    let root = elementAt (m .args .s .now) (m .args .root) in
-    let d = m .args .out .now in
-    then-up (textIn (elementAt (m .args .s .now) (m .args .at)) "CalendarUID") (l .given .ensures) (nameOf (builtAt d (m .args .c) root)) (unlessMain (contextAt d (m .args .c) root)) (λ t. nameMeaning (textWithUid root t) (c .calendar-named .result)) (k .if1 .left) (c .before .text-of .ensures) (c .calendar-named .ensures)
+    let to = c .before in
+    let i = to .before .before in
+    let g = i .before in
+    let start = g .before .before .before .before .before in
+    let a = start .args in
+    look-up (textIn (elementAt (a .s .now) (a .at)) "CalendarUID") (g .given .ensures) (namedIn (contextAt (a .out .now) (a .c) (elementAt (a .s .now) (a .root))) (a .s .now) (a .words .now) (a .calendars)) (i .if1 .left) (to .text-of .ensures) (c .calendar-in .ensures)
 
 pub calendar-of-spec : {M : Type 1} → statement M
-calendar-of-spec = tie.close (tie.spec slice-aggregate-given given-requires returns slice-aggregate-text-of text-of-requires calendar-named-requires returns-2)
+calendar-of-spec =
+    tie.close
+    (tie.spec
+    slice-aggregate-given
+    given-requires
+    returns
+    slice-aggregate-text-of
+    text-of-requires
+    calendar-in-requires
+    returns-2)

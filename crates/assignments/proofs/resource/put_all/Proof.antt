@@ -1,8 +1,9 @@
-use borrow.Author.Needs.{needs}
+-- `assignments::resource::put_all` meets its contract. Assumes nothing.
 use mathlib.Core.Path.{refl}
 use Rattle.tree.specs.Place.{elementAt}
 use Rattle.tree.specs.Answer.{found-list, none-list}
 use Rattle.assignments.proofs.Work.{resources-not, resources-none, resources-all}
+use borrow.Author.Needs.{needs}
 use Rattle.assignments.proofs.resource.put_all.Statement.{statement}
 use Rattle.assignments.proofs.resource.put_all.Tie as tie
 
@@ -17,9 +18,8 @@ same-length c = search needs
 
 returns : tie.Need-returns
 returns c =
-    let k = c .before .before .before in
-    let a = k .before .before .before .before .args in
-    (resources-not (a .out .now) (a .c) (elementAt (a .s .now) (a .root)) (a .p) (k .count-work .ensures) (c .before .calendars-before .ensures) (c .if1 .taken), refl)
+    let a = c .before .before .before .before .before .before .before .args in
+    (resources-not (a .out .now) (a .c) (elementAt (a .s .now) (a .root)) (a .p) (c .before .before .before .count-work .ensures) (c .before .calendars-before .ensures) (c .if1 .taken), refl)
 
 slice-aggregate-first-in : tie.Need-slice-aggregate-first-in
 slice-aggregate-first-in c = search needs
@@ -36,6 +36,9 @@ enum-told c = search needs
 enum-known-first : tie.Need-enum-known-first
 enum-known-first c = search needs
 
+index-calendars-requires : tie.Need-index-calendars-requires
+index-calendars-requires c κs = search needs
+
 ids-for-requires : tie.Need-ids-for-requires
 ids-for-requires c κs = search needs
 
@@ -50,11 +53,13 @@ same-length-2 c = search needs
 
 returns-2 : tie.Need-returns-2
 returns-2 c =
-    let k = c .before .before .before .before .before in
-    let l = k .before in
-    let m = l .before .before in
-    let a = m .before .before .before .before .args in
-    (resources-none (a .out .now) (a .c) (elementAt (a .s .now) (a .root)) (a .p) (m .count-work .ensures) (l .calendars-before .ensures) (k .if1 .left) (none-list (c .before .before .first-in .ensures) (c .enum-told .given .1)), refl)
+    let fi = c .before .before in
+    let i = fi .before .before .before in
+    let cb = i .before in
+    let cw = cb .before .before in
+    let start = cw .before .before .before .before in
+    let a = start .args in
+    (resources-none (a .out .now) (a .c) (elementAt (a .s .now) (a .root)) (a .p) (cw .count-work .ensures) (cb .calendars-before .ensures) (i .if1 .left) (none-list (fi .first-in .ensures) (c .enum-told .given .1)), refl)
 
 same-length-3 : tie.Need-same-length-3
 same-length-3 c = search needs
@@ -64,15 +69,17 @@ same-length-4 c = search needs
 
 returns-3 : tie.Need-returns-3
 returns-3 c =
-    let j = c .before .before .before .before .before in
-    let k = j .before .before .before .before .before in
-    let l = k .before .before .before in
-    let m = l .before .before in
-    let n = m .before .before .before in
-    let o = n .before in
-    let q = o .before .before in
-    let a = q .before .before .before .before .args in
-    resources-all (a .out .now) (a .c) (elementAt (a .s .now) (a .root)) (a .p) (q .count-work .ensures) (o .calendars-before .ensures) (n .if1 .left) (found-list (m .first-in .ensures) (l .first .given .1)) (k .ids-for .ensures) (j .put-from .ensures) (c .records-of .ensures)
+    let pf = c .before .before .before .before .before in
+    let if = pf .before .before .before .before .before in
+    let ic = if .before .before .before .before in
+    let f = ic .before .before .before .before in
+    let fi = f .before .before in
+    let i = fi .before .before .before in
+    let cb = i .before in
+    let cw = cb .before .before in
+    let start = cw .before .before .before .before in
+    let a = start .args in
+    resources-all (a .out .now) (a .c) (elementAt (a .s .now) (a .root)) (a .p) (cw .count-work .ensures) (cb .calendars-before .ensures) (i .if1 .left) (found-list (fi .first-in .ensures) (f .first .given .1)) (ic .index-calendars .ensures) (if .ids-for .ensures) (pf .put-from .ensures) (c .records-of .ensures)
 
 pub put-all-spec : {M : Type 1} → statement M
 put-all-spec =
@@ -87,6 +94,7 @@ put-all-spec =
     first-in-requires
     enum-told
     enum-known-first
+    index-calendars-requires
     ids-for-requires
     put-from-requires
     records-of-requires

@@ -14,15 +14,15 @@ use Rattle.assignments.proofs.resource.put_from.Statement.{statement}
 use Rattle.assignments.proofs.resource.put_from.Tie as tie
 
 abbrev Inv-loop : tie.InvT-loop
-Inv-loop out₀ p s root first c words₀ made done₀ at₀ t12 out words done at =
+Inv-loop out₀ p s root first c words₀ calendars ids done₀ at₀ t12 out words done at =
     (length out ≡ length out₀) × (length words ≡ length words₀)
-    × Going-in c (elementAt s root) made (elementAt s first ∷ laterAt s (bytes "Resource") first) (elementAt s at ∷ laterAt s (bytes "Resource") at) out₀ p words₀ out words done
+    × Going-in c s (elementAt s root) calendars ids (elementAt s first ∷ laterAt s (bytes "Resource") first) (elementAt s at ∷ laterAt s (bytes "Resource") at) out₀ p words₀ out words done
 
 abbrev μ-loop : tie.MeasureT-loop
-μ-loop out₀ p s root first c words₀ made done₀ at₀ t12 out words done at = length s - at
+μ-loop out₀ p s root first c words₀ calendars ids done₀ at₀ t12 out words done at = length s - at
 
 loop-holds : tie.Need-loop-holds Inv-loop μ-loop
-loop-holds c = (refl, refl, go-all _ _ _)
+loop-holds c = (refl, refl, go-all _ _ _ _ _)
 
 put-one-requires : tie.Need-put-one-requires Inv-loop μ-loop
 put-one-requires c κs = search needs
@@ -53,7 +53,7 @@ returns : tie.Need-returns Inv-loop μ-loop
 returns c =
     let k = c .before .before .before .before .before .before .before .before in
     let l = k .before .before .before in
-    go-last _ _ _ (l .loop .inv .2) (k .put-one .ensures) (none-list (c .before .before .next-child .ensures) (c .enum-told .given .1))
+    go-last _ _ _ _ _ (l .loop .inv .2) (k .put-one .ensures) (none-list (c .before .before .next-child .ensures) (c .enum-told .given .1))
 
 loop-less : tie.Need-loop-less Inv-loop μ-loop
 loop-less c =
@@ -71,7 +71,7 @@ loop-again c =
     let small = small-at s (bytes-of s (λ i. omega (arith, n .shared-slice-known .given i))) in (
       l .put-one .kept .0 ∙ m .loop .inv .0,
       l .put-one .kept .1 .1 .1 .1 .1 .1 .1 .0 ∙ m .loop .inv .1,
-      go-more _ _ _ (m .loop .inv .2) (l .put-one .ensures) (found-list (k .next-child .ensures) (c .before .next .given .1)) (small (o .args .root)) (small (m .loop .at)),
+      go-more _ _ _ _ _ (m .loop .inv .2) (l .put-one .ensures) (found-list (k .next-child .ensures) (c .before .next .given .1)) (small (o .args .root)) (small (m .loop .at)),
     )
 
 pub put-from-spec : {M : Type 1} → statement M

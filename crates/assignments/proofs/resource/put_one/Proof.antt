@@ -1,8 +1,9 @@
-use borrow.Author.Needs.{needs}
+-- `assignments::resource::put_one` meets its contract. Assumes nothing.
 use mathlib.Core.Path.{sym, _∙_}
 use borrow.Author.Tests.{not-true, not-false}
 use Rattle.tree.specs.Place.{elementAt}
 use Rattle.assignments.proofs.Work.{adds-said, adds-other}
+use borrow.Author.Needs.{needs}
 use Rattle.assignments.proofs.resource.put_one.Statement.{statement}
 use Rattle.assignments.proofs.resource.put_one.Tie as tie
 
@@ -11,8 +12,8 @@ is-work-requires c κs = search needs
 
 returns : tie.Need-returns
 returns c =
-    let k = c .before .before .before .before .before in
-    adds-other (k .args .c) (elementAt (k .args .s .now) (k .args .root)) (k .args .made) (elementAt (k .args .s .now) (k .args .at)) (sym (c .before .is-work .ensures) ∙ not-true _ (c .if1 .taken))
+    let a = c .before .before .before .before .before .args in
+    adds-other (a .c) (a .s .now) (elementAt (a .s .now) (a .root)) (a .calendars) (a .ids) (elementAt (a .s .now) (a .at)) (sym (c .before .is-work .ensures) ∙ not-true _ (c .if1 .taken))
 
 wanted-id-requires : tie.Need-wanted-id-requires
 wanted-id-requires c κs = search needs
@@ -23,20 +24,14 @@ cast-count c = search needs
 stars-for-requires : tie.Need-stars-for-requires
 stars-for-requires c κs = search needs
 
-slice-aggregate-text-of : tie.Need-slice-aggregate-text-of
-slice-aggregate-text-of c = search needs
-
-text-of-requires : tie.Need-text-of-requires
-text-of-requires c κs = search needs
-
-slice-aggregate-calendar-text : tie.Need-slice-aggregate-calendar-text
-slice-aggregate-calendar-text c = search needs
-
-calendar-text-requires : tie.Need-calendar-text-requires
-calendar-text-requires c κs = search needs
-
 calendar-of-requires : tie.Need-calendar-of-requires
 calendar-of-requires c κs = search needs
+
+slice-aggregate-wanted-name : tie.Need-slice-aggregate-wanted-name
+slice-aggregate-wanted-name c = search needs
+
+wanted-name-requires : tie.Need-wanted-name-requires
+wanted-name-requires c κs = search needs
 
 put-said-requires : tie.Need-put-said-requires
 put-said-requires c κs = search needs
@@ -55,19 +50,19 @@ same-length-2 c = search needs
 
 returns-2 : tie.Need-returns-2
 returns-2 c =
-    let j = c .before .before .before in
-    let k = j .before .before .before .before in
-    let l = k .before .before .before in
-    let m = l .before .before in
-    let n = m .before .before in
-    let o = n .before .before in
-    let q = o .before .before .before .before in
-    let u = q .before in
-    let v = u .before in
-    let a = v .before .before .before .before .args in
+    let n = c .before .before .before in
+    let ps = n .before .before .before .before in
+    let wn = ps .before .before .before in
+    let co = wn .before .before in
+    let sf = co .before .before .before in
+    let wi = sf .before .before .before .before in
+    let i = wi .before in
+    let iw = i .before in
+    let start = iw .before .before .before .before in
+    let a = start .args in
     let root = elementAt (a .s .now) (a .root) in
     let e = elementAt (a .s .now) (a .at) in
-    adds-said (a .c) root e (sym (v .is-work .ensures) ∙ not-false _ (u .if1 .left)) (a .made) (a .words .now) (o .stars-for .result) (q .wanted-id .ensures) (o .stars-for .ensures) (l .calendar-of .result) (m .calendar-text .ensures) (n .text-of .ensures) (l .calendar-of .ensures) (k .put-said .ensures) (j .note .ensures) (c .more .ensures)
+    adds-said (a .c) (a .s .now) root (a .calendars) e (sym (iw .is-work .ensures) ∙ not-false _ (i .if1 .left)) (a .ids) (a .words .now) (sf .stars-for .result) (wi .wanted-id .ensures) (sf .stars-for .ensures) (co .calendar-of .result) (co .calendar-of .ensures) (wn .wanted-name .ensures) (ps .put-said .ensures) (n .note .ensures) (c .more .ensures)
 
 pub put-one-spec : {M : Type 1} → statement M
 put-one-spec =
@@ -78,11 +73,9 @@ put-one-spec =
     wanted-id-requires
     cast-count
     stars-for-requires
-    slice-aggregate-text-of
-    text-of-requires
-    slice-aggregate-calendar-text
-    calendar-text-requires
     calendar-of-requires
+    slice-aggregate-wanted-name
+    wanted-name-requires
     put-said-requires
     note-requires
     more-requires

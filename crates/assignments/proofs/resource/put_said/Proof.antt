@@ -47,7 +47,7 @@ returns c =
     let o = n .before in
     let q = o .before .before in
     let u = q .before .before .before .before in
-    λ x i. put-same (resource-is x (elementAt (u .args .s .now) (u .args .at)) (u .args .calendar .now) (u .args .stars) (u .args .named) (k .price .result) (q .wanted-id .ensures) (o .text-of .ensures) (n .resource-kind .ensures) (m .text-of2 .ensures) (toZ-ofZ w64 (l .max-units .result) (record { sfits = l .max-units .ok }) ∙ l .max-units .ensures) i (k .price .ensures)) (c .before .before .put-resource .ensures)
+    put-same (resource-is (elementAt (u .args .s .now) (u .args .at)) (u .args .calendar .now) (u .args .stars) (u .args .named) (k .price .result) (q .wanted-id .ensures) (o .text-of .ensures) (n .resource-kind .ensures) (m .text-of2 .ensures) (toZ-ofZ w64 (l .max-units .result) (record { sfits = l .max-units .ok }) ∙ l .max-units .ensures) (k .price .ensures)) (c .before .before .put-resource .ensures)
 
 pub put-said-spec : {M : Type 1} → statement M
 put-said-spec = tie.close (tie.spec wanted-id-requires slice-aggregate-text-of text-of-requires resource-kind-requires slice-aggregate-text-of-2 text-of-requires-2 max-units-requires price-requires put-resource-requires same-length returns)

@@ -5,7 +5,8 @@ use Rattle.definition.specs.Ascii.{bytes}
 use Rattle.tree.specs.Place.{elementAt}
 use Rattle.pack.specs.Value.{starredBy}
 use Rattle.names.specs.Stars.{star-none}
-use Rattle.names.proofs.Found.{is-there, is-absent, main-there, main-absent, main-same}
+use Rattle.names.specs.ByUid.{main-there, main-absent}
+use Rattle.names.proofs.Found.{is-there, is-absent, main-same}
 use borrow.Author.Needs.{needs}
 use Rattle.names.proofs.calendars.is_main.Statement.{statement}
 use Rattle.names.proofs.calendars.is_main.Tie as tie
