@@ -16,6 +16,7 @@ struct Elements {
     resources: usize,
     assignments: usize,
     exceptions: usize,
+    calendars: usize,
 }
 
 impl Elements {
@@ -31,6 +32,7 @@ impl Elements {
                 b"Resource" => n.resources += 1,
                 b"Assignment" => n.assignments += 1,
                 b"Exception" => n.exceptions += 1,
+                b"Calendar" => n.calendars += 1,
                 _ => (),
             }
             rest = next;
@@ -40,8 +42,8 @@ impl Elements {
 }
 
 /// How many words of `work` serve best when a tree is read: a table of the kept tasks' UIDs (3 words a task), and behind it, one after the other, what the
-/// sections need: marks of a calendar's days, a task's place, its parent and its id (8 words a task), ids of resources, then tables of their UIDs and of
-/// the expenses.
+/// sections need: marks of a calendar's days; the calendars by their UIDs (4 words each), with a task's place, its parent and its id (8 words a task) or with
+/// the ids of resources; then tables of the resources' UIDs and of the expenses.
 pub fn work_words(tree: &[u8]) -> usize {
     let n = Elements::of(tree);
     let tasks = n.tasks.clamp(1, MOST_TASKS);
@@ -50,7 +52,8 @@ pub fn work_words(tree: &[u8]) -> usize {
         1..=MANY_EXCEPTIONS => ALL_DAYS / 100,
         _ => ALL_DAYS,
     };
-    let sections = [days, 8 * tasks, 6 * n.resources, 3 * (n.resources + n.assignments + 2)];
+    let named = 4 * n.calendars + 2;
+    let sections = [days, named + 8 * tasks, named + 6 * n.resources, 3 * (n.resources + n.assignments + 2)];
     3 * tasks + sections.into_iter().max().unwrap_or(0)
 }
 
