@@ -4,7 +4,7 @@ use native.Mathlib.Omega.{arith}
 use mathlib.Core.Path.{_≡_, refl}
 use mathlib.Core.Bool.{Bool, true, false, not}
 use mathlib.Core.List.{List, [], _∷_, _++_, map}
-use mathlib.Core.Option.{Option, some}
+use mathlib.Core.Option.{Option, some, none}
 use lib.ListN.{length, drop, length-append, length-map}
 use Rattle.definition.specs.Ascii.{bytes}
 use Rattle.definition.specs.Base.{if_then_else_, _>>=_, keep, present, some?}
