@@ -48,9 +48,9 @@ fn main() -> ExitCode {
     if asked("times") {
         bench::table(seed);
         trees::bench();
-        reads::bench();
         bench::models();
         days::bench(seed);
+        reads::bench();
     }
     if differ == 0 { ExitCode::SUCCESS } else { ExitCode::FAILURE }
 }
