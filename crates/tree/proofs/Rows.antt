@@ -11,13 +11,13 @@ use borrow.Author.Tests.{le-leb, lt-leb, le-ltb, lt-ltb, eq-eqb, ne-eqb}
 use Rattle.definition.specs.Base.{_or_, keep, same}
 use Rattle.definition.specs.Text.{Text, trim}
 use Rattle.definition.specs.Tree.{Rec, size, Element, elements, level, element, all, nonEmpty, textOf}
-use Rattle.tree.specs.Place.{headAt, recordsAt, after, whole, afterWhole, elementAt, named, siblings, laterAt, listOf, Past, Starts}
+use Rattle.tree.specs.Place.{headAt, recordsAt, under, after, elementAt, named, siblings, laterAt, listOf, Past, Starts}
 use Rattle.tree.specs.Answer.{found-child, none-child}
 use Rattle.tree.specs.declared.Head.the-variants.{Whole, Cut}
 use Rattle.tree.specs.declared.Found.{Found}
 use Rattle.tree.specs.declared.Found.the-variants.{At, Nothing}
 use Rattle.tree.proofs.Heads.{le-or-lt, part, bounds, records-cut}
-use Rattle.tree.proofs.Walk.{records-skip}
+use Rattle.tree.proofs.Walk.{records-after}
 
 -- ---- rows
 
@@ -49,29 +49,17 @@ module _ (s n : Text) (w at : ℕ) where
     unfolding level elements keep listOf element siblings
     row-hit q i = rw (← q, bounds s at h .here) (simp (le-ltb d d (omega arith), eq-eqb d d refl, i))
 
-    -- where the element with all below it is skipped
-    after-skip : w ≤ d → level w (recordsAt s e) ≡ level w (recordsAt s (at + size (whole (recordsAt s at))))
-    unfolding afterWhole
-    after-skip q = rw (records-skip s at, bounds s at h .here) (level-after w d (recordsAt s e) q)
-
     row-deeper : w < d → row s n w at ≡ row s n w e
     unfolding level
     row-deeper q = rw (bounds s at h .here) (simp (le-ltb d w (omega arith), ne-eqb d w (λ i. omega arith)))
 
-    row-miss : d ≡ w → same (part s a b) n ≡ false → row s n w at ≡ row s n w e
+    pub row-miss : d ≡ w → same (part s a b) n ≡ false → row s n w at ≡ row s n w e
     unfolding level elements keep
     row-miss q i = rw (← q, bounds s at h .here) (simp (le-ltb d d (omega arith), eq-eqb d d refl, i))
 
-    module _ {p : ℕ} (k : p ≡ at + size (whole (recordsAt s at))) where
-      pub pass-deeper : w < d → row s n w at ≡ row s n w p
-      pass-deeper q = row-deeper q ∙ rw (k, after-skip (omega arith))
-
-      pub pass-other : d ≡ w → same (part s a b) n ≡ false → row s n w at ≡ row s n w p
-      pass-other q i = row-miss q i ∙ rw (k, after-skip (omega arith))
-
-pub pass-on : (s : Text) (at : ℕ) {d a b e p : ℕ} → headAt s at ≡ Whole d a b e → p ≡ at + size (whole (recordsAt s at)) → at < p
-unfolding whole size
-pass-on s at h k = rw (k, bounds s at h .here) (omega arith)
+    -- what is deeper is skipped
+    pub row-under : w < d → {p : ℕ} → p ≡ e + size (under w (recordsAt s e)) → row s n w at ≡ row s n w p
+    row-under q k = row-deeper q ∙ rw (records-after s w e k, level-after w w (recordsAt s e) (omega arith))
 
 -- ---- the element at a position, by its head
 

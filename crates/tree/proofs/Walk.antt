@@ -7,12 +7,12 @@ use Prim.Native.Nat.{ℕ, suc, _+_, _-_, _≤_, _<_}
 use native.Mathlib.Nat.{zero-add, add-zero}
 use native.Mathlib.Omega.{arith}
 use lib.ListN.{length, length-take, length-drop}
-use lib.Dec.{eqb, ltb}
-use borrow.Author.Tests.{le-leb, lt-leb, ltb-true, ltb-false, eq-eqb, ne-eqb}
+use lib.Dec.{eqb}
+use borrow.Author.Tests.{le-leb, lt-leb, eq-eqb, ne-eqb}
 use Rattle.definition.specs.Base.{if_then_else_}
 use Rattle.definition.specs.Text.{Text}
 use Rattle.definition.specs.Tree.{Rec, rightAt, right, size, layout}
-use Rattle.tree.specs.Place.{headAt, verdict, recordsAt, under, after, whole, afterWhole, isDeeper}
+use Rattle.tree.specs.Place.{headAt, verdict, recordsAt, under, after}
 use Rattle.tree.specs.declared.Head.{Head}
 use Rattle.tree.specs.declared.Head.the-variants.{Whole, Cut}
 use Rattle.tree.specs.declared.Verdict.{Verdict}
@@ -79,11 +79,6 @@ under-after d (r ∷ rs) = go (le-or-lt (r .depth) d) (under-after d rs)
     go (inl p) i = simp (le-leb _ _ p)
     go (inr p) i = simp (lt-leb _ _ p) (ap (λ (l : List Rec). r ∷ l) i)
 
-whole-after : (rs : List Rec) → rs ≡ whole rs ++ afterWhole rs
-unfolding whole afterWhole
-whole-after [] = refl
-whole-after (r ∷ rs) = ap (λ (l : List Rec). r ∷ l) (under-after (r .depth) rs)
-
 cons-first : {r q : Rec} {rs qs : List Rec} → (r ∷ rs) ≡ q ∷ qs → r ≡ q
 cons-first h = cc
 
@@ -106,10 +101,11 @@ records-past (r ∷ l) m s at h = go (headAt s at) refl (λ e g. records-past l 
         let k : recOf s d a b e ≡ r = cons-first i in
         rw (← k, size-whole s at q) (again e (cons-rest i))
 
-pub records-skip : (s : Text) (at : ℕ) → recordsAt s (at + size (whole (recordsAt s at))) ≡ afterWhole (recordsAt s at)
-records-skip s at = records-past (whole (recordsAt s at)) (afterWhole (recordsAt s at)) s at (whole-after (recordsAt s at))
+-- the first record that is not deeper than d, and those after it
+pub records-after : (s : Text) (d at : ℕ) {p : ℕ} → p ≡ at + size (under d (recordsAt s at)) → recordsAt s p ≡ after d (recordsAt s at)
+records-after s d at k = rw k (records-past (under d (recordsAt s at)) (after d (recordsAt s at)) s at (under-after d (recordsAt s at)))
 
-after-shorter : (d : ℕ) (rs : List Rec) → length (after d rs) ≤ length rs
+pub after-shorter : (d : ℕ) (rs : List Rec) → length (after d rs) ≤ length rs
 unfolding after
 after-shorter d [] = omega arith
 after-shorter d (r ∷ rs) = go (le-or-lt (r .depth) d) (after-shorter d rs)
@@ -129,58 +125,40 @@ under-split d c (r ∷ rs) h = go (le-or-lt (r .depth) c) (under-split d c rs h)
     go (inl p) i = simp (le-leb _ _ p, zero-add)
     go (inr p) i = let q : d < r .depth = omega arith in simp (lt-leb _ _ p, lt-leb _ _ q, i) (omega arith)
 
-module _ (d : ℕ) where
-  under-none : (rs : List Rec) → isDeeper d rs ≡ false → size (under d rs) ≡ 0
-  unfolding isDeeper under size
-  under-none [] h = refl
-  under-none (r ∷ rs) h = simp (le-leb _ _ (ltb-false d (r .depth) h))
+-- p stands where all records from `from` on are deeper than d
+pub record Passed (s : Text) (from d p : ℕ) : Type 0 where
+  pub same : p + size (under d (recordsAt s p)) ≡ from + size (under d (recordsAt s from))
+  pub fewer : length (recordsAt s p) ≤ length (recordsAt s from)
 
-  under-more : (rs : List Rec) → isDeeper d rs ≡ true → size (under d rs) ≡ size (whole rs) + size (under d (afterWhole rs))
-  unfolding isDeeper under whole afterWhole size
-  under-more [] h = let z : _≡_ {A = ℕ} 0 1 = cc in absurd (omega arith)
-  under-more (r ∷ rs) h =
-      let p : d < r .depth = ltb-true d (r .depth) h in
-      simp (lt-leb _ _ p) (omega (arith, under-split d (r .depth) rs (omega arith)))
+module _ (s : Text) (from d : ℕ) where
+  pub passed-first : Passed s from d from
+  passed-first = record { same = refl; fewer = omega arith }
 
-  after-less : (rs : List Rec) → isDeeper d rs ≡ true → length (afterWhole rs) < length rs
-  unfolding isDeeper afterWhole
-  after-less [] h = let z : _≡_ {A = ℕ} 0 1 = cc in absurd (omega arith)
-  after-less (r ∷ rs) h = omega (arith, after-shorter (r .depth) rs)
+  module _ (p : ℕ) (g : Passed s from d p) where
+    pub passed-cut : headAt s p ≡ Cut → p ≡ from + size (under d (recordsAt s from))
+    unfolding under size
+    passed-cut h = let z : size (under d (recordsAt s p)) ≡ 0 = rw (records-cut s p h) in omega (arith, g .same)
 
--- the place in the row below the element at `at`, from whose end e on it is walked
-pub record Below (s : Text) (at d e p : ℕ) : Type 0 where
-  pub same : p + size (under d (recordsAt s p)) ≡ e + size (under d (recordsAt s e))
-  pub fewer : length (recordsAt s p) < length (recordsAt s at)
+    module _ {c a b e : ℕ} (h : headAt s p ≡ Whole c a b e) where
+      pub passed-end : c ≤ d → p ≡ from + size (under d (recordsAt s from))
+      unfolding under size
+      passed-end q = let z : size (under d (recordsAt s p)) ≡ 0 = rw (bounds s p h .here) (simp (le-leb _ _ q)) in omega (arith, g .same)
 
-module _ (s : Text) (at : ℕ) where
-  pub skip-cut : headAt s at ≡ Cut → at ≡ at + size (whole (recordsAt s at))
-  unfolding whole size
-  skip-cut h = rw (records-cut s at h, add-zero)
+      pub one-less : length (recordsAt s e) < length (recordsAt s p)
+      one-less = rw (bounds s p h .here) (omega arith)
 
-  module _ {d a b e : ℕ} (h : headAt s at ≡ Whole d a b e) where
-    pub below-first : Below s at d e e
-    below-first = record { same = refl; fewer = rw (bounds s at h .here) (omega arith) }
+      pub passed-next : d < c → Passed s from d e
+      unfolding under
+      passed-next q =
+          let z : p + size (under d (recordsAt s p)) ≡ e + size (under d (recordsAt s e)) = rw (bounds s p h .here) (simp (lt-leb _ _ q) (size-whole s p h _)) in
+          record { same = omega (arith, g .same); fewer = omega (arith, one-less, g .fewer) }
 
-    pub below-next : {p q : ℕ} → Below s at d e p → isDeeper d (recordsAt s p) ≡ true → q ≡ p + size (whole (recordsAt s p)) → Below s at d e q
-    below-next {p} {q} g i k =
-        let m = under-more d (recordsAt s p) i in
-        let r : recordsAt s q ≡ afterWhole (recordsAt s p) = rw k (records-skip s p) in
-        record { same = rw r (omega (arith, g .same)); fewer = rw r (omega (arith, after-less d (recordsAt s p) i, g .fewer)) }
+-- those of the level below are passed over too
+pub passed-below : (s : Text) (from d p : ℕ) {q : ℕ} → Passed s from d p → q ≡ p + size (under (d + 1) (recordsAt s p)) → Passed s from d q
+passed-below s from d p {q} g k =
+    let r : recordsAt s q ≡ after (d + 1) (recordsAt s p) = records-after s (d + 1) p k in
+    let z = under-split d (d + 1) (recordsAt s p) (omega arith) in
+    record { same = rw r (omega (arith, g .same, z, k)); fewer = rw r (omega (arith, after-shorter (d + 1) (recordsAt s p), g .fewer)) }
 
-    pub below-last : {p : ℕ} → Below s at d e p → isDeeper d (recordsAt s p) ≡ false → p ≡ at + size (whole (recordsAt s at))
-    unfolding whole
-    below-last {p} g i = rw (bounds s at h .here, size-whole s at h) (omega (arith, under-none d (recordsAt s p) i, g .same))
-
--- fewer records are left
-pub skip-less : (s : Text) (d p : ℕ) {q : ℕ} → isDeeper d (recordsAt s p) ≡ true → q ≡ p + size (whole (recordsAt s p)) → length (recordsAt s q) < length (recordsAt s p)
-skip-less s d p i k = rw (k, records-skip s p) (after-less d (recordsAt s p) i)
-
--- whether the record at a position is deeper
-module _ (d : ℕ) (s : Text) (at : ℕ) where
-  pub deeper-cut : headAt s at ≡ Cut → false ≡ isDeeper d (recordsAt s at)
-  unfolding isDeeper
-  deeper-cut h = rw (records-cut s at h)
-
-  pub deeper-whole : {c a b e : ℕ} → headAt s at ≡ Whole c a b e → ltb d c ≡ isDeeper d (recordsAt s at)
-  unfolding isDeeper
-  deeper-whole h = rw (bounds s at h .here)
+pub below-shorter : (s : Text) (d p : ℕ) {q : ℕ} → q ≡ p + size (under d (recordsAt s p)) → length (recordsAt s q) ≤ length (recordsAt s p)
+below-shorter s d p k = rw (records-after s d p k) (after-shorter d (recordsAt s p))

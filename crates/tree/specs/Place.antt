@@ -1,11 +1,10 @@
 -- From positions in the bytes of a tree to the definition's records and elements. Assumes nothing: these are definitions.
 use Prim.Native.Nat.{ℕ, _≤_, _<_, _+_, _*_}
 use mathlib.Core.Path.{_≡_}
-use mathlib.Core.Bool.{Bool, false}
 use mathlib.Core.List.{List, [], _∷_}
 use mathlib.Core.Option.{Option, some, none}
 use lib.ListN.{length, getD, drop}
-use lib.Dec.{leb, ltb}
+use lib.Dec.{leb}
 use Rattle.definition.specs.Base.{if_then_else_, keep, same}
 use Rattle.definition.specs.Text.{Text}
 use Rattle.definition.specs.Tree.{Rec, headBytes, recordOf, records, layout, Forest, nothing, Element, elements, level, element}
@@ -56,20 +55,6 @@ under d (r ∷ rs) = if leb (r .depth) d then [] else r ∷ under d rs
 unfoldable pub after : ℕ → List Rec → List Rec
 after d [] = []
 after d (r ∷ rs) = if leb (r .depth) d then r ∷ rs else after d rs
-
--- whether the first record is deeper than d
-unfoldable pub isDeeper : ℕ → List Rec → Bool
-isDeeper d [] = false
-isDeeper d (r ∷ rs) = ltb d (r .depth)
-
--- the records of the first element with all below it, and those that follow them
-unfoldable pub whole : List Rec → List Rec
-whole [] = []
-whole (r ∷ rs) = r ∷ under (r .depth) rs
-
-unfoldable pub afterWhole : List Rec → List Rec
-afterWhole [] = []
-afterWhole (r ∷ rs) = after (r .depth) rs
 
 -- ---- elements
 

@@ -5,7 +5,7 @@ ghost use Prim.Native.Nat.{_+_, _<_};
 ghost use lib.ListN.{length};
 ghost use Rattle.definition.specs.Base.{same, _or_};
 ghost use Rattle.definition.specs.Tree.{rightAt, size, level, all, textOf};
-ghost use Rattle.tree.specs.Place.{IsWord, headAt, verdict, recordsAt, isDeeper, whole, elementAt, named, laterAt, Starts};
+ghost use Rattle.tree.specs.Place.{IsWord, headAt, verdict, recordsAt, under, elementAt, named, laterAt, Starts};
 
 mod refusal;
 
@@ -129,38 +129,29 @@ fn layout(s: &[u8]) -> Verdict
     }
 }
 
-// Whether a record deeper than d stands at `at`.
-fn deeper(s: &[u8], at: usize, d: usize) -> bool
-    ensures { λ r. ⌜ r ≡ isDeeper d (recordsAt (now (s .entry)) at) ⌝ }
+// The position of the first record from `from` on that is not deeper than d. Children are passed over one after the other, and what stands below a child
+// is skipped by a call for its level.
+fn skip(s: &[u8], from: usize, d: usize) -> usize
+    ensures { λ r. ⌜ r ≡ from + size (under d (recordsAt (now (s .entry)) from)) ⌝ }
 {
-    match read_head(s, at) {
-        Head::Cut => false,
-        Head::Whole {
-            depth,
-            name_at: _,
-            text_at: _,
-            next: _,
-        } => d < depth,
-    }
-}
-
-// The position after the element at `at` and all below it: its children are skipped one after the other.
-fn skip(s: &[u8], at: usize) -> usize
-    ensures { λ r. ⌜ r ≡ at + size (whole (recordsAt (now (s .entry)) at)) ⌝ }
-{
-    match read_head(s, at) {
-        Head::Cut => at,
-        Head::Whole {
-            depth,
-            name_at: _,
-            text_at: _,
-            next,
-        } => {
-            let mut p = next;
-            while deeper(s, p, depth) {
-                p = skip(s, p);
+    let mut p = from;
+    loop {
+        match read_head(s, p) {
+            Head::Cut => return p,
+            Head::Whole {
+                depth,
+                name_at: _,
+                text_at: _,
+                next,
+            } => {
+                if depth <= d {
+                    return p;
+                }
+                p = next;
+                if d + 1 < depth {
+                    p = skip(s, next, d + 1);
+                }
             }
-            p
         }
     }
 }
@@ -192,7 +183,7 @@ fn find(s: &[u8], from: usize, w: usize, name: &[u8]) -> Found
                 depth,
                 name_at,
                 text_at,
-                next: _,
+                next,
             } => {
                 if depth < w {
                     return Found::Nothing;
@@ -201,8 +192,10 @@ fn find(s: &[u8], from: usize, w: usize, name: &[u8]) -> Found
                     if text::same(&s[name_at..text_at], name) {
                         return Found::At(p);
                     }
+                    p = next;
+                } else {
+                    p = skip(s, next, w);
                 }
-                p = skip(s, p);
             }
         }
     }

@@ -1,11 +1,10 @@
 use lib.Arith.{lt-of-le-ne}
 use mathlib.Core.Path.{_≡_, refl, sym, _∙_}
-use mathlib.Core.Logic.{⊎-elim}
 use Prim.Native.Nat.{_≤_, _-_}
 use lib.ListN.{length}
 use Rattle.tree.specs.Place.{Past}
 use Rattle.tree.proofs.Heads.{bounds}
-use Rattle.tree.proofs.Rows.{row, row-cut, row-end, row-hit, pass-deeper, pass-other, pass-on}
+use Rattle.tree.proofs.Rows.{row, row-cut, row-end, row-hit, row-miss, row-under}
 use borrow.Author.Needs.{needs}
 use native.Mathlib.Omega.{arith}
 use Rattle.tree.proofs.find.Statement.{statement}
@@ -59,21 +58,27 @@ returns-3 c =
       on = (i .1, omega (arith, bounds _ _ h));
     }
 
-skip-requires : tie.Need-skip-requires Inv-loop μ-loop
-skip-requires c κs = search needs
-
 loop-less : tie.Need-loop-less Inv-loop μ-loop
-loop-less c =
-    let h = sym (c .before .before .before .before .before .before .read-head .ensures) ∙ c .before .before .before .before .depth .given .1 in
-    omega (arith, bounds _ _ h, pass-on _ _ h (c .skip .ensures))
+loop-less c = omega (arith, bounds _ _ (sym (c .before .before .before .before .before .before .before .before .read-head .ensures) ∙ c .before .before .before .before .before .before .depth .given .1))
 
 loop-again : tie.Need-loop-again Inv-loop μ-loop
 loop-again c =
+    let h = sym (c .before .before .before .before .before .before .before .before .read-head .ensures) ∙ c .before .before .before .before .before .before .depth .given .1 in
+    let i = c .before .before .before .before .before .before .before .before .before .loop .inv in
+    (i .0 ∙ row-miss _ _ _ _ h (c .before .before .before .if2 .taken) (sym (c .before .same .ensures) ∙ c .if3 .left), omega (arith, i .1, bounds _ _ h))
+
+skip-requires : tie.Need-skip-requires Inv-loop μ-loop
+skip-requires c κs = search needs
+
+loop-less-2 : tie.Need-loop-less-2 Inv-loop μ-loop
+loop-less-2 c = omega (arith, c .skip .ensures, bounds _ _ (sym (c .before .before .before .before .before .before .read-head .ensures) ∙ c .before .before .before .before .depth .given .1))
+
+loop-again-2 : tie.Need-loop-again-2 Inv-loop μ-loop
+loop-again-2 c =
     let h = sym (c .before .before .before .before .before .before .read-head .ensures) ∙ c .before .before .before .before .depth .given .1 in
     let i = c .before .before .before .before .before .before .before .loop .inv in (
-      i .0 ∙ ⊎-elim (λ w. pass-other _ _ _ _ h (c .skip .ensures) (w .0 .taken) (sym (w .2 .ensures) ∙ w .3 .left))
-          (λ w. pass-deeper _ _ _ _ h (c .skip .ensures) (lt-of-le-ne (c .before .before .if1 .left) (λ e. w .left (sym e)))) (c .before .if2 .came),
-      omega (arith, i .1, pass-on _ _ h (c .skip .ensures)),
+      i .0 ∙ row-under _ _ _ _ h (lt-of-le-ne (c .before .before .if1 .left) (λ e. c .before .if2 .left (sym e))) (c .skip .ensures),
+      omega (arith, i .1, c .skip .ensures, bounds _ _ h),
     )
 
 pub find-spec : {M : Type 1} → statement M
@@ -93,6 +98,8 @@ find-spec =
     part-same-end
     same-requires
     returns-3
-    skip-requires
     loop-less
-    loop-again)
+    loop-again
+    skip-requires
+    loop-less-2
+    loop-again-2)
