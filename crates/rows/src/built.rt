@@ -10,8 +10,10 @@ ghost use Rattle.rows.specs.Rows.{inOrder, withUidIn, mainIn, calendarMe
 ghost use Rattle.rows.specs.Walks.{laterInOrder, orderRoom, Orders, OrdersAfter};
 use crate::CalendarAnswer;
 use crate::section::Which;
+use crate::section::first_in;
 use crate::section::first_which;
 use crate::section::next_which;
+use crate::section::which_from;
 use tree::Found;
 
 // After those without a base, the first over one.
@@ -28,11 +30,11 @@ fn or_derived(s: &[u8], root: usize, plain: Found) -> Found
 pub fn first_calendar(s: &[u8], root: usize) -> Found
     ensures { λ r. ⌜ Orders (now (s .entry)) (elementAt (now (s .entry)) root) (inOrder (elementAt (now (s .entry)) root)) (suc (length (now (s .entry)) + length (now (s .entry)))) r ⌝ }
 {
-    or_derived(
-        s,
-        root,
-        first_which(s, root, b"Calendars", b"Calendar", Which::Plain),
-    )
+    let first = first_in(s, root, b"Calendars", b"Calendar");
+    match which_from(s, first, b"Calendar", Which::Plain) {
+        Found::At(at) => Found::At(at),
+        Found::Nothing => which_from(s, first, b"Calendar", Which::Derived),
+    }
 }
 
 // The one to be built after that at `at`.

@@ -7,7 +7,7 @@ ghost use Rattle.rows.specs.Walks.{passes as passesBy, Picks, PicksFrom}
 use tree::Found;
 
 // Work and cost resources; calendars without a base and over one.
-pub enum Which {
+pub(crate) enum Which {
     Work,
     Cost,
     Plain,
@@ -36,7 +36,7 @@ fn passes(s: &[u8], at: usize, which: Which) -> bool
 }
 
 // The first that passes, from where a list of elements starts.
-fn which_from(s: &[u8], start: Found, name: &[u8], which: Which) -> Found
+pub(crate) fn which_from(s: &[u8], start: Found, name: &[u8], which: Which) -> Found
     ensures { λ r. ⌜ PicksFrom (now (s .entry)) (now (name .entry)) which start r ⌝ }
 {
     let mut e = start;
@@ -52,14 +52,14 @@ fn which_from(s: &[u8], start: Found, name: &[u8], which: Which) -> Found
 }
 
 // The first of a section that passes.
-pub fn first_which(s: &[u8], at: usize, section: &[u8], name: &[u8], which: Which) -> Found
+pub(crate) fn first_which(s: &[u8], at: usize, section: &[u8], name: &[u8], which: Which) -> Found
     ensures { λ r. ⌜ Picks (now (s .entry)) (now (name .entry)) which (allIn (childOf (elementAt (now (s .entry)) at) (now (section .entry))) (now (name .entry))) (at + 1) r ⌝ }
 {
     which_from(s, first_in(s, at, section, name), name, which)
 }
 
 // The next sibling of the name that passes.
-pub fn next_which(s: &[u8], at: usize, name: &[u8], which: Which) -> Found
+pub(crate) fn next_which(s: &[u8], at: usize, name: &[u8], which: Which) -> Found
     ensures { λ r. ⌜ Picks (now (s .entry)) (now (name .entry)) which (laterAt (now (s .entry)) (now (name .entry)) at) (at + 1) r ⌝ }
 {
     which_from(s, tree::next_child(s, at, name), name, which)

@@ -64,12 +64,12 @@ fn next_listed(s: &[u8], list: Listed, at: usize, left: u32) -> KeptAnswer
 // ---- a table is made
 
 // How many there are, in a tree of fewer than 2 ^ 32 bytes.
-fn count_listed(s: &[u8], root: usize, list: Listed) -> u32
-    requires { ⌜ length (now s) < 2 ^ 32 ⌝ }
+fn count_listed(s: &[u8], root: usize, list: Listed, first: KeptAnswer) -> u32
+    requires { ⌜ (length (now s) < 2 ^ 32) × Lists (now s) list (listed list (elementAt (now s) root)) (suc (mostIn (now s) list)) first ⌝ }
     ensures { λ r. ⌜ r ≡ length (listed list (elementAt (now (s .entry)) root)) ⌝ }
 {
     let mut n: u32 = 0;
-    let mut e = first_listed(s, root, list);
+    let mut e = first;
     loop {
         let KeptAnswer::Is(at, left) = e else {
             return n;
@@ -79,13 +79,13 @@ fn count_listed(s: &[u8], root: usize, list: Listed) -> u32
     }
 }
 
-fn fill(s: &[u8], root: usize, list: Listed, words: &mut [u32], t: Table)
-    requires { ⌜ Ripe (now s) (elementAt (now s) root) list t (now words) ⌝ }
+fn fill(s: &[u8], root: usize, list: Listed, first: KeptAnswer, words: &mut [u32], t: Table)
+    requires { ⌜ Ripe (now s) (elementAt (now s) root) list t (now words) × Lists (now s) list (listed list (elementAt (now s) root)) (suc (mostIn (now s) list)) first ⌝ }
     ensures { λ _. ⌜ Tabled (now (s .entry)) (elementAt (now (s .entry)) root) list t (now (words .entry)) (now (words .exit)) ⌝ }
 {
     index::clear(words, t);
     let mut row: u32 = 0;
-    let mut e = first_listed(s, root, list);
+    let mut e = first;
     loop {
         let KeptAnswer::Is(at, left) = e else {
             return;
@@ -111,12 +111,13 @@ pub fn index_rows(s: &[u8], root: usize, list: Listed, words: &mut [u32], at: us
     if 4294967295 < s.len() {
         return Made::NoRoom;
     }
-    let rows = rows_for(count_listed(s, root, list));
+    let first = first_listed(s, root, list);
+    let rows = rows_for(count_listed(s, root, list, first));
     let made = index::table_at(words.len(), at, rows);
     let Made::Ready(t) = made else {
         return Made::NoRoom;
     };
-    fill(s, root, list, words, t);
+    fill(s, root, list, first, words, t);
     Made::Ready(t)
 }
 

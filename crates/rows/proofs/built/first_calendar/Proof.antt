@@ -1,29 +1,60 @@
-use Rattle.rows.proofs.Walking.{order-first}
+use Rattle.rows.proofs.Walking.{picks-of, order-first, after-plain, after-none}
 use borrow.Author.Needs.{needs}
 use Rattle.rows.proofs.built.first_calendar.Statement.{statement}
 use Rattle.rows.proofs.built.first_calendar.Tie as tie
 
-slice-aggregate-first-which : tie.Need-slice-aggregate-first-which
-slice-aggregate-first-which c = search needs
+slice-aggregate-first-in : tie.Need-slice-aggregate-first-in
+slice-aggregate-first-in c = search needs
 
-slice-aggregate-first-which-2 : tie.Need-slice-aggregate-first-which-2
-slice-aggregate-first-which-2 c = search needs
+slice-aggregate-first-in-2 : tie.Need-slice-aggregate-first-in-2
+slice-aggregate-first-in-2 c = search needs
 
-first-which-requires : tie.Need-first-which-requires
-first-which-requires c κs = search needs
+first-in-requires : tie.Need-first-in-requires
+first-in-requires c κs = search needs
 
-or-derived-requires : tie.Need-or-derived-requires
-or-derived-requires c κs = search needs
+slice-aggregate-which-from : tie.Need-slice-aggregate-which-from
+slice-aggregate-which-from c = search needs
+
+which-from-requires : tie.Need-which-from-requires
+which-from-requires c κs = search needs
+
+enum-known-at : tie.Need-enum-known-at
+enum-known-at c = search needs
+
+enum-told : tie.Need-enum-told
+enum-told c = search needs
+
+slice-aggregate-which-from-2 : tie.Need-slice-aggregate-which-from-2
+slice-aggregate-which-from-2 c = search needs
+
+which-from-requires-2 : tie.Need-which-from-requires-2
+which-from-requires-2 c κs = search needs
 
 returns : tie.Need-returns
-returns c = order-first _ _ (c .before .first-which .ensures) (c .or-derived .ensures)
+returns c =
+    let f = c .before .before .before .before .before in
+    let w = c .before .before .before in
+    order-first _ _ (picks-of (f .first-in .ensures) (w .which-from .ensures)) (after-plain _ (c .before .at .given .1))
+
+returns-2 : tie.Need-returns-2
+returns-2 c =
+    let w = c .before .before .before .before in
+    let f = w .before .before in
+    order-first _ _ (picks-of (f .first-in .ensures) (w .which-from .ensures))
+    (after-none _ _ (c .before .before .enum-told .given .1) (picks-of (f .first-in .ensures) (c .which-from2 .ensures)))
 
 pub first-calendar-spec : {M : Type 1} → statement M
 first-calendar-spec =
     tie.close
     (tie.spec
-    slice-aggregate-first-which
-    slice-aggregate-first-which-2
-    first-which-requires
-    or-derived-requires
-    returns)
+    slice-aggregate-first-in
+    slice-aggregate-first-in-2
+    first-in-requires
+    slice-aggregate-which-from
+    which-from-requires
+    enum-known-at
+    enum-told
+    slice-aggregate-which-from-2
+    which-from-requires-2
+    returns
+    returns-2)

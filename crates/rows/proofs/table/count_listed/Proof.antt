@@ -1,4 +1,4 @@
--- `rows::table::count_listed` meets its contract. The invariant: those so far and those that are left are all. Assumes nothing.
+-- The invariant: those so far and those that are left are all.
 use mathlib.Core.Path.{refl}
 use Rattle.tree.specs.Place.{elementAt}
 use Rattle.rows.specs.Tables.{listed, roomIn}
@@ -14,11 +14,8 @@ Inv-loop s root list n₀ e₀ n e = Counting s list (listed list (elementAt s r
 abbrev μ-loop : tie.MeasureT-loop
 μ-loop s root list n₀ e₀ n e = roomIn s list e
 
-first-listed-requires : tie.Need-first-listed-requires Inv-loop μ-loop
-first-listed-requires c κs = search needs
-
 loop-holds : tie.Need-loop-holds Inv-loop μ-loop
-loop-holds c = counts-begin (c .first-listed .ensures)
+loop-holds c = counts-begin (c .before .pre .1)
 
 enum-known-e : tie.Need-enum-known-e Inv-loop μ-loop
 enum-known-e c = search needs
@@ -30,7 +27,7 @@ returns : tie.Need-returns Inv-loop μ-loop
 returns c = counts-end (c .before .before .loop .inv) (c .enum-told .given .1)
 
 add-n : tie.Need-add-n Inv-loop μ-loop
-add-n c = omega (arith, counts-room (c .before .before .before .loop .inv) (c .before .e .given .1) (c .before .before .before .before .before .before .pre))
+add-n c = omega (arith, counts-room (c .before .before .before .loop .inv) (c .before .e .given .1) (c .before .before .before .before .before .pre .0))
 
 next-listed-requires : tie.Need-next-listed-requires Inv-loop μ-loop
 next-listed-requires c κs = search needs
@@ -47,7 +44,6 @@ count-listed-spec =
     (tie.spec
     Inv-loop
     μ-loop
-    first-listed-requires
     loop-holds
     enum-known-e
     enum-told

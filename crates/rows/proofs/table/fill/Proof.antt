@@ -10,19 +10,18 @@ use Rattle.rows.proofs.table.fill.Statement.{statement}
 use Rattle.rows.proofs.table.fill.Tie as tie
 
 abbrev Inv-loop : tie.InvT-loop
-Inv-loop s root list words₀ t row₀ e₀ t11 words row e = Filling s (elementAt s root) list t words₀ row e words
+Inv-loop s root list words₀ t row₀ e₀ t12 words row e = Filling s (elementAt s root) list t words₀ row e words
 
 abbrev μ-loop : tie.MeasureT-loop
-μ-loop s root list words₀ t row₀ e₀ t11 words row e = roomIn s list e
+μ-loop s root list words₀ t row₀ e₀ t12 words row e = roomIn s list e
 
 clear-requires : tie.Need-clear-requires Inv-loop μ-loop
 clear-requires c κs = search needs
 
-first-listed-requires : tie.Need-first-listed-requires Inv-loop μ-loop
-first-listed-requires c κs = search needs
-
 loop-holds : tie.Need-loop-holds Inv-loop μ-loop
-loop-holds c = fill-begin (c .before .before .before .before .before .before .before .pre) (c .before .before .before .clear .ensures) (c .first-listed .ensures)
+loop-holds c =
+    let p = c .before .before .before .before .before .before .pre in
+    fill-begin (p .0) (c .before .before .clear .ensures) (p .1)
 
 enum-known-e : tie.Need-enum-known-e Inv-loop μ-loop
 enum-known-e c = search needs
@@ -32,13 +31,13 @@ enum-told c = search needs
 
 same-length : tie.Need-same-length Inv-loop μ-loop
 same-length c =
-    let k = c .before .before .before .before .before .before in
+    let k = c .before .before .before .before .before in
     c .before .before .loop .inv .length-same ∙ k .clear .kept .0
 
 returns : tie.Need-returns Inv-loop μ-loop
 returns c =
-    let k = c .before .before .before .before .before .before in
-    fill-end (k .before .before .before .before .pre) (c .before .before .loop .inv) (k .clear .ensures) (c .enum-told .given .1)
+    let k = c .before .before .before .before .before in
+    fill-end (k .before .before .before .before .pre .0) (c .before .before .loop .inv) (k .clear .ensures) (c .enum-told .given .1)
 
 slice-aggregate-text-of : tie.Need-slice-aggregate-text-of Inv-loop μ-loop
 slice-aggregate-text-of c = search needs
@@ -53,7 +52,7 @@ cast-put : tie.Need-cast-put Inv-loop μ-loop
 cast-put c =
     let t = c .before .before .before .before .before in
     let l = t .before .before in
-    omega (arith, fill-place (l .before .before .before .before .before .before .before .before .pre) (l .loop .inv) (t .e .given .1))
+    omega (arith, fill-place (l .before .before .before .before .before .before .before .pre .0) (l .loop .inv) (t .e .given .1))
 
 put-requires : tie.Need-put-requires Inv-loop μ-loop
 put-requires c κs = search needs
@@ -62,7 +61,7 @@ add-row : tie.Need-add-row Inv-loop μ-loop
 add-row c =
     let t = c .before .before .before .before .before .before .before .before in
     let l = t .before .before in
-    omega (arith, fill-row (l .before .before .before .before .before .before .before .before .pre) (l .loop .inv) (t .e .given .1))
+    omega (arith, fill-row (l .before .before .before .before .before .before .before .pre .0) (l .loop .inv) (t .e .given .1))
 
 next-listed-requires : tie.Need-next-listed-requires Inv-loop μ-loop
 next-listed-requires c κs = search needs
@@ -77,7 +76,7 @@ loop-again c =
     let u = h .before in
     let t = u .before .before .before in
     let l = t .before .before in
-    fill-turn (l .before .before .before .before .before .before .before .before .pre) (l .loop .inv) (t .e .given .1) (c .next-listed .ensures) (u .text-of .ensures) (h .hash-of .ensures) (p .put .ensures)
+    fill-turn (l .before .before .before .before .before .before .before .pre .0) (l .loop .inv) (t .e .given .1) (c .next-listed .ensures) (u .text-of .ensures) (h .hash-of .ensures) (p .put .ensures)
 
 pub fill-spec : {M : Type 1} → statement M
 fill-spec =
@@ -86,7 +85,6 @@ fill-spec =
     Inv-loop
     μ-loop
     clear-requires
-    first-listed-requires
     loop-holds
     enum-known-e
     enum-told
