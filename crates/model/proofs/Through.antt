@@ -41,7 +41,7 @@ use Rattle.model.proofs.records.Kind.Laws as K′
 -- ---- what the places make
 
 pub heads : {s : List ℕ} {n : Counts} {p q : Place} → PassesProject s (n .next) p → PassesRecords Calendars (n .calendars) s p q → Heads s n (record { calendars = p; activities = q })
-heads h k = record { project = h .0; calendars = pass-like (like-times _ strict-calendars) (k .0); even = (h .1, k .1 (h .1)) }
+heads h k = record { project = h; calendars = pass-like (like-times _ strict-calendars) k }
 
 pub behind : {s : List ℕ} {n : Counts} {h : Head} {l p q r end : Place} → PassesRecords Links (n .links) s l p → PassesRecords Resources (n .resources) s p q → PassesRecords Assignments (n .assignments) s q r → PassesRecords Expenses (n .expenses) s r end
     → Behind s n h l (record { calendars = h .calendars; activities = h .activities; links = l; resources = p; assignments = q; expenses = r; end = end })
@@ -49,11 +49,10 @@ behind a b c d = record {
   calendars-at = refl;
   activities-at = refl;
   links-at = refl;
-  links = pass-like (like-times _ strict-links) (a .0);
-  resources = pass-like (like-times _ strict-resources) (b .0);
-  assignments = pass-like (like-times _ strict-assignments) (c .0);
-  expenses = pass-like (like-times _ strict-expenses) (d .0);
-  even = λ z. (a .1 z, b .1 (a .1 z), c .1 (b .1 (a .1 z)));
+  links = pass-like (like-times _ strict-links) a;
+  resources = pass-like (like-times _ strict-resources) b;
+  assignments = pass-like (like-times _ strict-assignments) c;
+  expenses = pass-like (like-times _ strict-expenses) d;
 }
 
 -- ---- the steps

@@ -3,10 +3,12 @@
 use mathlib.Core.Path.{_≡_, refl, sym, ap, _∙_}
 use mathlib.Core.Bool.{Bool, true, false}
 use mathlib.Core.List.{List, [], _∷_}
-use mathlib.Core.Option.{Option, some, none}
-use Prim.Native.Nat.{ℕ, zero, suc}
-use Rattle.laws.specs.Options.{bind-assoc, bind-ext}
-use Rattle.definition.specs.Base.{_>>=_}
+use mathlib.Core.Option.{Option, some, none, Option·some-injective}
+use Prim.Native.Nat.{ℕ, zero, suc, _-_, _%_}
+use native.Mathlib.Omega.{arith}
+use lib.ListN.{length, take, drop, replicate, length-drop}
+use Rattle.laws.specs.Options.{bind-assoc, bind-ext, some-is, when-is}
+use Rattle.definition.specs.Base.{_>>=_, when, same}
 use Rattle.definition.specs.Bits.{Bits}
 use Rattle.definition.specs.Format.{Format, via, _⊗_, depending, getGiven, optional, whole, getPad, times, getAll, flag}
 
@@ -168,6 +170,16 @@ left-whole {A} f l = first (f .get l)
     first none = refl
     first (some x) = second (x .0) (getPad (x .1))
 
+-- what is left behind it is whole bytes
+pad-bytes : (t : Bool) (r m : Bits) → when t (drop (length r % 8) r) ≡ some m → length m % 8 ≡ 0
+pad-bytes t r m e =
+    let n : length m ≡ length r - length r % 8 = ap length (sym (when-is t (drop (length r % 8) r) m e .1)) ∙ length-drop (length r % 8) r in
+    omega arith
+
+pub left-bytes : {A : Type 0} (f : Format A) (l m : Bits) → left (whole f) l ≡ some m → length m % 8 ≡ 0
+unfolding getPad
+left-bytes f l m e = let (r, h, g) = some-is (left f l) getPad m (sym (left-whole f l) ∙ e) in pad-bytes (same (take (length r % 8) r) (replicate (length r % 8) 0)) r m g
+
 pub lax-whole : {A B : Type 0} {f : Format A} {g : Format B} → Lax g f → Lax (whole g) (whole f)
 lax-whole {f = f} {g = g} a = record { lax = λ l m e. left-whole g l ∙ steps (a .lax) (λ l m e. e) l m (sym (left-whole f l) ∙ e) }
 
@@ -248,6 +260,12 @@ module _ {A : Type 0} (f : Format A) where
       first : (o : Option (A × Bits)) → behind {A = List A} (o >>= λ x. getAll f n (x .1) >>= λ y. some (x .0 ∷ y .0, y .1)) ≡ (behind o >>= λ r. behind (getAll f n r))
       first none = refl
       first (some x) = second (x .0) (getAll f n (x .1))
+
+pub left-all-bytes : {A : Type 0} (f : Format A) (n : ℕ) (l m : Bits) → length l % 8 ≡ 0 → left (times n (whole f)) l ≡ some m → length m % 8 ≡ 0
+left-all-bytes f zero l m b e = let z : l ≡ m = Option·some-injective l m (sym (left-zero (whole f) l) ∙ e) in rw (← z) b
+left-all-bytes f (suc n) l m b e =
+    let (r, h, g) = some-is (left (whole f) l) (left (times n (whole f))) m (sym (left-suc (whole f) n l) ∙ e) in
+    left-all-bytes f n r m (left-bytes f l r h) g
 
 module _ {A B : Type 0} {f : Format A} {g : Format B} where
   pub lax-times : (n : ℕ) → Lax g f → Lax (times n g) (times n f)

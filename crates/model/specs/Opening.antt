@@ -14,7 +14,7 @@ use Rattle.definition.specs.Base.{if_then_else_, _>>=_}
 use Rattle.definition.specs.Bits.{Bits, bitsOf}
 use Rattle.definition.specs.Format.{Format, whole, times}
 use Rattle.definition.specs.Model.{Model}
-use Rattle.definition.specs.Pack.{Counts as CountsOf, Body, counts, body, modelFrom, model, atEnd, decode, calendar, activity, link, resource, assignment, expense}
+use Rattle.definition.specs.Pack.{Counts as CountsOf, Body, counts, body, modelFrom, model, atEnd, decode, project, calendar, activity, link, resource, assignment, expense}
 use Rattle.bits.specs.Places.{at, Fits}
 use Rattle.bits.specs.Reads.{rest, Reads, rest-in, length-rest, chain}
 use Rattle.bits.specs.declared.Place.{Place}
@@ -22,7 +22,7 @@ use Rattle.model.specs.declared.Sections.{Sections}
 use Rattle.model.specs.declared.Opened.{Opened}
 use Rattle.model.specs.declared.Counts.{Counts}
 use Rattle.model.specs.declared.Places.{Places}
-use Rattle.model.specs.Passes.{Passes, Told, refusing, reading, told, stood, _⨾_}
+use Rattle.model.specs.Passes.{Passes, Bytewise, Told, refusing, reading, told, stood, bytewise, bytewise-all, _⨾_}
 use Rattle.model.specs.Answers.{countsAt, tails-counts, or-reads, rest-fits}
 use Rattle.model.specs.Splits.{split-⊗, read-length}
 use Rattle.model.specs.Sections.{byteAt, start, countsIn, Walks, Holds, Decoded, sectionsOf, sectionsBy, Sectioned, Opens, byte-place}
@@ -51,6 +51,10 @@ module _ (s : List ℕ) (q : Place) where
   at-end b e =
       let f : Fits (length s) q 0 = record { bit = omega arith; ends = omega arith } in
       rest-in s q f ∙ ap some (no-bits (drop (at q) (bitsOf s)) (length-rest s (at q) ∙ omega arith))
+
+-- a place where whole bytes are left
+bytewise-place : (s : List ℕ) (q : Place) {l : Bits} → rest s q ≡ some l → Bytewise s q → q ≡ byteAt (q .byte)
+bytewise-place s q {l} e b = let f = rest-fits s q e in byte-place s q e (omega (arith, rest-length s q e, b l e, f .bit, f .ends))
 
 -- ---- the model
 
@@ -98,6 +102,21 @@ module _ {s : List ℕ} {n : Counts} {w : Places} (k : (countsIn n, n .next) ≡
 
   -- ---- it does
 
+  bytes-calendars : Bytewise s (w .calendars)
+  bytes-calendars = bytewise project (h .project)
+
+  bytes-activities : Bytewise s (w .activities)
+  bytes-activities = bytewise-all calendar (n .calendars) bytes-calendars (h .calendars)
+
+  bytes-links : Bytewise s (w .links)
+  bytes-links = bytewise-all activity (n .activities) bytes-activities (h .activities)
+
+  bytes-resources : Bytewise s (w .resources)
+  bytes-resources = bytewise-all link (n .links) bytes-links (h .links)
+
+  bytes-assignments : Bytewise s (w .assignments)
+  bytes-assignments = bytewise-all resource (n .resources) bytes-resources (h .resources)
+
   holds : {A : Type 0} (f : Format A) {p q : Place} {l : Bits} {xs : List A} (k : ℕ) → rest s q ≡ some l → p ≡ byteAt (p .byte) → q ≡ byteAt (q .byte)
       → Reads (times k (whole f)) s p xs q → Holds f s (record { count = k; at = p .byte }) xs (q .byte)
   holds f {q = q} k e ep eq r = record { count = read-length (whole f) k e r; reads = rw (← ep, ← eq) r; ends = omega (arith, rest-fits s q e .ends) }
@@ -117,13 +136,12 @@ module _ {s : List ℕ} {n : Counts} {w : Places} (k : (countsIn n, n .next) ≡
       let l = stood (o .1) (h .links) in
       let v = stood (l .1) (h .activities) in
       let k = stood (v .1) (h .calendars) in
-      let m = h .even in
-      let pk = byte-place s (w .calendars) (k .1) (m .0) in
-      let pv = byte-place s (w .activities) (v .1) (m .1) in
-      let pl = byte-place s (w .links) (l .1) (m .2) in
-      let po = byte-place s (w .resources) (o .1) (m .3) in
-      let pa = byte-place s (w .assignments) (a .1) (m .4) in
-      let px = byte-place s (w .expenses) (x .1) (m .5) in
+      let pk = bytewise-place s (w .calendars) (k .1) bytes-calendars in
+      let pv = bytewise-place s (w .activities) (v .1) bytes-activities in
+      let pl = bytewise-place s (w .links) (l .1) bytes-links in
+      let po = bytewise-place s (w .resources) (o .1) bytes-resources in
+      let pa = bytewise-place s (w .assignments) (a .1) bytes-assignments in
+      let px = bytewise-place s (w .expenses) (x .1) (bytewise-all assignment (n .assignments) bytes-assignments (h .assignments)) in
       let pe : w .end ≡ byteAt (w .end .byte) = byte-place s (w .end) e (ap (λ (b : ℕ). b % 8) (end-bit s (w .end) e)) in
       let pn = end-byte s (w .end) e in
       record {
@@ -188,4 +206,4 @@ module _ {s : List ℕ} {n : Counts} {w : Places} (k : (countsIn n, n .next) ≡
           let l = stood (o .1) (h .links) in
           let v = stood (l .1) (h .activities) in
           let z : m ≡ sectionsOf n w = cc in
-          (z, byte-place s (w .activities) (v .1) (h .even .1))
+          (z, bytewise-place s (w .activities) (v .1) bytes-activities)

@@ -6,13 +6,14 @@ use mathlib.Core.List.{List, []}
 use mathlib.Core.Option.{Option, some, none}
 use Prim.Native.Nat.{ℕ, _+_, _-_, _%_, _≤_}
 use native.Mathlib.Omega.{arith}
-use Rattle.laws.specs.Options.{bind-assoc, bind-ext, bind-some}
+use lib.ListN.{length}
+use Rattle.laws.specs.Options.{bind-assoc, bind-ext, bind-some, some-is}
 use Rattle.definition.specs.Base.{_>>=_}
 use Rattle.definition.specs.Bits.{Bits}
 use Rattle.definition.specs.Format.{Format, _⊗_, depending, optional, whole, times, flag}
 use Rattle.bits.specs.Reads.{rest, Reads, Refuses, Skips, padAt, chain, skip-pad, pad-whole, read-nothing, read-⊗, read-whole, read-both, read-alone, read-some, read-none, read-no, read-on, read-more, refuse-times}
 use Rattle.bits.specs.declared.Place.{Place}
-use Rattle.model.specs.Lax.{left, Lax, Like, passed, like-passed, like-back, like-⊗, like-whole, like-depending, like-optional}
+use Rattle.model.specs.Lax.{left, Lax, Like, left-bytes, left-all-bytes, passed, like-passed, like-back, like-⊗, like-whole, like-depending, like-optional}
 
 -- a skipper answered the place q: the format gives a value at p, and q stands behind it; or it gives nothing, and q is past
 pub record Passes {A : Type 0} (f : Format A) (s : List ℕ) (p q : Place) : Type 0 where
@@ -137,6 +138,17 @@ stood {f = f} {s} {p} {q} {l} e h = from (rest s p) refl
         let n : _≡_ {A = ℕ} 0 1 = cc in
         absurd (omega arith)
     from (some m) z = (m, z)
+
+-- a place behind whole records, if it is one: whole bytes are left there
+abbrev pub Bytewise : List ℕ → Place → Type 0
+Bytewise s p = (l : Bits) → rest s p ≡ some l → length l % 8 ≡ 0
+
+module _ {A : Type 0} (f : Format A) {s : List ℕ} {p q : Place} where
+  pub bytewise : Passes (whole f) s p q → Bytewise s q
+  bytewise h m e = let (l, z, g) = some-is (rest s p) (left (whole f)) m (h .passes ∙ e) in left-bytes f l m g
+
+  pub bytewise-all : (n : ℕ) → Bytewise s p → Passes (times n (whole f)) s p q → Bytewise s q
+  bytewise-all n b h m e = let (l, z, g) = some-is (rest s p) (left (times n (whole f))) m (h .passes ∙ e) in left-all-bytes f n l m (b l z) g
 
 -- a record and the zero bits up to a whole byte
 pub ended : {A : Type 0} {f : Format A} {s : List ℕ} {p q r : Place} → Passes f s p q → r ≡ padAt s q → Passes (whole f) s p r × (r .bit % 8 ≡ 0)

@@ -43,18 +43,17 @@ countsIn n = (n .calendars, (n .activities, (n .links, (n .resources, (n .assign
 abbrev pub countsBy : CountsOf → Place → CountsOf × Place
 countsBy n p = if ltb 7 (p .bit) then ((0, (0, (0, (0, (0, 0))))), past) else (n, p)
 
--- the place behind the project record, and behind so many records of a kind: a whole byte or past every end
+-- the place behind the project record, and behind so many records of a kind
 abbrev pub PassesProject : List ℕ → Place → Place → Type 0
-PassesProject s p q = Passes (whole project) s p q × (q .bit % 8 ≡ 0)
+PassesProject = Passes (whole project)
 
 abbrev pub PassesRecords : Kind → ℕ → List ℕ → Place → Place → Type 0
-PassesRecords kind count s p q = Passes (times count (recordOf true kind)) s p q × (p .bit % 8 ≡ 0 → q .bit % 8 ≡ 0)
+PassesRecords kind count = Passes (times count (recordOf true kind))
 
--- the places of the first two sections, each at a whole byte or past every end
+-- the places of the first two sections
 pub record Heads (s : List ℕ) (n : Counts) (h : Head) : Type 0 where
   pub project : Passes (whole project) s (n .next) (h .calendars)
   pub calendars : Passes (times (n .calendars) (whole calendar)) s (h .calendars) (h .activities)
-  pub even : (h .calendars .bit % 8 ≡ 0) × (h .activities .bit % 8 ≡ 0)
 
 -- the places of the sections behind the activities, which end at a place
 pub record Behind (s : List ℕ) (n : Counts) (h : Head) (end : Place) (w : Places) : Type 0 where
@@ -65,9 +64,8 @@ pub record Behind (s : List ℕ) (n : Counts) (h : Head) (end : Place) (w : Plac
   pub resources : Passes (times (n .resources) (whole resource)) s (w .resources) (w .assignments)
   pub assignments : Passes (times (n .assignments) (whole assignment)) s (w .assignments) (w .expenses)
   pub expenses : Passes (times (n .expenses) (whole expense)) s (w .expenses) (w .end)
-  pub even : end .bit % 8 ≡ 0 → (w .resources .bit % 8 ≡ 0) × (w .assignments .bit % 8 ≡ 0) × (w .expenses .bit % 8 ≡ 0)
 
--- the places between the sections, each at a whole byte or past every end
+-- the places between the sections
 pub record Walks (s : List ℕ) (n : Counts) (w : Places) : Type 0 where
   pub project : Passes (whole project) s (n .next) (w .calendars)
   pub calendars : Passes (times (n .calendars) (whole calendar)) s (w .calendars) (w .activities)
@@ -76,23 +74,18 @@ pub record Walks (s : List ℕ) (n : Counts) (w : Places) : Type 0 where
   pub resources : Passes (times (n .resources) (whole resource)) s (w .resources) (w .assignments)
   pub assignments : Passes (times (n .assignments) (whole assignment)) s (w .assignments) (w .expenses)
   pub expenses : Passes (times (n .expenses) (whole expense)) s (w .expenses) (w .end)
-  pub even : (w .calendars .bit % 8 ≡ 0) × (w .activities .bit % 8 ≡ 0) × (w .links .bit % 8 ≡ 0) × (w .resources .bit % 8 ≡ 0) × (w .assignments .bit % 8 ≡ 0) × (w .expenses .bit % 8 ≡ 0)
 
 -- whoever passes over the activities between the two has walked over all
-pub walks : {s : List ℕ} {n : Counts} {h : Head} {end : Place} {w : Places} → Heads s n h → Passes (times (n .activities) (whole activity)) s (h .activities) end → end .bit % 8 ≡ 0
-    → Behind s n h end w → Walks s n w
-walks {s} {n} a p e b =
-    let i = b .even e in
-    record {
-      project = rw (b .calendars-at) (a .project);
-      calendars = rw (b .calendars-at, b .activities-at) (a .calendars);
-      activities = rw (b .activities-at, b .links-at) p;
-      links = rw (b .links-at) (b .links);
-      resources = b .resources;
-      assignments = b .assignments;
-      expenses = b .expenses;
-      even = rw (b .calendars-at, b .activities-at, b .links-at) (a .even .0, a .even .1, e, i .0, i .1, i .2);
-    }
+pub walks : {s : List ℕ} {n : Counts} {h : Head} {end : Place} {w : Places} → Heads s n h → Passes (times (n .activities) (whole activity)) s (h .activities) end → Behind s n h end w → Walks s n w
+walks a p b = record {
+  project = rw (b .calendars-at) (a .project);
+  calendars = rw (b .calendars-at, b .activities-at) (a .calendars);
+  activities = rw (b .activities-at, b .links-at) p;
+  links = rw (b .links-at) (b .links);
+  resources = b .resources;
+  assignments = b .assignments;
+  expenses = b .expenses;
+}
 
 -- a section holds these records, and the next one begins at a byte
 pub record Holds {A : Type 0} (f : Format A) (s : List ℕ) (x : Section) (xs : List A) (next : ℕ) : Type 0 where

@@ -21,7 +21,7 @@ use crate::parts::resource_calendar_place_by;
 use bits::Place;
 
 pub(crate) fn skip_project(s: &[u8], p: Place) -> Place
-    ensures { λ r. ⌜ Passes (whole project) (now (s .entry)) p r × (r .bit % 8 ≡ 0) ⌝ }
+    ensures { λ r. ⌜ Passes (whole project) (now (s .entry)) p r ⌝ }
 {
     let a = skip_text(s, p, true);
     let b = skip_date(s, a);
@@ -140,7 +140,7 @@ pub fn skip_record(s: &[u8], p: Place, kind: Kind, check: bool) -> Place
 
 // So many records. It ends at the first that is refused.
 pub fn skip_records(s: &[u8], p: Place, kind: Kind, count: u32, check: bool) -> Place
-    ensures { λ r. ⌜ Passes (times count (recordOf check kind)) (now (s .entry)) p r × (p .bit % 8 ≡ 0 → r .bit % 8 ≡ 0) ⌝ }
+    ensures { λ r. ⌜ Passes (times count (recordOf check kind)) (now (s .entry)) p r ⌝ }
 {
     let mut q = p;
     let mut i = 0;

@@ -1,5 +1,5 @@
 -- The parents of a model's activities in the words of the work slice. Assumes nothing.
-use Prim.Native.Nat.{ℕ, _*_, _%_, _≤_, _<_}
+use Prim.Native.Nat.{ℕ, _*_, _≤_, _<_}
 use mathlib.Core.Path.{_≡_}
 use mathlib.Core.Bool.{true}
 use mathlib.Core.List.{List, map}
@@ -26,7 +26,6 @@ parents = map (λ (a : Activity). a .parent)
 pub record ParentAt (s : List ℕ) (p : Place) (r : Parent) : Type 0 where
   pub word : (a : Activity) → Stands (whole activity) s p a → r .word ≡ wordOf (a .parent)
   pub next : Passes (recordOf true Activities) s p (r .next)
-  pub even : r .next .bit % 8 ≡ 0
 
 -- the first words of i rows name the activities' parents
 abbrev pub Names : List Activity → ℕ → List ℕ → Type 0
@@ -36,7 +35,6 @@ Names xs i w = (r : ℕ) → r < i → getD w (4 * r) 0 ≡ wordOf (getD (parent
 pub record Filled (s : List ℕ) (p : Place) (n : ℕ) (w w′ : List ℕ) (r : Place) : Type 0 where
   pub long : length w′ ≡ length w
   pub passes : Passes (times n (recordOf true Activities)) s p r
-  pub even : p .bit % 8 ≡ 0 → r .bit % 8 ≡ 0
   pub names : (xs : List Activity) (next : ℕ) → Holds activity s (record { count = n; at = p .byte }) xs next → p ≡ byteAt (p .byte) → 4 * n ≤ length w → Names xs n w′
 
 -- the walk over the sections, with the activities' parents in the words

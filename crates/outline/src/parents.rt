@@ -67,7 +67,7 @@ fn fill(s: &[u8], p: Place, count: u32, work: &mut [u32]) -> Place
 }
 
 // The places between the sections, as model::open finds them, with the parents in the words.
-pub fn walk_model(s: &[u8], n: Counts, work: &mut [u32]) -> Places
+pub(crate) fn walk_model(s: &[u8], n: Counts, work: &mut [u32]) -> Places
     ensures { λ r. ⌜ ModelWalked (now (s .entry)) n (now (work .entry)) (now (work .exit)) r ⌝ }
 {
     let head = walk_head(s, n);

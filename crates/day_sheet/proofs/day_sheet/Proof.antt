@@ -65,7 +65,7 @@ returns-3 : tie.Need-returns-3
 returns-3 c =
     let a = c .before .before .before .before .before .before .before .before .before .before .before .before .before .before .before .before .before .before .before .before .args in
     let room = length (a .sheet .now) in
-    let t = sheet-at (a .calendar) (a .date .0) room (c .before .before .before .before .before .before .before .before .before .before .before .before .before .before .before .before .before .«open» .ensures) (c .before .before .before .before .before .before .before .before .before .before .before .before .before .before .before .opened .given .1) (c .before .before .before .before .before .before .before .before .before .before .before .before .before .weekday-of .ensures) (not-false _ (c .before .before .before .before .before .before .before .before .before .before .if1 .left)) (c .before .before .before .before .before .before .before .before .before .skip-records .ensures .0) in
+    let t = sheet-at (a .calendar) (a .date .0) room (c .before .before .before .before .before .before .before .before .before .before .before .before .before .before .before .before .before .«open» .ensures) (c .before .before .before .before .before .before .before .before .before .before .before .before .before .before .before .opened .given .1) (c .before .before .before .before .before .before .before .before .before .before .before .before .before .weekday-of .ensures) (not-false _ (c .before .before .before .before .before .before .before .before .before .before .if1 .left)) (c .before .before .before .before .before .before .before .before .before .skip-records .ensures) in
     answered (a .calendar) (a .date .0) (c .before .before .finish .result) (t .answers) (c .before .before .before .before .before .before .before .before .day-of .ensures (t .date) (t .is-date) (t .on) (t .value) (t .stands)) (c .before .before .before .before .before .before .put-day .ensures) (c .before .before .finish .ensures)
 
 pub day-sheet-spec : {M : Type 1} → statement M

@@ -102,7 +102,7 @@ module _ {M : Type 1} (𝓤 : URA M) (H : Heap 𝓤) (A : Atoms 𝓤) (W : Given
       (and-then ! (load ! (from ! (stop !)) (look ! 4 refl)) (and-then ! (load ! (from ! (stop !)) (look ! 6 refl)) (and-then ! (load ! (from ! (stop !)) (look ! 8 refl)) (and-then ! (load ! (from ! (stop !)) (look ! 18 refl)) (no-more !))))) (λ w ew ws. drop ! $
       land ! (from ! (stop !)) (init ! 2 refl (LL.lawful S.the-type S′.the-laws 𝓤 H A W .typed w _ ws .0)) $
       returns ! (look ! 2 refl) $ gone ! $ gone ! $ gone ! $ gone ! $ gone ! $ gone ! $ gone ! $ gone ! $ gone ! $ free0 ! $
-      by ! (leaves 𝓤 H A this.ended stayed (none 𝓤 this.ended) says κ s (κ, tt) (q, tt) tt (s, (n, tt)) vals W w (S′.lowered w) (tt, (tt, tt)) (tt, (tt, tt)) (walks eh (pass-like (like-times _ strict-activities) (el .0)) (el .1 (eh .even .1)) ew)
+      by ! (leaves 𝓤 H A this.ended stayed (none 𝓤 this.ended) says κ s (κ, tt) (q, tt) tt (s, (n, tt)) vals W w (S′.lowered w) (tt, (tt, tt)) (tt, (tt, tt)) (walks eh (pass-like (like-times _ strict-activities) el) ew)
       (itself and-also counts and-also nothing-more) (plainly S.the-row (LL.makes S.the-type S′.the-plain 𝓤 H A) w ws))))))))))))))
 
 pub walk-spec : {M : Type 1} → stated.statement M

@@ -34,7 +34,7 @@ returns : tie.Need-returns
 unfolding project textBy
 returns c =
     let fields = c .before .before .before .before .before .before .before .skip-text .ensures ⨾ c .before .before .before .before .before .before .skip-date .ensures ⨾ c .before .before .before .before .before .skip-text2 .ensures ⨾ c .before .before .before .before .skip .ensures ⨾ c .before .before .before .skip2 .ensures ⨾ c .before .before .skip3 .ensures ⨾ c .before .skip-optional-date .ensures in
-    ended (pass-like (like-named _ _ _) fields) (c .take-pad .ensures)
+    ended (pass-like (like-named _ _ _) fields) (c .take-pad .ensures) .0
 
 pub skip-project-spec : {M : Type 1} → statement M
 skip-project-spec =

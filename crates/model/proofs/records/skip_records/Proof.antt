@@ -1,5 +1,5 @@
 use mathlib.Core.Path.{_≡_}
-use Prim.Native.Nat.{_+_, _-_, _%_, _≤_}
+use Prim.Native.Nat.{_+_, _-_, _≤_}
 use Rattle.definition.specs.Format.{times}
 use Rattle.model.specs.Passes.{Passes, pass-no, pass-more, pass-cut}
 use Rattle.model.specs.Parts.{recordOf}
@@ -10,7 +10,7 @@ use Rattle.model.proofs.records.skip_records.Statement.{statement}
 use Rattle.model.proofs.records.skip_records.Tie as tie
 
 abbrev Inv-loop : tie.InvT-loop
-Inv-loop s kind count check q₀ i₀ q i = (i ≤ count) × Passes (times i (recordOf check kind)) s q₀ q × (q₀ .bit % 8 ≡ 0 → q .bit % 8 ≡ 0)
+Inv-loop s kind count check q₀ i₀ q i = (i ≤ count) × Passes (times i (recordOf check kind)) s q₀ q
 
 abbrev μ-loop : tie.MeasureT-loop
 μ-loop s kind count check q₀ i₀ q i = count - i
@@ -18,7 +18,7 @@ abbrev μ-loop : tie.MeasureT-loop
 loop-holds : tie.Need-loop-holds Inv-loop μ-loop
 loop-holds c =
     let a = c .before .args in
-    (omega arith, pass-no (recordOf (a .check) (a .kind)) (a .s .now) (a .p), λ e. e)
+    (omega arith, pass-no (recordOf (a .check) (a .kind)) (a .s .now) (a .p))
 
 skip-record-requires : tie.Need-skip-record-requires Inv-loop μ-loop
 skip-record-requires c κs = search needs
@@ -27,7 +27,7 @@ returns : tie.Need-returns Inv-loop μ-loop
 returns c =
     let a = c .before .before .before .before .before .before .args in
     let f = recordOf (a .check) (a .kind) in
-    (pass-cut f (c .before .before .before .before .loop .i + 1) (a .count) (omega arith) (pass-more f (c .before .before .before .before .loop .i) (c .before .before .before .before .loop .inv .1) (c .before .before .skip-record .ensures .0)) (far (a .s .now) (c .before .before .skip-record .result) (c .if1 .taken)), λ e. c .before .before .skip-record .ensures .1)
+    pass-cut f (c .before .before .before .before .loop .i + 1) (a .count) (omega arith) (pass-more f (c .before .before .before .before .loop .i) (c .before .before .before .before .loop .inv .1) (c .before .before .skip-record .ensures .0)) (far (a .s .now) (c .before .before .skip-record .result) (c .if1 .taken))
 
 add-i : tie.Need-add-i Inv-loop μ-loop
 add-i c = search needs
@@ -38,12 +38,12 @@ loop-less c = search needs
 loop-again : tie.Need-loop-again Inv-loop μ-loop
 loop-again c =
     let a = c .before .before .before .before .before .before .args in
-    (omega arith, pass-more (recordOf (a .check) (a .kind)) (c .before .before .before .before .loop .i) (c .before .before .before .before .loop .inv .1) (c .before .before .skip-record .ensures .0), λ e. c .before .before .skip-record .ensures .1)
+    (omega arith, pass-more (recordOf (a .check) (a .kind)) (c .before .before .before .before .loop .i) (c .before .before .before .before .loop .inv .1) (c .before .before .skip-record .ensures .0))
 
 returns-2 : tie.Need-returns-2 Inv-loop μ-loop
 returns-2 c =
     let e : c .before .loop .i ≡ c .before .before .before .args .count = omega arith in
-    (rw e at (c .before .loop .inv .1), c .before .loop .inv .2)
+    rw e at (c .before .loop .inv .1)
 
 pub skip-records-spec : {M : Type 1} → statement M
 skip-records-spec =

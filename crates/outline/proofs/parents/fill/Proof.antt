@@ -3,7 +3,7 @@
 use mathlib.Core.Path.{_≡_, refl, _∙_, ap}
 use mathlib.Core.Bool.{true}
 use mathlib.Core.List.{List}
-use Prim.Native.Nat.{ℕ, _+_, _-_, _*_, _%_, _≤_}
+use Prim.Native.Nat.{ℕ, _+_, _-_, _*_, _≤_}
 use lib.ListN.{length, set, length-set}
 use Rattle.definition.specs.Format.{times}
 use Rattle.definition.specs.Model.{Activity}
@@ -26,7 +26,7 @@ sectionOf count at = record { count = count; at = at .byte }
 
 abbrev Inv-loop : tie.InvT-loop
 Inv-loop s count work₀ q₀ i₀ work q i =
-    (i ≤ count) × (length work ≡ length work₀) × Passes (times i (recordOf true Activities)) s q₀ q × (q₀ .bit % 8 ≡ 0 → q .bit % 8 ≡ 0)
+    (i ≤ count) × (length work ≡ length work₀) × Passes (times i (recordOf true Activities)) s q₀ q
     × ((xs : List Activity) (next : ℕ) → Holds activity s (sectionOf count q₀) xs next → q₀ ≡ byteAt (q₀ .byte) → 4 * count ≤ length work₀ → Turn s (sectionOf count q₀) xs next q i work)
 
 abbrev μ-loop : tie.MeasureT-loop
@@ -35,7 +35,7 @@ abbrev μ-loop : tie.MeasureT-loop
 loop-holds : tie.Need-loop-holds Inv-loop μ-loop
 loop-holds c =
     let a = c .before .before .args in
-    (omega arith, refl, pass-no (recordOf true Activities) (a .s .now) (a .p), (λ e. e), λ xs next h e room. turn-none h (a .work .now) e)
+    (omega arith, refl, pass-no (recordOf true Activities) (a .s .now) (a .p), λ xs next h e room. turn-none h (a .work .now) e)
 
 take-parent-requires : tie.Need-take-parent-requires Inv-loop μ-loop
 take-parent-requires c κs = search needs
@@ -60,8 +60,7 @@ returns c =
     record {
       long = ap length (f .set-field .ensures) ∙ length-set (l .loop .work) _ _ ∙ l .loop .inv .1;
       passes = pass-cut (recordOf true Activities) (i + 1) (l .before .before .before .args .count) (omega arith) (pass-more (recordOf true Activities) i (l .loop .inv .2) (t .next)) past;
-      even = λ z. t .even;
-      names = λ xs next h z room. turn-far h (i + 1) (turn-more h i (omega arith) (omega (arith, room, l .loop .inv .1)) (l .loop .inv .4 xs next h z room) t) past;
+      names = λ xs next h z room. turn-far h (i + 1) (turn-more h i (omega arith) (omega (arith, room, l .loop .inv .1)) (l .loop .inv .3 xs next h z room) t) past;
     }
 
 add-i : tie.Need-add-i Inv-loop μ-loop
@@ -80,8 +79,7 @@ loop-again c =
       omega arith,
       ap length e ∙ length-set (l .loop .work) _ _ ∙ l .loop .inv .1,
       pass-more (recordOf true Activities) i (l .loop .inv .2) (t .next),
-      (λ z. t .even),
-      λ xs next h z room. rw e (turn-more h i (omega arith) (omega (arith, room, l .loop .inv .1)) (l .loop .inv .4 xs next h z room) t),
+      λ xs next h z room. rw e (turn-more h i (omega arith) (omega (arith, room, l .loop .inv .1)) (l .loop .inv .3 xs next h z room) t),
     )
 
 same-length-2 : tie.Need-same-length-2 Inv-loop μ-loop
@@ -94,8 +92,7 @@ returns-2 c =
     record {
       long = l .inv .1;
       passes = rw e at (l .inv .2);
-      even = l .inv .3;
-      names = λ xs next h z room. rw e at (l .inv .4 xs next h z room .names);
+      names = λ xs next h z room. rw e at (l .inv .3 xs next h z room .names);
     }
 
 pub fill-spec : {M : Type 1} → statement M

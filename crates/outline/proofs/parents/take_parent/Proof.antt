@@ -36,7 +36,6 @@ returns c =
     record {
       word = λ a h. c .word-of .ensures ∙ ap wordOf (ap (λ (x : Option ℕ × Place). x .0) e ∙ stands-or (activity-parent h true b) none);
       next = x .0;
-      even = x .1;
     }
 
 pub take-parent-spec : {M : Type 1} → statement M

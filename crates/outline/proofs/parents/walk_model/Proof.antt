@@ -24,7 +24,7 @@ returns c =
     let h = c .before .before .before .before .before .before .walk-head .ensures in
     let f = c .before .before .before .fill .ensures in
     let b = c .walk-behind .ensures in
-    record { walks = walks h (pass-like (like-times _ strict-activities) (f .passes)) (f .even (h .even .1)) b; filled = rw (b .activities-at, b .links-at) f }
+    record { walks = walks h (pass-like (like-times _ strict-activities) (f .passes)) b; filled = rw (b .activities-at, b .links-at) f }
 
 pub walk-model-spec : {M : Type 1} → statement M
 walk-model-spec = tie.close (tie.spec walk-head-requires fill-requires walk-behind-requires same-length returns)
