@@ -188,30 +188,35 @@ pub fn table_at(len: usize, at: usize, rows: u32) -> Made
 }
 
 // How many of n words from a place on there are.
-fn reach(len: usize, from: usize, n: u32) -> usize
+pub fn reach(len: usize, from: usize, n: usize) -> usize
     ensures { λ r. ⌜ r ≡ min n (len - from) ⌝ }
 {
-    let k = n as usize;
     if len <= from {
         return 0;
     }
-    if len - from < k {
+    if len - from < n {
         return len - from;
     }
-    k
+    n
+}
+
+// Zeros in n words from a place on.
+pub fn clear_words(words: &mut [u32], from: usize, n: usize)
+    ensures { λ _. ⌜ now (words .exit) ≡ zeros (now (words .entry)) from n ⌝ }
+{
+    let m = reach(words.len(), from, n);
+    let mut k: usize = 0;
+    while k < m {
+        words[from + k] = 0;
+        k += 1;
+    }
 }
 
 // Empties all chains.
 pub fn clear(words: &mut [u32], t: Table)
     ensures { λ _. ⌜ now (words .exit) ≡ zeros (now (words .entry)) (t .at) (t .rows) ⌝ }
 {
-    let from = t.at;
-    let n = reach(words.len(), from, t.rows);
-    let mut k: usize = 0;
-    while k < n {
-        words[from + k] = 0;
-        k += 1;
-    }
+    clear_words(words, t.at, t.rows as usize);
 }
 
 // Puts a row in front of the chain of its bucket, with its place; nothing where the table has no such row.
