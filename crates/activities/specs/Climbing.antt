@@ -7,17 +7,18 @@ use borrow.Author.Tests.{ltb-false, lt-ltb, le-ltb}
 use mathlib.Core.Path.{_≡_, refl, sym, ap, _∙_}
 use mathlib.Core.Bool.{Bool, true, false}
 use mathlib.Core.List.{List, map}
-use mathlib.Core.Option.{Option, some, none}
+use mathlib.Core.Option.{Option}
 use lib.Dec.{ltb}
 use lib.ListN.{length, getD, set, take, length-map, length-set, List·getD-map}
 use lib.Seq.{length-take-le, getD-take, getD-set-same, getD-set-other}
 use Rattle.definition.specs.Task.{levelOf, keptTasks, parentOf}
 use Rattle.definition.specs.Text.{Text}
 use Rattle.definition.specs.Tree.{Element}
+use Rattle.index.specs.Law.{last-small as word-below}
 use Rattle.index.specs.Below.{SameBelow}
 use Rattle.index.specs.Frame.{SameIn}
 use Rattle.index.specs.declared.Table.{Table}
-use Rattle.index.specs.Last.{lastBelow, wordOf, last-none, last-yes, last-no, last-here, last-on, last-in, last-same, rows-of}
+use Rattle.index.specs.Last.{lastBelow, wordOf, last-none, last-yes, last-no, last-here, last-on, last-same, rows-of}
 use Rattle.index.specs.With.{one-more}
 use Rattle.rows.specs.Tables.{noElement}
 use Rattle.tree.specs.Place.{elementAt}
@@ -39,13 +40,6 @@ climb-skip f l h k (suc n) = by (ltb (f n) h) refl (climb-skip f l h k n)
         last-no (lower f l) n (le-ltb (f n) l z)
         ∙ before
         ∙ ap (λ (o : Option ℕ). lastBelow (lower f l) (wordOf o)) (sym (last-no (lower f h) n e))
-
-pub word-below : (p : ℕ → Bool) (n : ℕ) → wordOf (lastBelow p n) ≤ n
-word-below p n = by (lastBelow p n) refl
-  where
-    by : (o : Option ℕ) → lastBelow p n ≡ o → wordOf o ≤ n
-    by none e = omega arith
-    by (some r) e = omega (arith, last-in p n e .0)
 
 -- ---- the loop: the last row is among those below k
 

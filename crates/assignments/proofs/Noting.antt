@@ -22,6 +22,7 @@ use Rattle.laws.specs.Bools.{both}
 use Rattle.laws.specs.Same.{same-eq}
 use Rattle.laws.specs.Options.{never}
 use Rattle.laws.specs.FitRecords.{Short, ExpenseParts}
+use Rattle.laws.specs.Tests.{neither}
 use Rattle.bits.specs.Places.{room-fits, at, inside, place-at}
 use Rattle.bits.specs.Steps.{Puts}
 use Rattle.bits.specs.declared.Place.{Place}
@@ -204,10 +205,6 @@ module _ (v : List ℕ) (row : ℕ) (p : Place) (key : ℕ) where
 -- a place that 32 bits do not hold, or no row for it
 abbrev noRoomAt : Table → ℕ → Place → Bool
 noRoomAt t row p = not (eqb (p .bit) 0) || ltb 4294967295 (p .byte) || leb (t .rows) row
-
-neither : (a b : Bool) → (a || b) ≡ false → (a ≡ false) × (b ≡ false)
-neither true b e = absurd (true≢false e)
-neither false b e = (refl, e)
 
 pub room-at : (t : Table) (row : ℕ) (p : Place) → noRoomAt t row p ≡ false → (p .bit ≡ 0) × ((p .byte < 2 ^ 32) × (row < t .rows))
 room-at t row p e =

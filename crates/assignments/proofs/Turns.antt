@@ -1,7 +1,6 @@
 -- The records of a section, one after another: none, one more, and the turns of a loop over elements. Assumes nothing.
 use Prim.Native.Nat.{ℕ, _+_, _*_, _%_, _^_}
 use native.Mathlib.Nat.{mod-add-mod}
-use native.Mathlib.Omega.{arith}
 use lib.Pow.{mod-mod-pow}
 use mathlib.Core.Path.{_≡_, refl, sym, ap, subst, _∙_}
 use mathlib.Core.Bool.{Bool, true, false, true≢false, _||_}
@@ -10,9 +9,9 @@ use lib.ListN.{length, length-append}
 use Rattle.definition.specs.Tree.{Element}
 use Rattle.definition.specs.Format.{Format, times}
 use Rattle.laws.specs.Buf.{full, ▷-full}
-use Rattle.bits.specs.Places.{inside, fits-room}
-use Rattle.bits.specs.Round.{put-stood}
-use Rattle.bits.specs.Steps.{Puts, puts, view, view-out, _⨾_, said, stays, put-same, put-no, put-more}
+pub use Rattle.bits.specs.Round.{put-inside as put-began}
+use Rattle.bits.specs.Steps.{put-times, Puts, puts, view, view-out, _⨾_, said, stays, put-same, put-no, put-more}
+use Rattle.bits.specs.Places.{inside}
 use Rattle.bits.specs.declared.Place.{Place}
 use Rattle.pack.specs.Writes.{Writes}
 use Rattle.pack.specs.declared.record.Records.{Records}
@@ -31,15 +30,6 @@ put-still : {A B : Type 0} {g : Format A} {a : A} {f : Format B} {b : B} {d : Li
 put-still {g = g} {a} {f} {b} {d} {p} {d1} {q} o x y =
     let e : puts g a (view d p) ≡ full (8 * length d1) = sym (x .step .bits) ∙ view-out d1 q o in
     record { step = said (x .step ⨾ y .step) _ (ap (puts f b) e ∙ ▷-full (8 * length d1) _ ∙ sym e) }
-
--- what fitted began inside
-pub put-began : {A : Type 0} {f : Format A} {a : A} {d : List ℕ} {p : Place} {d' : List ℕ} {q : Place} → Puts f a d p d' q → inside (length d') q ≡ true → inside (length d) p ≡ true
-put-began x h = let b = put-stood x h .began in fits-room (record { bit = b .bit; ends = omega (arith, b .ends) })
-
--- how many are put does not matter
-put-times : {A : Type 0} (j k : ℕ) (f : Format A) {xs : List A} {d : List ℕ} {p : Place} {d' : List ℕ} {q : Place} → Puts (times j f) xs d p d' q → Puts (times k f) xs d p d' q
-unfolding times
-put-times j k f x = record { step = x .step }
 
 put-outs : {A : Type 0} (k : ℕ) (f : Format A) {xs : List A} {d : List ℕ} {p : Place} {d' : List ℕ} {q : Place} → inside (length d') q ≡ false → Puts (times k f) xs d p d' q
     → (ys : List A) → Puts (times k f) (xs ++ ys) d p d' q

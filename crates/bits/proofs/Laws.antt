@@ -9,9 +9,7 @@ use lib.Bits.{bitAnd, and-mask}
 use lib.Dec.{leb, ltb}
 use borrow.Author.Tests.{leb-true, leb-false, ltb-true, lt-leb}
 use Rattle.bits.specs.declared.Place.{Place}
-use Rattle.laws.specs.Buf.{▷-▷, _▷_, ▷-full}
 use Rattle.bits.specs.Places.{at, room, fits-room, room-short, upTo, before-up}
-use Rattle.laws.specs.Bits.{enc-read, enc-zeros, bits-append, bits-take, bits-drop, enc-split, enc-low, length-enc, length-bits}
 
 -- room is told by whole bytes
 pub room-bytes : (n : ℕ) (p : Place) (w : ℕ) → p .bit ≤ 7 → p .byte ≤ n → leb ((p .bit + w + 7) / 8) (n - p .byte) ≡ room n p w

@@ -72,12 +72,12 @@ pub over-kept : (p k n : ℕ) (f l : List ℕ) → p + k ≤ n → n ≤ length 
 over-kept p k n f l h le = take-drop p k (over n f l) ∙ ap (drop p) (over-before (p + k) n f l h le) ∙ sym (take-drop p k l)
 
 -- the bits of s with the byte at q changed
-pub bits-set : (s : List ℕ) (q x : ℕ) → q < length s → bitsOf (set s q x) ≡ bitsOf (take q s) ++ (enc 8 x ++ bitsOf (drop (suc q) s))
+bits-set : (s : List ℕ) (q x : ℕ) → q < length s → bitsOf (set s q x) ≡ bitsOf (take q s) ++ (enc 8 x ++ bitsOf (drop (suc q) s))
 unfolding bitsOf
 bits-set s q x h = ap bitsOf (set-split s q x h) ∙ bits-append (take q s) _
 
 -- k bits of one byte are changed
-pub bits-changed : (d : List ℕ) (q r k m : ℕ) {x b' : ℕ} → q < length d → r + (k + m) ≡ 8 → x < 2 ^ k
+bits-changed : (d : List ℕ) (q r k m : ℕ) {x b' : ℕ} → q < length d → r + (k + m) ≡ 8 → x < 2 ^ k
     → b' ≡ (getD d q 0 / 2 ^ (m + k) * 2 ^ k + x) * 2 ^ m + getD d q 0 % 2 ^ m → bitsOf (set d q b') ≡ over (8 * q + r) (enc k x) (bitsOf d)
 bits-changed d q r k m {x} {b'} h z hx eb =
     let b = getD d q 0 in

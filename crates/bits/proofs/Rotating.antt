@@ -129,7 +129,7 @@ bytes-rotated a m e s h1 h2 h3 =
     (rw (bits-take (e - m) (drop m s) (omega arith), bits-take (m - a) (drop a s) (omega arith)))
 
 -- n bits more, from the end
-pub move-more : (d0 d : List ℕ) (e k p n q : ℕ) {v : ℕ} {b : Bits} → length d ≡ length d0 → bitsOf d ≡ moved p (p + k) (e - p) (bitsOf d0) → e + k ≤ 8 * length d0 → p ≤ e → q + n ≡ p
+move-more : (d0 d : List ℕ) (e k p n q : ℕ) {v : ℕ} {b : Bits} → length d ≡ length d0 → bitsOf d ≡ moved p (p + k) (e - p) (bitsOf d0) → e + k ≤ 8 * length d0 → p ≤ e → q + n ≡ p
     → v ≡ dec (take n (drop q (bitsOf d))) → b ≡ over (q + k) (enc n v) (bitsOf d) → b ≡ moved q (q + k) (e - q) (bitsOf d0)
 move-more d0 d e k p n q {v} {b} ln g cap le qn ev eb =
     let l = bitsOf d0 in
@@ -146,7 +146,7 @@ move-more d0 d e k p n q {v} {b} ln g cap le qn ev eb =
     eb ∙ rw (rd, sm, g) (over-prev (q + k) (p + k) x y l (omega arith) (omega arith)) ∙ ap (λ (t : Bits). over (q + k) t l) xy
 
 -- the last k bits before e are read, the others move up, and the k bits are laid in front
-pub rotate-front : (d : List ℕ) (a e k : ℕ) {v : ℕ} {b1 b2 : Bits} → a + k ≤ e → e ≤ 8 * length d → v ≡ dec (take k (drop (e - k) (bitsOf d)))
+rotate-front : (d : List ℕ) (a e k : ℕ) {v : ℕ} {b1 b2 : Bits} → a + k ≤ e → e ≤ 8 * length d → v ≡ dec (take k (drop (e - k) (bitsOf d)))
     → b1 ≡ moved a (a + k) (e - k - a) (bitsOf d) → b2 ≡ over a (enc k v) b1 → b2 ≡ rotated a (e - k) e (bitsOf d)
 rotate-front d a e k {v} {b1} {b2} h le ev e1 e2 =
     let l = bitsOf d in

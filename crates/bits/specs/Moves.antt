@@ -1,20 +1,20 @@
 -- Moving: runs of bits or bytes that change places, and bits that are written again. Assumes nothing.
-use mathlib.Core.Path.{_≡_, refl, sym, _∙_}
+use mathlib.Core.Path.{_≡_, refl, sym}
 use mathlib.Core.Bool.{Bool, true, false, _&&_}
 use mathlib.Core.List.{List, _++_, reverse}
 use Prim.Native.Nat.{ℕ, _+_, _-_, _*_, _≤_, _<_}
 use native.Mathlib.Omega.{arith}
 use Rattle.definition.specs.Base.{if_then_else_}
 use Rattle.definition.specs.Bits.{Bits, bitsOf}
-use Rattle.laws.specs.Bits.{bits-append, bits-take, bits-drop}
 use Rattle.bits.specs.Places.{at, past, inside, upTo, room-fits, fits-room, up-before}
-use Rattle.laws.specs.Bits.{length-bits, length-part, enc-read}
+use Rattle.laws.specs.Bits.{length-bits}
 use Rattle.bits.specs.Steps.{Step}
 use Rattle.laws.specs.Buf.{_▷_}
 use Rattle.bits.specs.declared.Place.{Place}
 use Rattle.bits.specs.Over.{over}
 use lib.ListN.{length, take, drop}
 use lib.Seq.{take-take, take-append-le, length-take-le, drop-drop, take-at, drop-at}
+use Rattle.laws.specs.Bools.{differ}
 
 -- ---- two neighbours change places
 
@@ -54,12 +54,6 @@ abbrev pub moved : ℕ → ℕ → ℕ → Bits → Bits
 moved from to n l = over to (take n (drop from l)) l
 
 -- ---- a rotation in parts
-
-differ : {A : Type 0} (t : Bool) → t ≡ true → t ≡ false → A
-differ t h k =
-    let e : true ≡ false = sym h ∙ k in
-    let z : _≡_ {A = ℕ} 0 1 = cc in
-    absurd (omega arith)
 
 -- places in order
 pub record Order (n : ℕ) (a m e : Place) : Type 0 where

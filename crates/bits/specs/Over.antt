@@ -6,7 +6,6 @@ use native.Mathlib.Nat.{zero-add, suc-add}
 use native.Mathlib.Omega.{arith}
 use lib.ListN.{length, take, drop, length-append}
 use lib.Seq.{take-nil, take-at, drop-at, take-append-le, length-take-le, take-take}
-use Rattle.laws.specs.Bits.{length-enc, length-bits, length-part, bits-append, bits-at, enc-split, enc-low, enc-high}
 
 -- f laid over l from place n on
 unfoldable pub over : ℕ → List ℕ → List ℕ → List ℕ

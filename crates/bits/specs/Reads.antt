@@ -17,16 +17,14 @@ use Rattle.definition.specs.Bits.{Bits, dec, bitsOf, signed}
 use Rattle.definition.specs.Date.{Date, fromDays}
 use Rattle.definition.specs.Time.{mostTime}
 use Rattle.definition.specs.Text.{isUtf8}
-use Rattle.definition.specs.Format.{Format, field, via, _⊗_, depending, getGiven, optional, whole, getPad, times, getAll, rises, listOf, count, flag, code, time, Period, period, number, date, text}
+use Rattle.definition.specs.Format.{Format, field, via, _⊗_, depending, getGiven, optional, whole, getPad, times, getAll, rises, listOf, count, flag, code, time, Period, period, date, text}
 use Rattle.laws.specs.Options.{bind-assoc, bind-ext}
-use Rattle.laws.specs.Bits.{length-bits, length-enc, dec-enc-lt, dec-part, bits-drop}
-use Rattle.bits.specs.Over.{part-before}
-use Rattle.bits.specs.Places.{at, place, past, room, inside, Fits, room-fits, fits-room, room-none, room-more, at-place, place-at, next-fits}
+use Rattle.laws.specs.Bits.{length-bits, dec-part}
+use Rattle.bits.specs.Places.{at, place, past, room, inside, Fits, room-fits, fits-room, room-none, room-more, room-short, at-place, place-at, next-fits}
 use Rattle.bits.specs.declared.Place.{Place}
 use Rattle.bits.specs.declared.Field.{Field}
 use Rattle.bits.specs.declared.Span.{Span}
 use Rattle.bits.specs.declared.Flag.{Flag}
-use Rattle.bits.specs.declared.Int64.{Int64}
 use Rattle.bits.specs.declared.Int32.{Int32}
 
 -- the bits from a place on, if it is inside
@@ -50,10 +48,7 @@ takeAt s p w = fieldOf s (rest s p >>= field w .get)
 unfoldable pub flagAt : List ℕ → Place → Flag
 flagAt s p = record { value = eqb (takeAt s p 1 .value) 1; next = takeAt s p 1 .next }
 
--- the signed fields of 64 and of 32 bits
-unfoldable pub int64At : List ℕ → Place → Int64
-int64At s p = record { value = signed 64 (takeAt s p 64 .value); next = takeAt s p 64 .next }
-
+-- the signed field of 32 bits
 unfoldable pub int32At : List ℕ → Place → Int32
 int32At s p = record { value = signed 32 (takeAt s p 32 .value); next = takeAt s p 32 .next }
 
@@ -91,6 +86,10 @@ rest-in s p {w} f =
 pub rest-out : (s : List ℕ) (p : Place) → inside (length s) p ≡ false → rest s p ≡ none
 unfolding rest
 rest-out s p h = rw h
+
+-- from a place past every end there is nothing
+pub far : (s : List ℕ) (p : Place) → 7 < p .bit → rest s p ≡ none
+far s p h = rest-out s p (room-short (length s) p 0 (λ b. absurd (omega arith)))
 
 pub rest-past : (s : List ℕ) → rest s past ≡ none
 unfolding rest room
@@ -264,10 +263,6 @@ module _ {s : List ℕ} {p q : Place} where
   unfolding time
   refuse-time {v} h e = refuse-via _ _ h (rw e)
 
-  pub read-number : {v : ℕ} → Reads (field 64) s p v q → Reads number s p (signed 64 v) q
-  unfolding number
-  read-number h = read-via _ _ h refl
-
   pub read-date : {v : ℕ} {t : Date} → Reads (field 32) s p v q → fromDays (signed 32 v) ≡ some t → Reads date s p t q
   unfolding date
   read-date h e = read-via _ _ h e
@@ -353,12 +348,6 @@ module _ {A B : Type 0} {f : Format A} {s : List ℕ} {p : Place} where
       let k : A × Bits → Option ((A × Option B) × Bits) = λ x. getGiven (test (x .0)) g (x .1) >>= λ y. some ((x .0, y .0), y .1) in
       let o : Bool → Option ((A × Option B) × Bits) = λ t. rest s q >>= λ l. getGiven t g l >>= j in
       record { gives = chain k h ∙ ap o e ∙ sym (bind-assoc (rest s q) (λ l. g .get l >>= u) j) ∙ ap (λ (w : Option (Option B × Bits)). w >>= j) (refuse-from g u i) }
-
-pub refuse-whole : {A : Type 0} {f : Format A} {s : List ℕ} {p : Place} → Refuses f s p → Refuses (whole f) s p
-unfolding whole
-refuse-whole {A} {f} h =
-    let k : A × Bits → Option (A × Bits) = λ x. getPad (x .1) >>= λ l. some (x .0, l) in
-    record { gives = refuse-from f k h }
 
 pub refuse-some : {A : Type 0} {f : Format A} {s : List ℕ} {p q : Place} → Reads flag s p true q → Refuses f s q → Refuses (optional f) s p
 unfolding optional
@@ -446,11 +435,6 @@ module _ {A : Type 0} (lt : A → A → Bool) (f : Format A) {s : List ℕ} {p q
   read-list {r} {xs} h i e =
       let o : Bool → Option (List A × Bits) = λ t. rest s r >>= λ l. when t (xs, l) in
       record { reads = list-on h i ∙ ap o e }
-
-  pub refuse-list : {r : Place} {xs : List A} → Reads count s p n q → Reads (times n f) s q xs r → rises lt xs ≡ false → Refuses (listOf lt f) s p
-  refuse-list {r} {xs} h i e =
-      let o : Bool → Option (List A × Bits) = λ t. rest s r >>= λ l. when t (xs, l) in
-      record { gives = list-on h i ∙ ap o e ∙ nowhere (rest s r) }
 
   pub refuse-items : Reads count s p n q → Refuses (times n f) s q → Refuses (listOf lt f) s p
   unfolding listOf times
@@ -574,10 +558,6 @@ pub read-bit : (s : List ℕ) (p : Place) {x : Flag} → x ≡ flagAt s p → Re
 unfolding flagAt
 read-bit s p e = rw e (read-flag (read-field s p 1 refl))
 
-pub read-int64 : (s : List ℕ) (p : Place) {x : Int64} → x ≡ int64At s p → Reads number s p (x .value) (x .next)
-unfolding int64At
-read-int64 s p e = rw e (read-number (read-field s p 64 refl))
-
 module _ (s : List ℕ) (p : Place) {x : Int32} (e : x ≡ int32At s p) where
   pub read-int32 : {t : Date} → fromDays (x .value) ≡ some t → Reads date s p t (x .next)
   unfolding int32At
@@ -594,17 +574,3 @@ field-lt s p w {x} ex = rw ex (lt-if (room (length s) p w) refl)
     lt-if : (t : Bool) → room (length s) p w ≡ t → takeAt s p w .value < 2 ^ w
     lt-if false e = rw (take-cut s p w e) (pow-pos w)
     lt-if true e = let f = room-fits (length s) p w e in rw (take-whole s p w f) (dec-part s (at p) w (f .ends))
-
--- ---- what is read stays as it was while the bits before a place do
-
-pub take-kept : (s s' : List ℕ) (n : ℕ) → length s' ≡ length s → take n (bitsOf s') ≡ take n (bitsOf s) → (p : Place) (w : ℕ) → at p + w ≤ n → takeAt s' p w ≡ takeAt s p w
-take-kept s s' n l e p w h = kept (room (length s) p w) refl
-  where
-    kept : (t : Bool) → room (length s) p w ≡ t → takeAt s' p w ≡ takeAt s p w
-    kept false r = take-cut s' p w (rw l r) ∙ sym (take-cut s p w r)
-    kept true r =
-        let f = room-fits (length s) p w r in
-        let f' : Fits (length s') p w = record { bit = f .bit; ends = omega (arith, f .ends) } in
-        let same : take w (drop (at p) (bitsOf s')) ≡ take w (drop (at p) (bitsOf s)) =
-        part-before (at p) w n (bitsOf s') h ∙ ap (λ (b : Bits). take w (drop (at p) b)) e ∙ sym (part-before (at p) w n (bitsOf s) h) in
-        rw (take-whole s' p w f', take-whole s p w f, same)

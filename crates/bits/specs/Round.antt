@@ -2,19 +2,17 @@
 use mathlib.Core.Path.{_≡_, refl, sym, ap, _∙_}
 use mathlib.Core.Bool.{Bool, true, false}
 use mathlib.Core.List.{List, [], _∷_, _++_, append-assoc}
-use mathlib.Core.Option.{some}
 use Prim.Native.Nat.{ℕ, _+_, _*_}
 use native.Mathlib.Omega.{arith}
-use lib.ListN.{length, take, drop, length-append, length-drop, take-append-drop}
+use lib.ListN.{length, take, drop, length-append, take-append-drop}
 use lib.Seq.{take-at, drop-at}
 use Rattle.definition.specs.Bits.{Bits, enc, dec, bitsOf}
-use Rattle.definition.specs.Format.{Format, field, times, putAll, listOf, count}
-use Rattle.laws.specs.Bits.{length-bits, length-enc}
+use Rattle.definition.specs.Format.{Format, field}
 use Rattle.bits.specs.Over.{over, over-mid}
-use Rattle.bits.specs.Places.{at, place, past, room, inside, Fits, room-fits, place-at, at-place, next-fits}
-use Rattle.bits.specs.Steps.{view, Step, said, Puts, Laid, laid-in, view-in, view-out, ▷-fits, ▷-short, length-before, put-then, laid-kept}
+use Rattle.bits.specs.Places.{at, place, past, room, inside, Fits, room-fits, fits-room, place-at, at-place, next-fits}
+use Rattle.bits.specs.Steps.{view, Step, said, Puts, Laid, laid-in, view-in, view-out, ▷-fits, ▷-short, length-before, laid-kept}
 use Rattle.laws.specs.Buf.{holds, full, _▷_, sizeOf}
-use Rattle.bits.specs.Reads.{rest, rest-in, Reads, takeAt}
+use Rattle.bits.specs.Reads.{rest, takeAt}
 use Rattle.bits.specs.declared.Place.{Place}
 
 -- bits were put and fitted: there was room, the place is behind them, and they stand there
@@ -81,20 +79,6 @@ put-stood {f = f} {a = a} {d = d} {p = p} {d' = d'} {q = q} x h =
     let e : n ≡ at p = ap sizeOf (view-in d p b) ∙ length-before d (at p) (omega (arith, b .ends)) in
     stood (f .put (at p) a) (said s _ (ap (λ (m : ℕ). view d p ▷ f .put m a) e)) h
 
--- a value that was put is read back, if its format reads it back from its bits
-pub put-back : {A : Type 0} {f : Format A} {a : A} {d : List ℕ} {p : Place} {d' : List ℕ} {q : Place} → Puts f a d p d' q → inside (length d') q ≡ true
-    → ((l : Bits) → at p + length (f .put (at p) a ++ l) ≡ 8 * length d' → f .get (f .put (at p) a ++ l) ≡ some (a, l)) → Reads f d' p a q
-put-back {f = f} {a = a} {d = d} {p = p} {d' = d'} {q = q} x h law =
-    let s = put-stood x h in
-    let g = f .put (at p) a in
-    let b = s .began in
-    let l = drop (at p + length g) (bitsOf d') in
-    let fp : Fits (length d') p (length g) = record { bit = b .bit; ends = omega (arith, b .ends, x .step .same) } in
-    let n : at p + length (g ++ l) ≡ 8 * length d' = ap (λ (w : Bits). at p + length w) (sym (stood-from s)) ∙ omega (arith, length-drop (at p) (bitsOf d'), length-bits d', fp .ends) in
-    record {
-      reads = rw (rest-in d' p fp, stood-from s, law l n, s .ends, rest-in d' (place (at p + length g)) (next-fits fp), at-place (at p + length g));
-    }
-
 -- bits of which the first were written anew
 pub rewrote : {d : List ℕ} {p : Place} (f g : Bits) {d' : List ℕ} {q : Place} {f' : Bits} {d'' : List ℕ} {r : Place}
     → Step d p (λ b. b ▷ (f ++ g)) d' q → Laid d' p f' d'' r → length f' ≡ length f → Step d p (λ b. b ▷ (f' ++ g)) d'' q
@@ -130,17 +114,6 @@ rewrote {d} {p} f g {d'} {q} {f'} {d''} {r} s h e = record {
         let fq : Fits (length d'') (place (at p + length (f ++ g))) 0 = rw (h .same, s .same) (next-fits b) in
         rw (st .ends, view-in d'' (place (at p + length (f ++ g))) fq, at-place (at p + length (f ++ g)), up, h .same, s .same) (sym (▷-fits d p (f' ++ g) fn))
 
--- a list whose count is put in its place at the end
-pub put-recount : {A : Type 0} (k c : ℕ) (lt : A → A → Bool) (f : Format A) {xs : List A} {d : List ℕ} {p : Place} {d1 : List ℕ} {p1 : Place} {d2 : List ℕ} {q : Place} {d3 : List ℕ} {r : Place}
-    → Puts count c d p d1 p1 → Puts (times k f) xs d1 p1 d2 q → Laid d2 p (enc 32 (length xs)) d3 r → Puts (listOf lt f) xs d p d3 q
-unfolding listOf times field
-put-recount k c lt f {xs = xs} {d = d} {p = p} x y h =
-    let n = sizeOf (view d p) in
-    let g = putAll f (n + 32) xs in
-    let s = said (put-then count c (λ m. putAll f m xs) (x .step) (y .step)) (λ b. b ▷ (enc 32 c ++ g)) (ap (λ (m : ℕ). view d p ▷ (enc 32 c ++ putAll f (n + m) xs)) (length-enc 32 c)) in
-    let z = rewrote (enc 32 c) g s h (length-enc 32 (length xs) ∙ sym (length-enc 32 c)) in
-    record { step = said z _ refl }
-
 -- 1010 0101 1100 0011: 11 bits from the fourth on, and what is left
 example-take : takeAt (165 ∷ 195 ∷ []) record { byte = 0; bit = 3 } 11 ≡ record { value = 368; next = record { byte = 1; bit = 6 } }
 unfolding takeAt rest room field bitsOf enc dec
@@ -149,3 +122,7 @@ example-take = refl
 example-cut : takeAt (165 ∷ 195 ∷ []) record { byte = 1; bit = 6 } 4 ≡ record { value = 0; next = past }
 unfolding takeAt rest room field bitsOf enc dec
 example-cut = refl
+
+-- behind what was put there is room only where there was before
+pub put-inside : {A : Type 0} {f : Format A} {a : A} {d : List ℕ} {p : Place} {d' : List ℕ} {q : Place} → Puts f a d p d' q → inside (length d') q ≡ true → inside (length d) p ≡ true
+put-inside x h = let b = put-stood x h .began in fits-room (record { bit = b .bit; ends = omega (arith, b .ends) })

@@ -8,13 +8,13 @@ use Prim.Native.Nat.{ℕ, _+_, _*_, _%_, _≤_, _<_}
 use native.Mathlib.Nat.{add-assoc, add-zero}
 use native.Mathlib.Omega.{arith}
 use lib.ListN.{length, take, length-append}
-use lib.Seq.{length-take-le, take-take, take-length}
+use lib.Seq.{length-take-le, take-take}
 use borrow.Author.Tests.{le-leb, lt-leb}
 use Rattle.definition.specs.Base.{if_then_else_}
 use lib.IntN.{ℤ}
 use Rattle.definition.specs.Bits.{Bits, enc, bitsOf, pad, twos}
 use Rattle.definition.specs.Date.{Date, dayNumber}
-use Rattle.definition.specs.Format.{Format, field, via, whole, _⊗_, depending, optional, times, putAll, listOf, bit, count, flag, code, time, Period, period, number, date, text}
+use Rattle.definition.specs.Format.{Format, field, via, whole, _⊗_, depending, times, putAll, listOf, bit, count, flag, code, time, Period, period, number, date, text}
 use Rattle.bits.specs.Over.{over, over-upto, over-before}
 use Rattle.laws.specs.Bits.{length-bits, length-enc}
 use Rattle.laws.specs.Buf.{Buf, holds, full, _▷_, sizeOf, ▷-size}
@@ -102,14 +102,6 @@ unfolding view
 refuses {d} {p} F e =
     let o = past-out (length d) in
     record { same = refl; bits = rw o (sym e); kept = refl; onward = omega (arith, before-most (length d) p, before-out (length d) past o) }
-
--- from a place past the end nothing changes
-pub step-out : {d : List ℕ} {p : Place} {F : Buf → Buf} {d' : List ℕ} {q : Place} → Step d p F d' q → inside (length d) p ≡ false → bitsOf d' ≡ bitsOf d
-step-out {d} {p} {d' = d'} x h =
-    let b = before-out (length d) p h in
-    let all : (s : List ℕ) → length s ≡ length d → take (before (length d) p) (bitsOf s) ≡ bitsOf s =
-    λ s e. let n : before (length d) p ≡ length (bitsOf s) = omega (arith, length-bits s) in rw n (take-length (bitsOf s)) in
-    sym (all d' (x .same)) ∙ x .kept ∙ all d refl
 
 -- ---- laws of the bits written
 
@@ -253,15 +245,6 @@ module _ {d : List ℕ} {p : Place} {d' : List ℕ} {q : Place} where
   unfolding depending
   put-alone {f = f} test g {a = a} x = record { step = said (x .step) _ (sym (ap (λ (l : Bits). view d p ▷ l) (append-nil (f .put (sizeOf (view d p)) a)))) }
 
-  -- a value that may be missing
-  pub put-none : {A : Type 0} (f : Format A) → Puts (field 1) 0 d p d' q → Puts (optional f) none d p d' q
-  unfolding optional flag
-  put-none f x = put-via _ _ (put-alone _ f (put-via _ _ x))
-
-  pub put-some : {A : Type 0} {f : Format A} {a : A} {d'' : List ℕ} {r : Place} → Puts (field 1) 1 d p d' q → Puts f a d' q d'' r → Puts (optional f) (some a) d p d'' r
-  unfolding optional flag
-  put-some x y = put-via _ _ (put-both _ (put-via _ _ x) y)
-
 -- ---- lists and texts
 
 all-more : {A : Type 0} (f : Format A) (n : ℕ) (xs : List A) (x : A) → putAll f n (xs ++ (x ∷ [])) ≡ putAll f n xs ++ f .put (n + length (putAll f n xs)) x
@@ -318,3 +301,8 @@ pub put-period : {t : Period} {d : List ℕ} {p : Place} {d' : List ℕ} {q : Pl
     → Puts (field 11) (t .0) d p d' q → Puts (field 11) (t .1) d' q d'' r → Puts period t d p d'' r
 unfolding period
 put-period x y = put-via _ _ (put-⊗ (put-time x) (put-time y))
+
+-- how many are put is said by the list
+pub put-times : {A : Type 0} (k m : ℕ) (f : Format A) {xs : List A} {d : List ℕ} {p : Place} {d' : List ℕ} {q : Place} → Puts (times k f) xs d p d' q → Puts (times m f) xs d p d' q
+unfolding times
+put-times k m f x = record { step = x .step }

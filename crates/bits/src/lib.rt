@@ -19,7 +19,6 @@ pub use rotation::rotate;
 pub use signs::put_i32;
 pub use signs::put_i64;
 pub use signs::take_i32;
-pub use signs::take_i64;
 pub use texts::put_bytes;
 pub use texts::put_text;
 pub use texts::take_text;
@@ -30,7 +29,6 @@ pub use writing::put_flag;
 pub use zeros::clear;
 pub use zeros::clear_from;
 pub use zeros::clear_words_from;
-ghost use Rattle.laws.specs.Buf.{_▷_};
 
 // A place in a buffer: so many whole bytes and so many bits stand before it. A bit of 8 or more is past every end.
 pub struct Place {
@@ -54,11 +52,6 @@ pub struct Flag {
 }
 
 // A signed field that was read, and where the next one stands.
-pub struct Int64 {
-    pub value: i64,
-    pub next: Place,
-}
-
 pub struct Int32 {
     pub value: i32,
     pub next: Place,

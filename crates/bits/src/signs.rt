@@ -2,10 +2,9 @@
 ghost use mathlib.Core.Path.{_≡_};
 ghost use Rattle.definition.specs.Bits.{twos, signed};
 ghost use Rattle.definition.specs.Format.{field};
-ghost use Rattle.bits.specs.Reads.{int64At, int32At};
+ghost use Rattle.bits.specs.Reads.{int32At};
 ghost use Rattle.bits.specs.Steps.{Puts};
 use crate::Int32;
-use crate::Int64;
 use crate::Place;
 use crate::reading::take;
 use crate::writing::put;
@@ -15,16 +14,6 @@ fn twos64(v: i64) -> u64
     ensures { λ r. ⌜ r ≡ twos 64 v ⌝ }
 {
     if v < 0 { !(!v as u64) } else { v as u64 }
-}
-
-fn signed64(v: u64) -> i64
-    ensures { λ r. ⌜ r ≡ signed 64 v ⌝ }
-{
-    if v < 0x8000_0000_0000_0000 {
-        v as i64
-    } else {
-        !(!v as i64)
-    }
 }
 
 fn twos32(v: i32) -> u32
@@ -43,7 +32,7 @@ fn signed32(v: u32) -> i32
     }
 }
 
-// A signed field of 64 bits, and one of 32.
+// A signed field of 64 bits, and one of 32; and one of 32 read.
 pub fn put_i64(out: &mut [u8], p: Place, v: i64) -> Place
     ensures { λ r. ⌜ Puts (field 64) (twos 64 v) (now (out .entry)) p (now (out .exit)) r ⌝ }
 {
@@ -54,17 +43,6 @@ pub fn put_i32(out: &mut [u8], p: Place, v: i32) -> Place
     ensures { λ r. ⌜ Puts (field 32) (twos 32 v) (now (out .entry)) p (now (out .exit)) r ⌝ }
 {
     put(out, p, 32, twos32(v) as u64)
-}
-
-pub fn take_i64(s: &[u8], p: Place) -> Int64
-    ensures { λ r. ⌜ r ≡ int64At (now (s .entry)) p ⌝ }
-{
-    let f = take(s, p, 64);
-    let next = f.next;
-    Int64 {
-        value: signed64(f.value),
-        next,
-    }
 }
 
 pub fn take_i32(s: &[u8], p: Place) -> Int32

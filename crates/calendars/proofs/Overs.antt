@@ -12,6 +12,7 @@ use Rattle.definition.specs.Calendar.{byDate, defaultCalendar}
 use Rattle.laws.specs.Formats.{Good, _&_, good-times, good-list}
 use Rattle.laws.specs.Fields.{good-periods, good-date, good-dates}
 use Rattle.laws.specs.FitRecords.{good-week}
+pub use Rattle.bits.specs.Round.{put-inside}
 use Rattle.bits.specs.Places.{at, inside, Fits, fits-room}
 use Rattle.bits.specs.Reads.{Reads}
 use Rattle.bits.specs.Round.{put-stood, stood-before}
@@ -24,15 +25,6 @@ use Rattle.calendars.specs.declared.base.Base.{Base}
 use Rattle.calendars.specs.declared.base.Base.the-variants.{At, Default}
 use Rattle.calendars.specs.Days.{BaseHolidays, BaseExtraDays, BaseExceptions, PutsOver}
 use Rattle.calendars.specs.Base.{Based, BaseIs, Over}
-
--- ---- where there is room
-
--- behind what was put there is room only where there was before
-pub put-inside : {A : Type 0} {f : Format A} {a : A} {d : List ℕ} {p : Place} {d' : List ℕ} {q : Place} → Puts f a d p d' q → inside (length d') q ≡ true → inside (length d) p ≡ true
-put-inside {d = d} {p} x h =
-    let b = put-stood x h .began in
-    let f : Fits (length d) p 0 = record { bit = b .bit; ends = omega (arith, b .ends) } in
-    fits-room f
 
 -- ---- the base behind what was put
 

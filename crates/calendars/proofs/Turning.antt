@@ -2,23 +2,24 @@
 use mathlib.Core.Path.{_≡_, refl, sym, ap, _∙_}
 use mathlib.Core.Bool.{Bool, true, false, true≢false}
 use mathlib.Core.List.{List, [], _∷_, _++_, append-assoc, append-nil, map, map-append}
-use mathlib.Core.Option.{Option, some}
+use mathlib.Core.Option.{some}
 use Prim.Native.Nat.{ℕ, zero, suc, _+_, _-_, _*_, _%_, _≤_, _<_}
 use native.Mathlib.Omega.{arith}
-use lib.ListN.{length, take, drop, getElem?, replicate, length-append, length-map}
+use lib.ListN.{length, take, drop, getElem?, length-append, length-map}
 use lib.Seq.{take-at}
-use Rattle.definition.specs.Bits.{Bits, enc, bitsOf, gap, pad}
-use Rattle.definition.specs.Format.{Format, _⊗_, via, field, whole, times, putAll, flag, time, text, date, dates, period, periods, listOf, earlier}
+use Rattle.definition.specs.Bits.{Bits, bitsOf}
+use Rattle.definition.specs.Format.{_⊗_, via, whole, times, putAll, text}
 use Rattle.definition.specs.Model.{Calendar}
-use Rattle.definition.specs.Calendar.{byDate}
 use Rattle.definition.specs.Pack.{calendar}
 use Rattle.laws.specs.Buf.{Buf, full, _▷_, sizeOf, ▷-full}
 use Rattle.laws.specs.Each.{Each}
+use Rattle.laws.specs.Evens.{even-all, even-whole, even-calendar}
 use Rattle.laws.specs.Formats.{fills-whole}
 use Rattle.laws.specs.FitRecords.{Short, FitsCalendarBy, CalendarParts}
+pub use Rattle.bits.specs.Steps.{put-times}
 use Rattle.bits.specs.Moves.{Rotates, rotated, rotate-parts, rotates-kept, ordered, order}
 use Rattle.bits.specs.Places.{at, place, inside, room, Fits, room-fits, fits-room, at-place, next-fits, before-up}
-use Rattle.bits.specs.Round.{stood, overran, put-stood, stood-all}
+use Rattle.bits.specs.Round.{overran, put-stood, stood-all}
 use Rattle.bits.specs.Steps.{view, before, puts, Step, Puts, said, view-in, view-out, ▷-fits, ▷-short, length-before, before-in}
 use Rattle.bits.specs.declared.Place.{Place}
 use Rattle.model.specs.Parts.{calendarParts, raw}
@@ -29,71 +30,6 @@ use Rattle.names.specs.Texts.{placeOfRow}
 use Rattle.names.specs.Records.{calendarFields, plainCalendars, plain-calendars, calendars-lie, Lies, lies-front}
 use Rattle.calendars.specs.Built.{Stand, turned, Turns}
 
--- ---- bits that go by the place modulo 8
-
-record Even {A : Type 0} (f : Format A) : Type 0 where
-  even : (n m : ℕ) (a : A) → n % 8 ≡ m % 8 → f .put n a ≡ f .put m a
-
-even-field : (w : ℕ) → Even (field w)
-unfolding field
-even-field w = record { even = λ n m a h. refl }
-
-even-via : {A B : Type 0} (to : A → Option B) (from : B → A) {f : Format A} → Even f → Even (via to from f)
-unfolding via
-even-via to from e = record { even = λ n m b h. e .even n m (from b) h }
-
-even-pair : {A B : Type 0} {f : Format A} {g : Format B} → Even f → Even g → Even (f ⊗ g)
-unfolding _⊗_
-even-pair {f = f} {g} e i = record {
-  even = λ n m a h.
-      let z = e .even n m (a .0) h in
-      let k = length (f .put m (a .0)) in
-      rw (z, i .even (n + k) (m + k) (a .1) (omega arith));
-}
-
-even-all : {A : Type 0} {f : Format A} → Even f → (n m : ℕ) (l : List A) → n % 8 ≡ m % 8 → putAll f n l ≡ putAll f m l
-unfolding putAll
-even-all e n m [] h = refl
-even-all {f = f} e n m (x ∷ l) h =
-    let z = e .even n m x h in
-    let k = length (f .put m x) in
-    rw (z, even-all e (n + k) (m + k) l (omega arith))
-
-even-times : {A : Type 0} (k : ℕ) {f : Format A} → Even f → Even (times k f)
-unfolding times
-even-times k e = record { even = even-all e }
-
-even-list : {A : Type 0} (lt : A → A → Bool) {f : Format A} → Even f → Even (listOf lt f)
-unfolding listOf field
-even-list lt e = record { even = λ n m l h. ap (λ (b : Bits). enc 32 (length l) ++ b) (even-all e (n + 32) (m + 32) l (omega arith)) }
-
-pad-even : (n m : ℕ) → n % 8 ≡ m % 8 → pad n ≡ pad m
-pad-even n m h = let z : gap n ≡ gap m = omega arith in ap (λ (k : ℕ). replicate k 0) z
-
-even-whole : {A : Type 0} {f : Format A} → Even f → Even (whole f)
-unfolding whole
-even-whole {f = f} e = record {
-  even = λ n m a h.
-      let z = e .even n m a h in
-      let k = length (f .put m a) in
-      rw (z, pad-even (n + k) (m + k) (omega arith));
-}
-
-even-text : Even text
-unfolding text
-even-text = record { even = λ n m s h. ap (λ (b : Bits). b ++ bitsOf s) (even-whole (even-field 32) .even n m (length s) h) }
-
-even-calendar : Even (whole calendar)
-unfolding calendar flag periods period time dates date
-even-calendar =
-    let day = even-via _ _ (even-field 32) in
-    let hour = even-via _ _ (even-field 11) in
-    let hours = even-list earlier (even-via _ _ (even-pair hour hour)) in
-    even-whole
-    (even-via _ _
-    (even-pair even-text
-    (even-pair (even-times 7 (even-via _ _ (even-field 1))) (even-pair (even-times 7 hours) (even-pair (even-list _ day) (even-pair (even-list _ day) (even-list byDate (even-pair day hours))))))))
-
 -- ---- records one after another, from a whole byte on
 
 abbrev rec : Calendar → Bits
@@ -103,7 +39,7 @@ abbrev recs : List Calendar → Bits
 recs cs = putAll (whole calendar) 0 cs
 
 recs-at : (n : ℕ) (cs : List Calendar) → n % 8 ≡ 0 → putAll (whole calendar) n cs ≡ recs cs
-recs-at n cs h = even-all even-calendar n 0 cs (omega arith)
+recs-at n cs h = even-all (even-whole even-calendar) n 0 cs (omega arith)
 
 rec-ends : (c : Calendar) → length (rec c) % 8 ≡ 0
 rec-ends c = omega (arith, fills-whole calendar .ends 0 c (omega arith))
@@ -120,11 +56,6 @@ recs-both : (xs ys : List Calendar) → recs (xs ++ ys) ≡ recs xs ++ recs ys
 unfolding putAll
 recs-both [] ys = refl
 recs-both (x ∷ xs) ys = recs-cons x (xs ++ ys) ∙ ap (λ (b : Bits). rec x ++ b) (recs-both xs ys) ∙ sym (append-assoc (rec x) (recs xs) (recs ys)) ∙ ap (λ (b : Bits). b ++ recs ys) (sym (recs-cons x xs))
-
--- how many are put is said by the list
-pub put-times : {A : Type 0} (k m : ℕ) (f : Format A) {xs : List A} {d : List ℕ} {p : Place} {d' : List ℕ} {q : Place} → Puts (times k f) xs d p d' q → Puts (times m f) xs d p d' q
-unfolding times
-put-times k m f x = record { step = x .step }
 
 -- the item of a row between the others
 split-row : {A : Type 0} (l : List A) (k : ℕ) (x : A) → getElem? l k ≡ some x → l ≡ take k l ++ (x ∷ drop (suc k) l)

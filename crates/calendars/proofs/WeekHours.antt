@@ -17,7 +17,6 @@ use Rattle.definition.specs.Date.{Date}
 use Rattle.definition.specs.Format.{Period, count, _⊗_, field, via, flag, bit, times, putAll, text, date, dates, periods, listOf}
 use Rattle.definition.specs.Model.{Calendar}
 use Rattle.definition.specs.Field.{textIn, yesIn}
-use Rattle.definition.specs.Pack.{calendar}
 use Rattle.definition.specs.Tree.{Element}
 use Rattle.definition.specs.Calendar.{byDate, placeOf, periodsOf, weekDays, weekBy, hoursBy, exceptionsOf, daysOff, daysOn, daysWithHours, insertAll, calendarOf, defaultCalendar}
 use Rattle.laws.specs.Each.{empty, next}
@@ -25,6 +24,7 @@ use Rattle.laws.specs.Bits.{Binary, length-enc, enc-dec}
 use Rattle.laws.specs.Formats.{good-times, good-list, _&_}
 use Rattle.laws.specs.FitRecords.{good-week}
 use Rattle.laws.specs.Fields.{good-periods, good-date, good-dates}
+use Rattle.laws.specs.FitCalendars.{week-length}
 use Rattle.bits.specs.Moves.{Copies}
 use Rattle.bits.specs.Places.{at, inside, Fits, room-fits}
 use Rattle.bits.specs.Reads.{rest-in, Reads, takeAt, take-whole}
@@ -83,15 +83,6 @@ flags-put n (true ∷ l) = ap (λ (m : Bits). 1 ∷ m) (flags-put _ l)
 flags-put n (false ∷ l) = ap (λ (m : Bits). 0 ∷ m) (flags-put _ l)
 
 -- ---- the week
-
-week-length : (ws : List Element) (week : List Bool) → length (weekBy ws week) ≡ length week
-unfolding weekBy
-week-length [] week = refl
-week-length (w ∷ ws) week = week-length ws _ ∙ by-place (placeOf w)
-  where
-    by-place : (o : Option ℕ) → length ((o >>= λ k. some (set week k (yesIn w "DayWorking"))) or week) ≡ length week
-    by-place none = refl
-    by-place (some k) = length-set week k (yesIn w "DayWorking")
 
 week-there : {r : CalendarPlaces} {d : List ℕ} {p : Place} {c : Calendar} → Based r d p c → (v : ℕ) → v ≡ takeAt d (r .week) 7 .value → flagsIn v ≡ c .week
 unfolding times wordOf

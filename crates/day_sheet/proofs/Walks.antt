@@ -5,7 +5,7 @@ use mathlib.Core.List.{List, [], _∷_}
 use mathlib.Core.Option.{Option, some, none}
 use Prim.Native.Nat.{ℕ, suc, _+_, _-_, _≤_, _<_}
 use native.Mathlib.Omega.{arith}
-use borrow.Author.Tests.{eq-eqb, ne-eqb, eqb-true, eqb-false, ltb-true, ltb-false, lt-ltb, le-ltb}
+use borrow.Author.Tests.{eq-eqb, ne-eqb, eqb-true, eqb-false, ltb-true, ltb-false}
 use lib.Dec.{eqb, ltb}
 use lib.IntN.{ℤ, pos, negsuc}
 use mir.Syntax.{w32}
@@ -13,7 +13,7 @@ use mir.Val.{toZ, ofZ, SFits}
 use mir.ValLaws.{toZ-ofZ}
 use lib.ListN.{length, drop, drop-of-length-le}
 use Rattle.laws.specs.Fields.{day-days}
-use Rattle.definition.specs.Base.{_>>=_, given, some?, keep, first, find, if_then_else_}
+use Rattle.definition.specs.Base.{given, some?, keep, first, find, if_then_else_}
 use Rattle.definition.specs.Answer.{dayNumberOf}
 use Rattle.definition.specs.Date.{Date, epoch, dayNumber, fromDays}
 use Rattle.definition.specs.Format.{Format, _⊗_, date, dates, Period, period, periods, earlier}
@@ -22,8 +22,8 @@ use Rattle.bits.specs.Places.{past}
 use Rattle.bits.specs.Reads.{takeAt}
 use Rattle.bits.specs.declared.Place.{Place}
 use Rattle.bits.specs.declared.Field.{Field}
-use Rattle.model.specs.Passes.{Passes, pass-read, _⨾_}
-use Rattle.model.specs.Answers.{dateAt, readAt, tails-date, next-reads}
+use Rattle.model.specs.Passes.{Passes, pass-read}
+use Rattle.model.specs.Answers.{dateAt, tails-date, next-reads}
 use Rattle.model.specs.Splits.{Stands, stands-first, stands-pass, stands-read}
 use Rattle.model.specs.Lists.{Ahead, ahead-list, ahead-none, ahead-item, ahead-more}
 use Rattle.day_sheet.specs.Days.{exceptions, sameDay, isOn, Listed}

@@ -1,6 +1,6 @@
 -- A sheet from its parts: the lists of a calendar that was found, the bytes that were written, the answer. Assumes nothing.
 use mathlib.Core.Path.{_≡_, refl, sym, ap, _∙_}
-use mathlib.Core.Bool.{Bool, true, false, _&&_}
+use mathlib.Core.Bool.{true, false, _&&_}
 use mathlib.Core.List.{List, [], _∷_}
 use mathlib.Core.Option.{Option, some, none}
 use Prim.Native.Nat.{ℕ, zero, suc, _+_, _-_, _*_, _/_, _%_, _≤_, _<_}
@@ -23,8 +23,8 @@ use Rattle.definition.specs.DaySheet.{sheet, daySheet}
 use Rattle.definition.specs.Refusal.{refused, inRoom, sheetOn, daySheetAnswer}
 use Rattle.laws.specs.Options.{never}
 use Rattle.laws.specs.Bools.{and-left, and-right}
-use Rattle.laws.specs.Bits.{Bytes, length-bytes, whole-bytes, bits-take}
-use Rattle.laws.specs.Each.{empty, next, each-take}
+use Rattle.laws.specs.Bits.{length-bytes, whole-bytes, bits-take, bytes-of}
+use Rattle.laws.specs.Each.{each-take}
 use Rattle.bits.specs.Places.{at, inside, Fits, room-none}
 use Rattle.bits.specs.Clear.{cleared}
 use Rattle.bits.specs.Steps.{Puts, Step, said, view, view-in}
@@ -78,10 +78,6 @@ lists-of {s} {p} {r} {c} b h =
     }
 
 -- ---- the bytes that were written
-
-bytes-of : (s : List ℕ) → ((i : ℕ) → getD s i 0 < 256) → Bytes s
-bytes-of [] h = empty
-bytes-of (b ∷ s) h = next (h 0) (bytes-of s (λ i. h (suc i)))
 
 whole-even : {A : Type 0} (f : Format A) (a : A) → length (whole f .put 0 a) % 8 ≡ 0
 unfolding whole

@@ -3,8 +3,8 @@ use mathlib.Core.Path.{_≡_, refl, sym, ap, _∙_}
 use mathlib.Core.List.{List}
 use Prim.Native.Nat.{ℕ, min, _≤_, _<_}
 use native.Mathlib.Omega.{arith}
-use lib.ListN.{length, getD, set, take, length-set, length-take}
-use lib.Seq.{getD-set-other, getD-take, ext-getD}
+use lib.ListN.{length, getD, take, length-take}
+use lib.Seq.{getD-take, ext-getD}
 use Rattle.index.specs.declared.Table.{Table}
 use Rattle.index.specs.Chains.{zeros, added, endOf}
 use Rattle.index.specs.Steps.{length-zeros}
@@ -22,10 +22,6 @@ pub below-then : {n : ℕ} {a b c : List ℕ} → SameBelow n a b → SameBelow 
 below-then p q = record { long = q .long ∙ p .long; words = λ j h. q .words j h ∙ p .words j h }
 
 -- ---- stores behind
-
-pub below-set : {n : ℕ} (w : List ℕ) (k v : ℕ) → n ≤ k → SameBelow n w (set w k v)
-below-set w k v h =
-    record { long = length-set w k v; words = λ j i. getD-set-other w k j v 0 (λ e. omega arith) }
 
 pub below-added : {n : ℕ} (t : Table) (w : List ℕ) (row h place : ℕ) → n ≤ t .at → SameBelow n w (added w t row h place)
 below-added t w row h place k =

@@ -20,6 +20,10 @@ Binary l = Each (λ b. b < 2) l
 abbrev pub Bytes : List ℕ → Type 0
 Bytes s = Each (λ b. b < 256) s
 
+pub bytes-of : (s : List ℕ) → ((i : ℕ) → getD s i 0 < 256) → Bytes s
+bytes-of [] h = empty
+bytes-of (b ∷ s) h = next (h 0) (bytes-of s (λ i. h (suc i)))
+
 -- ---- the bits of a number
 
 pub length-enc : (w v : ℕ) → length (enc w v) ≡ w

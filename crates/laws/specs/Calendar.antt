@@ -8,7 +8,7 @@ use mathlib.Core.Bool.{Bool, true, false, _&&_, _||_, not}
 use lib.Dec.{leb, ltb, eqb, eqb→eq}
 use borrow.Author.Tests.{eqb-true, eqb-false, ne-eqb, lt-ltb, le-ltb}
 use Rattle.definition.specs.Base.{if_then_else_}
-use Rattle.definition.specs.Date.{leap, yearLength, monthLength, yearsLength, monthsLength, cycle, newYear, dateAt, yearWithin, monthWithin, yearOf, monthOf, dayOf, epoch, firstDate, lastDate}
+use Rattle.definition.specs.Date.{leap, yearLength, monthLength, yearsLength, monthsLength, cycle, newYear, dateAt, yearWithin, monthWithin, yearOf, monthOf, dayOf, firstDate, lastDate}
 use Rattle.definition.specs.Format.{bit}
 use Rattle.laws.specs.Rows.{last, last-within, last-reached, last-passed, rising, last-found, at}
 
@@ -309,10 +309,6 @@ pub record MarchDay (d y n : ℕ) : Type 0 where
   pub short : n < yearLength y
 
 -- ---- document 01's dates
-
-pub epoch-new-year : newYear 11970 ≡ epoch
-unfolding newYear yearsLength yearLength leap
-epoch-new-year = refl
 
 pub first-new-year : newYear 1 ≡ firstDate
 unfolding newYear yearsLength yearLength leap

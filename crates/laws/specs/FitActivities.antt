@@ -32,10 +32,6 @@ use Rattle.laws.specs.FitAmounts.{percent-number, minutes-number, days-n
 
 -- ---- codes
 
-pub code-if : (lo hi : ℕ) (t : Bool) {a b : ℕ} → Within lo hi a → Within lo hi b → Within lo hi (if t then a else b)
-code-if lo hi true h k = h
-code-if lo hi false h k = k
-
 activity-kind : (a b : Bool) → Within 0 2 (if a then (if b then 2 else 1) else 0)
 activity-kind true true = (omega arith, omega arith)
 activity-kind true false = (omega arith, omega arith)

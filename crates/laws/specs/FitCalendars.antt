@@ -49,7 +49,7 @@ module _ {S T : Text → Type 0} (texts : Texts S T) where
 
 -- ---- the week, the hours and the days
 
-week-length : (ws : List Element) (week : List Bool) → length (weekBy ws week) ≡ length week
+pub week-length : (ws : List Element) (week : List Bool) → length (weekBy ws week) ≡ length week
 unfolding weekBy
 week-length [] week = refl
 week-length (w ∷ ws) week = week-length ws _ ∙ by (placeOf w)
@@ -116,10 +116,6 @@ module _ {S T : Text → Type 0} (texts : Texts S T) where
           ),
         ),
       )
-
-  pub fit-calendar : {e : Element} (base : Calendar) → Holds S e → FitsCalendarBy T base → FitsCalendarBy T (calendarOf e base)
-  unfolding calendarOf
-  fit-calendar {e} base h b = fit-named e base (textIn e "Name" or bytes "Calendar") (text-is texts (name-in h)) b
 
   pub fit-free : (names : List Text) {e : Element} (base : Calendar) → Holds S e → length names ≤ 5000000 → FitsCalendarBy T base
       → FitsCalendarBy T (renamed (free names (calendarOf e base .name)) (calendarOf e base))

@@ -56,14 +56,6 @@ module _ {A : Type 0} {P : A → Type 0} where
   is-given missing = tt
   is-given (there h) = h
 
-  pub of-given : (o : Option A) → IfGiven P o → Perhaps P o
-  of-given none h = missing
-  of-given (some a) h = there h
-
-  pub of-equal : (o : Option A) → ((a : A) → o ≡ some a → P a) → Perhaps P o
-  of-equal none h = missing
-  of-equal (some a) h = there (h a refl)
-
   pub perhaps-or : {o : Option A} (d : A) → Perhaps P o → P d → P (o or d)
   perhaps-or d missing k = k
   perhaps-or d (there h) k = h

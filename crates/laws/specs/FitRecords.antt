@@ -138,19 +138,11 @@ module _ (T : Text → Type 0) where
   abbrev pub CalendarParts : Text × (List Bool × (List (List Period) × (List Date × (List Date × List (Date × List Period))))) → Type 0
   CalendarParts = Both T (Both IsWeek (Both (Times ArePeriods 7) (Both (Rising ltb InYears) (Both (Rising ltb InYears) (Rising byDate IsDay)))))
 
-  -- an activity before its parent: id, name, kind, duration, minutes
-  abbrev pub ActivityHead : Text × (Text × (ℕ × (ℤ × Option ℤ))) → Type 0
-  ActivityHead = Both T (Both T (Both (Within 0 2) (Both IsNumber (IfGiven IsNumber))))
-
   -- and behind its notes: calendar, constraint, deadline, start, finish, percent, duration type, remaining, UID
   abbrev pub ActivityRest : Option Text × (Option (ℕ × Option Date) × (Option Date × (Option Date × (Option Date × (Option ℤ × (ℕ × (Option ℤ × Text))))))) → Type 0
   ActivityRest =
       Both (IfGiven T) (Both (IfGiven IsConstraint) (Both (IfGiven InYears) (Both (IfGiven InYears) (Both (IfGiven InYears)
       (Both (IfGiven IsNumber) (Both (Within 0 3) (Both (IfGiven IsNumber) T)))))))
-
-  -- a resource before its calendar's name: id, name, kind, unit, max units
-  abbrev pub ResourceHead : Text × (Text × (ℕ × (Text × ℤ))) → Type 0
-  ResourceHead = Both T (Both T (Both (Within 0 2) (Both T IsNumber)))
 
   abbrev pub ExpenseParts : ℕ × (Text × (ℤ × (ℤ × (Option ℤ × ℕ)))) → Type 0
   ExpenseParts = Both IsCount (Both T (Both IsNumber (Both IsNumber (Both (IfGiven IsNumber) (Within 0 2)))))
@@ -168,17 +160,11 @@ module _ {t : Format Text} {T : Text → Type 0} (g : Good t T) where
   pub good-calendar-parts : Good (t ⊗ times 7 flag ⊗ times 7 periods ⊗ dates ⊗ dates ⊗ listOf byDate (date ⊗ periods)) (CalendarParts T)
   good-calendar-parts = g & good-week & good-times 7 good-periods & good-dates & good-dates & good-list byDate (good-date & good-periods)
 
-  pub good-activity-head : Good (t ⊗ t ⊗ code 0 2 ⊗ number ⊗ optional number) (ActivityHead T)
-  good-activity-head = g & g & good-code 0 2 (omega arith) & good-number & good-optional good-number
-
   pub good-activity-rest :
       Good (optional t ⊗ optional constraint ⊗ optional date ⊗ optional date ⊗ optional date ⊗ optional number ⊗ code 0 3 ⊗ optional number ⊗ t) (ActivityRest T)
   good-activity-rest =
       good-optional g & good-optional good-constraint & good-optional good-date & good-optional good-date & good-optional good-date &
       good-optional good-number & good-code 0 3 (omega arith) & good-optional good-number & g
-
-  pub good-resource-head : Good (t ⊗ t ⊗ code 0 2 ⊗ t ⊗ number) (ResourceHead T)
-  good-resource-head = g & g & good-code 0 2 (omega arith) & g & good-number
 
   pub good-expense-parts : Good (row ⊗ t ⊗ number ⊗ number ⊗ optional number ⊗ code 0 2) (ExpenseParts T)
   good-expense-parts = good-count & g & good-number & good-number & good-optional good-number & good-code 0 2 (omega arith)

@@ -1,11 +1,12 @@
 -- Each way to make a format keeps two promises: what is put is got back, and what is got is what was put, bit for bit. Assumes nothing.
 use mathlib.Core.Path.{_≡_, refl, sym, ap, _∙_, subst}
-use mathlib.Core.Bool.{Bool, true, false, true≢false, _&&_, and-false, and-eq-true-iff}
+use mathlib.Core.Bool.{Bool, true, false, true≢false, and-false, and-eq-true-iff}
 use mathlib.Core.List.{List, [], _∷_, _++_, append-assoc}
 use mathlib.Core.Option.{Option, some, none, Option·some-injective}
 use Prim.Native.Nat.{ℕ, zero, suc, _+_, _*_, _%_, _^_, _≤_, _<_}
+use native.Mathlib.Nat.{add-zero, add-assoc}
 use native.Mathlib.Omega.{arith}
-use borrow.Author.Tests.{leb-true, ltb-true, ltb-false, eqb-true, le-leb, lt-leb, le-ltb, eq-eqb, ne-eqb}
+use borrow.Author.Tests.{leb-true, ltb-true, ltb-false, le-leb, lt-leb, le-ltb, ne-eqb}
 use lib.Dec.{leb, ltb, eqb}
 use lib.ListN.{length, take, drop, replicate, length-append, length-replicate, take-append-drop}
 use lib.Seq.{take-at, drop-at}
@@ -212,6 +213,11 @@ good-via {A} {to = to} {from = from} {f = f} {G = G} s g = record {
 pub record Times {A : Type 0} (F : A → Type 0) (k : ℕ) (l : List A) : Type 0 where
   pub many : length l ≡ k
   pub each : Each F l
+
+pub all-append : {A : Type 0} (f : Format A) (n : ℕ) (xs ys : List A) → putAll f n (xs ++ ys) ≡ putAll f n xs ++ putAll f (n + length (putAll f n xs)) ys
+unfolding putAll
+all-append f n [] ys = rw add-zero
+all-append f n (x ∷ xs) ys = rw (all-append f (n + length (f .put n x)) xs ys, append-assoc, length-append, add-assoc)
 
 all-binary : {A : Type 0} {f : Format A} {F : A → Type 0} → Good f F → (n : ℕ) (l : List A) → Binary (putAll f n l)
 unfolding putAll

@@ -4,6 +4,7 @@ pub mod Buf
 pub mod Calendar
 pub mod Durations
 pub mod Each
+pub mod Evens
 pub mod Fields
 pub mod FitActivities
 pub mod FitAmounts

@@ -3,11 +3,12 @@ use Prim.Native.Nat.{ℕ, _+_, _%_, _^_, _<_}
 use native.Mathlib.Nat.{mod-lt, mod-add-mod, mod-eq-of-lt, add-assoc, add-zero, zero-add}
 use native.Mathlib.Omega.{arith}
 use mathlib.Core.Path.{_≡_, sym, ap, subst, _∙_}
-use mathlib.Core.List.{List, [], _∷_, _++_, append-assoc}
+use mathlib.Core.List.{List, [], _∷_, _++_}
 use lib.ListN.{length, length-append}
 use Rattle.definition.specs.Bits.{Bits}
 use Rattle.definition.specs.Format.{Format, times, putAll}
 use Rattle.laws.specs.Buf.{_▷_, sizeOf}
+use Rattle.laws.specs.Formats.{all-append}
 use Rattle.bits.specs.Steps.{Puts, view, said, put-then, put-no, put-more}
 use Rattle.bits.specs.declared.Place.{Place}
 use Rattle.pack.specs.Writes.{Writes}
@@ -26,11 +27,6 @@ sum-both m a x y b c h i j =
     let k : b < m = rw (i h) (mod-lt (a + x) (omega arith)) in
     j k ∙ ap (λ (n : ℕ). (n + y) % m) (i h) ∙ mod-add-mod (a + x) m y ∙ ap (λ (n : ℕ). n % m) (add-assoc a x y)
 
-all-both : {A : Type 0} (f : Format A) (n : ℕ) (xs ys : List A) → putAll f n (xs ++ ys) ≡ putAll f n xs ++ putAll f (n + length (putAll f n xs)) ys
-unfolding putAll
-all-both f n [] ys = rw add-zero
-all-both f n (x ∷ xs) ys = rw (all-both f (n + length (f .put n x)) xs ys, append-assoc, length-append, add-assoc)
-
 module _ {A : Type 0} {f : Format A} where
   pub more-none : (d : List ℕ) (done : Records) → More f [] d done d done
   more-none d done = record { puts = λ k. put-no k f d (done .next); counts = sum-none (2 ^ 32) (done .count) }
@@ -48,7 +44,7 @@ module _ {A : Type 0} {f : Format A} where
     unfolding times
     more-both {xs} {ys} {r' = r'} h i = record {
       puts = λ k. record {
-        step = said (put-then (times k f) xs (λ n. putAll f n ys) (h .puts k .step) (i .puts k .step)) _ (ap (λ (l : Bits). view d (done .next) ▷ l) (sym (all-both f (sizeOf (view d (done .next))) xs ys)));
+        step = said (put-then (times k f) xs (λ n. putAll f n ys) (h .puts k .step) (i .puts k .step)) _ (ap (λ (l : Bits). view d (done .next) ▷ l) (sym (all-append f (sizeOf (view d (done .next))) xs ys)));
       };
       counts = λ z. sum-both (2 ^ 32) (done .count) (length xs) (length ys) (r .count) (r' .count) z (h .counts) (i .counts) ∙ ap (λ (n : ℕ). (done .count + n) % 2 ^ 32) (sym (length-append xs ys));
     }

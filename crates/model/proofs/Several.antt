@@ -2,7 +2,7 @@
 use mathlib.Core.Path.{_≡_, refl, sym, ap, _∙_}
 use mathlib.Core.Bool.{Bool, true, false}
 use mathlib.Core.List.{List, [], _∷_}
-use mathlib.Core.Option.{Option, some, none}
+use mathlib.Core.Option.{Option, some}
 use Prim.Native.Nat.{ℕ, zero, suc, _<_}
 use native.Mathlib.Omega.{arith}
 use lib.ListN.{length, take, drop}
@@ -12,7 +12,7 @@ use Rattle.definition.specs.Base.{_>>=_, when}
 use Rattle.definition.specs.Bits.{Bits, dec}
 use Rattle.definition.specs.Date.{Date}
 use Rattle.definition.specs.Format.{_⊗_, field, flag, times, periods, date}
-use Rattle.bits.specs.Reads.{rest, Reads, read-⊗, read-nothing, refuse-first, refuse-second}
+use Rattle.bits.specs.Reads.{Reads, read-⊗, read-nothing, refuse-first, refuse-second}
 use Rattle.bits.specs.declared.Place.{Place}
 use Rattle.bits.specs.declared.Field.{Field}
 use Rattle.model.specs.Lax.{behind, left, Like, left-zero, left-suc, like-then, like-times, like-named}

@@ -20,7 +20,7 @@ use Rattle.definition.specs.Text.{Text, isUtf8}
 use Rattle.definition.specs.Format.{Format, _⊗_, field, whole, count, row, flag, code, time, period, date, text, optional, number}
 use Rattle.definition.specs.Pack.{constraint, counts}
 use Rattle.bits.specs.Places.{at, place, past, room, inside, Fits, room-fits, room-short, room-none, room-more, place-at, at-place}
-use Rattle.bits.specs.Reads.{rest, Reads, Refuses, refused, takeAt, flagAt, int32At, read-int32, refuse-int32, read-none, read-some, refuse-some, read-bit, spanAt, spanOf, Spans, rest-in, rest-out, rest-past, length-rest, take-cut, take-whole, read-field, read-whole, skip-pad, chain, read-flag, read-code, refuse-code, read-time, refuse-time, read-⊗, read-period, refuse-period, read-date, refuse-date, refuse-value, refuse-first, refuse-second, refuse-test}
+use Rattle.bits.specs.Reads.{rest, Reads, Refuses, refused, takeAt, flagAt, int32At, read-int32, refuse-int32, read-none, read-some, refuse-some, read-bit, spanAt, spanOf, Spans, rest-in, rest-out, rest-past, length-rest, take-cut, take-whole, read-field, read-whole, skip-pad, chain, read-flag, read-code, refuse-code, read-time, refuse-time, read-⊗, read-period, refuse-period, read-date, refuse-date, refuse-value, refuse-first, refuse-second, refuse-test, far}
 use Rattle.bits.specs.declared.Place.{Place}
 use Rattle.bits.specs.declared.Field.{Field}
 use Rattle.bits.specs.declared.Span.{Span}
@@ -293,9 +293,6 @@ module _ (s : List ℕ) (p : Place) {x : Field} (e : x ≡ takeAt s p 4) where
   lag-plain h n = pass-alone (eqb 2) number (code-in s p 0 2 e (omega arith) h) (ne-eqb 2 (x .value) (λ z. n (sym z)))
 
 -- ---- what a reader of parts answers
-
-pub far : (s : List ℕ) (q : Place) → 7 < q .bit → rest s q ≡ none
-far s q h = rest-out s q (room-short (length s) q 0 (λ b. absurd (omega arith)))
 
 -- the place behind a field: past, or inside
 module _ (s : List ℕ) (p : Place) (w : ℕ) {x : Field} (e : x ≡ takeAt s p w) where

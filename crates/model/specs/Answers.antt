@@ -4,7 +4,7 @@ use mathlib.Core.Path.{_≡_, refl, sym, ap, _∙_}
 use mathlib.Core.Bool.{Bool, true, false}
 use mathlib.Core.List.{List}
 use mathlib.Core.Option.{Option, some, none}
-use Prim.Native.Nat.{ℕ, _+_, _-_, _*_, _≤_, _<_}
+use Prim.Native.Nat.{ℕ, _+_, _-_, _*_}
 use native.Mathlib.Omega.{arith}
 use lib.ListN.{length, take, drop, drop-of-length-le}
 use lib.Seq.{drop-drop}
@@ -14,7 +14,6 @@ use borrow.Author.Tests.{leb-true, leb-false}
 use Rattle.laws.specs.Options.{never}
 use Rattle.definition.specs.Base.{_>>=_, _or_, when, if_then_else_}
 use Rattle.definition.specs.Bits.{Bits, bitsOf, dec}
-use Rattle.definition.specs.Text.{Text}
 use Rattle.definition.specs.Answer.{dayNumberOf}
 use Rattle.definition.specs.Format.{Format, field, via, _⊗_, depending, getGiven, optional, flag, row, time, Period, period, date}
 use Rattle.definition.specs.Pack.{Counts as CountsOf, counts}

@@ -7,7 +7,7 @@ use mathlib.Core.Option.{Option, some, none, Option·some-injective}
 use Prim.Native.Nat.{ℕ, zero, suc, _-_, _%_}
 use native.Mathlib.Omega.{arith}
 use lib.ListN.{length, take, drop, replicate, length-drop}
-use Rattle.laws.specs.Options.{bind-assoc, bind-ext, some-is, when-is}
+use Rattle.laws.specs.Options.{some-is, when-is}
 use Rattle.definition.specs.Base.{_>>=_, when, same}
 use Rattle.definition.specs.Bits.{Bits}
 use Rattle.definition.specs.Format.{Format, via, _⊗_, depending, getGiven, optional, whole, getPad, times, getAll, flag}
@@ -37,9 +37,6 @@ lax-of a k = record { lax = λ l m e. a .lax l m (k .like l ∙ e) }
 
 pub lax-like : {A B C : Type 0} {f : Format A} {g : Format B} {h : Format C} → Like h g → Lax g f → Lax h f
 lax-like k a = record { lax = λ l m e. k .like l ∙ a .lax l m e }
-
-pub like-same : {A : Type 0} (f : Format A) → Like f f
-like-same f = record { like = λ l. refl }
 
 module _ {A B : Type 0} {f : Format A} {g : Format B} where
   pub like-back : Like f g → Like g f

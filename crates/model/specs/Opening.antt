@@ -25,7 +25,7 @@ use Rattle.model.specs.declared.Places.{Places}
 use Rattle.model.specs.Passes.{Passes, Bytewise, Told, refusing, reading, told, stood, bytewise, bytewise-all, _⨾_}
 use Rattle.model.specs.Answers.{countsAt, tails-counts, or-reads, rest-fits}
 use Rattle.model.specs.Splits.{split-⊗, read-length}
-use Rattle.model.specs.Sections.{byteAt, start, countsIn, Walks, Holds, Decoded, sectionsOf, sectionsBy, Sectioned, Opens, byte-place}
+use Rattle.model.specs.Sections.{byteAt, start, countsIn, Walks, Holds, Decoded, sectionsOf, sectionsBy, Opens, byte-place}
 
 -- ---- places
 

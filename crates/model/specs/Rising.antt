@@ -90,7 +90,7 @@ module _ {A : Type 0} (lt : A → A → Bool) where
   rises-one x = refl
 
   -- a count and a list that begins with items that do not rise
-  pub refuse-fall : (f : Format A) {s : List ℕ} {p q r : Place} {n : ℕ} {xs : List A} (k : ℕ) → Reads count s p n q → Reads (times k f) s q xs r → k ≤ n → rises lt xs ≡ false
+  refuse-fall : (f : Format A) {s : List ℕ} {p q r : Place} {n : ℕ} {xs : List A} (k : ℕ) → Reads count s p n q → Reads (times k f) s q xs r → k ≤ n → rises lt xs ≡ false
       → Refuses (listOf lt f) s p
   unfolding listOf times
   refuse-fall f {s} {p} {q} {r} {n} {xs} k h i le e =

@@ -20,7 +20,7 @@ use Rattle.model.specs.Lax.{Lax}
 use Rattle.model.specs.Passes.{Passes}
 use Rattle.model.specs.Answers.{rest-fits}
 use Rattle.model.specs.Parts.{recordOf}
-use Rattle.model.specs.Splits.{Step, step, later}
+use Rattle.model.specs.Splits.{Step, step}
 use Rattle.model.specs.declared.records.Kind.{Kind}
 use Rattle.model.specs.declared.Opened.{Opened}
 use Rattle.model.specs.declared.Head.{Head}
@@ -158,8 +158,3 @@ module _ {A : Type 0} {f : Format A} {s : List ℕ} {x : Section} {xs : List A} 
   pub one-passed : {B : Type 0} {g : Format B} {q r : Place} (i : ℕ) → Lax g (whole f) → Reads (times (x .count - i) (whole f)) s q (drop i xs) (byteAt next) → i < x .count → Passes g s q r
       → Step (whole f) s q r (byteAt next) (x .count) i xs
   one-passed i a k l p = step a (byte-rest s next (h .ends)) k l p
-
-  -- the place behind the first i
-  pub some-passed : {B : Type 0} {g : Format B} {q : Place} (i : ℕ) → Lax g (whole f) → i ≤ x .count → Passes (times i g) s (byteAt (x .at)) q
-      → Reads (times (x .count - i) (whole f)) s q (drop i xs) (byteAt next)
-  some-passed i a l p = later i a (byte-rest s next (h .ends)) (h .reads) l p

@@ -262,8 +262,3 @@ module _ {A B : Type 0} {f : Format A} {g : Format B} {s : List ℕ} {end : Plac
       by-told (reading front b z r) =
           by-rest front (read-length f i z r) b z (getAll f m b) refl
           (sym (read-on f i m r ∙ ap (λ (o : Option Bits). o >>= λ r. getAll f m r >>= onto front) z) ∙ whole-list .reads ∙ rw e)
-
--- the records of a list and those of another behind it
-pub read-join : {A : Type 0} (f : Format A) {s : List ℕ} {p q r : Place} {xs ys : List A} (k m : ℕ) → Reads (times k f) s p xs q → Reads (times m f) s q ys r → Reads (times (k + m) f) s p (xs ++ ys) r
-unfolding times
-read-join f {xs = xs} k m h i = record { reads = read-on f k m h ∙ chain {f = times m f} (onto xs) i }

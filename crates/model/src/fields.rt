@@ -1,6 +1,6 @@
 // Fields: how each is passed over, and what is read of it where the next field depends on it.
 ghost use mathlib.Core.Path.{_≡_};
-ghost use Prim.Native.Nat.{ℕ, _^_, _≤_, _<_};
+ghost use Prim.Native.Nat.{_^_, _≤_, _<_};
 ghost use Rattle.definition.specs.Base.{_or_};
 ghost use Rattle.definition.specs.Bits.{signed};
 ghost use Rattle.definition.specs.Date.{inYears, fromDays};

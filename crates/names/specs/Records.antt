@@ -1,10 +1,9 @@
 -- Records that were put are read back without tests: their places by rows, and the texts at their fronts. Assumes nothing.
 use mathlib.Core.Path.{_≡_, refl, sym, ap, _∙_}
-use mathlib.Core.Bool.{Bool, true, false, true≢false}
+use mathlib.Core.Bool.{Bool, true, false}
 use mathlib.Core.List.{List, [], _∷_, _++_, map, append-assoc}
 use mathlib.Core.Option.{Option, some, none}
 use Prim.Native.Nat.{ℕ, zero, suc, _+_, _≤_, _<_}
-use native.Mathlib.Nat.{add-zero}
 use native.Mathlib.Omega.{arith}
 use lib.IntN.{ℤ}
 use lib.ListN.{length, take, drop, getElem?, length-append, length-map}
@@ -18,9 +17,9 @@ use Rattle.definition.specs.Pack.{calendar, activity, resource, expense}
 use Rattle.laws.specs.Options.{never, some-is}
 use Rattle.laws.specs.Each.{Each, empty, next, each-front, each-back}
 use Rattle.laws.specs.Bits.{Bytes}
-use Rattle.laws.specs.Formats.{Good, _&_, Both, IfGiven, good-times, good-whole, good-count}
+use Rattle.laws.specs.Formats.{Good, _&_, Both, IfGiven, good-times, good-whole, good-count, all-append}
 use Rattle.laws.specs.Fields.{good-code, good-number, good-optional}
-use Rattle.laws.specs.Bools.{Within}
+use Rattle.laws.specs.Bools.{Within, differ as never-both}
 use Rattle.laws.specs.FitRecords.{Short, IsCount, IsNumber, anyText, good-any, CalendarParts, ActivityRest, ExpenseParts, FitsCalendarBy, FitsActivityBy, FitsResourceBy, FitsExpenseBy, good-calendar-parts, good-activity-rest, good-expense-parts}
 use Rattle.bits.specs.Places.{at, place, past, inside, at-place, room-fits}
 use Rattle.bits.specs.Reads.{rest, rest-in, spot, spanAt, Reads}
@@ -38,9 +37,6 @@ use Rattle.names.specs.Texts.{placeOfRow, textAt, textsAt}
 use Rattle.names.specs.Seen.{passed-to, raw-spanned}
 use Rattle.names.specs.Kept.{Kept, There, there-at, there-inside, there-split, there-reads, gets-there, kept-there, put-there}
 
-never-both : {C : Type 0} (t : Bool) → t ≡ true → t ≡ false → C
-never-both t h k = absurd (true≢false (sym h ∙ k))
-
 -- ---- lists of records
 
 module _ {A B : Type 0} (f : Format A) (g : Format B) (from : A → B) (same : (n : ℕ) (a : A) → f .put n a ≡ g .put n (from a)) where
@@ -53,15 +49,6 @@ module _ {A B : Type 0} (f : Format A) (g : Format B) (from : A → B) (same : (
 each-map : {A B : Type 0} {P : B → Type 0} (from : A → B) {xs : List A} → Each (λ x. P (from x)) xs → Each P (map from xs)
 each-map from empty = empty
 each-map from (next h hs) = next h (each-map from hs)
-
-all-append : {A : Type 0} (g : Format A) (n : ℕ) (xs ys : List A) → putAll g n (xs ++ ys) ≡ putAll g n xs ++ putAll g (n + length (putAll g n xs)) ys
-unfolding putAll
-all-append g n [] ys = rw add-zero
-all-append g n (x ∷ xs) ys =
-    let b = g .put n x in
-    let m = n + length b in
-    ap (λ (l : Bits). b ++ l) (all-append g m xs ys) ∙ sym (append-assoc b (putAll g m xs) _)
-    ∙ ap (λ (k : ℕ). (b ++ putAll g m xs) ++ putAll g k ys) (omega (arith, length-append b (putAll g m xs)))
 
 all-one : {A : Type 0} (g : Format A) (n : ℕ) (x : A) (xs : List A) → putAll g n (x ∷ xs) ≡ g .put n x ++ putAll g (n + length (g .put n x)) xs
 unfolding putAll

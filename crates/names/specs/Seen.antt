@@ -1,13 +1,13 @@
 -- What the loops over records see in the buffer. Assumes nothing.
 use mathlib.Core.Path.{_≡_, refl, sym, ap, _∙_}
 use mathlib.Core.Bool.{Bool, true, false, _||_}
-use mathlib.Core.List.{List, [], _∷_, _++_, map}
+use mathlib.Core.List.{List, [], _++_, map}
 use mathlib.Core.Option.{Option, some, none}
 use Prim.Native.Nat.{ℕ, zero, suc, _+_, _-_, _*_, _/_, _%_, _^_, _≤_, _<_}
 use native.Mathlib.Nat.{sub-zero}
 use native.Mathlib.Omega.{arith}
 use lib.Dec.{ltb}
-use lib.ListN.{length, take, drop, getD, length-map, length-drop, take-append-drop}
+use lib.ListN.{length, take, drop, length-map, length-drop, take-append-drop}
 use lib.Seq.{length-take-le}
 use borrow.Author.Tests.{ltb-false}
 use Rattle.definition.specs.Base.{if_then_else_, _>>=_, _or_, some?, count}
@@ -15,8 +15,9 @@ use Rattle.definition.specs.Text.{Text}
 use Rattle.definition.specs.Bits.{Bits, bitsOf, bytesUpTo}
 use Rattle.definition.specs.Format.{Format, times, whole, count as counts}
 use Rattle.laws.specs.Bits.{Bytes, bits-append, bits-drop, bytes-bits, length-bytes}
-use Rattle.laws.specs.Each.{empty, next, each-take, each-drop}
+use Rattle.laws.specs.Each.{next, each-take, each-drop}
 use Rattle.laws.specs.Options.{never}
+pub use Rattle.laws.specs.Bits.{bytes-of}
 use Rattle.bits.specs.Places.{at, past, inside, Fits, room-fits}
 use Rattle.bits.specs.Reads.{rest, rest-in, rest-out, rest-past, length-rest, Reads, chain, takeAt, padAt, spanOf, spanAt, read-field, read-whole, skip-pad, pad-whole, field-lt}
 use Rattle.bits.specs.declared.Span.{Span}
@@ -26,11 +27,6 @@ use Rattle.model.specs.Parts.{raw, recordOf}
 use Rattle.model.specs.Passes.{Passes, told, Told, refusing, reading}
 use Rattle.model.specs.declared.records.Kind.{Kind}
 use Rattle.names.specs.Texts.{placeOfRow, textAt, textsAt}
-
--- the bytes of a slice
-pub bytes-of : (s : List ℕ) → ((i : ℕ) → getD s i 0 < 256) → Bytes s
-bytes-of [] h = empty
-bytes-of (x ∷ s) h = next (h 0) (bytes-of s (λ i. h (suc i)))
 
 bytes-front : (n : ℕ) (s : List ℕ) → Bytes s → n ≤ length s → bytesUpTo n (bitsOf s) ≡ take n s
 bytes-front n s b h =

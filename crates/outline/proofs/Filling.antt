@@ -10,14 +10,12 @@ use borrow.Author.Tests.{eqb-true, eqb-false}
 use lib.Dec.{eqb}
 use lib.ListN.{length, getD, set, drop}
 use lib.Seq.{getD-set-same, getD-set-other}
-use Rattle.definition.specs.Format.{whole, times}
+use Rattle.definition.specs.Format.{whole, times, Format}
 use Rattle.definition.specs.Model.{Activity}
 use Rattle.definition.specs.Pack.{activity}
 use Rattle.definition.specs.Base.{_>>=_}
-use Rattle.definition.specs.Format.{Format}
 use Rattle.definition.specs.Bits.{Bits}
-use Rattle.bits.specs.Places.{room-short}
-use Rattle.bits.specs.Reads.{rest, Reads, rest-out}
+use Rattle.bits.specs.Reads.{rest, Reads}
 use Rattle.bits.specs.declared.Place.{Place}
 use Rattle.model.specs.Parts.{lax-activities}
 use Rattle.model.specs.Sections.{Holds, byteAt, byte-rest, none-passed, one-passed}
@@ -66,6 +64,3 @@ module _ {s : List ℕ} {x : Section} {xs : List Activity} {next : ℕ} (h : Hol
       sym (ap (λ (o : Option Bits). o >>= f .get) e) ∙ t .left .reads ∙ ap (λ (o : Option Bits). o >>= λ l. some (drop i xs, l)) (byte-rest s next (h .ends)) in
       let y : _≡_ {A = ℕ} 0 1 = cc in
       absurd (omega arith)
-
-pub far : (s : List ℕ) (q : Place) → 7 < q .bit → rest s q ≡ none
-far s q h = rest-out s q (room-short (length s) q 0 (λ b. absurd (omega arith)))

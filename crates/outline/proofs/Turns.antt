@@ -1,33 +1,14 @@
 -- A turn of the loop that clears, and of the one that climbs; the cases of a step. Assumes nothing.
-use mathlib.Core.Path.{_≡_, sym, ap, _∙_}
-use mathlib.Core.List.{List, [], _∷_, _++_, append-assoc}
+use mathlib.Core.Path.{_≡_, sym, _∙_}
+use mathlib.Core.List.{List}
 use Prim.Native.Nat.{ℕ, zero, suc, _+_, _-_, _*_, _≤_, _<_}
-use native.Mathlib.Numerals.{add-one}
 use native.Mathlib.Omega.{arith}
 use borrow.Author.Tests.{lt-ltb, le-ltb, eq-eqb, ne-eqb}
 use lib.Dec.{eqb}
-use lib.ListN.{length, getD, take, set, replicate, replicate-append-replicate}
-use lib.Seq.{take-suc-set, take-all}
+use lib.ListN.{getD}
 use Rattle.outline.specs.Words.{noRow}
 use Rattle.outline.specs.declared.Visit.{Visit}
 use Rattle.outline.specs.Steps.{climbOf, stepOf}
-
-pub zeros-more : (w₀ w : List ℕ) (from i : ℕ) → from ≤ i → i < length w → take i w ≡ take from w₀ ++ replicate (i - from) 0
-    → take (i + 1) (set w i 0) ≡ take from w₀ ++ replicate (i + 1 - from) 0
-zeros-more w₀ w from i l h e =
-    let m : i - from + 1 ≡ i + 1 - from = omega arith in
-    ap (λ (m : ℕ). take m (set w i 0)) (add-one i)
-    ∙ take-suc-set w i 0 h
-    ∙ ap (λ (l : List ℕ). l ++ (0 ∷ [])) e
-    ∙ append-assoc (take from w₀) (replicate (i - from) 0) (0 ∷ [])
-    ∙ ap (λ (l : List ℕ). take from w₀ ++ l) (replicate-append-replicate (i - from) 1 0)
-    ∙ ap (λ (m : ℕ). take from w₀ ++ replicate m 0) m
-
-pub zeros-done : (w₀ w : List ℕ) (from i : ℕ) → length w ≤ i → i ≤ length w → length w ≡ length w₀ → take i w ≡ take from w₀ ++ replicate (i - from) 0
-    → w ≡ take from w₀ ++ replicate (length w₀ - from) 0
-zeros-done w₀ w from i l h k e =
-    let m : i - from ≡ length w₀ - from = omega arith in
-    sym (take-all i w l) ∙ e ∙ ap (λ (m : ℕ). take from w₀ ++ replicate m 0) m
 
 pub climb-found : (w : List ℕ) (r d : ℕ) {x : ℕ} → x ≡ getD w (4 * r + 2) 0 → (x ≡ noRow → ⊥) → 0 < d → _≡_ {A = Visit} (record { row = x; depth = d }) (climbOf w d r)
 unfolding climbOf

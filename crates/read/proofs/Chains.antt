@@ -1,8 +1,8 @@
 -- The sections one after another. Assumes nothing.
 use mathlib.Core.Path.{_≡_, refl, sym, ap, _∙_, subst}
 use mathlib.Core.Bool.{Bool, true, false, _&&_}
-use mathlib.Core.List.{List, [], _∷_}
-use Prim.Native.Nat.{ℕ, suc, _*_, _%_, _^_, _<_}
+use mathlib.Core.List.{List}
+use Prim.Native.Nat.{ℕ, _*_, _%_, _^_, _<_}
 use native.Mathlib.Omega.{arith}
 use borrow.Author.Tests.{le-leb}
 use lib.Dec.{leb, eqb}
@@ -10,45 +10,40 @@ use lib.ListN.{length, drop, getD}
 use Rattle.definition.specs.Text.{Text}
 use Rattle.definition.specs.Format.{Format, times, whole, _⊗_}
 use Rattle.definition.specs.Tree.{Element}
-use Rattle.definition.specs.Pack.{Counts, counts, countsOf, body, bodyOf, project, calendar, activity, link, resource, assignment, expense}
+use Rattle.definition.specs.Pack.{counts, countsOf, body, bodyOf, project, calendar, activity, link, resource, assignment, expense}
 use Rattle.definition.specs.Calendar.{calendarElements}
 use Rattle.definition.specs.Task.{Context, contextOf, activities}
 use Rattle.definition.specs.Link.{links, entered}
 use Rattle.definition.specs.Resource.{workResources, resources, assignments, expenses}
 use Rattle.definition.specs.Refusal.{mostElements}
 use Rattle.definition.specs.Read.{projectOf, calendarsOf, modelOf}
-use Rattle.laws.specs.Bits.{Bytes}
-use Rattle.laws.specs.Each.{Each, empty, next, each-drop}
+use Rattle.laws.specs.Each.{Each, next, each-drop}
 use Rattle.laws.specs.FitRecords.{Short, FitsCalendarBy}
 use Rattle.laws.specs.FitTrees.{slim-texts, small-element}
 use Rattle.laws.specs.FitCalendars.{fit-calendars}
-use Rattle.laws.specs.Buf.{Buf, full, _▷_, sizeOf, ▷-full}
+use Rattle.laws.specs.Buf.{full, _▷_, ▷-full}
 use Rattle.laws.specs.Formats.{Fills, fills-whole, fills-pair}
+use Rattle.laws.specs.Bits.{bytes-of}
+use Rattle.laws.specs.Bools.{differ}
+use Rattle.bits.specs.Round.{put-inside as began, put-stood}
 use Rattle.tree.specs.Place.{elementAt}
-use Rattle.bits.specs.Places.{at, place, past, inside, Fits, fits-room}
-use Rattle.bits.specs.Steps.{Puts, Step, _⨾_, said, refuses, view, view-out, puts, put-⊗}
-use Rattle.bits.specs.Round.{put-stood}
+use Rattle.bits.specs.Places.{past, inside}
+use Rattle.bits.specs.Steps.{Puts, _⨾_, said, refuses, view, view-out, puts, put-⊗}
 use Rattle.bits.specs.declared.Place.{Place}
 use Rattle.pack.specs.Writes.{Writes, WritesIf}
-use Rattle.pack.specs.Record.{countsBy}
 use Rattle.pack.specs.declared.record.Records.{Records}
 use Rattle.pack.specs.declared.record.Counts as P
 use Rattle.assignments.specs.Section.{WritesIn}
 use Rattle.names.specs.Context.{contextAt, calendarsBefore}
 use Rattle.names.specs.Carried.{context-carried, before-carried}
 use Rattle.names.specs.Turned.{calendars-stand, same-activities, same-resources}
-use Rattle.read.specs.Sections.{start, low, zeros, listed, listedOf, Few, Whole, SectionsPut, AllPut}
-use Rattle.read.specs.declared.sections.Sections.{Sections}
+use Rattle.read.specs.Sections.{start, low, zeros, listed, listedOf, Few, Whole}
 
 -- ---- what a tree says fits
 
 -- its calendars fit their fields
 abbrev pub Fit : Element → Type 0
 Fit e = Each (FitsCalendarBy Short) (calendarsOf (contextOf e))
-
-bytes-of : (s : List ℕ) → ((i : ℕ) → getD s i 0 < 256) → Bytes s
-bytes-of [] h = empty
-bytes-of (b ∷ s) h = next (h 0) (bytes-of s (λ i. h (suc i)))
 
 pub fit-tree : (s : Text) (root : ℕ) → ((i : ℕ) → getD s i 0 < 256) → Few (elementAt s root) → Fit (elementAt s root)
 fit-tree s root h few = fit-calendars slim-texts (small-element (drop root s) (each-drop root (bytes-of s h))) (few .calendars)
@@ -59,13 +54,6 @@ fit-tree s root h few = fit-calendars slim-texts (small-element (drop root s) (e
 record Section {A : Type 0} (f : Format A) (xs : List A) (d : List ℕ) (p : Place) (d' : List ℕ) (r : Records) : Type 0 where
   put : Puts (times (length xs) f) xs d p d' (r .next)
   counted : inside (length d) p ≡ true → r .count ≡ length xs % 2 ^ 32
-
--- the place before is inside where the place behind is
-began : {A : Type 0} {f : Format A} {a : A} {d : List ℕ} {p : Place} {d' : List ℕ} {q : Place} → Puts f a d p d' q → inside (length d') q ≡ true → inside (length d) p ≡ true
-began {d = d} {p = p} x h =
-    let b = put-stood x h .began in
-    let g : Fits (length d) p 0 = record { bit = b .bit; ends = omega (arith, b .ends) } in
-    fits-room g
 
 -- from past the end any records do
 any : {A B : Type 0} {f : Format A} {a : A} (g : Format B) (b : B) {d : List ℕ} {p : Place} {d' : List ℕ} {q : Place} → Puts f a d p d' q → inside (length d) p ≡ false → Puts g b d p d' q
@@ -82,12 +70,6 @@ none-put g b {d} {p} {d'} {q} e k h =
     let r : puts g b (view d p) ≡ full n = rw (view-out d p h) (▷-full n (g .put 0 b)) in
     let s : Puts g b d p d past = record { step = refuses (puts g b) r } in
     subst (λ (x : List ℕ). Puts g b d p x q) (sym e) (subst (λ (x : Place). Puts g b d p d x) (sym k) s)
-
-differ : {A : Type 0} (t : Bool) → t ≡ true → t ≡ false → A
-differ t h k =
-    let e : true ≡ false = sym h ∙ k in
-    let z : _≡_ {A = ℕ} 0 1 = cc in
-    absurd (omega arith)
 
 section : {A : Type 0} {f : Format A} {xs : List A} {d : List ℕ} {p : Place} {d' : List ℕ} {r : Records} → Writes f xs d p d' r → Section f xs d p d' r
 section w = record { put = w .puts; counted = λ i. w .counts }

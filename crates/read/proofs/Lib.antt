@@ -1,4 +1,3 @@
-pub mod Evens
 pub mod Closing
 pub mod Whole
 pub mod Chains

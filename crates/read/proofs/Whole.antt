@@ -1,8 +1,8 @@
 -- The bytes of a model whose records were put and whose counts were closed, and what is answered. Assumes nothing.
 use mathlib.Core.Path.{_≡_, refl, sym, ap, _∙_, subst}
 use mathlib.Core.Bool.{Bool, true, false, not}
-use mathlib.Core.List.{List, [], _∷_, _++_, append-assoc}
-use Prim.Native.Nat.{ℕ, suc, _+_, _-_, _*_, _/_, _%_, _^_, _≤_, _<_}
+use mathlib.Core.List.{List, _++_, append-assoc}
+use Prim.Native.Nat.{ℕ, _+_, _-_, _*_, _/_, _%_, _≤_, _<_}
 use native.Mathlib.Omega.{arith}
 use borrow.Author.Tests.{le-leb, lt-leb, lt-ltb, ltb-false}
 use lib.Dec.{ltb}
@@ -10,15 +10,15 @@ use lib.ListN.{length, take, drop, getD, replicate, length-append}
 use lib.Seq.{length-take-le, take-at}
 use Rattle.definition.specs.Base.{if_then_else_, every?, some?}
 use Rattle.definition.specs.Text.{Text}
-use Rattle.definition.specs.Bits.{Bits, enc, bitsOf, bytesOf}
+use Rattle.definition.specs.Bits.{Bits, bitsOf, bytesOf}
 use Rattle.definition.specs.Format.{field, _⊗_}
 use Rattle.definition.specs.Tree.{records, layout, element, belowRoot}
 use Rattle.definition.specs.Model.{Model}
 use Rattle.definition.specs.Pack.{Counts, counts, countsOf, Body, body, bodyOf, model, encode, project, calendar, activity, link, resource, assignment, expense}
 use Rattle.definition.specs.Read.{modelOf}
 use Rattle.definition.specs.Refusal.{Answer, refused, gives, inRoom, mostElements, utf8?, project?, tooLong, treeRefusal, readAnswer}
-use Rattle.laws.specs.Bits.{Bytes, length-enc, enc-low, length-bytes, whole-bytes, bits-take}
-use Rattle.laws.specs.Each.{empty, next, each-take}
+use Rattle.laws.specs.Bits.{length-enc, enc-low, length-bytes, whole-bytes, bits-take, bytes-of}
+use Rattle.laws.specs.Each.{next, each-take}
 use Rattle.laws.specs.FitTrees.{calendars-most, resources-most}
 use Rattle.laws.specs.Formats.{Fills, fills-whole, fills-pair, fills-times}
 use Rattle.laws.specs.Buf.{_▷_, sizeOf}
@@ -36,7 +36,7 @@ use Rattle.read.specs.Answers.{Leaves}
 use Rattle.read.specs.Answers as A
 use Rattle.read.specs.declared.ReadAnswer.{ReadAnswer}
 use Rattle.read.specs.declared.ReadAnswer.the-variants as answer
-use Rattle.read.proofs.Evens.{even-body}
+use Rattle.laws.specs.Evens.{even-body}
 
 -- ---- whole bytes
 
@@ -90,10 +90,6 @@ module _ (m : Model) where
 low-bits : (k : Counts) → counts .put 0 (low k) ≡ counts .put 0 k
 unfolding _⊗_ field
 low-bits k = rw (enc-low 32 (k .0), enc-low 32 (k .1 .0), enc-low 32 (k .1 .1 .0)) (rw (enc-low 32 (k .1 .1 .1 .0), enc-low 32 (k .1 .1 .1 .1 .0), enc-low 32 (k .1 .1 .1 .1 .1)) refl)
-
-bytes-of : (s : List ℕ) → ((i : ℕ) → getD s i 0 < 256) → Bytes s
-bytes-of [] h = empty
-bytes-of (b ∷ s) h = next (h 0) (bytes-of s (λ i. h (suc i)))
 
 -- ---- the model was put from the start on, with zeros for its counts
 

@@ -2,7 +2,7 @@ use mathlib.Core.Path.{_≡_}
 use Prim.Native.Nat.{_+_, _-_, _≤_}
 use Rattle.definition.specs.Format.{periods, times}
 use Rattle.model.specs.Passes.{Passes, pass-no, pass-more, pass-cut}
-use Rattle.model.proofs.Single.{far}
+use Rattle.bits.specs.Reads.{far}
 use borrow.Author.Needs.{needs}
 use native.Mathlib.Omega.{arith}
 use Rattle.model.proofs.lists.skip_hours.Statement.{statement}

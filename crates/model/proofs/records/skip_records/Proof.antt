@@ -3,7 +3,7 @@ use Prim.Native.Nat.{_+_, _-_, _≤_}
 use Rattle.definition.specs.Format.{times}
 use Rattle.model.specs.Passes.{Passes, pass-no, pass-more, pass-cut}
 use Rattle.model.specs.Parts.{recordOf}
-use Rattle.model.proofs.Single.{far}
+use Rattle.bits.specs.Reads.{far}
 use borrow.Author.Needs.{needs}
 use native.Mathlib.Omega.{arith}
 use Rattle.model.proofs.records.skip_records.Statement.{statement}

@@ -4,17 +4,18 @@ use mathlib.Core.Path.{_≡_, refl, _∙_, ap}
 use mathlib.Core.Bool.{true}
 use mathlib.Core.List.{List}
 use Prim.Native.Nat.{ℕ, _+_, _-_, _*_, _≤_}
-use lib.ListN.{length, set, length-set}
+use lib.ListN.{length, length-set}
 use Rattle.definition.specs.Format.{times}
 use Rattle.definition.specs.Model.{Activity}
 use Rattle.definition.specs.Pack.{activity}
+use Rattle.bits.specs.Reads.{far}
 use Rattle.bits.specs.declared.Place.{Place}
 use Rattle.model.specs.Passes.{Passes, pass-no, pass-more, pass-cut}
 use Rattle.model.specs.Parts.{recordOf}
 use Rattle.model.specs.Sections.{Holds, byteAt}
 use Rattle.model.specs.declared.Section.{Section}
 use Rattle.model.specs.declared.records.Kind.the-variants.{Activities}
-use Rattle.outline.proofs.Filling.{Turn, turn-none, turn-more, turn-far, far}
+use Rattle.outline.proofs.Filling.{Turn, turn-none, turn-more, turn-far}
 use borrow.Author.Needs.{needs}
 use native.Mathlib.Omega.{arith}
 use Rattle.outline.proofs.parents.fill.Statement.{statement}

@@ -50,7 +50,7 @@ even-depending {f = f} test {g = g} x y = record {
       join (f .put n (a .0)) (f .put m (a .0)) _ _ e (even-given y _ _ (a .1) (along n m e h));
 }
 
-even-all : {A : Type 0} {f : Format A} → Even f → (n m : ℕ) (l : List A) → n % 8 ≡ m % 8 → putAll f n l ≡ putAll f m l
+pub even-all : {A : Type 0} {f : Format A} → Even f → (n m : ℕ) (l : List A) → n % 8 ≡ m % 8 → putAll f n l ≡ putAll f m l
 unfolding putAll
 even-all x n m [] h = refl
 even-all {f = f} x n m (a ∷ l) h =
@@ -68,7 +68,7 @@ even-list lt x = record { even = λ n m l h. ap (λ (t : Bits). count .put 0 (le
 even-pad : (n m : ℕ) → n % 8 ≡ m % 8 → pad n ≡ pad m
 even-pad n m h = let e : gap n ≡ gap m = omega arith in ap (λ (k : ℕ). replicate k 0) e
 
-even-whole : {A : Type 0} {f : Format A} → Even f → Even (whole f)
+pub even-whole : {A : Type 0} {f : Format A} → Even f → Even (whole f)
 unfolding whole
 even-whole {f = f} x = record {
   even = λ n m a h.
