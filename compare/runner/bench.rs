@@ -125,7 +125,7 @@ fn thread_time() -> Duration {
 }
 
 /// One run's processor time; what it gives is dropped outside it.
-fn timed<T>(run: impl FnOnce() -> T) -> Duration {
+pub fn timed<T>(run: impl FnOnce() -> T) -> Duration {
     let start = thread_time();
     let result = black_box(run());
     let time = thread_time() - start;

@@ -3,8 +3,10 @@
 mod bench;
 mod days;
 mod leaves;
+mod lengths;
 mod models;
 mod ours;
+mod plans;
 mod reads;
 mod shrink;
 mod trees;
@@ -15,15 +17,16 @@ mod written;
 use std::process::ExitCode;
 
 const USAGE: &str = "runner [SEED [COUNT [PART]]]   SEED: of the random inputs, by default 1; COUNT: random texts of each kind, by default 200000;
-a tenth as many trees judged, as many read, five times as many models and rules; PART: texts, trees, reads, models, days or times alone, by default all";
+a tenth as many trees judged, as many read, a hundredth as many read with every number of words, five times as many models and rules; PART: texts, trees, reads,
+lengths, models, days or times alone, or plans, the table of plans read alone; by default all";
+
+const PARTS: [&str; 9] = ["all", "texts", "trees", "reads", "lengths", "models", "days", "times", "plans"];
 
 fn main() -> ExitCode {
     let words: Vec<String> = std::env::args().skip(1).collect();
     let number = |at: usize, usual: u64| words.get(at).map_or(Ok(usual), |word| word.parse::<u64>());
     let part = words.get(2).map_or("all", String::as_str);
-    let (Ok(seed), Ok(count), true, ..=3) =
-        (number(0, 1), number(1, 200_000), ["all", "texts", "trees", "reads", "models", "days", "times"].contains(&part), words.len())
-    else {
+    let (Ok(seed), Ok(count), true, ..=3) = (number(0, 1), number(1, 200_000), PARTS.contains(&part), words.len()) else {
         eprintln!("{USAGE}");
         return ExitCode::FAILURE;
     };
@@ -38,6 +41,9 @@ fn main() -> ExitCode {
     if asked("reads") {
         differ += reads::compare(seed, count);
     }
+    if asked("lengths") {
+        differ += lengths::compare(seed, count / 100);
+    }
     if asked("models") {
         differ += models::compare(seed, count * 5);
     }
@@ -50,7 +56,9 @@ fn main() -> ExitCode {
         trees::bench();
         bench::models();
         days::bench(seed);
-        reads::bench();
+    }
+    if asked("times") || part == "plans" {
+        plans::table();
     }
     if differ == 0 { ExitCode::SUCCESS } else { ExitCode::FAILURE }
 }

@@ -55,12 +55,7 @@ struct Asked {
 
 impl Asked {
     fn any(rng: &mut Rng, model: Option<&Model>) -> Asked {
-        Asked {
-            check_work: rng.below(200),
-            rows: Room::any(rng),
-            work: Room::any(rng),
-            sheets: std::array::from_fn(|_| any_sheet(rng, model)),
-        }
+        Asked { check_work: rng.below(200), rows: Room::any(rng), work: Room::any(rng), sheets: std::array::from_fn(|_| any_sheet(rng, model)) }
     }
 }
 
@@ -242,6 +237,16 @@ fn random_bytes(rng: &mut Rng) -> Vec<u8> {
     head.into_iter().chain((0..long).map(|_| if rng.one_in(3) { rng.next() as u8 & rng.next() as u8 } else { 0 })).collect()
 }
 
+/// The kth model: one that the Rust reads, a made-up one, an odd one, or random bytes.
+pub fn random_model(rng: &mut Rng, k: u64) -> Vec<u8> {
+    match k % 10 {
+        0 | 1 => read_one(rng),
+        2..=4 => packed_model(rng),
+        5..=8 => packed_odd(rng, (k / 10 * 4 + k % 10 - 5) as usize),
+        _ => random_bytes(rng),
+    }
+}
+
 /// A model of at most `SMALL` bytes.
 fn small(rng: &mut Rng, k: u64) -> Vec<u8> {
     loop {
@@ -288,12 +293,7 @@ pub fn compare(seed: u64, count: u64) -> u64 {
     run_large(tally);
     for k in 0..count / 2 {
         let rng = &mut Rng::new(seed.wrapping_add(k << 32));
-        let bytes = match k % 10 {
-            0 | 1 => read_one(rng),
-            2..=4 => packed_model(rng),
-            5..=8 => packed_odd(rng, (k / 10 * 4 + k % 10 - 5) as usize),
-            _ => random_bytes(rng),
-        };
+        let bytes = random_model(rng, k);
         tally.run(&bytes, rng);
     }
     let mut k = 0;

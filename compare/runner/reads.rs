@@ -1,8 +1,5 @@
-//! Whole reads: random trees, damaged ones, those at the limits and TaskJuggler's, each read by both sides, into rooms of every kind; and their time.
+//! Whole reads: random trees, damaged ones, those at the limits and TaskJuggler's, each read by both sides, into rooms of every kind.
 
-use std::time::{Duration, Instant};
-
-use oracle::bench::{bench_read, big_tree, interleaved_tree, one_id_tree};
 use oracle::generate::{LIMITS, damaged, limit_tree, packed_tree};
 use oracle::rng::Rng;
 use oracle::{hex, read};
@@ -16,17 +13,18 @@ const SHOWN: u64 = 5;
 
 /// Room for the model: none, a byte too little, just enough, more.
 #[derive(Clone, Copy)]
-enum Room {
+pub enum Room {
     No,
     Short,
     Right,
     Long,
 }
 
-const ROOMS: [Room; 4] = [Room::No, Room::Short, Room::Right, Room::Long];
-
 impl Room {
-    fn of(self, length: usize) -> usize {
+    pub const ALL: [Room; 4] = [Room::No, Room::Short, Room::Right, Room::Long];
+
+    /// Its bytes, for a model of that length.
+    pub fn of(self, length: usize) -> usize {
         match self {
             Room::No => 0,
             Room::Short => length.saturating_sub(1),
@@ -38,17 +36,18 @@ impl Room {
 
 /// What a call leaves: its number, the count, the model's room and the work.
 #[derive(Debug, PartialEq)]
-struct Left {
-    number: u32,
-    written: u64,
-    model: Vec<u8>,
+pub struct Left {
+    pub number: u32,
+    pub written: u64,
+    pub model: Vec<u8>,
     work: Vec<u32>,
 }
 
 /// The Rust's model of a tree, or the refusal.
-type Answer = Result<Vec<u8>, u32>;
+pub type Answer = Result<Vec<u8>, u32>;
 
-fn expected(answer: &Answer, room: usize, work: usize) -> Left {
+/// What a call must leave in a room and words of these lengths.
+pub fn expected(answer: &Answer, room: usize, work: usize) -> Left {
     let (number, bytes) = match answer {
         Err(number) => (*number, &[][..]),
         Ok(bytes) if bytes.len() > room => (9, &[][..]),
@@ -99,7 +98,8 @@ impl Tally {
     }
 }
 
-fn show(tree: &[u8], room: Room, work: usize) {
+/// Prints the smallest tree on which the sides differ in that room.
+pub fn show(tree: &[u8], room: Room, work: usize) {
     let other = |tree: &[u8]| differs(tree, &read::read_model(tree), room, work);
     let least = if tree.len() > 20_000 { tree.to_vec() } else { shrink::smallest(tree, |tree| other(tree).is_some()) };
     if let Some((wanted, got)) = other(&least) {
@@ -117,7 +117,7 @@ pub fn compare(seed: u64, count: u64) -> u64 {
         let tree = packed_tree(&mut rng);
         let tree = if k % 4 == 3 { damaged(&mut rng, &tree) } else { tree };
         // Mostly one that fits, and each other kind in turn.
-        let room = ROOMS[if k % 3 == 0 { (k / 3 % 4) as usize } else { 2 }];
+        let room = Room::ALL[if k % 3 == 0 { (k / 3 % 4) as usize } else { 2 }];
         // Words of every number from none to more than the tables of a small tree need.
         let most = work_words(&tree).min(2_000) + 8;
         tally.run(&tree, &[room], (k as usize).wrapping_mul(7) % most);
@@ -132,7 +132,7 @@ fn on_small_stack(tally: &mut Tally) {
     let trees = samples().into_iter().chain(LIMITS.iter().filter_map(|name| limit_tree(name)));
     for tree in trees {
         let answer = read::read_model(&tree);
-        for (room, work) in ROOMS.into_iter().flat_map(|room| [(room, 64), (room, work_words(&tree))]) {
+        for (room, work) in Room::ALL.into_iter().flat_map(|room| [(room, 64), (room, work_words(&tree))]) {
             let run = || differs(&tree, &answer, room, work);
             let differ = std::thread::scope(|scope| {
                 let thread = std::thread::Builder::new().stack_size(256 * 1024).spawn_scoped(scope, run);
@@ -148,44 +148,4 @@ fn on_small_stack(tally: &mut Tally) {
         }
         tally.trees += 1;
     }
-}
-
-/// Prints the table: plans of so many tasks with so many fields, tasks that all want one id, and a calendar of interleaved exceptions; the Rust's whole read from
-/// the packed tree and ours, on a thread of 256 KiB, with the `work` that serves best.
-pub fn bench() {
-    println!("\n| a plan read | bytes of its tree | the Rust, ms | ours, ms | ours / the Rust | ours a task, µs |\n|---|---|---|---|---|---|");
-    let line = |what: &str, tree: &[u8], tasks: usize, room: usize, runs: usize| {
-        let rust = bench_read(tree);
-        let ours = on_256_kib(tree, room, runs, 0);
-        println!("| {what} | {} | {:.2} | {:.2} | {:.2} | {:.2} |", tree.len(), ms(rust), ms(ours), ms(ours) / ms(rust), 1e3 * ms(ours) / tasks as f64);
-    };
-    // 100,000 tasks of 60 fields would be more than 5,000,000 elements.
-    line("1000 tasks that all want one id", &one_id_tree(1_000), 1_000, 1 << 22, 5);
-    line("a calendar of 1,000 exceptions, days interleaved", &interleaved_tree(), 1, 1 << 26, 3);
-    for (tasks, fields) in [(100, 60), (1_000, 60), (10_000, 60), (1_000, 40), (10_000, 40), (100_000, 40)] {
-        let tree = big_tree(tasks, fields);
-        line(&format!("{tasks} tasks of {fields} fields"), &tree, tasks, tree.len(), 5);
-    }
-    let ours = on_256_kib(&one_id_tree(100_000), 1 << 26, 1, 9);
-    println!("\n100,000 tasks that all want one id, in a room of 64 MiB: refused with 9 in {:.1} ms.", ms(ours));
-}
-
-fn ms(time: Duration) -> f64 {
-    time.as_secs_f64() * 1e3
-}
-
-/// Our shortest time of some runs on a thread of 256 KiB, which all end with this number.
-fn on_256_kib(tree: &[u8], room: usize, runs: usize, number: u32) -> Duration {
-    let (mut model, mut work) = (vec![0; room], vec![0; work_words(tree)]);
-    let run = || (0..runs).map(|_| timed(tree, &mut model, &mut work, number)).min().unwrap_or_default();
-    std::thread::scope(|scope| {
-        let thread = std::thread::Builder::new().stack_size(256 * 1024).spawn_scoped(scope, run);
-        thread.expect("a thread").join().expect("the tree is read")
-    })
-}
-
-fn timed(tree: &[u8], model: &mut [u8], work: &mut [u32], number: u32) -> Duration {
-    let start = Instant::now();
-    assert_eq!(std::hint::black_box(ours::read(std::hint::black_box(tree), model, work)).0, number);
-    start.elapsed()
 }

@@ -125,6 +125,71 @@ pub fn interleaved_tree() -> Vec<u8> {
     out
 }
 
+/// The head of a calendar's element.
+fn put_calendar(out: &mut Vec<u8>, uid: usize, name: &str, base: Option<usize>) {
+    put_record(out, 3, "Calendar", "");
+    put_record(out, 4, "UID", &uid.to_string());
+    put_record(out, 4, "Name", name);
+    put_record(out, 4, "IsBaseCalendar", if base.is_some() { "0" } else { "1" });
+    put_record(out, 4, "BaseCalendarUID", &base.map_or("-1".into(), |uid| uid.to_string()));
+}
+
+/// An exception of one day off, in a calendar's Exceptions.
+fn put_day_off(out: &mut Vec<u8>, date: &str) {
+    put_record(out, 5, "Exception", "");
+    put_record(out, 6, "EnteredByOccurrences", "0");
+    put_record(out, 6, "TimePeriod", "");
+    put_record(out, 7, "FromDate", &format!("{date}T00:00:00"));
+    put_record(out, 7, "ToDate", &format!("{date}T23:59:00"));
+    put_record(out, 6, "Occurrences", "1");
+    put_record(out, 6, "Type", "1");
+    put_record(out, 6, "DayWorking", "0");
+}
+
+/// A packed tree with a base calendar of ten days off and so many calendars over it, as a plan has one for each resource: a name and a day off of its own.
+pub fn calendars_tree(count: usize) -> Vec<u8> {
+    let mut out = Vec::new();
+    put_record(&mut out, 1, "Project", "");
+    put_record(&mut out, 2, "Calendars", "");
+    put_calendar(&mut out, 1, "Standard", None);
+    put_record(&mut out, 4, "Exceptions", "");
+    for month in 1..=10 {
+        put_day_off(&mut out, &format!("2026-{month:02}-02"));
+    }
+    for k in 2..=count + 1 {
+        put_calendar(&mut out, k, &format!("Crew {k}"), Some(1));
+        put_record(&mut out, 4, "Exceptions", "");
+        put_day_off(&mut out, &format!("2026-{:02}-{:02}", k % 12 + 1, k / 12 % 28 + 1));
+    }
+    out
+}
+
+/// A packed tree with a base calendar of 5,000 days with hours, every second day, and one over it that has the days between.
+pub fn hours_tree() -> Vec<u8> {
+    let mut out = Vec::new();
+    put_record(&mut out, 1, "Project", "");
+    put_record(&mut out, 2, "Calendars", "");
+    for (uid, from) in [(1, "2000-01-01"), (2, "2000-01-02")] {
+        put_calendar(&mut out, uid, "Site", if uid == 1 { None } else { Some(1) });
+        put_record(&mut out, 4, "Exceptions", "");
+        put_record(&mut out, 5, "Exception", "");
+        put_record(&mut out, 6, "Type", "1");
+        put_record(&mut out, 6, "Period", "2");
+        put_record(&mut out, 6, "EnteredByOccurrences", "1");
+        put_record(&mut out, 6, "Occurrences", "5000");
+        put_record(&mut out, 6, "TimePeriod", "");
+        put_record(&mut out, 7, "FromDate", &format!("{from}T00:00:00"));
+        put_record(&mut out, 6, "DayWorking", "1");
+        put_record(&mut out, 6, "WorkingTimes", "");
+        for (from, to) in [("07:00:00", "12:00:00"), ("13:00:00", "16:00:00")] {
+            put_record(&mut out, 7, "WorkingTime", "");
+            put_record(&mut out, 8, "FromTime", from);
+            put_record(&mut out, 8, "ToTime", to);
+        }
+    }
+    out
+}
+
 /// The shortest of five runs.
 pub fn best_of_5(mut run: impl FnMut()) -> Duration {
     let timed = |_| {

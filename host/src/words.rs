@@ -15,6 +15,7 @@ struct Elements {
     tasks: usize,
     resources: usize,
     assignments: usize,
+    /// Exceptions of either form that may have days: an Exception, or a WeekDay of DayType 0, has them by its TimePeriod.
     exceptions: usize,
     calendars: usize,
 }
@@ -31,7 +32,7 @@ impl Elements {
                 b"Task" => n.tasks += 1,
                 b"Resource" => n.resources += 1,
                 b"Assignment" => n.assignments += 1,
-                b"Exception" => n.exceptions += 1,
+                b"TimePeriod" => n.exceptions += 1,
                 b"Calendar" => n.calendars += 1,
                 _ => (),
             }

@@ -2,7 +2,7 @@
 
 use std::thread;
 
-use mspdi::{ActivityKind, Constraint, Date, LagKind, Plan, Refusal, TreeBuilder, TreeError, check, outline, read, read_into};
+use mspdi::{ActivityKind, Constraint, Date, LagKind, Plan, Refusal, TreeBuilder, TreeError, check, outline, read, read_into, work_words};
 
 /// The bodies of the gate's cases of a kind.
 fn bodies(kind: u8) -> Vec<&'static [u8]> {
@@ -170,6 +170,33 @@ fn what_no_tree_can_hold_is_an_error() {
         tree.end().unwrap();
     }
     assert_eq!(read(&tree.finish().unwrap()), Err(Refusal::NotProject));
+}
+
+#[test]
+fn exceptions_of_the_old_form_have_words() {
+    /// A calendar with so many elements of a section that may have days.
+    fn tree(section: &str, name: &str, fields: &[(&str, &str)], count: usize) -> Vec<u8> {
+        let mut tree = TreeBuilder::new();
+        ["Project", "Calendars", "Calendar", section].iter().for_each(|name| tree.start(name).unwrap());
+        for _ in 0..count {
+            tree.start(name).unwrap();
+            for (name, text) in fields {
+                tree.start(name).unwrap();
+                tree.text(text).unwrap();
+                tree.end().unwrap();
+            }
+            tree.start("TimePeriod").unwrap();
+            (0..2).for_each(|_| tree.end().unwrap());
+        }
+        (0..4).for_each(|_| tree.end().unwrap());
+        tree.finish().unwrap()
+    }
+    for (count, days) in [(1, 73_044), (32, 73_044), (33, 7_304_484)] {
+        let words = 3 + days;
+        assert_eq!(work_words(&tree("Exceptions", "Exception", &[("Type", "1")], count)), words);
+        assert_eq!(work_words(&tree("WeekDays", "WeekDay", &[("DayType", "0"), ("DayWorking", "0")], count)), words);
+    }
+    assert!(work_words(&tree("WeekDays", "WeekDay", &[], 0)) < 100);
 }
 
 #[test]
