@@ -18,9 +18,8 @@ uint32_t mspdi_duration(int64_t minutes, uint8_t *text, size_t text_len, uint64_
 uint32_t mspdi_time(uint32_t minutes, uint8_t *text, size_t text_len, uint64_t *written);
 
 /* Whether a model keeps the check's list: ids distinct, parents before their children, rows in range, calendars that there are, expenses
-   distinct. work may have any length, none too, and never changes the answer; it ends as zeros. Fastest with 3 words for each record of the
-   largest of the four sections calendars, activities, resources and expenses (host's check_words). 6: the model does not decode. 7: the list
-   is broken. */
+   distinct. work may have any length, none too, and never changes the answer; it ends as zeros. Fastest with 3 words for each calendar and
+   activity, or for each resource or expense if these are more (host's check_words). 6: the model does not decode. 7: the list is broken. */
 uint32_t mspdi_check(const uint8_t *model, size_t model_len, uint32_t *work, size_t work_len);
 
 /* The outline: *count rows of two words, an activity's row and its level from 1. rows needs 2 words an activity and work 4; work ends as

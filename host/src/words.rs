@@ -58,10 +58,10 @@ pub fn work_words(tree: &[u8]) -> usize {
     3 * tasks + sections.into_iter().max().unwrap_or(0)
 }
 
-/// How many words of `work` serve best when a model is checked: a table of the calendars' names, 3 words each, or of the ids of activities or resources, or
-/// of the expenses, whichever is the largest. What the head says is held to what the bytes could hold.
+/// How many words of `work` serve best when a model is checked: a table of the calendars' names with one of the activities' ids behind it, 3 words each, or one
+/// of the ids of resources, or of the expenses, whichever is the largest. What the head says is held to what the bytes could hold.
 pub fn check_words(model: &[u8]) -> usize {
-    let said = |at: usize| model.get(at..at + 4).map_or(0, |bytes| bytes.iter().fold(0, |n, b| n * 256 + usize::from(*b)));
     let most = model.len() / 8;
-    3 * [said(0), said(4), said(12), said(20)].into_iter().map(|n| n.min(most)).max().unwrap_or(0)
+    let said = |at: usize| model.get(at..at + 4).map_or(0, |bytes| bytes.iter().fold(0, |n, b| n * 256 + usize::from(*b))).min(most);
+    3 * (said(0) + said(4)).max(said(12)).max(said(20))
 }

@@ -4,3 +4,4 @@ pub mod Whole
 pub mod Right
 pub mod Twins
 pub mod Tabled
+pub mod Walking

@@ -1,5 +1,5 @@
 -- Keys in tables: how a table is filled, and what its chains tell. Assumes nothing.
-use mathlib.Core.Path.{_≡_, refl, sym, ap, _∙_}
+use mathlib.Core.Path.{_≡_, refl, sym, ap, subst, _∙_}
 use mathlib.Core.Bool.{Bool, true, false}
 use mathlib.Core.List.{List, [], _∷_, map}
 use mathlib.Core.Option.{Option, some, none}
@@ -11,29 +11,31 @@ use lib.Dec.{eqb}
 use lib.ListN.{length, getD, take, drop, length-map}
 use lib.Seq.{take-length}
 use Rattle.definition.specs.Base.{if_then_else_, given, find, some?}
+use Rattle.definition.specs.Format.{whole}
 use Rattle.index.specs.declared.Table.{Table}
 use Rattle.index.specs.declared.Row.{Row}
 use Rattle.index.specs.declared.Row.the-variants.{At, None}
 use Rattle.index.specs.declared.Made.{Made}
-use Rattle.index.specs.declared.Made.the-variants.{Ready}
+use Rattle.index.specs.declared.Made.the-variants.{Ready, NoRoom}
 use Rattle.index.specs.Chains.{tableOf, zeros, added, firstOf, nextOf, placeOf, asRow, upTo, chain}
 use Rattle.index.specs.Law.{Seeks, table-placed, first-less, next-less, indexed-none, indexed-by, indexed-same, find-chain, find-next, seeks-none, seeks-here}
+use Rattle.index.specs.Frame.{same-zeros}
 use Rattle.bits.specs.declared.Place.{Place}
 use Rattle.model.specs.Answers.{rest-fits}
-use Rattle.model.specs.Parts.{recordOf}
-use Rattle.model.specs.Passes.{Passes, pass-read, stood}
+use Rattle.model.specs.Passes.{pass-read, stood}
+use Rattle.model.specs.Splits.{Step}
 use Rattle.model.specs.Sections.{byteAt, byte-place, byte-rest}
 use Rattle.model.specs.declared.records.Kind.{Kind}
-use Rattle.model_check.specs.Kinds.{Item, Run}
+use Rattle.model_check.specs.Kinds.{Item, formatOf, Run}
 use Rattle.model_check.specs.Keys.{Key, noKey, sameKey, hashKey, leadOf, KeyAt, Keyed}
-use Rattle.model_check.specs.Tables.{KeysIn, KeyTable, Emptied}
-use Rattle.model_check.proofs.Scan.{Along, starts, on, goes}
+use Rattle.model_check.specs.Tables.{KeysIn, KeyTable, Emptied, EmptyTable, EmptyAt}
+use Rattle.model_check.proofs.Scan.{Along, starts, goes}
 use Rattle.model_check.proofs.Twins.{key-is, some-below}
 
 -- ---- the table is filled
 
 -- no item stops the walk
-abbrev never : {A : Type 0} → ℕ → A → List A → Bool
+abbrev pub never : {A : Type 0} → ℕ → A → List A → Bool
 never i x l = false
 
 -- where the walk stands, at the record of row i, and the rows before it
@@ -58,10 +60,20 @@ grown-below : (g : ℕ → ℕ) (n v r : ℕ) → r < n → g r ≡ grown g n v 
 grown-below g n v r h = rw (ne-eqb r n (omega arith))
 
 -- a table that was made, and cleared
-pub emptied : (w : List ℕ) {m : Made} {n : ℕ} {t : Table} {w₂ : List ℕ} → m ≡ tableOf (length w) 0 n → m ≡ Ready t → w₂ ≡ zeros w (t .at) (t .rows) → (t .rows ≡ n) × Emptied t w₂
-emptied w {n = n} e f z =
-    let p = table-placed (length w) 0 n (sym f ∙ e) in
-    (ap (λ (t : Table). t .rows) (p .is), λ f g. rw z (indexed-none f g w (p .fits)))
+pub emptied : {s : List ℕ} (w : List ℕ) {m : Made} {at n : ℕ} {t : Table} {w₂ : List ℕ} → length s < 2 ^ 32 → m ≡ tableOf (length w) at n → m ≡ Ready t
+    → w₂ ≡ zeros w (t .at) (t .rows) → EmptyTable s at n w w₂ t
+emptied w {at = at} {n} {t} small e f z =
+    let p = table-placed (length w) at n (sym f ∙ e) in
+    record { small = small; is = p .is; empty = λ f g. rw z (indexed-none f g w (p .fits)); stays = λ u a. rw z (same-zeros t w a) }
+
+pub no-room : {t : Table} {A : Type 0} → NoRoom ≡ Ready t → A
+no-room e = let y : _≡_ {A = ℕ} 0 1 = cc in absurd (omega arith)
+
+pub none-made : (s : List ℕ) (at n : ℕ) (w : List ℕ) → EmptyAt s at n w w NoRoom
+none-made s at n w = record { ready = λ t e. no-room e; none = λ e. refl }
+
+pub one-made : {s : List ℕ} {at n : ℕ} {w w₂ : List ℕ} {t : Table} → EmptyTable s at n w w₂ t → EmptyAt s at n w w₂ (Ready t)
+one-made {s} {at} {n} {w} {w₂} {t} x = record { ready = λ u e. let z : t ≡ u = cc in subst (EmptyTable s at n w w₂) z x; none = λ e. no-room (sym e) }
 
 module _ {kind : Kind} {s : List ℕ} {key : Item kind → Key} {xs : List (Item kind)} {end : ℕ} {t : Table} {w : List ℕ} {q : Place} where
   pub fill-starts : Run kind s q (t .rows) xs end → Emptied t w → Filling kind s key xs end t w q 0
@@ -85,9 +97,8 @@ module _ {kind : Kind} {s : List ℕ} {key : Item kind → Key} {xs : List (Item
         (byte-place s q e even, omega (arith, rest-fits s q e .ends))
 
     pub fill-goes : {w₂ : List ℕ} {r : Place} {h p : ℕ} → ((k : Key) → KeyAt (leadOf kind) s q k → h ≡ hashKey k) → p ≡ q .byte % 2 ^ 32
-        → w₂ ≡ added w t i h p → Passes (recordOf false kind) s q r → Filling kind s key xs end t w₂ r (i + 1)
-    fill-goes {h = h} hash at-p e passes =
-        let u = on never true (f .along) l passes in
+        → w₂ ≡ added w t i h p → Step (whole (formatOf kind)) s q r (byteAt end) (t .rows) i xs → Filling kind s key xs end t w₂ r (i + 1)
+    fill-goes {h = h} hash at-p e u =
         let z = nth-key key xs i (u .is) in
         let g = f .keys .places in
         let here : KeyAt (leadOf kind) s (byteAt (q .byte)) (getD (map key xs) i noKey) = rw (z, ← at-byte .0) (k .first (u .stands)) in

@@ -2,3 +2,4 @@ pub mod Kinds
 pub mod Keys
 pub mod Rules
 pub mod Tables
+pub mod Walk

@@ -8,15 +8,16 @@ ghost use Rattle.definition.specs.Base.{every?, numbered};
 ghost use Rattle.definition.specs.Answer.{rowMeaning};
 ghost use Rattle.definition.specs.Text.{Text};
 ghost use Rattle.definition.specs.Format.{whole, row, text, optional};
-ghost use Rattle.definition.specs.Model.{Model, Activity};
-ghost use Rattle.definition.specs.Pack.{activity};
-ghost use Rattle.definition.specs.Check.{ifGiven, isCalendar, activityRight};
+ghost use Rattle.definition.specs.Model.{Model};
+ghost use Rattle.definition.specs.Pack.{calendar};
+ghost use Rattle.definition.specs.Check.{ifGiven, isCalendar};
 ghost use Rattle.model.specs.Splits.{Stands};
 ghost use Rattle.model.specs.Sections.{Holds, Decoded};
 ghost use Rattle.model_check.specs.Kinds.{Item, formatOf};
 ghost use Rattle.model.specs.Answers.{rowsAt};
 ghost use Rattle.model_check.specs.Rules.{rowsBelow, rightOf};
 ghost use Rattle.model_check.specs.Tables.{NamesIn};
+ghost use Rattle.model_check.specs.Walk.{JudgedAt};
 use crate::keys::some_has_key;
 use crate::tables::table_has_key;
 use bits::Place;
@@ -25,32 +26,29 @@ use index::Made;
 use model::Section;
 use model::Sections;
 use model::parts::NameAnswer;
-use model::parts::activity_calendar_place;
-use model::parts::parent_place;
+use model::parts::parent_place_by;
 use model::parts::resource_calendar_place;
 use model::parts::take_name;
 use model::parts::take_row;
 use model::parts::take_rows;
 use model::records::Kind;
+use model::records::skip_from_notes;
 use model::records::skip_record;
 
 // Whether some calendar has a name, by the table of the calendars; by a scan where there is none.
-fn is_calendar(s: &[u8], w: Sections, words: &[u32], names: Made, name: &[u8]) -> bool
-    ensures { λ r. ⌜ ((m : Model) → Decoded (now (s .entry)) m w → NamesIn (now (s .entry)) m names (now (words .entry)) → r ≡ isCalendar m (now (name .entry))) ⌝ }
+fn is_calendar(s: &[u8], x: Section, words: &[u32], names: Made, name: &[u8]) -> bool
+    ensures { λ r. ⌜ ((m : Model) (end : ℕ) → Holds calendar (now (s .entry)) x (m .calendars) end → NamesIn (now (s .entry)) m names (now (words .entry)) → r ≡ isCalendar m (now (name .entry))) ⌝ }
 {
-    let first = Place {
-        byte: w.calendars.at,
-        bit: 0,
-    };
+    let first = Place { byte: x.at, bit: 0 };
     match names {
         Made::Ready(t) => table_has_key(s, Kind::Calendars, words, t, 0, name),
-        Made::NoRoom => some_has_key(s, first, Kind::Calendars, w.calendars.count, 0, name),
+        Made::NoRoom => some_has_key(s, first, Kind::Calendars, x.count, 0, name),
     }
 }
 
 // Whether the optional name at a place is missing, or some calendar's.
-fn calendar_known(s: &[u8], p: Place, w: Sections, words: &[u32], names: Made) -> bool
-    ensures { λ r. ⌜ ((m : Model) → Decoded (now (s .entry)) m w → NamesIn (now (s .entry)) m names (now (words .entry)) → (o : Option Text) → Stands (optional text) (now (s .entry)) p o → r ≡ ifGiven (isCalendar m) o) ⌝ }
+fn calendar_known(s: &[u8], p: Place, x: Section, words: &[u32], names: Made) -> bool
+    ensures { λ r. ⌜ ((m : Model) (end : ℕ) → Holds calendar (now (s .entry)) x (m .calendars) end → NamesIn (now (s .entry)) m names (now (words .entry)) → (o : Option Text) → Stands (optional text) (now (s .entry)) p o → r ≡ ifGiven (isCalendar m) o) ⌝ }
 {
     let n = take_name(s, p);
     let name = n.name;
@@ -58,7 +56,7 @@ fn calendar_known(s: &[u8], p: Place, w: Sections, words: &[u32], names: Made) -
         return true;
     };
     let end = start + len;
-    is_calendar(s, w, words, names, &s[start..end])
+    is_calendar(s, x, words, names, &s[start..end])
 }
 
 // Whether a row is missing, or below another.
@@ -71,20 +69,33 @@ fn is_below(row: RowAnswer, own: u32) -> bool
     }
 }
 
-// Whether the optional row at a place is missing, or below a row.
-fn parent_below(s: &[u8], p: Place, own: u32) -> bool
-    ensures { λ r. ⌜ ((o : Option ℕ) → Stands (optional row) (now (s .entry)) p o → r ≡ ifGiven (λ (n : ℕ). ltb n own) o) ⌝ }
-{
-    let r = take_row(s, p);
-    let row = r.row;
-    is_below(row, own)
+// Whether an activity is right, or all of several are, and the place behind.
+pub(crate) struct Judged {
+    pub(crate) right: bool,
+    pub(crate) next: Place,
 }
 
-fn activity_right(s: &[u8], p: Place, own: u32, w: Sections, words: &[u32], names: Made) -> bool
-    ensures { λ r. ⌜ ((m : Model) → Decoded (now (s .entry)) m w → NamesIn (now (s .entry)) m names (now (words .entry)) → (a : Activity) → Stands (whole activity) (now (s .entry)) p a → r ≡ activityRight m (own, a)) ⌝ }
+// The activity at a place, the one of a row. Its texts are tested: the model is not decoded yet.
+pub(crate) fn judge_activity(
+    s: &[u8],
+    p: Place,
+    own: u32,
+    calendars: Section,
+    words: &[u32],
+    names: Made,
+) -> Judged
+    ensures { λ r. ⌜ JudgedAt (now (s .entry)) p own calendars names (now (words .entry)) r ⌝ }
 {
-    parent_below(s, parent_place(s, p), own)
-        & calendar_known(s, activity_calendar_place(s, p), w, words, names)
+    let parent = take_row(s, parent_place_by(s, p, true));
+    let row = parent.row;
+    let calendar = bits::take_text(s, parent.next).next;
+    let known = calendar_known(s, calendar, calendars, words, names);
+    let end = skip_from_notes(s, parent.next, true);
+    let next = bits::take_pad(s, end);
+    Judged {
+        right: is_below(row, own) & known,
+        next,
+    }
 }
 
 // Whether the two rows at a place are below two counts.
@@ -116,9 +127,15 @@ fn is_right(
 {
     match kind {
         Kind::Calendars => true,
-        Kind::Activities => activity_right(s, p, own, w, words, names),
+        Kind::Activities => judge_activity(s, p, own, w.calendars, words, names).right,
         Kind::Links => rows_below(s, p, w.activities.count, w.activities.count),
-        Kind::Resources => calendar_known(s, resource_calendar_place(s, p), w, words, names),
+        Kind::Resources => calendar_known(
+            s,
+            resource_calendar_place(s, p),
+            w.calendars,
+            words,
+            names,
+        ),
         Kind::Assignments => rows_below(s, p, w.activities.count, w.resources.count),
         Kind::Expenses => row_below(s, p, w.activities.count),
     }

@@ -9,7 +9,7 @@ ghost use Rattle.index.specs.Chains.{upTo, chain};
 ghost use Rattle.model.specs.Sections.{Holds};
 ghost use Rattle.model_check.specs.Kinds.{Item, formatOf};
 ghost use Rattle.model_check.specs.Keys.{Key, noKey, sameKey, hashKey, leadOf, KeyAt, Keyed};
-ghost use Rattle.model_check.specs.Tables.{Emptied, KeyTable, TableFor};
+ghost use Rattle.model_check.specs.Tables.{Emptied, EmptyAt, KeyTable, TableFor};
 use crate::keys::distinct;
 use crate::keys::has_key;
 use crate::keys::lead;
@@ -29,7 +29,7 @@ pub(crate) fn hash_key(row: u64, name: &[u8]) -> u32
     ((n + index::hash_of(name) as u64) % 4294967296) as u32
 }
 
-fn hash_at(s: &[u8], p: Place, kind: Kind) -> u32
+pub(crate) fn hash_at(s: &[u8], p: Place, kind: Kind) -> u32
     ensures { λ r. ⌜ ((k : Key) → KeyAt (leadOf kind) (now (s .entry)) p k → r ≡ hashKey k) ⌝ }
 {
     let v = bits::take(s, p, lead(kind));
@@ -50,18 +50,29 @@ fn fill(s: &[u8], kind: Kind, x: Section, words: &mut [u32], t: Table)
     }
 }
 
-// A table of the keys of a section, where there is room for it and 32 bits hold each position in the model.
-pub(crate) fn index_keys(s: &[u8], kind: Kind, x: Section, words: &mut [u32]) -> Made
-    ensures { λ r. ⌜ ((key : Item kind → Key) → Keyed kind (now (s .entry)) key → (xs : List (Item kind)) (end : ℕ) → Holds (formatOf kind) (now (s .entry)) x xs end → TableFor (leadOf kind) (now (s .entry)) (map key xs) r (now (words .exit))) ⌝ }
+// An empty table of so many rows in the words from a place on, where there is room for it and 32 bits hold each position in the model.
+pub(crate) fn empty_table(s: &[u8], words: &mut [u32], at: usize, rows: u32) -> Made
+    ensures { λ r. ⌜ EmptyAt (now (s .entry)) at rows (now (words .entry)) (now (words .exit)) r ⌝ }
 {
     if 4294967295 < s.len() {
         return Made::NoRoom;
     }
-    let made = index::table_at(words.len(), 0, x.count);
+    let made = index::table_at(words.len(), at, rows);
     let Made::Ready(t) = made else {
         return Made::NoRoom;
     };
     index::clear(words, t);
+    Made::Ready(t)
+}
+
+// A table of the keys of a section.
+pub(crate) fn index_keys(s: &[u8], kind: Kind, x: Section, words: &mut [u32]) -> Made
+    ensures { λ r. ⌜ ((key : Item kind → Key) → Keyed kind (now (s .entry)) key → (xs : List (Item kind)) (end : ℕ) → Holds (formatOf kind) (now (s .entry)) x xs end → TableFor (leadOf kind) (now (s .entry)) (map key xs) r (now (words .exit))) ⌝ }
+{
+    let made = empty_table(s, words, 0, x.count);
+    let Made::Ready(t) = made else {
+        return Made::NoRoom;
+    };
     fill(s, kind, x, words, t);
     Made::Ready(t)
 }
@@ -141,5 +152,15 @@ pub(crate) fn all_distinct(s: &[u8], kind: Kind, x: Section, words: &mut [u32]) 
     match made {
         Made::Ready(t) => table_distinct(s, kind, words, t),
         Made::NoRoom => distinct(s, kind, x),
+    }
+}
+
+// The same, by a table that is filled; by another one where there is none.
+pub(crate) fn distinct_in(s: &[u8], kind: Kind, x: Section, words: &mut [u32], made: Made) -> bool
+    ensures { λ r. ⌜ ((key : Item kind → Key) → Keyed kind (now (s .entry)) key → (xs : List (Item kind)) (end : ℕ) → Holds (formatOf kind) (now (s .entry)) x xs end → TableFor (leadOf kind) (now (s .entry)) (map key xs) made (now (words .entry)) → r ≡ distinct (λ (x y : Item kind). sameKey (key x) (key y)) xs) ⌝ }
+{
+    match made {
+        Made::Ready(t) => table_distinct(s, kind, words, t),
+        Made::NoRoom => all_distinct(s, kind, x, words),
     }
 }

@@ -17,7 +17,7 @@ enum-told : tie.Need-enum-told
 enum-told c = search needs
 
 returns : tie.Need-returns
-returns c = λ m d x o h. no-name m h (c .before .before .take-name .ensures) (c .enum-told .given .1)
+returns c = λ m end d x o h. no-name m h (c .before .before .take-name .ensures) (c .enum-told .given .1)
 
 add-end : tie.Need-add-end
 add-end c = omega (arith, c .before .before .before .take-name .ensures .within _ _ (c .before .name .given .1), c .before .before .before .before .before .before .good)
@@ -37,7 +37,7 @@ is-calendar-requires c κs = search needs
 returns-2 : tie.Need-returns-2
 returns-2 c =
     let n = c .before .before .before in
-    λ m d x o h. c .is-calendar .ensures m d x ∙ rw between (a-name m h (n .before .before .take-name .ensures) _ _ (n .name .given .1))
+    λ m end d x o h. c .is-calendar .ensures m end d x ∙ rw between (a-name m h (n .before .before .take-name .ensures) _ _ (n .name .given .1))
 
 pub calendar-known-spec : {M : Type 1} → statement M
 calendar-known-spec =

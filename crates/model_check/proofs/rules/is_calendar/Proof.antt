@@ -23,11 +23,11 @@ some-has-key-requires c κs = search needs
 returns : tie.Need-returns
 returns c =
     let n = c .before .before in
-    λ m d x. c .table-has-key .ensures _ (rw (n .names .given .1) at x) ∙ named-in m _
+    λ m end d x. c .table-has-key .ensures _ (rw (n .names .given .1) at x) ∙ named-in m _
 
 returns-2 : tie.Need-returns-2
 returns-2 c =
-    λ m d x. c .some-has-key .ensures (λ (x : Calendar). (0, x .name)) calendar-key (m .calendars) _ (run _ (d .calendars)) ∙ named m _
+    λ m end d x. c .some-has-key .ensures (λ (x : Calendar). (0, x .name)) calendar-key (m .calendars) _ (run _ d) ∙ named m _
 
 pub is-calendar-spec : {M : Type 1} → statement M
 is-calendar-spec =

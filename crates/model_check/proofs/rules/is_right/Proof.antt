@@ -12,8 +12,8 @@ enum-told c = search needs
 enum-told-2 : tie.Need-enum-told-2
 enum-told-2 c = search needs
 
-activity-right-requires : tie.Need-activity-right-requires
-activity-right-requires c κs = search needs
+judge-activity-requires : tie.Need-judge-activity-requires
+judge-activity-requires c κs = search needs
 
 enum-told-3 : tie.Need-enum-told-3
 enum-told-3 c = search needs
@@ -46,14 +46,14 @@ returns : tie.Need-returns
 returns c = rw (c .enum-told .given .1) (λ m d n a h. refl)
 
 returns-2 : tie.Need-returns-2
-returns-2 c = rw (c .before .enum-told2 .given .1) (c .activity-right .ensures)
+returns-2 c = rw (c .before .enum-told2 .given .1) (λ m d n a h. c .judge-activity .ensures .right m _ (d .calendars) n a h)
 
 returns-3 : tie.Need-returns-3
 returns-3 c = rw (c .before .enum-told3 .given .1) (λ m d n a h. link-right d h (c .rows-below .ensures))
 
 returns-4 : tie.Need-returns-4
 returns-4 c =
-    rw (c .before .before .enum-told4 .given .1) (λ m d n a h. c .calendar-known .ensures m d n (a .calendar) (resource-calendar h (c .before .resource-calendar-place .ensures)))
+    rw (c .before .before .enum-told4 .given .1) (λ m d n a h. c .calendar-known .ensures m _ (d .calendars) n (a .calendar) (resource-calendar h (c .before .resource-calendar-place .ensures)))
 
 returns-5 : tie.Need-returns-5
 returns-5 c = rw (c .before .enum-told5 .given .1) (λ m d n a h. assignment-right d h (c .rows-below2 .ensures))
@@ -68,7 +68,7 @@ is-right-spec =
     (tie.spec
     enum-told
     enum-told-2
-    activity-right-requires
+    judge-activity-requires
     enum-told-3
     rows-below-requires
     enum-told-4

@@ -1,5 +1,6 @@
 -- `model_check::tables::fill` meets its contract. The invariant: the rows so far are in the table. Assumes nothing.
 use mathlib.Core.Path.{_≡_, refl, _∙_}
+use mathlib.Core.Bool.{true}
 use mathlib.Core.List.{List}
 use Prim.Native.Nat.{ℕ, _-_, _%_, _^_, _≤_, _<_}
 use native.Mathlib.Omega.{arith}
@@ -7,7 +8,8 @@ use lib.ListN.{length}
 use Rattle.model_check.specs.Kinds.{Item, Run, run}
 use Rattle.model_check.specs.Keys.{Key, Keyed}
 use Rattle.model_check.specs.Tables.{Emptied}
-use Rattle.model_check.proofs.Tabled.{Filling, fill-starts, fill-goes, filled}
+use Rattle.model_check.proofs.Scan.{on}
+use Rattle.model_check.proofs.Tabled.{never, Filling, fill-starts, fill-goes, filled}
 use borrow.Author.Needs.{needs}
 use Rattle.model_check.proofs.tables.fill.Statement.{statement}
 use Rattle.model_check.proofs.tables.fill.Tie as tie
@@ -50,7 +52,7 @@ loop-again c =
       omega arith,
       p .put .kept .0 ∙ v .1,
       c .skip-record .ensures .1,
-      λ small e key k xs end r. fill-goes (v .3 small e key k xs end r) k small (v .2) (omega arith) (h .hash-at .ensures) refl (p .put .ensures) (c .skip-record .ensures .0),
+      λ small e key k xs end r. fill-goes (v .3 small e key k xs end r) k small (v .2) (omega arith) (h .hash-at .ensures) refl (p .put .ensures) (on never true (v .3 small e key k xs end r .along) (omega arith) (c .skip-record .ensures .0)),
     )
 
 same-length : tie.Need-same-length Inv-loop μ-loop
