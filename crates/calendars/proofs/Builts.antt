@@ -88,9 +88,7 @@ row-based {r} {d} {m} {e} {q} {c} t le fit a =
     let (s0, s1) = split-⊗ here all (a .name) in
     let (s2, s3) = split-⊗ here s1 (a .week) in
     let (s4, s5) = split-⊗ here s3 (a .hours) in
-    let (s6, s7) = split-⊗ here s5 (a .holidays) in
-    let (s8, s9) = split-⊗ here s7 (a .extra) in
-    record { week = s2; hours = s4; holidays = s6; extra = s8; end = end; exceptions = s9; inner = inner; before = omega (arith, there-at y, le) }
+    record { week = s2; hours = s4; lists = record { end = end; reads = s5; inner = inner; before = omega (arith, there-at y, le) } }
 
 module _ {start : Place} {count : ℕ} {d : List ℕ} where
   -- a row that is not built

@@ -17,6 +17,7 @@ use Rattle.laws.specs.Buf.{_▷_}
 use Rattle.bits.specs.Steps.{Puts, view, said, field-step, put-same, put-via, put-no, put-more, put-list, put-period}
 use Rattle.bits.specs.declared.Place.{Place}
 use Rattle.calendar.specs.Week.{flagsIn}
+use Rattle.calendar_days.proofs.Inserts.{put-empty}
 use Rattle.calendars.specs.Plain.{hoursEach}
 
 -- ---- the default calendar, and the elapsed one
@@ -47,10 +48,6 @@ module _ {d : List ℕ} {p : Place} {d' : List ℕ} {q : Place} where
   pub put-week : (v : ℕ) → Puts (field 7) v d p d' q → Puts (times 7 flag) (flagsIn v) d p d' q
   unfolding times flagsIn
   put-week v x = record { step = said (field-step 7 x) _ (ap (λ (l : Bits). view d p ▷ l) (sym (flags-bits 7 v _))) }
-
-  -- a list of none
-  pub put-empty : {A : Type 0} (lt : A → A → Bool) (f : Format A) → Puts count 0 d p d' q → Puts (listOf lt f) [] d p d' q
-  put-empty lt f x = put-list 0 lt f x (put-no 0 f d' q)
 
   pub put-calendar : (c : Calendar) → Puts (text ⊗ times 7 flag ⊗ times 7 periods ⊗ dates ⊗ dates ⊗ listOf byDate (date ⊗ periods)) (c .name, (c .week, (c .hours, (c .holidays, (c .extraDays, c .exceptions))))) d p d' q
       → Puts calendar c d p d' q

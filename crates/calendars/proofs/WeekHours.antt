@@ -1,29 +1,28 @@
 -- The week and the hours of a calendar over its base's; the record from its parts. Assumes nothing.
 use mathlib.Core.Path.{_≡_, refl, sym, ap, _∙_}
 use mathlib.Core.Bool.{Bool, true, false}
-use mathlib.Core.List.{List, [], _∷_, _++_, map, flatMap}
+use mathlib.Core.List.{List, [], _∷_, _++_, map}
 use mathlib.Core.Option.{Option, some, none}
 use Prim.Native.Nat.{ℕ, suc, _+_, _-_, _≤_, _<_}
 use native.Mathlib.Omega.{arith}
 use borrow.Author.Tests.{eqb-true, eqb-false}
-use lib.Dec.{eqb, ltb}
+use lib.Dec.{eqb}
 use lib.ListN.{length, getD, set, take, drop, length-map, length-set, getD-replicate}
 use lib.Seq.{take-at, take-suc, take-all, getD-drop, getD-set-same, getD-set-other}
 use Rattle.definition.specs.Base.{if_then_else_, _>>=_, _or_, _orElse_, when, findLast}
 use Rattle.definition.specs.Bits.{Bits, enc, dec}
 use Rattle.definition.specs.Ascii.{bytes}
 use Rattle.definition.specs.Text.{Text}
-use Rattle.definition.specs.Date.{Date}
-use Rattle.definition.specs.Format.{Period, count, _⊗_, field, via, flag, bit, times, putAll, text, date, dates, periods, listOf}
+use Rattle.definition.specs.Format.{Period, count, _⊗_, field, via, flag, bit, times, putAll, text, periods}
 use Rattle.definition.specs.Model.{Calendar}
 use Rattle.definition.specs.Field.{textIn, yesIn}
 use Rattle.definition.specs.Tree.{Element}
-use Rattle.definition.specs.Calendar.{byDate, placeOf, periodsOf, weekDays, weekBy, hoursBy, exceptionsOf, daysOff, daysOn, daysWithHours, insertAll, calendarOf, defaultCalendar}
+use Rattle.definition.specs.Calendar.{placeOf, periodsOf, weekDays, weekBy, hoursBy, calendarOf, defaultCalendar}
 use Rattle.laws.specs.Each.{empty, next}
 use Rattle.laws.specs.Bits.{Binary, length-enc, enc-dec}
-use Rattle.laws.specs.Formats.{good-times, good-list, _&_}
+use Rattle.laws.specs.Formats.{good-times}
 use Rattle.laws.specs.FitRecords.{good-week}
-use Rattle.laws.specs.Fields.{good-periods, good-date, good-dates}
+use Rattle.laws.specs.Fields.{good-periods}
 use Rattle.laws.specs.FitCalendars.{week-length}
 use Rattle.bits.specs.Moves.{Copies}
 use Rattle.bits.specs.Places.{at, inside, Fits, room-fits}
@@ -43,14 +42,18 @@ use Rattle.model.specs.Splits.{later, step}
 use Rattle.model.specs.declared.parts.CalendarPlaces.{CalendarPlaces}
 use Rattle.pack.specs.Value.{starredBy}
 use Rattle.names.specs.Kept.{reads-there}
-use Rattle.calendars.proofs.Copies.{copy-out, copied, standing}
-use Rattle.calendars.proofs.Items.{free-periods}
+use Rattle.calendar_days.proofs.Copies.{copy-out, copied, standing}
+use Rattle.calendar_days.proofs.Items.{free-periods}
 use Rattle.calendars.proofs.PlainCalendars.{put-calendar}
-use Rattle.calendars.proofs.Times.{begun}
+use Rattle.calendar_days.proofs.Times.{begun}
+use Rattle.calendar_days.proofs.Overs.{read-from, lasts-put, over-plain, over-as, over-⊗, over-whole}
+use Rattle.calendar_days.proofs.WholeDays.{good-lists}
+use Rattle.calendar_days.specs.Over.{Over}
+use Rattle.calendar_days.specs.Lists.{DayLists, dayLists, daysOver}
 use Rattle.calendars.specs.declared.base.Base.{Base}
 use Rattle.calendars.specs.declared.base.Base.the-variants.{At, Default}
-use Rattle.calendars.specs.Base.{Based, BaseIs, Over}
-use Rattle.calendars.proofs.Overs.{read-from, base-still, over-plain, over-as, over-⊗, over-whole}
+use Rattle.calendars.specs.Base.{listsOf, Based, BaseIs}
+use Rattle.calendars.proofs.Overs.{base-lasts}
 use Rattle.calendars.specs.Record.{WeekRead, isPlace, onPlace, laterFound, hoursOf, dayHours, CopiesHours, BaseHours, PutsHours, PutsWeekHours, named, PutsCalendar}
 
 -- ---- flags and their word
@@ -87,9 +90,7 @@ flags-put n (false ∷ l) = ap (λ (m : Bits). 0 ∷ m) (flags-put _ l)
 week-there : {r : CalendarPlaces} {d : List ℕ} {p : Place} {c : Calendar} → Based r d p c → (v : ℕ) → v ≡ takeAt d (r .week) 7 .value → flagsIn v ≡ c .week
 unfolding times wordOf
 week-there {r} {d} {p} {c} b v e =
-    let (f5, (l5, i5)) = read-from (good-list byDate (good-date & good-periods)) (b .exceptions) (b .inner) in
-    let (f4, (l4, i4)) = read-from good-dates (b .extra) i5 in
-    let (f3, (l3, i3)) = read-from good-dates (b .holidays) i4 in
+    let (f3, (l3, i3)) = read-from good-lists (b .lists .reads) (b .lists .inner) in
     let (f2, (l2, i2)) = read-from (good-times 7 good-periods) (b .hours) i3 in
     let (seven, st) = reads-there good-week (b .week) i2 in
     let k = flags-put (at (r .week)) (c .week) in
@@ -179,9 +180,7 @@ day-hours (w ∷ ws) hours day h = day-hours ws (hoursWith w hours (placeOf w)) 
 hours-seven : (b : Base) (d : List ℕ) (p : Place) (c : Calendar) → BaseIs b d p c → length (c .hours) ≡ 7
 unfolding BaseIs defaultCalendar
 hours-seven (At r) d p c i =
-    let (f5, (l5, i5)) = read-from (good-list byDate (good-date & good-periods)) (i .exceptions) (i .inner) in
-    let (f4, (l4, i4)) = read-from good-dates (i .extra) i5 in
-    let (f3, (l3, i3)) = read-from good-dates (i .holidays) i4 in
+    let (f3, (l3, i3)) = read-from good-lists (i .lists .reads) (i .lists .inner) in
     read-from (good-times 7 good-periods) (i .hours) i3 .0 .many
 hours-seven Default d p c i = rw i
 
@@ -209,16 +208,14 @@ module _ {day : ℕ} {d : List ℕ} {p : Place} {d' : List ℕ} {q : Place} wher
     puts = λ lt. record {
       puts = λ c k. h .puts lt (c .hours) (r .holidays) (λ e.
           let i = k e in
-          let (f5, (l5, i5)) = read-from (good-list byDate (good-date & good-periods)) (i .exceptions) (i .inner) in
-          let (f4, (l4, i4)) = read-from good-dates (i .extra) i5 in
-          let (f3, (l3, i3)) = read-from good-dates (i .holidays) i4 in
-          (i .hours, (i3, omega (arith, l3, l4, l5, i .before))));
+          let (f3, (l3, i3)) = read-from good-lists (i .lists .reads) (i .lists .inner) in
+          (i .hours, (i3, omega (arith, l3, i .lists .before))));
     };
   }
 
   pub base-hours-default : Puts periods [] d p d' q → BaseHours Default day d p d' q
   unfolding BaseIs defaultCalendar
-  base-hours-default h = record { puts = λ lt. over-as (λ c. getD (c .hours) day []) (λ c i. rw i (sym (getD-replicate 7 day [] [] lt))) (over-plain Default h) }
+  base-hours-default h = record { puts = λ lt. over-as (λ c. getD (c .hours) day []) (λ c i. rw i (sym (getD-replicate 7 day [] [] lt))) (over-plain h) }
 
   module _ (ws : List Element) where
     pub hours-of-base : {b : Base} → findLast (onPlace day) ws ≡ none → BaseHours b day d p d' q → PutsHours ws day b d p d' q
@@ -228,12 +225,12 @@ module _ {day : ℕ} {d : List ℕ} {p : Place} {d' : List ℕ} {q : Place} wher
 
     pub hours-of-day : (b : Base) {w : Element} → findLast (onPlace day) ws ≡ some w → Puts periods (hoursOf w) d p d' q → PutsHours ws day b d p d' q
     hours-of-day b e h = record {
-      puts = λ lt. over-as (dayHours ws day) (λ c i. let n = hours-seven b d p c i in sym (day-hours ws (c .hours) day (omega arith) ∙ rw e)) (over-plain b h);
+      puts = λ lt. over-as (dayHours ws day) (λ c i. let n = hours-seven b d p c i in sym (day-hours ws (c .hours) day (omega arith) ∙ rw e)) (over-plain h);
     }
 
 -- of the first days of the week
 abbrev pub PutsDays : List Element → ℕ → Base → List ℕ → Place → List ℕ → Place → Type 0
-PutsDays ws day b = Over (times 7 periods) b (λ c. take day (hoursBy ws (c .hours)))
+PutsDays ws day b = Over (times 7 periods) (BaseIs b) (λ c. take day (hoursBy ws (c .hours)))
 
 pub hours-none : (ws : List Element) (b : Base) (d : List ℕ) (p : Place) → PutsDays ws 0 b d p d p
 hours-none ws b d p = record { puts = λ c k. put-no 7 periods d p }
@@ -248,12 +245,12 @@ module _ (ws : List Element) {b : Base} {d₀ : List ℕ} {p₀ : Place} {d : Li
       next : suc day ≡ day + 1
       next = omega arith
 
-      both : Over (times 7 periods) b (λ c. take day (hoursBy ws (c .hours)) ++ (dayHours ws day c ∷ [])) d₀ p₀ d' q
-      both = record { puts = λ c k. let x = h .puts c k in put-more 7 x (i .puts lt .puts c (λ e. base-still x e b c k)) }
+      both : Over (times 7 periods) (BaseIs b) (λ c. take day (hoursBy ws (c .hours)) ++ (dayHours ws day c ∷ [])) d₀ p₀ d' q
+      both = record { puts = λ c k. let x = h .puts c k in put-more 7 x (i .puts lt .puts c (λ e. lasts-put (base-lasts b) x e c k)) }
 
-  pub hours-all : {day : ℕ} → 7 ≤ day → PutsDays ws day b d₀ p₀ d p → PutsWeekHours ws b d₀ p₀ d p
-  hours-all {day} le h =
-      over-as (λ c. hoursBy ws (c .hours)) (λ c j. let n = hours-seven b d₀ p₀ c j in let m = hours-length ws (c .hours) in take-all day (hoursBy ws (c .hours)) (omega arith)) h
+pub hours-all : (ws : List Element) (b : Base) {d₀ : List ℕ} {p₀ : Place} {d : List ℕ} {p : Place} {day : ℕ} → 7 ≤ day → PutsDays ws day b d₀ p₀ d p → PutsWeekHours ws b d₀ p₀ d p
+hours-all ws b {d₀} {p₀} {day = day} le h =
+    over-as (λ c. hoursBy ws (c .hours)) (λ c j. let n = hours-seven b d₀ p₀ c j in let m = hours-length ws (c .hours) in take-all day (hoursBy ws (c .hours)) (omega arith)) h
 
 -- those of a WeekDay
 module _ (w : Element) {t : Bool} (e : t ≡ yesIn w "DayWorking") {d : List ℕ} {p : Place} {d' : List ℕ} {q : Place} where
@@ -266,27 +263,17 @@ module _ (w : Element) {t : Bool} (e : t ≡ yesIn w "DayWorking") {d : List ℕ
 -- ---- the record
 
 -- what follows the name, over a base, with a week
-abbrev fieldsBy : Element → Calendar → List Bool → List Bool × (List (List Period) × (List Date × (List Date × List (Date × List Period))))
-fieldsBy e c week = (
-  week,
-  (
-    hoursBy (weekDays e) (c .hours),
-    (
-      insertAll ltb (flatMap (daysOff week) (exceptionsOf e)) (c .holidays),
-      (insertAll ltb (flatMap (daysOn week) (exceptionsOf e)) (c .extraDays), insertAll byDate (flatMap daysWithHours (exceptionsOf e)) (c .exceptions)),
-    ),
-  ),
-)
+abbrev fieldsBy : Element → Calendar → List Bool → List Bool × (List (List Period) × DayLists)
+fieldsBy e c week = (week, (hoursBy (weekDays e) (c .hours), daysOver e week (listsOf c)))
 
-module _ (e : Element) (stars : ℕ) {b : Base} {d d1 d2 d3 d4 d5 d6 d7 : List ℕ} {p p1 p2 p3 p4 p5 p6 p7 : Place} where
+module _ (e : Element) (stars : ℕ) {b : Base} {d d1 d2 d3 d4 d5 : List ℕ} {p p1 p2 p3 p4 p5 : Place} where
   pub calendar-over : {w week : ℕ} → Puts text (starredBy (textIn e "Name" or bytes "Calendar") stars) d p d1 p1 → WeekRead b d1 w → week ≡ wordOf (weekBy (weekDays e) (flagsIn w)) → Puts (times 7 flag) (flagsIn week) d1 p1 d2 p2
-      → PutsWeekHours (weekDays e) b d2 p2 d3 p3 → Over dates b (λ c. insertAll ltb (flatMap (daysOff (flagsIn week)) (exceptionsOf e)) (c .holidays)) d3 p3 d4 p4
-      → Over dates b (λ c. insertAll ltb (flatMap (daysOn (flagsIn week)) (exceptionsOf e)) (c .extraDays)) d4 p4 d5 p5
-      → Over (listOf byDate (date ⊗ periods)) b (λ c. insertAll byDate (flatMap daysWithHours (exceptionsOf e)) (c .exceptions)) d5 p5 d6 p6 → Pads d6 p6 d7 p7 → PutsCalendar e stars b d p d7 p7
+      → PutsWeekHours (weekDays e) b d2 p2 d3 p3 → Over dayLists (BaseIs b) (λ c. daysOver e (flagsIn week) (listsOf c)) d3 p3 d4 p4 → Pads d4 p4 d5 p5 → PutsCalendar e stars b d p d5 p5
   unfolding calendarOf
-  calendar-over {w} {week} n r z x2 x3 x4 x5 x6 x7 =
+  calendar-over {w} {week} n r z x2 x3 x4 x5 =
+      let l = base-lasts b in
       let is : (c : Calendar) → BaseIs b d1 p1 c → flagsIn week ≡ weekBy (weekDays e) (c .week) =
       λ c i. ap flagsIn z ∙ flags-word (weekBy (weekDays e) (flagsIn w)) (week-length (weekDays e) (flagsIn w) ∙ flags-length w) ∙ ap (weekBy (weekDays e)) (r .week p1 c i) in
-      let fields = over-as (λ c. fieldsBy e c (weekBy (weekDays e) (c .week))) (λ c i. ap (fieldsBy e c) (is c i)) (over-⊗ (over-plain b x2) (over-⊗ x3 (over-⊗ x4 (over-⊗ x5 x6)))) in
-      let all = over-⊗ (over-plain b n) fields in
-      over-whole (record { puts = λ c k. put-calendar (named e stars c) (all .puts c k) }) x7
+      let fields = over-as (λ c. fieldsBy e c (weekBy (weekDays e) (c .week))) (λ c i. ap (fieldsBy e c) (is c i)) (over-⊗ l (over-plain x2) (over-⊗ l x3 x4)) in
+      let all = over-⊗ l (over-plain n) fields in
+      over-whole (record { puts = λ c k. put-calendar (named e stars c) (all .puts c k) }) x5

@@ -1,11 +1,4 @@
-pub mod Items
-pub mod Places
-pub mod Inserts
-pub mod Hours
 pub mod Plain
-pub mod Exceptions
-pub mod Days
-pub mod Notes
 pub mod Base
 pub mod Record
 pub mod Built

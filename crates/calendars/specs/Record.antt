@@ -20,7 +20,8 @@ use Rattle.bits.specs.declared.Place.{Place}
 use Rattle.calendar.specs.Week.{flagsIn}
 use Rattle.pack.specs.Value.{starredBy}
 use Rattle.calendars.specs.declared.base.Base.{Base}
-use Rattle.calendars.specs.Base.{BaseIs, Over}
+use Rattle.calendar_days.specs.Over.{Over}
+use Rattle.calendars.specs.Base.{BaseIs}
 
 -- ---- the week
 
@@ -54,13 +55,13 @@ pub record CopiesHours (day : ℕ) (hours : Place) (d : List ℕ) (p : Place) (d
       → Puts periods (getD hs day []) d p d' q
 
 pub record BaseHours (b : Base) (day : ℕ) (d : List ℕ) (p : Place) (d' : List ℕ) (q : Place) : Type 0 where
-  pub puts : day < 7 → Over periods b (λ c. getD (c .hours) day []) d p d' q
+  pub puts : day < 7 → Over periods (BaseIs b) (λ c. getD (c .hours) day []) d p d' q
 
 pub record PutsHours (ws : List Element) (day : ℕ) (b : Base) (d : List ℕ) (p : Place) (d' : List ℕ) (q : Place) : Type 0 where
-  pub puts : day < 7 → Over periods b (dayHours ws day) d p d' q
+  pub puts : day < 7 → Over periods (BaseIs b) (dayHours ws day) d p d' q
 
 abbrev pub PutsWeekHours : List Element → Base → List ℕ → Place → List ℕ → Place → Type 0
-PutsWeekHours ws b = Over (times 7 periods) b (λ c. hoursBy ws (c .hours))
+PutsWeekHours ws b = Over (times 7 periods) (BaseIs b) (λ c. hoursBy ws (c .hours))
 
 -- ---- the whole
 
@@ -68,4 +69,4 @@ abbrev pub named : Element → ℕ → Calendar → Calendar
 named e stars c = renamed (starredBy (calendarOf e c .name) stars) (calendarOf e c)
 
 abbrev pub PutsCalendar : Element → ℕ → Base → List ℕ → Place → List ℕ → Place → Type 0
-PutsCalendar e stars b = Over (whole calendar) b (named e stars)
+PutsCalendar e stars b = Over (whole calendar) (BaseIs b) (named e stars)

@@ -11,7 +11,7 @@ use bits::Place;
 use pack::put_count;
 
 // The seven low bits of a number, Monday first.
-pub fn put_week(out: &mut [u8], p: Place, week: u32) -> Place
+pub(crate) fn put_week(out: &mut [u8], p: Place, week: u32) -> Place
     ensures { λ r. ⌜ Puts (times 7 flag) (flagsIn week) (now (out .entry)) p (now (out .exit)) r ⌝ }
 {
     bits::put(out, p, 7, week as u64)
@@ -54,13 +54,13 @@ fn put_plain_calendar(out: &mut [u8], p: Place, name: &[u8], week: u32, whole_da
     bits::pad(out, f)
 }
 
-pub fn put_default_calendar(out: &mut [u8], p: Place) -> Place
+pub(crate) fn put_default_calendar(out: &mut [u8], p: Place) -> Place
     ensures { λ r. ⌜ Puts (whole calendar) defaultCalendar (now (out .entry)) p (now (out .exit)) r ⌝ }
 {
     put_plain_calendar(out, p, b"Standard", 0b1111100, false)
 }
 
-pub fn put_elapsed_calendar(out: &mut [u8], p: Place) -> Place
+pub(crate) fn put_elapsed_calendar(out: &mut [u8], p: Place) -> Place
     ensures { λ r. ⌜ Puts (whole calendar) elapsedCalendar (now (out .entry)) p (now (out .exit)) r ⌝ }
 {
     put_plain_calendar(out, p, b"Elapsed (24 hours)", 0b1111111, true)

@@ -10,17 +10,16 @@ ghost use Rattle.bits.specs.Clear.{cleared};
 ghost use Rattle.bits.specs.Steps.{Puts};
 ghost use Rattle.calendar.specs.Week.{placeMeaning};
 ghost use Rattle.rows.specs.Rows.{foundMeaning};
+ghost use Rattle.calendars.specs.Base.{daysPlace};
 ghost use Rattle.calendars.specs.Record.{isPlace, onPlace, laterFound, hoursOf, WeekRead, CopiesHours, BaseHours, PutsHours, PutsWeekHours, PutsCalendar};
 use crate::base::Base;
-use crate::dates::put_extra_days;
-use crate::dates::put_holidays;
-use crate::days::put_exceptions;
-use crate::hours::put_periods;
-use crate::list::begin;
 use crate::plain::put_week;
-use crate::reach::reach_in;
+use bits::PAST;
 use bits::Place;
 use calendar::PlaceAnswer;
+use calendar_days::put_days;
+use calendar_days::put_periods;
+use pack::put_count;
 use tree::Found;
 
 // ---- the week
@@ -88,7 +87,7 @@ fn put_own_hours(out: &mut [u8], p: Place, s: &[u8], at: usize) -> Place
     if calendar::day_working(s, at) {
         return put_periods(out, p, s, at);
     }
-    begin(out, p)
+    put_count(out, p, 0)
 }
 
 // The base's hours of a day, from the place of its hours, written again.
@@ -105,7 +104,7 @@ fn put_base_hours(out: &mut [u8], p: Place, base: Base, day: usize) -> Place
 {
     match base {
         Base::At(c) => copy_hours(out, p, c.hours, day),
-        Base::Default => begin(out, p),
+        Base::Default => put_count(out, p, 0),
     }
 }
 
@@ -132,6 +131,16 @@ fn put_hours(out: &mut [u8], p: Place, s: &[u8], at: usize, base: Base) -> Place
 
 // ---- the whole
 
+// Where the base's lists of days stand; those of the default one, which are empty, nowhere.
+fn days_place(base: Base) -> Place
+    ensures { λ r. ⌜ r ≡ daysPlace base ⌝ }
+{
+    match base {
+        Base::At(c) => c.holidays,
+        Base::Default => PAST,
+    }
+}
+
 // A Calendar over its base, its name with so many `*` behind it; the words from `from` on are free.
 pub(crate) fn put_calendar(
     out: &mut [u8],
@@ -149,9 +158,6 @@ pub(crate) fn put_calendar(
     let week = calendar::week_of(s, at, base_week(out, base));
     let b = put_week(out, a, week);
     let c = put_hours(out, b, s, at, base);
-    let own = reach_in(s, at, from);
-    let d = put_holidays(out, c, s, at, week, base, words, own);
-    let e = put_extra_days(out, d, s, at, week, base, words, own);
-    let f = put_exceptions(out, e, s, at, base, words, own);
-    bits::pad(out, f)
+    let d = put_days(out, c, s, at, week, days_place(base), words, from);
+    bits::pad(out, d)
 }

@@ -1,6 +1,6 @@
 // Decoding a model of any bytes: where its sections stand, and the fields of its records.
 mod fields; // each field passed over
-mod lists; // lists of periods and days
+pub mod lists; // lists of periods and days
 pub mod records; // records, one and many
 pub mod parts; // the parts of records
 

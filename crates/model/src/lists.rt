@@ -43,7 +43,8 @@ fn take_day(s: &[u8], p: Place, hours: bool) -> Field
     }
 }
 
-pub(crate) fn skip_days(s: &[u8], p: Place, hours: bool) -> Place
+// Dates, each with its periods or alone.
+pub fn skip_days(s: &[u8], p: Place, hours: bool) -> Place
     ensures { λ r. ⌜ Passes (daysOf hours) (now (s .entry)) p r ⌝ }
 {
     let n = bits::take(s, p, 32);

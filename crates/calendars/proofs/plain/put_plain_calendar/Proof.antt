@@ -1,7 +1,8 @@
 use Rattle.definition.specs.Calendar.{byDate}
 use Rattle.definition.specs.Format.{_⊗_, date, periods}
 use Rattle.bits.specs.Steps.{put-⊗, put-whole}
-use Rattle.calendars.proofs.PlainCalendars.{put-calendar, put-empty, no-dates}
+use Rattle.calendar_days.proofs.Inserts.{put-empty}
+use Rattle.calendars.proofs.PlainCalendars.{put-calendar, no-dates}
 use borrow.Author.Needs.{needs}
 use Rattle.calendars.proofs.plain.put_plain_calendar.Statement.{statement}
 use Rattle.calendars.proofs.plain.put_plain_calendar.Tie as tie

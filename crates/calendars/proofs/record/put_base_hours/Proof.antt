@@ -1,4 +1,4 @@
-use Rattle.calendars.proofs.Times.{begun}
+use Rattle.calendar_days.proofs.Times.{begun}
 use Rattle.calendars.proofs.WeekHours.{base-hours-at, base-hours-default}
 use borrow.Author.Needs.{needs}
 use Rattle.calendars.proofs.record.put_base_hours.Statement.{statement}
@@ -13,8 +13,8 @@ copy-hours-requires c κs = search needs
 enum-told : tie.Need-enum-told
 enum-told c = search needs
 
-begin-requires : tie.Need-begin-requires
-begin-requires c κs = search needs
+put-count-requires : tie.Need-put-count-requires
+put-count-requires c κs = search needs
 
 same-length : tie.Need-same-length
 same-length c = search needs
@@ -26,7 +26,7 @@ same-length-2 : tie.Need-same-length-2
 same-length-2 c = search needs
 
 returns-2 : tie.Need-returns-2
-returns-2 c = rw (c .before .before .before .before .enum-told .given .1) (base-hours-default (begun (c .before .before .begin .ensures)))
+returns-2 c = rw (c .before .before .before .before .enum-told .given .1) (base-hours-default (begun (c .before .before .put-count .ensures)))
 
 pub put-base-hours-spec : {M : Type 1} → statement M
-put-base-hours-spec = tie.close (tie.spec enum-known-base copy-hours-requires enum-told begin-requires same-length returns same-length-2 returns-2)
+put-base-hours-spec = tie.close (tie.spec enum-known-base copy-hours-requires enum-told put-count-requires same-length returns same-length-2 returns-2)

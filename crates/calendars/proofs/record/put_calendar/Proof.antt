@@ -1,10 +1,11 @@
-use Rattle.calendars.proofs.Passing.{kept-at}
 use mathlib.Core.Path.{ap, _∙_}
 use Rattle.definition.specs.Text.{Text}
 use Rattle.tree.specs.Place.{elementAt}
 use Rattle.bits.specs.Steps.{put-same}
+use Rattle.calendar.specs.Week.{flagsIn}
 use Rattle.pack.specs.Value.{starredBy}
-use Rattle.calendars.proofs.Overs.{over-holidays, over-extra-days, over-exceptions}
+use Rattle.calendar_days.specs.Lists.{daysOver}
+use Rattle.calendars.proofs.Overs.{over-days}
 use Rattle.calendars.proofs.WeekHours.{calendar-over}
 use borrow.Author.Needs.{needs}
 use Rattle.calendars.proofs.record.put_calendar.Statement.{statement}
@@ -31,43 +32,56 @@ put-week-requires c κs = search needs
 put-hours-requires : tie.Need-put-hours-requires
 put-hours-requires c κs = search needs
 
-reach-in-requires : tie.Need-reach-in-requires
-reach-in-requires c κs = search needs
+days-place-requires : tie.Need-days-place-requires
+days-place-requires c κs = search needs
 
-put-holidays-requires : tie.Need-put-holidays-requires
-put-holidays-requires c κs = search needs
-
-put-extra-days-requires : tie.Need-put-extra-days-requires
-put-extra-days-requires c κs = search needs
-
-put-exceptions-requires : tie.Need-put-exceptions-requires
-put-exceptions-requires c κs = search needs
+put-days-requires : tie.Need-put-days-requires
+put-days-requires c κs = search needs
 
 pad-requires : tie.Need-pad-requires
 pad-requires c κs = search needs
 
 same-length : tie.Need-same-length
-same-length c = c .before .before .pad .kept .0 ∙ c .before .before .before .before .before .before .before .before .put-exceptions .kept .0 ∙ c .before .before .before .before .before .before .before .before .before .before .before .before .before .before .before .put-extra-days .kept .0 ∙ c .before .before .before .before .before .before .before .before .before .before .before .before .before .before .before .before .before .before .before .before .before .before .put-holidays .kept .0 ∙ c .before .before .before .before .before .before .before .before .before .before .before .before .before .before .before .before .before .before .before .before .before .before .before .before .before .before .before .before .put-hours .kept .0 ∙ c .before .before .before .before .before .before .before .before .before .before .before .before .before .before .before .before .before .before .before .before .before .before .before .before .before .before .before .before .before .before .before .before .put-week .kept .0 ∙ c .before .before .before .before .before .before .before .before .before .before .before .before .before .before .before .before .before .before .before .before .before .before .before .before .before .before .before .before .before .before .before .before .before .before .before .before .before .before .before .put-starred .kept .0
+same-length c =
+    let x = c .before .before .before .before .before .before .before .before in
+    let u = x .before .before .before .before .before .before in
+    let w = u .before .before .before .before in
+    let q = w .before .before .before .before .before .before .before in
+    c .before .before .pad .kept .0 ∙ x .put-days .kept .0 ∙ u .put-hours .kept .0 ∙ w .put-week .kept .0 ∙ q .put-starred .kept .0
 
 same-length-2 : tie.Need-same-length-2
-same-length-2 c = c .before .before .before .before .before .before .before .before .put-exceptions .kept .1 .1 .1 .1 .1 .0 ∙ c .before .before .before .before .before .before .before .before .before .before .before .before .before .before .before .put-extra-days .kept .1 .1 .1 .1 .1 .1 .0 ∙ c .before .before .before .before .before .before .before .before .before .before .before .before .before .before .before .before .before .before .before .before .before .before .put-holidays .kept .1 .1 .1 .1 .1 .1 .0
+same-length-2 c = c .before .before .before .before .before .before .before .before .put-days .kept .1 .1 .1 .1 .1 .1 .0
 
 returns : tie.Need-returns
 returns c =
     let x = c .before .before .before .before .before .before .before .before in
-    let e = c .before .before .before .before .before .before .before .before .before .before .before .before .before .before .before in
-    let h = c .before .before .before .before .before .before .before .before .before .before .before .before .before .before .before .before .before .before .before .before .before .before in
-    let o = h .before .before .before in
-    let u = c .before .before .before .before .before .before .before .before .before .before .before .before .before .before .before .before .before .before .before .before .before .before .before .before .before .before .before .before in
-    let w = c .before .before .before .before .before .before .before .before .before .before .before .before .before .before .before .before .before .before .before .before .before .before .before .before .before .before .before .before .before .before .before .before in
+    let l = x .before .before in
+    let u = l .before .before .before .before in
+    let w = u .before .before .before .before in
     let m = w .before .before in
     let b = m .before in
-    let q = c .before .before .before .before .before .before .before .before .before .before .before .before .before .before .before .before .before .before .before .before .before .before .before .before .before .before .before .before .before .before .before .before .before .before .before .before .before .before .before in
+    let q = b .before .before .before .before in
     let n = q .before in
-    let a = c .before .before .before .before .before .before .before .before .before .before .before .before .before .before .before .before .before .before .before .before .before .before .before .before .before .before .before .before .before .before .before .before .before .before .before .before .before .before .before .before .before .before .before .before .before .before .args in (
-      calendar-over (elementAt (a .s .now) (a .at)) (a .stars) (put-same (ap (λ (t : Text). starredBy t (a .stars)) (n .wanted-name .ensures)) (q .put-starred .ensures)) (b .base-week .ensures) (m .week-of .ensures) (w .put-week .ensures) (u .put-hours .ensures) (over-holidays (a .base) (h .put-holidays .ensures .0)) (over-extra-days (a .base) (e .put-extra-days .ensures .0)) (over-exceptions (a .base) (x .put-exceptions .ensures .0)) (c .before .before .pad .ensures),
-      kept-at _ _ (o .reach-in .ensures) (x .put-exceptions .ensures .1 ∙ e .put-extra-days .ensures .1 ∙ h .put-holidays .ensures .1),
+    let a = n .before .before .before .before .before .before .args in
+    let e = elementAt (a .s .now) (a .at) in (
+      calendar-over e (a .stars) (put-same (ap (λ (t : Text). starredBy t (a .stars)) (n .wanted-name .ensures)) (q .put-starred .ensures)) (b .base-week .ensures) (m .week-of .ensures) (w .put-week .ensures) (u .put-hours .ensures) (over-days (a .base) (daysOver e (flagsIn _)) (l .days-place .ensures) (x .put-days .ensures .0)) (c .before .before .pad .ensures),
+      x .put-days .ensures .1,
     )
 
 pub put-calendar-spec : {M : Type 1} → statement M
-put-calendar-spec = tie.close (tie.spec slice-aggregate-wanted-name wanted-name-requires put-starred-requires base-week-requires week-of-requires put-week-requires put-hours-requires reach-in-requires put-holidays-requires put-extra-days-requires put-exceptions-requires pad-requires same-length same-length-2 returns)
+put-calendar-spec =
+    tie.close
+    (tie.spec
+    slice-aggregate-wanted-name
+    wanted-name-requires
+    put-starred-requires
+    base-week-requires
+    week-of-requires
+    put-week-requires
+    put-hours-requires
+    days-place-requires
+    put-days-requires
+    pad-requires
+    same-length
+    same-length-2
+    returns)

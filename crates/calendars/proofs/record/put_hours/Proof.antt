@@ -34,7 +34,7 @@ same-length : tie.Need-same-length Inv-loop μ-loop
 same-length c = c .before .loop .inv .0
 
 returns : tie.Need-returns Inv-loop μ-loop
-returns c = let a = c .before .before .before .before .args in hours-all (weekDays (elementAt (a .s .now) (a .at))) {day = c .before .loop .day} (omega (arith, c .loop-test .left)) (c .before .loop .inv .1 .1)
+returns c = let a = c .before .before .before .before .args in hours-all (weekDays (elementAt (a .s .now) (a .at))) (a .base) {day = c .before .loop .day} (omega (arith, c .loop-test .left)) (c .before .loop .inv .1 .1)
 
 pub put-hours-spec : {M : Type 1} → statement M
 put-hours-spec = tie.close (tie.spec Inv-loop μ-loop loop-holds put-hours-of-requires add-day loop-less loop-again same-length returns)

@@ -1,0 +1,9 @@
+pub mod Items
+pub mod Places
+pub mod Inserts
+pub mod Hours
+pub mod Exceptions
+pub mod Days
+pub mod Notes
+pub mod Over
+pub mod Lists
