@@ -162,7 +162,7 @@ pub walked : {s : List ℕ} {n : Counts} {head : Head} {at : ℕ} {names ids : M
     → JudgedAll s (head .activities) (n .activities) (record { count = n .calendars; at = head .calendars .byte }) names t w₂ w₃ r → Behind s n head (r .next) places
     → ModelWalked s n w w₃ (record { places = places; names = names; ids = ids; right = r .right })
 walked {s} {n} {head} {at} {names} {ids} {t} {w} {w₁} {w₂} {w₃} {r} {places} h i f e g k b =
-    record { walks = walks h (pass-like (like-times _ strict-activities) (k .passes)) (k .even (h .even .1)) b; looked = looks }
+    record { walks = walks h (pass-like (like-times _ strict-activities) (k .passes)) b; looked = looks }
   where
     j : JudgedAll s (head .activities) (n .activities) (record { count = n .calendars; at = head .calendars .byte }) names (tableIn ids) w₂ w₃ r
     j = subst (λ (t : Table). JudgedAll s (head .activities) (n .activities) (record { count = n .calendars; at = head .calendars .byte }) names t w₂ w₃ r) g k
@@ -177,7 +177,8 @@ walked {s} {n} {head} {at} {names} {ids} {t} {w} {w₁} {w₂} {w₃} {r} {place
         let x : TableFor 0 s ks names w₁ = i (λ (c : Calendar). (0, c .name)) calendar-key (m .calendars) _ c in
         let a : ApartFrom names (tableIn ids) = made-behind names ids e f (table-fits 0 s ks names w₁ x) in
         let y : TableFor 0 s ks names w₂ = table-kept 0 s ks names (made-kept names ids e a) x in
-        record { names = table-kept 0 s ks names (j .kept a) y; ids = ids-in ids e j (h .even .1) (m .activities) u; right = j .right a m _ c y _ u }
+        let v : head .activities .bit % 8 ≡ 0 = ap (λ (p : Place). p .bit % 8) (sym (b .activities-at) ∙ z) in
+        record { names = table-kept 0 s ks names (j .kept a) y; ids = ids-in ids e j v (m .activities) u; right = j .right a m _ c y _ u }
 
 -- ---- the answer
 

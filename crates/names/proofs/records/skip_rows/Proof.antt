@@ -3,9 +3,9 @@ use mathlib.Core.Path.{_≡_}
 use mathlib.Core.Bool.{false}
 use Prim.Native.Nat.{_+_, _-_, _≤_}
 use Rattle.definition.specs.Format.{times}
+use Rattle.bits.specs.Reads.{far}
 use Rattle.model.specs.Passes.{Passes, pass-no, pass-more, pass-cut}
 use Rattle.model.specs.Parts.{recordOf}
-use Rattle.model.proofs.Single.{far}
 use native.Mathlib.Omega.{arith}
 use borrow.Author.Needs.{needs}
 use Rattle.names.proofs.records.skip_rows.Statement.{statement}
