@@ -55,7 +55,6 @@ pub record JudgedAt (s : List ℕ) (p : Place) (own : ℕ) (x : Section) (names 
 -- n activities are passed over; where they stand there, whether all are right, and their ids in an empty table of as many rows
 pub record JudgedAll (s : List ℕ) (p : Place) (n : ℕ) (x : Section) (names : Made) (t : Table) (w w′ : List ℕ) (r : Judged) : Type 0 where
   pub passes : Passes (times n (recordOf true Activities)) s p (r .next)
-  pub even : p .bit % 8 ≡ 0 → r .next .bit % 8 ≡ 0
   pub kept : ApartFrom names t → Kept names w w′
   pub right : ApartFrom names t → (m : Model) (end : ℕ) → Holds calendar s x (m .calendars) end → NamesIn s m names w
       → (next : ℕ) → Run Activities s p n (m .activities) next → r .right ≡ every? (activityRight m) (numbered 0 (m .activities))

@@ -74,7 +74,6 @@ returns c =
     let i = l .loop .i in
     record {
       passes = pass-cut (recordOf true Activities) (i + 1) (b .count) (omega arith) (pass-more (recordOf true Activities) i (v .2) (y .next)) (far (b .s .now) (j .judge-activity .result .next) (c .if1 .taken));
-      even = λ z. y .even;
       kept = λ a. kept-then (v .4 a) (kept-added _ _ _ _ _ a (p .put .ensures));
       right = λ a m end h n next r. let g = v .5 a m end h n next r .along in not-far (goes never true g (tested g (omega arith) (y .next)) refl) (c .if1 .taken);
       keys = λ small z e em xs next r. let g = v .6 small z e em xs next r .along in not-far (goes never true g (tested g (omega arith) (y .next)) refl) (c .if1 .taken);
@@ -120,7 +119,6 @@ returns-2 c =
     let e : l .loop .i ≡ l .before .before .before .args .count = omega arith in
     record {
       passes = rw e at (v .2);
-      even = v .3;
       kept = v .4;
       right = λ a m end h n next r. judge-ends (v .5 a m end h n next r) (omega arith);
       keys = λ small z g em xs next r. filled (v .6 small z g em xs next r) (omega arith);
