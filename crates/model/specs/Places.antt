@@ -9,15 +9,15 @@ use lib.ListN.{length, take, drop}
 use Rattle.definition.specs.Base.{_>>=_}
 use Rattle.definition.specs.Text.{Text, isUtf8}
 use Rattle.definition.specs.Calendar.{byDate}
-use Rattle.definition.specs.Format.{Format, _⊗_, whole, times, row, flag, code, number, text, date, optional, listOf, periods, dates}
+use Rattle.definition.specs.Format.{Format, _⊗_, whole, times, row, flag, text, date, optional, listOf, periods, dates}
 use Rattle.definition.specs.Model.{Calendar, Activity, Link, Resource, Assignment, Expense}
 use Rattle.definition.specs.Pack.{calendar, activity, link, resource, assignment, expense}
 use Rattle.bits.specs.Reads.{Reads, Spans, padAt, read-some, refuse-some}
 pub use Rattle.bits.specs.Reads.{span-ends, between}
 use Rattle.bits.specs.declared.Place.{Place}
 use Rattle.bits.specs.declared.Span.{Span}
-use Rattle.model.specs.Lax.{regroup-none, regroup-more, regroup-like, lax-same, lax-⊗}
-use Rattle.model.specs.Passes.{Passes, pass-as, pass-like, _⨾_, ended}
+use Rattle.model.specs.Lax.{regroup-none, regroup-more}
+use Rattle.model.specs.Passes.{Passes, pass-as, _⨾_, ended}
 use Rattle.model.specs.Answers.{nameMeaning, nameAt, rowsAt}
 use Rattle.model.specs.Parts.{textBy, activityHead, activityParts, activityNotes, resourceHead, recordOf, regroup-five, lax-text, lax-activity-head, lax-resource-head}
 use Rattle.model.specs.Splits.{Stands, not-refused, stands-is, stands-reads, stands-first, stands-next, stands-pass, stands-named, stands-whole, stands-regroup, stands-or}
@@ -77,20 +77,6 @@ module _ {s : List ℕ} {p : Place} {a : Activity} (h : Stands (whole activity) 
   activity-parent check b =
       let u = stands-named _ _ (stands-whole h) in
       let x = stands-next (stands-regroup (regroup-five _ _ _ _ _ _) (u .stands)) (lax-activity-head check) b in
-      rw (u .is) (stands-first _ x)
-
-  pub activity-calendar : {q : Place} → Passes (activityHead (textBy false) ⊗ optional row ⊗ textBy false) s p q → Stands (optional text) s q (a .calendar)
-  unfolding activity
-  activity-calendar b =
-      let t = lax-text false in
-      let u = stands-named _ _ (stands-whole h) in
-      let n1 = optional row ⊗ text in
-      let n2 = optional number ⊗ n1 in
-      let n3 = number ⊗ n2 in
-      let n4 = code 0 2 ⊗ n3 in
-      let g = regroup-more text (text ⊗ n4) _ (regroup-more text n4 _ (regroup-more (code 0 2) n3 _ (regroup-more number n2 _ (regroup-more (optional number) n1 _ (regroup-more (optional row) text _ (regroup-none (text ⊗ _))))))) in
-      let k = lax-⊗ t (lax-⊗ t (lax-⊗ (lax-same (code 0 2)) (lax-⊗ (lax-same number) (lax-⊗ (lax-same (optional number)) (lax-⊗ (lax-same (optional row)) t))))) in
-      let x = stands-next (stands-regroup g (u .stands)) k (pass-like (regroup-like (regroup-five _ _ _ _ _ _)) b) in
       rw (u .is) (stands-first _ x)
 
 -- the fields before the parent, the parent, and what is behind it make the record

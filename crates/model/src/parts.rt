@@ -5,7 +5,7 @@ ghost use mathlib.Core.Bool.{false};
 ghost use Rattle.definition.specs.Base.{given};
 ghost use Rattle.definition.specs.Date.{fromDays};
 ghost use Rattle.definition.specs.Answer.{rowMeaning, dateMeaning};
-ghost use Rattle.definition.specs.Format.{_⊗_, optional, row, times, period, periods};
+ghost use Rattle.definition.specs.Format.{row, times, period, periods};
 ghost use Rattle.model.specs.Passes.{Passes};
 ghost use Rattle.model.specs.Parts.{textBy, activityHead, resourceHead};
 ghost use Rattle.model.specs.Answers.{readAt, rowAt, rowsAt, dateAt, periodMeaning};
@@ -218,21 +218,6 @@ pub fn parent_place_by(s: &[u8], p: Place, check: bool) -> Place
     let c = skip_code(s, b, 0, 2);
     let d = skip(s, c, 64);
     skip_optional(s, d, 64)
-}
-
-pub fn parent_place(s: &[u8], p: Place) -> Place
-    ensures { λ r. ⌜ Passes (activityHead (textBy false)) (now (s .entry)) p r ⌝ }
-{
-    parent_place_by(s, p, false)
-}
-
-// The name of an activity's calendar.
-pub fn activity_calendar_place(s: &[u8], p: Place) -> Place
-    ensures { λ r. ⌜ Passes (activityHead (textBy false) ⊗ optional row ⊗ textBy false) (now (s .entry)) p r ⌝ }
-{
-    let a = parent_place(s, p);
-    let b = skip_optional(s, a, 32);
-    skip_text(s, b, false)
 }
 
 // The name of a resource's calendar. The texts before it are tested where `check` says so.
