@@ -114,13 +114,17 @@ activity =
     (text ⊗ text ⊗ code 0 2 ⊗ number ⊗ optional number ⊗ optional row ⊗ text ⊗ optional text ⊗ optional constraint ⊗ optional date ⊗
     optional date ⊗ optional date ⊗ optional number ⊗ code 0 3 ⊗ optional number ⊗ text)
 
+-- a lag's kind, with a number if it is Percent
+abbrev pub lagKind : Format (ℕ × Option ℤ)
+lagKind = depending (code 0 2) (eqb 2) number
+
 -- predecessor and successor rows, kind, lag, optional minutes, lag kind, number if Percent
 unfoldable pub link : Format Link
 link =
     named
     (λ p. let (a, (b, (k, (l, (m, t))))) = p in record { predecessor = a; successor = b; kind = k; lag = l; minutes = m; lagKind = t })
     (λ l. (l .predecessor, (l .successor, (l .kind, (l .lag, (l .minutes, l .lagKind))))))
-    (row ⊗ row ⊗ code 0 3 ⊗ number ⊗ optional number ⊗ depending (code 0 2) (eqb 2) number)
+    (row ⊗ row ⊗ code 0 3 ⊗ number ⊗ optional number ⊗ lagKind)
 
 -- id, name, kind, unit, max units, optional calendar name, optional price
 unfoldable pub resource : Format Resource

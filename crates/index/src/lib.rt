@@ -6,7 +6,8 @@ ghost use mathlib.Core.Path.{_≡_};
 ghost use Prim.Native.Nat.{_+_, _-_, _*_, _%_, _^_, _≤_, _<_, min};
 ghost use mathlib.Core.List.{_++_};
 ghost use lib.ListN.{length, getD, set, replicate};
-ghost use Rattle.index.specs.Hash.{quadAt, mixed, hashAfter, hashOf, starredBy};
+ghost use Rattle.index.specs.Hash.{quadAt, mixed, hashAfter, hashOf};
+ghost use Rattle.laws.specs.Stars.{starredBy};
 ghost use Rattle.index.specs.Chains.{zeros, added, firstOf, nextOf, placeOf, tableOf, rowBelow, endIn};
 
 // Where its words begin, and how many rows there may be.

@@ -17,8 +17,10 @@ pub mod FitResources
 pub mod FitTrees
 pub mod Floats
 pub mod Formats
+pub mod Keep
 pub mod Options
 pub mod Outlines
 pub mod Rows
 pub mod Same
+pub mod Stars
 pub mod Tests

@@ -11,6 +11,7 @@ use lib.Dec.{leb, ltb, eqb}
 use lib.IntN.{ℤ, pos, negsuc}
 use lib.Signed.{leZ}
 use borrow.Author.Tests.{lt-ltb, le-ltb, ltb-true, ltb-false, le-leb, lt-leb, leb-true, leb-false, eq-eqb, ne-eqb}
+use Rattle.definition.specs.Pack.{lagKind}
 use Rattle.definition.specs.Base.{_>>=_, _or_, given, when, if_then_else_}
 use Rattle.definition.specs.Bits.{Bits, bitsOf, bytesUpTo, signed}
 use Rattle.definition.specs.Answer.{dayNumberOf}
@@ -36,7 +37,7 @@ use Rattle.model.specs.Sections.{start, countsBy}
 use Rattle.model.specs.Places.{NameTaken, between, span-ends, name-is}
 use Rattle.model.specs.declared.parts.NameAnswer.{NameAnswer}
 use Rattle.model.specs.Rising.{Finds, PeriodKey, DayKey}
-use Rattle.model.specs.Parts.{raw, textBy, lagKind}
+use Rattle.model.specs.Parts.{raw, textBy}
 
 -- nothing there: past
 pub pass-past : {A : Type 0} {f : Format A} {s : List ℕ} {p : Place} → Refuses f s p → Passes f s p past

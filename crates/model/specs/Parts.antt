@@ -5,7 +5,7 @@ use mathlib.Core.Bool.{Bool, true, false}
 use mathlib.Core.List.{List, _++_}
 use mathlib.Core.Option.{Option, some, none}
 use Prim.Native.Nat.{ℕ, _*_}
-use lib.Dec.{ltb, eqb}
+use lib.Dec.{ltb}
 use lib.IntN.{ℤ}
 use lib.ListN.{length, drop}
 use Rattle.definition.specs.Base.{_>>=_, if_then_else_, when}
@@ -13,8 +13,8 @@ use Rattle.definition.specs.Bits.{Bits, bitsOf, bytesUpTo}
 use Rattle.definition.specs.Text.{Text, isUtf8}
 use Rattle.definition.specs.Date.{Date}
 use Rattle.definition.specs.Calendar.{byDate}
-use Rattle.definition.specs.Format.{Format, _⊗_, Period, depending, whole, times, count, row, flag, code, number, text, date, optional, listOf, periods, dates}
-use Rattle.definition.specs.Pack.{constraint, calendar, activity, link, resource, assignment, expense}
+use Rattle.definition.specs.Format.{Format, _⊗_, Period, whole, times, count, row, flag, code, number, text, date, optional, listOf, periods, dates}
+use Rattle.definition.specs.Pack.{lagKind, constraint, calendar, activity, link, resource, assignment, expense}
 use Rattle.model.specs.Lax.{behind, Like, Lax, Regroups, passed, lax-same, lax-⊗, lax-optional, lax-whole, lax-like, lax-of, regroup-none, regroup-more, regroup-like, like-then, like-named, like-whole, like-passed}
 use Rattle.model.specs.declared.records.Kind.{Kind}
 use Rattle.model.specs.declared.records.Kind.the-variants.{Calendars, Activities, Links, Resources, Assignments, Expenses}
@@ -29,10 +29,6 @@ raw = record {
 unfoldable pub textBy : Bool → Format Text
 textBy true = text
 textBy false = raw
-
--- a link's lag kind, with its number if Percent
-abbrev pub lagKind : Format (ℕ × Option ℤ)
-lagKind = depending (code 0 2) (eqb 2) number
 
 module _ (t : Format Text) where
   unfoldable pub calendarParts : Format (Text × (List Bool × (List (List Period) × (List Date × (List Date × List (Date × List Period))))))

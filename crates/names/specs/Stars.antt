@@ -6,16 +6,14 @@ use Prim.Native.Nat.{ℕ, zero, suc, _+_, _-_, _≤_, _<_}
 use native.Mathlib.Nat.{sub-zero}
 use native.Mathlib.Omega.{arith}
 use native.Mathlib.Decide.{decLt}
-use lib.ListN.{length, take, replicate, length-append, length-replicate}
+use lib.ListN.{length, take, replicate}
 use lib.Seq.{take-at}
 use Rattle.definition.specs.Base.{if_then_else_, same, some?}
 use Rattle.definition.specs.Text.{Text}
 use Rattle.definition.specs.Calendar.{starred, free}
 use Rattle.laws.specs.FitNames.{free-new, free-shape}
 use Rattle.pack.specs.Value.{starredBy}
-
-pub star-length : (s : Text) (k : ℕ) → length (starredBy s k) ≡ length s + k
-star-length s k = length-append s (replicate k 42) ∙ rw length-replicate
+pub use Rattle.laws.specs.Stars.{star-length}
 
 pub star-none : (s : Text) → starredBy s 0 ≡ s
 star-none s = append-nil s

@@ -11,6 +11,7 @@ use lib.ListN.{length, getD, set, length-set}
 use lib.Seq.{getD-set-same, getD-set-other}
 use Rattle.definition.specs.Base.{keep, first, count}
 use Rattle.definition.specs.Outline.{parentIn, parentAt}
+use Rattle.laws.specs.Keep.{keep-yes, keep-no}
 use Rattle.laws.specs.Outlines.{parent-in}
 use Rattle.outline.specs.Words.{noRow, parentsIn}
 use Rattle.outline.proofs.ParentLaws.{length-parents, parents-at}
@@ -80,14 +81,6 @@ length-link n i w = let o = parentIn n i (some (getD w (4 * i + 0) 0)) in length
 
 -- ---- the rows of one parent, from a row on
 
-keep-true : (p : ℕ → Bool) (x : ℕ) (l : List ℕ) → p x ≡ true → keep p (x ∷ l) ≡ x ∷ keep p l
-unfolding keep
-keep-true p x l h = rw h
-
-keep-false : (p : ℕ → Bool) (x : ℕ) (l : List ℕ) → p x ≡ false → keep p (x ∷ l) ≡ keep p l
-unfolding keep
-keep-false p x l h = rw h
-
 module _ (ps : List (Option ℕ)) (o : Option ℕ) (i : ℕ) (h : i < length ps) where
   siblings-open : siblings ps o i ≡ keep (λ c. sameParent o (parentAt ps c)) (i ∷ count (suc i) (length ps - suc i))
   unfolding siblings count
@@ -97,11 +90,11 @@ module _ (ps : List (Option ℕ)) (o : Option ℕ) (i : ℕ) (h : i < length ps)
 
   siblings-more : sameParent o (parentAt ps i) ≡ true → siblings ps o i ≡ i ∷ siblings ps o (suc i)
   unfolding siblings
-  siblings-more t = siblings-open ∙ keep-true (λ c. sameParent o (parentAt ps c)) i (count (suc i) (length ps - suc i)) t
+  siblings-more t = siblings-open ∙ keep-yes (λ c. sameParent o (parentAt ps c)) i (count (suc i) (length ps - suc i)) t
 
   siblings-skip : sameParent o (parentAt ps i) ≡ false → siblings ps o i ≡ siblings ps o (suc i)
   unfolding siblings
-  siblings-skip t = siblings-open ∙ keep-false (λ c. sameParent o (parentAt ps c)) i (count (suc i) (length ps - suc i)) t
+  siblings-skip t = siblings-open ∙ keep-no (λ c. sameParent o (parentAt ps c)) i (count (suc i) (length ps - suc i)) t
 
 -- two lists begin at one word only where they are one
 slot-same : (o u : Option ℕ) → 4 * homeOf o + slotOf o ≡ 4 * homeOf u + slotOf u → sameParent o u ≡ true

@@ -3,10 +3,9 @@ use Prim.Native.Nat.{ℕ}
 use mathlib.Core.List.{List}
 use Rattle.definition.specs.Model.{Project, Activity, Link, Resource, Assignment, Expense}
 use Rattle.definition.specs.Format.{_⊗_, row, count, code, number, date, text, optional}
-use Rattle.definition.specs.Pack.{project, activity, link, resource, assignment, expense}
+use Rattle.definition.specs.Pack.{lagKind, project, activity, link, resource, assignment, expense}
 use Rattle.bits.specs.Steps.{Puts, put-via}
 use Rattle.bits.specs.declared.Place.{Place}
-use Rattle.pack.specs.Value.{lagKind}
 use Rattle.pack.specs.Record.{scheduleFields, scheduleOf}
 
 module _ {d : List ℕ} {p : Place} {d' : List ℕ} {q : Place} where

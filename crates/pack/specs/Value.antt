@@ -1,17 +1,14 @@
 -- What the values that are written mean. Assumes nothing.
 use Prim.Native.Nat.{ℕ}
 use mathlib.Core.Path.{_≡_, refl, ap, _∙_}
-use mathlib.Core.List.{_++_}
 use mathlib.Core.Option.{Option, some, none}
-use lib.Dec.{eqb}
 use lib.IntN.{ℤ}
-use lib.ListN.{replicate}
 use Rattle.definition.specs.Base.{_or_, _>>=_}
 use Rattle.definition.specs.Date.{Date, fromDays}
+pub use Rattle.laws.specs.Stars.{starredBy}
 use Rattle.laws.specs.Fields.{InYears, days-day}
 use Rattle.laws.specs.Formats.{IfGiven}
 use Rattle.definition.specs.Text.{Text}
-use Rattle.definition.specs.Format.{Format, depending, code, number}
 use Rattle.definition.specs.Answer.{dateMeaning, dayNumberOf}
 use Rattle.definition.specs.declared.DateAnswer.{DateAnswer}
 use Rattle.tasks.specs.Task.{constraintMeans, dayNumbered}
@@ -30,14 +27,6 @@ dateGiven d = dateMeaning d >>= λ z. some (dateBy z)
 -- a constraint that may be missing: its code, and its date unless the code is 1
 abbrev pub constraintGiven : ConstraintAnswer → Option (ℕ × Option Date)
 constraintGiven c = constraintMeans c >>= λ x. some (x .0, x .1 >>= λ z. some (dateBy z))
-
--- a link's lag kind
-abbrev pub lagKind : Format (ℕ × Option ℤ)
-lagKind = depending (code 0 2) (eqb 2) number
-
--- a text with so many `*` behind it
-abbrev pub starredBy : Text → ℕ → Text
-starredBy s stars = s ++ replicate stars 42
 
 -- a name that may be missing: the text with so many `*` behind it
 unfoldable pub nameMeaning : Text → NameAnswer → Option Text

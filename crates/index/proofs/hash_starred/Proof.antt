@@ -1,6 +1,6 @@
 -- `index::hash_starred` meets its contract. What the calls give together is the definition. Assumes nothing.
-use Rattle.index.specs.Hash.{starredBy}
-use Rattle.index.specs.Steps.{hash-done, length-starred}
+use Rattle.laws.specs.Stars.{starredBy, star-length}
+use Rattle.index.specs.Steps.{hash-done}
 use borrow.Author.Needs.{needs}
 use Rattle.index.proofs.hash_starred.Statement.{statement}
 use Rattle.index.proofs.hash_starred.Tie as tie
@@ -43,7 +43,7 @@ returns c =
     let x = l1 .before .before .args in
     hash-done
     (starredBy (x .s .now) (x .stars))
-    (length-starred (x .s .now) (x .stars))
+    (star-length (x .s .now) (x .stars))
     (l1 .less .ensures)
     (l2 .less2 .ensures)
     (l3 .less3 .ensures)

@@ -1,8 +1,9 @@
 -- `index::mix_all` meets its contract. The invariant: the state after k times eight bytes. Assumes nothing.
 use mathlib.Core.Path.{_≡_, sym, ap, _∙_}
 use Prim.Native.Nat.{_-_, _≤_}
-use Rattle.index.specs.Hash.{hashAfter, starredBy}
-use Rattle.index.specs.Steps.{hash-none, hash-more, length-starred}
+use Rattle.index.specs.Hash.{hashAfter}
+use Rattle.laws.specs.Stars.{starredBy, star-length}
+use Rattle.index.specs.Steps.{hash-none, hash-more}
 use native.Mathlib.Omega.{arith}
 use borrow.Author.Needs.{needs}
 use Rattle.index.proofs.mix_all.Statement.{statement}
@@ -20,7 +21,7 @@ add-h c = search needs
 loop-holds : tie.Need-loop-holds Inv-loop μ-loop
 loop-holds c =
     let a = c .before .args in
-    (omega arith, sym (length-starred (a .s .now) (a .stars)) ∙ hash-none (starredBy (a .s .now) (a .stars)))
+    (omega arith, sym (star-length (a .s .now) (a .stars)) ∙ hash-none (starredBy (a .s .now) (a .stars)))
 
 mul-starred-quad : tie.Need-mul-starred-quad Inv-loop μ-loop
 mul-starred-quad c = search needs

@@ -1,6 +1,6 @@
 -- `index::starred_quad` meets its contract. Inside the text it is read at once. Assumes nothing.
 use mathlib.Core.Path.{_∙_}
-use Rattle.index.specs.Hash.{starredBy}
+use Rattle.laws.specs.Stars.{starredBy}
 use Rattle.index.specs.Steps.{quad-by, quad-before}
 use borrow.Author.Needs.{needs}
 use Rattle.index.proofs.starred_quad.Statement.{statement}
