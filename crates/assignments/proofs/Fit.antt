@@ -23,6 +23,8 @@ use Rattle.laws.specs.FitLists.{Perhaps, missing, there, perhaps-any, each-keep
 use Rattle.laws.specs.FitTrees.{Small, small-element, slim-texts, holds-child, holds-in}
 use Rattle.laws.specs.FitResources.{fit-expense, fit-resource}
 use Rattle.tree.specs.Place.{elementAt}
+use Rattle.tree.specs.declared.root.Root.{Root}
+use Rattle.tree.specs.Root.{rootAt}
 use Rattle.bits.specs.declared.Place.{Place}
 use Rattle.names.specs.Context.{contextAt, calendarsBefore}
 use Rattle.names.specs.Naming.{Finds}
@@ -42,8 +44,8 @@ small-at s b at = small-element (drop at s) (each-drop at b)
 
 -- ---- expenses
 
-module _ (s : Text) (b : Bytes s) (root : ℕ) (w : List ℕ) where
-  cost-small : (m : Made) (u : Text) → Perhaps Small (costIn s (elementAt s root) w m u)
+module _ (s : Text) (b : Bytes s) (root : Root) (w : List ℕ) where
+  cost-small : (m : Made) (u : Text) → Perhaps Small (costIn s (rootAt s root) w m u)
   unfolding costIn
   cost-small NoRoom u = each-last (hasUid u) (each-keep isCost (each-keep isResource (holds-in (holds-child (small-at s b root) (bytes "Resources")) (bytes "Resource"))))
   cost-small (Ready t) u = perhaps-any {P = Small} (soughtIn s w t u) (λ r. there (small-at s b (placeOf w t r)))

@@ -3,6 +3,7 @@ use mathlib.Core.Path.{_≡_, refl, sym, ap, _∙_, subst}
 use mathlib.Core.Bool.{Bool, true, false, _&&_}
 use mathlib.Core.List.{List}
 use Prim.Native.Nat.{ℕ, _*_, _%_, _^_, _<_}
+use Rattle.tree.specs.declared.root.Root.{Root}
 use native.Mathlib.Omega.{arith}
 use borrow.Author.Tests.{le-leb}
 use lib.Dec.{leb, eqb}
@@ -26,7 +27,7 @@ use Rattle.laws.specs.Formats.{Fills, fills-whole, fills-pair}
 use Rattle.laws.specs.Bits.{bytes-of}
 use Rattle.laws.specs.Bools.{differ}
 use Rattle.bits.specs.Round.{put-inside as began, put-stood}
-use Rattle.tree.specs.Place.{elementAt}
+use Rattle.tree.specs.Root.{rootAt}
 use Rattle.bits.specs.Places.{past, inside}
 use Rattle.bits.specs.Steps.{Puts, _⨾_, said, refuses, view, view-out, puts, put-⊗}
 use Rattle.bits.specs.declared.Place.{Place}
@@ -45,7 +46,7 @@ use Rattle.read.specs.Sections.{start, low, zeros, listed, listedOf, Few
 abbrev pub Fit : Element → Type 0
 Fit e = Each (FitsCalendarBy Short) (calendarsOf (contextOf e))
 
-pub fit-tree : (s : Text) (root : ℕ) → ((i : ℕ) → getD s i 0 < 256) → Few (elementAt s root) → Fit (elementAt s root)
+pub fit-tree : (s : Text) (root : Root) → ((i : ℕ) → getD s i 0 < 256) → Few (rootAt s root) → Fit (rootAt s root)
 fit-tree s root h few = fit-calendars slim-texts (small-element (drop root s) (each-drop root (bytes-of s h))) (few .calendars)
 
 -- ---- one section

@@ -16,7 +16,7 @@ use Rattle.definition.specs.Task.{contextOf}
 use Rattle.definition.specs.Resource.{workResources, resources, assignments, expenses}
 use Rattle.definition.specs.Refusal.{mostElements}
 use Rattle.definition.specs.Read.{modelOf}
-use Rattle.tree.specs.Place.{elementAt}
+use Rattle.tree.specs.Root.{rootAt}
 use Rattle.bits.specs.Places.{inside}
 use Rattle.bits.specs.Steps.{Puts}
 use Rattle.bits.specs.declared.Place.{Place}
@@ -25,6 +25,7 @@ use Rattle.pack.specs.Record.{countsBy}
 use Rattle.pack.specs.declared.record.Counts as P
 use Rattle.names.specs.Context.{contextAt, calendarsBefore}
 use Rattle.assignments.specs.Section.{WritesIn}
+use Rattle.tree.specs.declared.root.Root.{Root}
 use Rattle.read.specs.declared.assigned.Assigned.{Assigned}
 use Rattle.read.specs.declared.sections.Sections.{Sections}
 
@@ -75,15 +76,15 @@ pub record AssignedPut (e : Element) (c : Place) (d : List ℕ) (p : Place) (d' 
   pub expenses-put : WritesIn (whole expense) (expenses (contextOf e) e) d2 (r .assignments .next) d' (r .expenses)
 
 -- the sections
-pub record SectionsPut (s : Text) (root : ℕ) (d : List ℕ) (p : Place) (d' : List ℕ) (r : Sections) : Type 0 where
+pub record SectionsPut (s : Text) (root : Root) (d : List ℕ) (p : Place) (d' : List ℕ) (r : Sections) : Type 0 where
   pub same : length d' ≡ length d
-  pub puts : Few (elementAt s root) → Whole d p → Puts (listed (countsOf (modelOf (elementAt s root)))) (listedOf (modelOf (elementAt s root))) d p d' (r .next)
-  pub counts : Few (elementAt s root) → Whole d p → Counted (elementAt s root) d' r
+  pub puts : Few (rootAt s root) → Whole d p → Puts (listed (countsOf (modelOf (rootAt s root)))) (listedOf (modelOf (rootAt s root))) d p d' (r .next)
+  pub counts : Few (rootAt s root) → Whole d p → Counted (rootAt s root) d' r
 
 -- all from the start on, with open counts
-pub record AllPut (s : Text) (root : ℕ) (d d' : List ℕ) (r : Sections) : Type 0 where
-  pub puts : Few (elementAt s root) → Puts (counts ⊗ body (countsOf (modelOf (elementAt s root)))) (zeros, bodyOf (modelOf (elementAt s root))) d start d' (r .next)
-  pub counts : Few (elementAt s root) → Counted (elementAt s root) d' r
+pub record AllPut (s : Text) (root : Root) (d d' : List ℕ) (r : Sections) : Type 0 where
+  pub puts : Few (rootAt s root) → Puts (counts ⊗ body (countsOf (modelOf (rootAt s root)))) (zeros, bodyOf (modelOf (rootAt s root))) d start d' (r .next)
+  pub counts : Few (rootAt s root) → Counted (rootAt s root) d' r
 
 -- counts laid over zeros, and nothing else changed
 pub record Closes (n : P.Counts) (d d' : List ℕ) : Type 0 where

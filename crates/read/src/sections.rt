@@ -7,6 +7,7 @@ use bits::Place;
 use index::Made;
 use pack::Counts;
 use rows::Listed;
+use tree::Root;
 
 // How many records of each kind were put, and the place behind the last.
 pub(crate) struct Sections {
@@ -19,7 +20,7 @@ fn put_sections(
     out: &mut [u8],
     p: Place,
     s: &[u8],
-    root: usize,
+    root: Root,
     words: &mut [u32],
     tasks: Made,
 ) -> Sections
@@ -46,7 +47,7 @@ fn put_sections(
 }
 
 // All from the first byte on, the six counts left open.
-pub(crate) fn put_all(out: &mut [u8], s: &[u8], root: usize, words: &mut [u32]) -> Sections
+pub(crate) fn put_all(out: &mut [u8], s: &[u8], root: Root, words: &mut [u32]) -> Sections
     ensures { λ r. ⌜ AllPut (now (s .entry)) root (now (out .entry)) (now (out .exit)) r ⌝ }
 {
     let open = Counts {

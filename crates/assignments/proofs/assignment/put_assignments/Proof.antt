@@ -1,4 +1,4 @@
-use Rattle.tree.specs.Place.{elementAt}
+use Rattle.tree.specs.Root.{rootAt}
 use Rattle.tree.specs.Answer.{found-list, none-list}
 use Rattle.assignments.specs.Finders.{findersIn}
 use Rattle.assignments.proofs.Assignments.{assignments-none, assignments-all}
@@ -30,7 +30,7 @@ records-of-requires c κs = search needs
 returns : tie.Need-returns
 returns c =
     let a = c .before .before .before .before .before .before .before .before .args in
-    let root = elementAt (a .s .now) (a .root) in
+    let root = rootAt (a .s .now) (a .root) in
     assignments-none (findersIn (a .s .now) root (a .words .now) (a .tasks) (a .work) (a .cost)) root (none-list (c .before .before .first-in .ensures) (c .enum-told .given .1))
 
 same-length : tie.Need-same-length
@@ -39,7 +39,7 @@ same-length c = search needs
 returns-2 : tie.Need-returns-2
 returns-2 c =
     let a = c .before .before .before .before .before .before .before .before .before .before .before .before .before .before .args in
-    let root = elementAt (a .s .now) (a .root) in
+    let root = rootAt (a .s .now) (a .root) in
     assignments-all (findersIn (a .s .now) root (a .words .now) (a .tasks) (a .work) (a .cost)) root (found-list (c .before .before .before .before .before .before .before .before .first-in .ensures) (c .before .before .before .before .before .before .first .given .1)) (c .before .before .before .put-from .ensures) (c .records-of .ensures)
 
 pub put-assignments-spec : {M : Type 1} → statement M

@@ -1,4 +1,4 @@
-use Rattle.tree.specs.Place.{elementAt}
+use Rattle.tree.specs.Root.{rootAt}
 use Rattle.tree.specs.Answer.{found-list, none-list}
 use Rattle.assignments.specs.Records.{findersAt}
 use Rattle.assignments.proofs.Writing.{section-none, section-all}
@@ -27,7 +27,7 @@ put-from-requires c κs = search needs
 returns : tie.Need-returns
 returns c =
     let a = c .before .before .before .before .before .before .before .before .args in
-    section-none _ (findersAt (a .s .now) (a .root) (a .words .now) (a .t)) (elementAt (a .s .now) (a .root)) (none-list (c .before .before .first-in .ensures) (c .enum-told .given .1))
+    section-none _ (findersAt (a .s .now) (a .root) (a .words .now) (a .t)) (rootAt (a .s .now) (a .root)) (none-list (c .before .before .first-in .ensures) (c .enum-told .given .1))
 
 same-length : tie.Need-same-length
 same-length c = search needs
@@ -38,7 +38,7 @@ same-length-2 c = search needs
 returns-2 : tie.Need-returns-2
 returns-2 c =
     let a = c .before .before .before .before .before .before .before .before .before .before .before .before .before .before .before .before .args in
-    section-all _ (findersAt (a .s .now) (a .root) (a .words .now) (a .t)) (elementAt (a .s .now) (a .root)) (found-list (c .before .before .before .before .before .before .before .before .before .before .first-in .ensures) (c .before .before .before .before .before .before .before .before .first .given .1)) (c .before .before .before .before .put-from .ensures)
+    section-all _ (findersAt (a .s .now) (a .root) (a .words .now) (a .t)) (rootAt (a .s .now) (a .root)) (found-list (c .before .before .before .before .before .before .before .before .before .before .first-in .ensures) (c .before .before .before .before .before .before .before .before .first .given .1)) (c .before .before .before .before .put-from .ensures)
 
 pub put-all-spec : {M : Type 1} → statement M
 put-all-spec =

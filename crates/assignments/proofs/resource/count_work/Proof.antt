@@ -1,5 +1,5 @@
 use borrow.Author.Needs.{needs}
-use Rattle.tree.specs.Place.{elementAt}
+use Rattle.tree.specs.Root.{rootAt}
 use Rattle.tree.specs.Answer.{found-list, none-list}
 use Rattle.assignments.proofs.Work.{count-none, count-all}
 use Rattle.assignments.proofs.resource.count_work.Statement.{statement}
@@ -26,13 +26,13 @@ count-from-requires c κs = search needs
 returns : tie.Need-returns
 returns c =
     let k = c .before .before .before .before .before .before in
-    count-none (elementAt (k .args .s .now) (k .args .root)) (none-list (c .before .before .first-in .ensures) (c .enum-told .given .1))
+    count-none (rootAt (k .args .s .now) (k .args .root)) (none-list (c .before .before .first-in .ensures) (c .enum-told .given .1))
 
 returns-2 : tie.Need-returns-2
 returns-2 c =
     let k = c .before .before .before .before in
     let l = k .before .before .before .before in
-    count-all (elementAt (l .args .s .now) (l .args .root)) (found-list (k .first-in .ensures) (c .before .before .first .given .1)) (c .count-from .ensures)
+    count-all (rootAt (l .args .s .now) (l .args .root)) (found-list (k .first-in .ensures) (c .before .before .first .given .1)) (c .count-from .ensures)
 
 pub count-work-spec : {M : Type 1} → statement M
 count-work-spec = tie.close (tie.spec slice-aggregate-first-in slice-aggregate-first-in-2 first-in-requires enum-told enum-known-first count-from-requires returns returns-2)

@@ -1,6 +1,6 @@
 -- `assignments::resource::put_all` meets its contract. Assumes nothing.
 use mathlib.Core.Path.{refl}
-use Rattle.tree.specs.Place.{elementAt}
+use Rattle.tree.specs.Root.{rootAt}
 use Rattle.tree.specs.Answer.{found-list, none-list}
 use Rattle.assignments.proofs.Work.{resources-not, resources-none, resources-all}
 use borrow.Author.Needs.{needs}
@@ -19,7 +19,7 @@ same-length c = search needs
 returns : tie.Need-returns
 returns c =
     let a = c .before .before .before .before .before .before .before .args in
-    (resources-not (a .out .now) (a .c) (elementAt (a .s .now) (a .root)) (a .p) (c .before .before .before .count-work .ensures) (c .before .calendars-before .ensures) (c .if1 .taken), refl)
+    (resources-not (a .out .now) (a .c) (rootAt (a .s .now) (a .root)) (a .p) (c .before .before .before .count-work .ensures) (c .before .calendars-before .ensures) (c .if1 .taken), refl)
 
 slice-aggregate-first-in : tie.Need-slice-aggregate-first-in
 slice-aggregate-first-in c = search needs
@@ -59,7 +59,7 @@ returns-2 c =
     let cw = cb .before .before in
     let start = cw .before .before .before .before in
     let a = start .args in
-    (resources-none (a .out .now) (a .c) (elementAt (a .s .now) (a .root)) (a .p) (cw .count-work .ensures) (cb .calendars-before .ensures) (i .if1 .left) (none-list (fi .first-in .ensures) (c .enum-told .given .1)), refl)
+    (resources-none (a .out .now) (a .c) (rootAt (a .s .now) (a .root)) (a .p) (cw .count-work .ensures) (cb .calendars-before .ensures) (i .if1 .left) (none-list (fi .first-in .ensures) (c .enum-told .given .1)), refl)
 
 same-length-3 : tie.Need-same-length-3
 same-length-3 c = search needs
@@ -79,7 +79,7 @@ returns-3 c =
     let cw = cb .before .before in
     let start = cw .before .before .before .before in
     let a = start .args in
-    resources-all (a .out .now) (a .c) (elementAt (a .s .now) (a .root)) (a .p) (cw .count-work .ensures) (cb .calendars-before .ensures) (i .if1 .left) (found-list (fi .first-in .ensures) (f .first .given .1)) (ic .index-calendars .ensures) (if .ids-for .ensures) (pf .put-from .ensures) (c .records-of .ensures)
+    resources-all (a .out .now) (a .c) (rootAt (a .s .now) (a .root)) (a .p) (cw .count-work .ensures) (cb .calendars-before .ensures) (i .if1 .left) (found-list (fi .first-in .ensures) (f .first .given .1)) (ic .index-calendars .ensures) (if .ids-for .ensures) (pf .put-from .ensures) (c .records-of .ensures)
 
 pub put-all-spec : {M : Type 1} → statement M
 put-all-spec =

@@ -6,6 +6,7 @@ use mathlib.Core.List.{_∷_}
 use lib.ListN.{length}
 use Rattle.definition.specs.Ascii.{bytes}
 use Rattle.tree.specs.Place.{elementAt, laterAt}
+use Rattle.tree.specs.Root.{rootAt}
 use Rattle.tree.specs.Answer.{found-list, none-list, found-on}
 use Rattle.names.specs.Seen.{bytes-of}
 use Rattle.assignments.proofs.Work.{Going-in, go-all, go-more, go-last}
@@ -16,7 +17,7 @@ use Rattle.assignments.proofs.resource.put_from.Tie as tie
 abbrev Inv-loop : tie.InvT-loop
 Inv-loop out₀ p s root first c words₀ calendars ids done₀ at₀ t12 out words done at =
     (length out ≡ length out₀) × (length words ≡ length words₀)
-    × Going-in c s (elementAt s root) calendars ids (elementAt s first ∷ laterAt s (bytes "Resource") first) (elementAt s at ∷ laterAt s (bytes "Resource") at) out₀ p words₀ out words done
+    × Going-in c s (rootAt s root) calendars ids (elementAt s first ∷ laterAt s (bytes "Resource") first) (elementAt s at ∷ laterAt s (bytes "Resource") at) out₀ p words₀ out words done
 
 abbrev μ-loop : tie.MeasureT-loop
 μ-loop out₀ p s root first c words₀ calendars ids done₀ at₀ t12 out words done at = length s - at

@@ -1,6 +1,6 @@
 use mathlib.Core.Path.{sym, _∙_}
 use Rattle.definition.specs.Field.{textIn}
-use Rattle.tree.specs.Place.{elementAt}
+use Rattle.tree.specs.Root.{rootAt}
 use Rattle.read.proofs.Projects.{given-first, given-second}
 use borrow.Author.Needs.{needs}
 use Rattle.read.proofs.project.project_name.Statement.{statement}
@@ -19,7 +19,7 @@ text-of-requires : tie.Need-text-of-requires
 text-of-requires c κs = search needs
 
 returns : tie.Need-returns
-returns c = let e = elementAt (c .before .before .before .before .before .before .args .s .now) (c .before .before .before .before .before .before .args .root) in c .text-of .ensures ∙ given-first (textIn e "Title") (textIn e "Name") (sym (c .before .before .before .given .ensures) ∙ c .before .before .if1 .taken)
+returns c = let e = rootAt (c .before .before .before .before .before .before .args .s .now) (c .before .before .before .before .before .before .args .root) in c .text-of .ensures ∙ given-first (textIn e "Title") (textIn e "Name") (sym (c .before .before .before .given .ensures) ∙ c .before .before .if1 .taken)
 
 slice-aggregate-text-of-2 : tie.Need-slice-aggregate-text-of-2
 slice-aggregate-text-of-2 c = search needs
@@ -28,7 +28,7 @@ text-of-requires-2 : tie.Need-text-of-requires-2
 text-of-requires-2 c κs = search needs
 
 returns-2 : tie.Need-returns-2
-returns-2 c = let e = elementAt (c .before .before .before .before .before .before .args .s .now) (c .before .before .before .before .before .before .args .root) in c .text-of2 .ensures ∙ given-second (textIn e "Title") (textIn e "Name") (sym (c .before .before .before .given .ensures) ∙ c .before .before .if1 .left)
+returns-2 c = let e = rootAt (c .before .before .before .before .before .before .args .s .now) (c .before .before .before .before .before .before .args .root) in c .text-of2 .ensures ∙ given-second (textIn e "Title") (textIn e "Name") (sym (c .before .before .before .given .ensures) ∙ c .before .before .if1 .left)
 
 pub project-name-spec : {M : Type 1} → statement M
 project-name-spec =

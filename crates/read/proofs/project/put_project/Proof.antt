@@ -1,4 +1,4 @@
-use Rattle.tree.specs.Place.{elementAt}
+use Rattle.tree.specs.Root.{rootAt}
 use Rattle.read.proofs.Projects.{date-given, project-put}
 use borrow.Author.Needs.{needs}
 use Rattle.read.proofs.project.put_project.Statement.{statement}
@@ -34,7 +34,7 @@ same-length c = search needs
 returns : tie.Need-returns
 returns c =
     let a = c .before .before .before .before .before .before .before .before .before .before .before .before .before .before .args in
-    let e = elementAt (a .s .now) (a .root) in
+    let e = rootAt (a .s .now) (a .root) in
     project-put e _ _ (c .before .before .before .before .before .before .before .before .before .start-of .result .0) _ _ (c .before .before .before .before .before .before .before .before .before .before .project-name .ensures) (c .before .before .before .before .before .before .before .before .before .start-of .ensures) (c .before .before .before .before .before .before .before .text-of .ensures) (c .before .before .before .before .before .before .skips-of .ensures) (date-given _ e "StatusDate" (c .before .before .before .before .date-in .ensures)) (c .before .before .put-project .ensures)
 
 pub put-project-spec : {M : Type 1} → statement M

@@ -1,5 +1,5 @@
 use Rattle.definition.specs.Field.{dateIn}
-use Rattle.tree.specs.Place.{elementAt}
+use Rattle.tree.specs.Root.{rootAt}
 use Rattle.read.proofs.Projects.{date-given, start-given, start-absent}
 use borrow.Author.Needs.{needs}
 use Rattle.read.proofs.project.start_of.Statement.{statement}
@@ -18,10 +18,10 @@ enum-told : tie.Need-enum-told
 enum-told c = search needs
 
 returns : tie.Need-returns
-returns c = start-given _ (dateIn (elementAt (c .before .before .before .before .before .before .args .s .now) (c .before .before .before .before .before .before .args .root)) "StartDate") (date-given _ (elementAt (c .before .before .before .before .before .before .args .s .now) (c .before .before .before .before .before .before .args .root)) "StartDate" (c .before .before .before .date-in .ensures)) _ (c .before .d .given .1)
+returns c = start-given _ (dateIn (rootAt (c .before .before .before .before .before .before .args .s .now) (c .before .before .before .before .before .before .args .root)) "StartDate") (date-given _ (rootAt (c .before .before .before .before .before .before .args .s .now) (c .before .before .before .before .before .before .args .root)) "StartDate" (c .before .before .before .date-in .ensures)) _ (c .before .d .given .1)
 
 returns-2 : tie.Need-returns-2
-returns-2 c = start-absent _ (dateIn (elementAt (c .before .before .before .before .before .args .s .now) (c .before .before .before .before .before .args .root)) "StartDate") (date-given _ (elementAt (c .before .before .before .before .before .args .s .now) (c .before .before .before .before .before .args .root)) "StartDate" (c .before .before .date-in .ensures)) (c .enum-told .given .1)
+returns-2 c = start-absent _ (dateIn (rootAt (c .before .before .before .before .before .args .s .now) (c .before .before .before .before .before .args .root)) "StartDate") (date-given _ (rootAt (c .before .before .before .before .before .args .s .now) (c .before .before .before .before .before .args .root)) "StartDate" (c .before .before .date-in .ensures)) (c .enum-told .given .1)
 
 pub start-of-spec : {M : Type 1} → statement M
 start-of-spec =
