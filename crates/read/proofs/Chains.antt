@@ -47,7 +47,7 @@ abbrev pub Fit : Element → Type 0
 Fit e = Each (FitsCalendarBy Short) (calendarsOf (contextOf e))
 
 pub fit-tree : (s : Text) (root : Root) → ((i : ℕ) → getD s i 0 < 256) → Few (rootAt s root) → Fit (rootAt s root)
-fit-tree s root h few = fit-calendars slim-texts (small-element (drop root s) (each-drop root (bytes-of s h))) (few .calendars)
+fit-tree s root h few = fit-calendars slim-texts (small-root s root (bytes-of s h)) (few .calendars)
 
 -- ---- one section
 

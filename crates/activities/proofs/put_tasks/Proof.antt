@@ -1,16 +1,15 @@
 use Prim.Native.Nat.{_+_, _≤_}
 use native.Mathlib.Omega.{arith}
 use mathlib.Core.Path.{_≡_, refl, sym, _∙_}
-use lib.ListN.{length, drop}
+use lib.ListN.{length}
 use denote.Ref.{now}
 use Rattle.definition.specs.Task.{mostTasks}
 use Rattle.index.specs.Below.{below-then}
-use Rattle.laws.specs.Each.{each-drop}
-use Rattle.laws.specs.FitTrees.{small-element}
 use Rattle.links.specs.Fates.{taskIn}
 use Rattle.names.specs.Seen.{bytes-of}
 use Rattle.names.specs.Context.{contextAt}
 use Rattle.rows.proofs.Listing.{first-tasks, next-tasks}
+use Rattle.rows.specs.Small.{small-at, small-root}
 use Rattle.rows.specs.Turns.{kept-end, kept-at, room-at}
 use Rattle.rows.specs.Walks.{keptBy, room}
 use Rattle.tree.specs.Root.{rootAt}
@@ -69,7 +68,7 @@ put-row-requires c κs =
     let a = s .args in
     let bytes = bytes-of (now (a .s)) (λ i. omega (arith, b .shared-slice-known .given i)) in
     let root = rootAt (now (a .s)) (a .root) in
-    let small = small-element (drop (a .root) (now (a .s))) (each-drop (a .root) bytes) in
+    let small = small-root (now (a .s)) (a .root) bytes in
     let w = rw (kept-at (now (a .s)) (t .task .given .1)) at (l .loop .inv .2) in
     let g = goes-task _ (a .c) root (s .pre .0) small w in
     (stays-ready (l .loop .inv .3) (s .pre .1) (t .task .given .1) (g .1), d .per-day .ensures, goes-finds _ (a .c) root (s .pre .0) small w (l .loop .inv .3 .names) (s .pre .2), rw (l .loop .inv .0) (s .pre .1 .opened), l .loop .inv .3 .ids)
@@ -101,8 +100,8 @@ loop-again c =
     let at = t .task .given .0 .0 in
     let k = room-at (t .task .given .1) in
     let bytes = bytes-of (now (a .s)) (λ i. omega (arith, b .shared-slice-known .given i)) in
-    let small = small-element (drop (a .root) (now (a .s))) (each-drop (a .root) bytes) in
-    let own = small-element (drop at (now (a .s))) (each-drop at bytes) in
+    let small = small-root (now (a .s)) (a .root) bytes in
+    let own = small-at (now (a .s)) bytes at in
     let x = l .loop .inv .3 in
     let w = rw (kept-at (now (a .s)) (t .task .given .1)) at (l .loop .inv .2) in
     let g = goes-task _ (a .c) root (z .pre .0) small w in
