@@ -69,10 +69,10 @@ loop-again c =
     let n = m .before .before in
     let o = n .before .before in
     let s = o .args .s .now in
-    let bytes = bytes-of s (λ i. omega (arith, n .shared-slice-known .given i)) in (
+    let is = bytes-of s (λ i. omega (arith, n .shared-slice-known .given i)) in (
       l .put-one .kept .0 ∙ m .loop .inv .0,
       l .put-one .kept .1 .1 .1 .1 .1 .1 .1 .0 ∙ m .loop .inv .1,
-      go-more _ _ _ _ _ (m .loop .inv .2) (l .put-one .ensures) (found-list (k .next-child .ensures) (c .before .next .given .1)) (small-root s (o .args .root) bytes) (small-at s bytes (m .loop .at)),
+      go-more _ _ _ _ _ (m .loop .inv .2) (l .put-one .ensures) (found-list (k .next-child .ensures) (c .before .next .given .1)) (small-root s (o .args .root) is) (small-at s is (m .loop .at)),
     )
 
 pub put-from-spec : {M : Type 1} → statement M
