@@ -1,6 +1,5 @@
 -- A turn of the loop over the kept tasks: what is read in the buffer is what was put. Assumes nothing.
 use Prim.Native.Nat.{ℕ, _+_, _%_, _^_, _≤_, _<_}
-use Rattle.tree.specs.declared.root.Root.{Root}
 use native.Mathlib.Nat.{mod-eq-of-lt}
 use native.Mathlib.Omega.{arith}
 use mathlib.Core.Path.{_≡_, refl, sym, ap, subst, _∙_}
@@ -49,6 +48,7 @@ use Rattle.rows.specs.declared.kept.KeptAnswer.{KeptAnswer}
 use Rattle.rows.specs.declared.kept.KeptAnswer.the-variants.{Is}
 use Rattle.rows.specs.declared.table.Listed.the-variants.{Tasks}
 use Rattle.tree.specs.Root.{rootAt}
+use Rattle.tree.specs.declared.root.Root.{Root}
 use Rattle.activities.specs.Own.{IdsOpen, IdsNoted, OwnRoom, RowNoted}
 use Rattle.activities.specs.Parents.{taskAt, Held, Ready}
 use Rattle.activities.specs.declared.own.Own.{Own}

@@ -22,8 +22,8 @@ use Rattle.laws.specs.FitRecords.{Short, FitsResourceBy, FitsExpenseBy}
 use Rattle.laws.specs.FitLists.{Perhaps, missing, there, perhaps-any, each-keep, each-last}
 use Rattle.laws.specs.FitTrees.{Small, slim-texts, holds-child, holds-in}
 use Rattle.laws.specs.FitResources.{fit-expense, fit-resource}
-use Rattle.tree.specs.declared.root.Root.{Root}
 use Rattle.tree.specs.Root.{rootAt}
+use Rattle.tree.specs.declared.root.Root.{Root}
 use Rattle.bits.specs.declared.Place.{Place}
 use Rattle.names.specs.Context.{contextAt, calendarsBefore}
 use Rattle.names.specs.Naming.{Finds}

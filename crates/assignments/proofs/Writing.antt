@@ -29,8 +29,8 @@ use Rattle.index.specs.Chains.{tableOf, zeros}
 use Rattle.index.specs.Law.{table-placed}
 use Rattle.index.specs.Below.{SameBelow, below-refl, below-then, below-zeros, below-take}
 use Rattle.tree.specs.Place.{elementAt}
-use Rattle.tree.specs.declared.root.Root.{Root}
 use Rattle.tree.specs.Root.{rootAt}
+use Rattle.tree.specs.declared.root.Root.{Root}
 use Rattle.tree.specs.declared.Found.{Found}
 use Rattle.rows.specs.Rows.{foundMeaning}
 use Rattle.assignments.specs.declared.section.Done.{Done}

@@ -17,9 +17,9 @@ use Rattle.definition.specs.Task.{Context}
 use Rattle.definition.specs.Link.{Fate, linkOf, fateBy, keptOf, isDangling, isAcross}
 use Rattle.index.specs.declared.Made.{Made}
 use Rattle.tree.specs.Root.{rootAt}
+use Rattle.tree.specs.declared.root.Root.{Root}
 use Rattle.rows.specs.Tables.{rowIn}
 use Rattle.rows.specs.declared.table.Listed.the-variants.{Tasks}
-use Rattle.tree.specs.declared.root.Root.{Root}
 use Rattle.links.specs.declared.Fates.{Fates}
 use Rattle.links.specs.declared.fate.LinkFate.{LinkFate}
 use Rattle.links.specs.declared.fate.LinkFate.the-variants.{Across, Dangling, Kept}

@@ -3,11 +3,10 @@ use mathlib.Core.Path.{_≡_, refl, sym, ap, _∙_, subst}
 use mathlib.Core.Bool.{Bool, true, false, _&&_}
 use mathlib.Core.List.{List}
 use Prim.Native.Nat.{ℕ, _*_, _%_, _^_, _<_}
-use Rattle.tree.specs.declared.root.Root.{Root}
 use native.Mathlib.Omega.{arith}
 use borrow.Author.Tests.{le-leb}
 use lib.Dec.{leb, eqb}
-use lib.ListN.{length, drop, getD}
+use lib.ListN.{length, getD}
 use Rattle.definition.specs.Text.{Text}
 use Rattle.definition.specs.Format.{Format, times, whole, _⊗_}
 use Rattle.definition.specs.Tree.{Element}
@@ -18,9 +17,9 @@ use Rattle.definition.specs.Link.{links, entered}
 use Rattle.definition.specs.Resource.{workResources, resources, assignments, expenses}
 use Rattle.definition.specs.Refusal.{mostElements}
 use Rattle.definition.specs.Read.{projectOf, calendarsOf, modelOf}
-use Rattle.laws.specs.Each.{Each, next, each-drop}
+use Rattle.laws.specs.Each.{Each, next}
 use Rattle.laws.specs.FitRecords.{Short, FitsCalendarBy}
-use Rattle.laws.specs.FitTrees.{slim-texts, small-element}
+use Rattle.laws.specs.FitTrees.{slim-texts}
 use Rattle.laws.specs.FitCalendars.{fit-calendars}
 use Rattle.laws.specs.Buf.{full, _▷_, ▷-full}
 use Rattle.laws.specs.Formats.{Fills, fills-whole, fills-pair}
@@ -28,6 +27,8 @@ use Rattle.laws.specs.Bits.{bytes-of}
 use Rattle.laws.specs.Bools.{differ}
 use Rattle.bits.specs.Round.{put-inside as began, put-stood}
 use Rattle.tree.specs.Root.{rootAt}
+use Rattle.tree.specs.declared.root.Root.{Root}
+use Rattle.rows.specs.Small.{small-root}
 use Rattle.bits.specs.Places.{past, inside}
 use Rattle.bits.specs.Steps.{Puts, _⨾_, said, refuses, view, view-out, puts, put-⊗}
 use Rattle.bits.specs.declared.Place.{Place}

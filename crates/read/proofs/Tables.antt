@@ -1,7 +1,6 @@
 -- The tables in the words: that of the kept tasks stays where words behind it are used, and what is written by tables is the definition's. Assumes
 -- nothing.
 use Prim.Native.Nat.{ℕ, min, max, _-_, _≤_, _<_}
-use Rattle.tree.specs.declared.root.Root.{Root}
 use native.Mathlib.Omega.{arith}
 use mathlib.Core.Path.{_≡_, ap, _∙_, subst}
 use mathlib.Core.Bool.{Bool}
@@ -22,6 +21,7 @@ use Rattle.index.specs.declared.Made.the-variants.{Ready, NoRoom}
 use Rattle.index.specs.Chains.{endOf, endIn}
 use Rattle.index.specs.Frame.{SameIn}
 use Rattle.tree.specs.Root.{rootAt}
+use Rattle.tree.specs.declared.root.Root.{Root}
 use Rattle.bits.specs.Clear.{cleared}
 use Rattle.bits.specs.declared.Place.{Place}
 use Rattle.pack.specs.Writes.{Writes, WritesIf}

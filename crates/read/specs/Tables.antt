@@ -1,5 +1,4 @@
 -- The table of the kept tasks in the words. Assumes nothing.
-use Rattle.tree.specs.declared.root.Root.{Root}
 use Prim.Native.Nat.{ℕ, _≤_}
 use mathlib.Core.Path.{_≡_}
 use mathlib.Core.List.{List}
@@ -9,6 +8,7 @@ use Rattle.definition.specs.Task.{keptTasks, rowOf}
 use Rattle.index.specs.declared.Made.{Made}
 use Rattle.index.specs.Chains.{endIn}
 use Rattle.tree.specs.Root.{rootAt}
+use Rattle.tree.specs.declared.root.Root.{Root}
 use Rattle.links.specs.Fates.{taskIn}
 
 -- the words give the row of each kept task, and the table ends in them

@@ -1,4 +1,5 @@
 // The six sections, one after another, and their counts.
+ghost use Rattle.tree.specs.Root.{rootAt};
 ghost use Rattle.read.specs.Sections.{SectionsPut, AllPut, Closes};
 ghost use Rattle.read.specs.Tables.{Tasked};
 use crate::assigned::put_assigned;
@@ -25,7 +26,7 @@ fn put_sections(
     tasks: Made,
 ) -> Sections
     requires { ⌜ Tasked (now s) root (now words) tasks ⌝ }
-    ensures { λ r. ⌜ SectionsPut (now (s .entry)) root (now (out .entry)) p (now (out .exit)) r ⌝ }
+    ensures { λ r. ⌜ SectionsPut (rootAt (now (s .entry)) root) (now (out .entry)) p (now (out .exit)) r ⌝ }
 {
     let behind = index::end_of(tasks, words.len());
     let a = calendars::put_calendars(out, p, s, root, words, behind);
@@ -48,7 +49,7 @@ fn put_sections(
 
 // All from the first byte on, the six counts left open.
 pub(crate) fn put_all(out: &mut [u8], s: &[u8], root: Root, words: &mut [u32]) -> Sections
-    ensures { λ r. ⌜ AllPut (now (s .entry)) root (now (out .entry)) (now (out .exit)) r ⌝ }
+    ensures { λ r. ⌜ AllPut (rootAt (now (s .entry)) root) (now (out .entry)) (now (out .exit)) r ⌝ }
 {
     let open = Counts {
         calendars: 0,
