@@ -1,6 +1,6 @@
 -- Two elements whose parts are the same have the same model. Assumes nothing.
 use Prim.Native.Nat.{ℕ}
-use mathlib.Core.Path.{_≡_, ap, sym, _∙_, subst}
+use mathlib.Core.Path.{_≡_, ap, _∙_, subst}
 use mathlib.Core.Bool.{not}
 use mathlib.Core.List.{List, [], map}
 use mathlib.Core.Option.{Option, some, none}
@@ -13,12 +13,12 @@ use Rattle.definition.specs.Date.{dateOf, epoch}
 use Rattle.definition.specs.Number.{numberOf, found}
 use Rattle.definition.specs.Field.{textIn, numberIn, dateIn}
 use Rattle.definition.specs.Format.{_⊗_}
-use Rattle.definition.specs.Model.{Model, Project, Resource, Assignment, Expense}
+use Rattle.definition.specs.Model.{Model, Assignment, Expense}
 use Rattle.definition.specs.Pack.{counts, countsOf, body, bodyOf}
 use Rattle.definition.specs.Calendar.{calendarElements, builtCalendars, mainCalendar, skipped}
 use Rattle.definition.specs.Task.{mostTasks, isKept, keptTasks, rowOf, Context, perDayFrom, perDayOf, contextOf, activities}
 use Rattle.definition.specs.Link.{fates, links, entered, isDangling, isAcross}
-use Rattle.definition.specs.Resource.{isResource, isCost, workResources, resourcesAfter, resources, assignmentElements, taskRow, assignmentFrom, assignmentOf, assignments, expenseFrom, expenseOf, firsts, expenses}
+use Rattle.definition.specs.Resource.{isResource, isCost, resourcesAfter, resources, assignmentElements, taskRow, assignmentFrom, assignmentOf, assignments, expenseFrom, expenseOf, firsts, expenses}
 use Rattle.definition.specs.Read.{projectOf, calendarsOf, modelOf}
 use Rattle.bits.specs.Steps.{Puts}
 use Rattle.tree.specs.Place.{elementAt}
@@ -120,9 +120,9 @@ module _ {a b : Element} (h : Same a b) where
 
 -- the root that was found has the parts of the element
 module _ {s : Text} {root : Root} (at : ℕ) (h : Parts (λ n p. Stands s p (child (elementAt s at) n)) root) where
-  text : {n : Text} {p : ℕ} → textOf (rootAt s root) n ≡ ownText (elementAt s p) → Stands s p (child (elementAt s at) n) → textOf (rootAt s root) n ≡ textOf (elementAt s at) n
+  text : (n : Text) {p : ℕ} → textOf (rootAt s root) n ≡ ownText (elementAt s p) → Stands s p (child (elementAt s at) n) → textOf (rootAt s root) n ≡ textOf (elementAt s at) n
   unfolding textOf
-  text e k = e ∙ stands-text k
+  text n e k = e ∙ stands-text k
 
   parts : Same (rootAt s root) (elementAt s at)
   parts = record {
@@ -130,13 +130,13 @@ module _ {s : Text} {root : Root} (at : ℕ) (h : Parts (λ n p. Stands s p (chi
     tasks = in-tasks s root _ ∙ stands-all (h .tasks) (bytes "Task");
     resources = in-resources s root _ ∙ stands-all (h .resources) (bytes "Resource");
     assignments = in-assignments s root _ ∙ stands-all (h .assignments) (bytes "Assignment");
-    calendar = text (calendar-uid s root) (h .calendar);
-    minutes = text (minutes-per-day s root) (h .minutes);
-    title = text (title-is s root) (h .title);
-    name = text (name-is s root) (h .name);
-    start = text (start-date s root) (h .start);
-    currency = text (currency-symbol s root) (h .currency);
-    status = text (status-date s root) (h .status);
+    calendar = text (bytes "CalendarUID") (calendar-uid s root) (h .calendar);
+    minutes = text (bytes "MinutesPerDay") (minutes-per-day s root) (h .minutes);
+    title = text (bytes "Title") (title-is s root) (h .title);
+    name = text (bytes "Name") (name-is s root) (h .name);
+    start = text (bytes "StartDate") (start-date s root) (h .start);
+    currency = text (bytes "CurrencySymbol") (currency-symbol s root) (h .currency);
+    status = text (bytes "StatusDate") (status-date s root) (h .status);
   }
 
   pub all-same : {d d' : List ℕ} {r : Sections} → AllPut (rootAt s root) d d' r → AllPut (elementAt s at) d d' r

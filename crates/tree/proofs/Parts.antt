@@ -4,7 +4,7 @@ use native.Mathlib.Omega.{arith}
 use mathlib.Core.Path.{_≡_, refl, sym, ap, _∙_, subst}
 use mathlib.Core.Bool.{Bool, true, false}
 use mathlib.Core.List.{List}
-use mathlib.Core.Option.{Option, some, none}
+use mathlib.Core.Option.{Option, some}
 use lib.Dec.{ltb}
 use lib.ListN.{length}
 use borrow.Author.Tests.{le-ltb, lt-ltb}

@@ -1,5 +1,3 @@
-use mathlib.Core.Path.{sym, _∙_}
-use lib.ListN.{length}
 use borrow.Author.Tests.{le-ltb, lt-ltb}
 use borrow.Author.Needs.{needs}
 use Rattle.tree.proofs.root.note.Statement.{statement}

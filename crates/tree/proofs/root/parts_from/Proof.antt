@@ -52,7 +52,7 @@ loop-less-2 : tie.Need-loop-less-2 Inv-loop μ-loop
 loop-less-2 c = omega (arith, c .skip .ensures, bounds _ _ (sym (c .before .before .before .before .before .before .read-head .ensures) ∙ c .before .before .before .before .depth .given .1))
 
 loop-again-2 : tie.Need-loop-again-2 Inv-loop μ-loop
-loop-again-2 c = 
+loop-again-2 c =
     let deeper = lt-of-le-ne (c .before .before .if1 .left) (λ e. c .before .if2 .left (sym e)) in
     parts-under (c .before .before .before .before .before .before .before .loop .inv) (sym (c .before .before .before .before .before .before .read-head .ensures) ∙ c .before .before .before .before .depth .given .1) deeper (c .skip .ensures)
 
