@@ -47,7 +47,8 @@ use Rattle.rows.specs.Tabled.{row-same}
 use Rattle.rows.specs.declared.kept.KeptAnswer.{KeptAnswer}
 use Rattle.rows.specs.declared.kept.KeptAnswer.the-variants.{Is}
 use Rattle.rows.specs.declared.table.Listed.the-variants.{Tasks}
-use Rattle.tree.specs.Place.{elementAt}
+use Rattle.tree.specs.Root.{rootAt}
+use Rattle.tree.specs.declared.root.Root.{Root}
 use Rattle.activities.specs.Own.{IdsOpen, IdsNoted, OwnRoom, RowNoted}
 use Rattle.activities.specs.Parents.{taskAt, Held, Ready}
 use Rattle.activities.specs.declared.own.Own.{Own}
@@ -77,8 +78,8 @@ module _ {s : Text} {root : Element} {tasks : Made} {own : Own} {start : Place} 
     stays-ready r {at} {left} e few = record { own-room = rw (x .same .long) (r .room); held = x .held; few = few; there = x .there at left e }
 
 -- the same rows are found
-pub found-same : (s : Text) (root : ℕ) (tasks : Made) {w w′ : List ℕ} → SameBelow (endIn tasks) w w′ → taskIn s root w′ tasks ≡ taskIn s root w tasks
-found-same s root tasks {w} {w′} x = row-same s (elementAt s root) Tasks (record { same = λ t e. below-in x (by e) })
+pub found-same : (s : Text) (root : Root) (tasks : Made) {w w′ : List ℕ} → SameBelow (endIn tasks) w w′ → taskIn s root w′ tasks ≡ taskIn s root w tasks
+found-same s root tasks {w} {w′} x = row-same s (rootAt s root) Tasks (record { same = λ t e. below-in x (by e) })
   where
     by : {t : Table} → tasks ≡ ReadyTable t → endOf t ≤ endIn tasks
     by e = rw e (omega arith)

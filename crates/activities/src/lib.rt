@@ -10,7 +10,7 @@ ghost use Rattle.bits.specs.Clear.{cleared};
 ghost use Rattle.index.specs.Below.{SameBelow};
 ghost use Rattle.index.specs.Chains.{endIn};
 ghost use Rattle.links.specs.Fates.{taskIn, linksBy};
-ghost use Rattle.tree.specs.Place.{elementAt};
+ghost use Rattle.tree.specs.Root.{rootAt};
 ghost use Rattle.pack.specs.Writes.{Writes, WritesIf};
 ghost use Rattle.names.specs.Context.{contextAt, calendarsBefore};
 ghost use Rattle.names.specs.Naming.{Finds};
@@ -23,6 +23,7 @@ use bits::Place;
 use index::Made;
 use pack::Records;
 use rows::KeptAnswer;
+use tree::Root;
 
 mod own; // words for calendars, parents and ids
 mod parents; // the parent of a row
@@ -34,14 +35,14 @@ fn put_tasks(
     out: &mut [u8],
     p: Place,
     s: &[u8],
-    root: usize,
+    root: Root,
     c: Place,
     words: &mut [u32],
     tasks: Made,
     own: Own,
 ) -> Records
-    requires { ⌜ (calendarsBefore (now out) c (elementAt (now s) root) p ≡ true) × OwnRoom own tasks (now out) p (now words) (length (now s)) × Finds (contextAt (now out) c (elementAt (now s) root)) (now s) (own .calendars) (now words) ⌝ }
-    ensures { λ r. ⌜ Writes (whole activity) (activitiesOf (contextAt (now (out .entry)) c (elementAt (now (s .entry)) root)) (entered (linksBy (taskIn (now (s .entry)) root (now (words .entry)) tasks) (contextOf (elementAt (now (s .entry)) root))))) (now (out .entry)) p (now (out .exit)) r × SameBelow (endIn tasks) (now (words .entry)) (now (words .exit)) ⌝ }
+    requires { ⌜ (calendarsBefore (now out) c (rootAt (now s) root) p ≡ true) × OwnRoom own tasks (now out) p (now words) (length (now s)) × Finds (contextAt (now out) c (rootAt (now s) root)) (now s) (own .calendars) (now words) ⌝ }
+    ensures { λ r. ⌜ Writes (whole activity) (activitiesOf (contextAt (now (out .entry)) c (rootAt (now (s .entry)) root)) (entered (linksBy (taskIn (now (s .entry)) root (now (words .entry)) tasks) (contextOf (rootAt (now (s .entry)) root))))) (now (out .entry)) p (now (out .exit)) r × SameBelow (endIn tasks) (now (words .entry)) (now (words .exit)) ⌝ }
 {
     let per_day = tasks::per_day(s, root);
     let mut q = p;
@@ -66,12 +67,12 @@ pub fn put_activities(
     out: &mut [u8],
     p: Place,
     s: &[u8],
-    root: usize,
+    root: Root,
     c: Place,
     words: &mut [u32],
     tasks: Made,
 ) -> Records
-    ensures { λ r. ⌜ WritesIf (calendarsBefore (now (out .entry)) c (elementAt (now (s .entry)) root) p) (whole activity) (activitiesOf (contextAt (now (out .entry)) c (elementAt (now (s .entry)) root)) (entered (linksBy (taskIn (now (s .entry)) root (now (words .entry)) tasks) (contextOf (elementAt (now (s .entry)) root))))) (now (out .entry)) p (now (out .exit)) r × (now (words .exit) ≡ cleared (endIn tasks) (now (words .entry))) ⌝ }
+    ensures { λ r. ⌜ WritesIf (calendarsBefore (now (out .entry)) c (rootAt (now (s .entry)) root) p) (whole activity) (activitiesOf (contextAt (now (out .entry)) c (rootAt (now (s .entry)) root)) (entered (linksBy (taskIn (now (s .entry)) root (now (words .entry)) tasks) (contextOf (rootAt (now (s .entry)) root))))) (now (out .entry)) p (now (out .exit)) r × (now (words .exit) ≡ cleared (endIn tasks) (now (words .entry))) ⌝ }
 {
     let end = index::end_of(tasks, words.len());
     if !names::calendars_before(out, c, s, root, p) {

@@ -11,7 +11,7 @@ ghost use Rattle.names.specs.Context.{contextAt};
 ghost use Rattle.names.specs.Naming.{Finds};
 ghost use Rattle.names.specs.Texts.{textsAt};
 ghost use Rattle.pack.specs.Value.{starredBy};
-ghost use Rattle.tree.specs.Place.{elementAt};
+ghost use Rattle.tree.specs.Root.{rootAt};
 ghost use Rattle.activities.specs.Parents.{endOf};
 ghost use Rattle.activities.specs.Own.{IdsBegun, IdsNoted, idNoted, OwnRoom};
 use crate::parents::Columns;
@@ -20,6 +20,7 @@ use bits::Place;
 use index::Made;
 use model::records::Kind;
 use names::IdsMade;
+use tree::Root;
 
 pub(crate) struct Own {
     pub calendars: Made,
@@ -56,12 +57,12 @@ pub(crate) fn own_for(
     out: &[u8],
     p: Place,
     s: &[u8],
-    root: usize,
+    root: Root,
     c: Place,
     words: &mut [u32],
     tasks: Made,
 ) -> Own
-    ensures { λ r. ⌜ OwnRoom r tasks (now (out .entry)) p (now (words .exit)) (length (now (s .entry))) × SameBelow (endIn tasks) (now (words .entry)) (now (words .exit)) × Finds (contextAt (now (out .entry)) c (elementAt (now (s .entry)) root)) (now (s .entry)) (r .calendars) (now (words .exit)) ⌝ }
+    ensures { λ r. ⌜ OwnRoom r tasks (now (out .entry)) p (now (words .exit)) (length (now (s .entry))) × SameBelow (endIn tasks) (now (words .entry)) (now (words .exit)) × Finds (contextAt (now (out .entry)) c (rootAt (now (s .entry)) root)) (now (s .entry)) (r .calendars) (now (words .exit)) ⌝ }
 {
     let end = index::end_of(tasks, words.len());
     let made = names::index_calendars(out, c, s, root, words, end);

@@ -8,9 +8,11 @@ ghost use Rattle.definition.specs.Answer.{rowMeaning};
 ghost use Rattle.definition.specs.Task.{levelOf, keptTasks, parentOf};
 ghost use Rattle.index.specs.Last.{lastBelow, wordOf};
 ghost use Rattle.tree.specs.Place.{elementAt};
+ghost use Rattle.tree.specs.Root.{rootAt};
 ghost use Rattle.activities.specs.Parents.{lower, levelIn, Climbs, noted, Room, Behind, Ready};
 use definition::RowAnswer;
 use index::Made;
+use tree::Root;
 
 // Where the words begin, and for how many rows there are some.
 pub(crate) struct Columns {
@@ -71,14 +73,14 @@ fn row_of(word: u32) -> RowAnswer
 // The parent of the task at `at`, which has the row; noted where there are words for the row.
 pub(crate) fn parent_of(
     s: &[u8],
-    root: usize,
+    root: Root,
     at: usize,
     words: &mut [u32],
     own: Columns,
     row: u32,
 ) -> RowAnswer
-    requires { ⌜ Ready (now s) (elementAt (now s) root) own row at (now words) ⌝ }
-    ensures { λ r. ⌜ (rowMeaning r ≡ parentOf (map levelOf (take row (keptTasks (elementAt (now (s .entry)) root)))) (levelOf (elementAt (now (s .entry)) at))) × (now (words .exit) ≡ noted own row at (rowMeaning r) (now (words .entry))) ⌝ }
+    requires { ⌜ Ready (now s) (rootAt (now s) root) own row at (now words) ⌝ }
+    ensures { λ r. ⌜ (rowMeaning r ≡ parentOf (map levelOf (take row (keptTasks (rootAt (now (s .entry)) root)))) (levelOf (elementAt (now (s .entry)) at))) × (now (words .exit) ≡ noted own row at (rowMeaning r) (now (words .entry))) ⌝ }
 {
     let level = tasks::level_of(s, at);
     if own.rows <= row {

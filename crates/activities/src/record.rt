@@ -15,6 +15,7 @@ ghost use Rattle.names.specs.Context.{contextAt};
 ghost use Rattle.names.specs.Naming.{Finds};
 ghost use Rattle.pack.specs.Value.{nameMeaning, starredBy};
 ghost use Rattle.tree.specs.Place.{elementAt};
+ghost use Rattle.tree.specs.Root.{rootAt};
 ghost use Rattle.activities.specs.Own.{IdsOpen, IdsNoted, RowNoted};
 ghost use Rattle.activities.specs.Parents.{Ready};
 ghost use Rattle.activities.specs.Values.{nameFound, activityPlanned};
@@ -34,6 +35,7 @@ use model::records::Kind;
 use names::CalendarName;
 use pack::NameAnswer;
 use pack::Plan;
+use tree::Root;
 
 // The task at `at` with its id, its plan and its calendar's name.
 fn put_named(
@@ -98,7 +100,7 @@ pub(crate) fn put_row(
     start: Place,
     p: Place,
     s: &[u8],
-    root: usize,
+    root: Root,
     at: usize,
     row: u32,
     c: Place,
@@ -107,8 +109,8 @@ pub(crate) fn put_row(
     own: Own,
     per_day: u64,
 ) -> Place
-    requires { ⌜ Ready (now s) (elementAt (now s) root) (own .columns) row at (now words) × («per_day» ≡ perDayOf (elementAt (now s) root)) × Finds (contextAt (now out) c (elementAt (now s) root)) (now s) (own .calendars) (now words) × IdsOpen (own .ids) (own .columns) start (length (now out)) × (inside (length (now out)) p ≡ true → IdsNoted (own .ids) (now out) start (now words) row) ⌝ }
-    ensures { λ r. ⌜ Puts (whole activity) (activityOf (contextAt (now (out .entry)) c (elementAt (now (s .entry)) root)) (textsAt Kind.Activities (now (out .entry)) start row) (map levelOf (take row (keptTasks (elementAt (now (s .entry)) root)))) (isEntered (taskIn (now (s .entry)) root (now (words .exit)) tasks) (elementAt (now (s .entry)) at)) (elementAt (now (s .entry)) at)) (now (out .entry)) p (now (out .exit)) r × RowNoted own row at (parentOf (map levelOf (take row (keptTasks (elementAt (now (s .entry)) root)))) (levelOf (elementAt (now (s .entry)) at))) (wantedId (elementAt (now (s .entry)) at)) (p .byte % 2 ^ 32) (textsAt Kind.Activities (now (out .entry)) start row) (inside (length (now (out .entry))) p) (now (words .entry)) (now (words .exit)) ⌝ }
+    requires { ⌜ Ready (now s) (rootAt (now s) root) (own .columns) row at (now words) × («per_day» ≡ perDayOf (rootAt (now s) root)) × Finds (contextAt (now out) c (rootAt (now s) root)) (now s) (own .calendars) (now words) × IdsOpen (own .ids) (own .columns) start (length (now out)) × (inside (length (now out)) p ≡ true → IdsNoted (own .ids) (now out) start (now words) row) ⌝ }
+    ensures { λ r. ⌜ Puts (whole activity) (activityOf (contextAt (now (out .entry)) c (rootAt (now (s .entry)) root)) (textsAt Kind.Activities (now (out .entry)) start row) (map levelOf (take row (keptTasks (rootAt (now (s .entry)) root)))) (isEntered (taskIn (now (s .entry)) root (now (words .exit)) tasks) (elementAt (now (s .entry)) at)) (elementAt (now (s .entry)) at)) (now (out .entry)) p (now (out .exit)) r × RowNoted own row at (parentOf (map levelOf (take row (keptTasks (rootAt (now (s .entry)) root)))) (levelOf (elementAt (now (s .entry)) at))) (wantedId (elementAt (now (s .entry)) at)) (p .byte % 2 ^ 32) (textsAt Kind.Activities (now (out .entry)) start row) (inside (length (now (out .entry))) p) (now (words .entry)) (now (words .exit)) ⌝ }
 {
     let calendars = own.calendars;
     let columns = own.columns;

@@ -7,6 +7,7 @@ ghost use Rattle.fields.specs.Answers.{minutesMeans};
 ghost use Rattle.links.specs.Fates.{taskIn, isEntered};
 ghost use Rattle.names.specs.Context.{contextAt};
 ghost use Rattle.tree.specs.Place.{elementAt};
+ghost use Rattle.tree.specs.Root.{rootAt};
 ghost use Rattle.activities.specs.Values.{kindBy, dayBy, namesCalendar, nameFound, calendarIn, PlanOf, DatesOf, ProgressOf};
 use bits::Place;
 use definition::RowAnswer;
@@ -17,6 +18,7 @@ use pack::Dates;
 use pack::NameAnswer;
 use pack::Plan;
 use pack::Progress;
+use tree::Root;
 
 // WBS, else ID, else UID.
 pub(crate) fn wanted_id(s: &[u8], at: usize) -> &[u8]
@@ -45,13 +47,13 @@ pub(crate) fn calendar_for(
     out: &[u8],
     c: Place,
     s: &[u8],
-    root: usize,
+    root: Root,
     at: usize,
     words: &[u32],
     calendars: Made,
     elapsed: bool,
 ) -> CalendarName
-    ensures { λ r. ⌜ nameFound (now (s .entry)) elapsed r ≡ calendarIn (contextAt (now (out .entry)) c (elementAt (now (s .entry)) root)) (now (s .entry)) (now (words .entry)) calendars elapsed (elementAt (now (s .entry)) at) ⌝ }
+    ensures { λ r. ⌜ nameFound (now (s .entry)) elapsed r ≡ calendarIn (contextAt (now (out .entry)) c (rootAt (now (s .entry)) root)) (now (s .entry)) (now (words .entry)) calendars elapsed (elementAt (now (s .entry)) at) ⌝ }
 {
     if elapsed {
         let name = names::elapsed_in(out, c, s, root, words, calendars);
@@ -86,7 +88,7 @@ pub(crate) fn day_of(elapsed: bool, per_day: u64) -> u64
 }
 
 // 0 a task, 1 a start milestone, 2 a finish milestone: one that a kept link enters.
-fn kind_of(s: &[u8], root: usize, at: usize, words: &[u32], tasks: Made) -> u32
+fn kind_of(s: &[u8], root: Root, at: usize, words: &[u32], tasks: Made) -> u32
     ensures { λ r. ⌜ r ≡ kindBy (isEntered (taskIn (now (s .entry)) root (now (words .entry)) tasks) (elementAt (now (s .entry)) at)) (elementAt (now (s .entry)) at) ⌝ }
 {
     if !tasks::milestone(s, at) {
@@ -101,7 +103,7 @@ fn kind_of(s: &[u8], root: usize, at: usize, words: &[u32], tasks: Made) -> u32
 // With its parent, and the minutes of its day.
 pub(crate) fn plan_of(
     s: &[u8],
-    root: usize,
+    root: Root,
     at: usize,
     words: &[u32],
     tasks: Made,

@@ -5,7 +5,7 @@ use mathlib.Core.Path.{_≡_, refl}
 use mathlib.Core.Bool.{Bool, true, false, not}
 use mathlib.Core.List.{List, [], _∷_, _++_, map}
 use mathlib.Core.Option.{Option, some, none}
-use lib.ListN.{length, drop, length-append, length-map}
+use lib.ListN.{length, length-append, length-map}
 use Rattle.definition.specs.Ascii.{bytes}
 use Rattle.definition.specs.Base.{if_then_else_, _>>=_, keep, present, some?}
 use Rattle.definition.specs.Text.{Text}
@@ -17,12 +17,13 @@ use Rattle.definition.specs.Refusal.{mostElements}
 use Rattle.definition.specs.Task.{Context}
 use Rattle.definition.specs.Resource.{isResource, isCost, expenseFrom, sameExpense, firsts, resourceOf, resourcesAfter}
 use Rattle.laws.specs.Bits.{Bytes}
-use Rattle.laws.specs.Each.{Each, empty, next, each-append, each-drop}
+use Rattle.laws.specs.Each.{Each, empty, next, each-append}
 use Rattle.laws.specs.FitRecords.{Short, FitsResourceBy, FitsExpenseBy}
 use Rattle.laws.specs.FitLists.{Perhaps, missing, there, perhaps-any, each-keep, each-last}
-use Rattle.laws.specs.FitTrees.{Small, small-element, slim-texts, holds-child, holds-in}
+use Rattle.laws.specs.FitTrees.{Small, slim-texts, holds-child, holds-in}
 use Rattle.laws.specs.FitResources.{fit-expense, fit-resource}
-use Rattle.tree.specs.Place.{elementAt}
+use Rattle.tree.specs.Root.{rootAt}
+use Rattle.tree.specs.declared.root.Root.{Root}
 use Rattle.bits.specs.declared.Place.{Place}
 use Rattle.names.specs.Context.{contextAt, calendarsBefore}
 use Rattle.names.specs.Naming.{Finds}
@@ -30,22 +31,19 @@ use Rattle.index.specs.declared.Made.{Made}
 use Rattle.index.specs.declared.Made.the-variants.{Ready, NoRoom}
 use Rattle.index.specs.Chains.{placeOf}
 use Rattle.rows.specs.Rows.{hasUid}
+use Rattle.rows.specs.Small.{small-at, small-root}
 use Rattle.rows.specs.Tables.{soughtIn, costIn}
 use Rattle.assignments.specs.declared.section.Tables.{Tables}
 use Rattle.assignments.specs.Finders.{taskBy, expenseFor}
 use Rattle.assignments.specs.Records.{findersAt}
 use Rattle.assignments.specs.Resources.{isWork, FewResources}
 
--- the element at a position of bytes
-pub small-at : (s : Text) → Bytes s → (at : ℕ) → Small (elementAt s at)
-small-at s b at = small-element (drop at s) (each-drop at b)
-
 -- ---- expenses
 
-module _ (s : Text) (b : Bytes s) (root : ℕ) (w : List ℕ) where
-  cost-small : (m : Made) (u : Text) → Perhaps Small (costIn s (elementAt s root) w m u)
+module _ (s : Text) (b : Bytes s) (root : Root) (w : List ℕ) where
+  cost-small : (m : Made) (u : Text) → Perhaps Small (costIn s (rootAt s root) w m u)
   unfolding costIn
-  cost-small NoRoom u = each-last (hasUid u) (each-keep isCost (each-keep isResource (holds-in (holds-child (small-at s b root) (bytes "Resources")) (bytes "Resource"))))
+  cost-small NoRoom u = each-last (hasUid u) (each-keep isCost (each-keep isResource (holds-in (holds-child (small-root s root b) (bytes "Resources")) (bytes "Resource"))))
   cost-small (Ready t) u = perhaps-any {P = Small} (soughtIn s w t u) (λ r. there (small-at s b (placeOf w t r)))
 
   pub expense-fits : (t : Tables) (a : Element) → ((e : Expense) → expenseFor (findersAt s root w t) a ≡ some e → e .activity < 2 ^ 32) → Perhaps (FitsExpenseBy Short) (expenseFor (findersAt s root w t) a)

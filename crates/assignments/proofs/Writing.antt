@@ -29,6 +29,8 @@ use Rattle.index.specs.Chains.{tableOf, zeros}
 use Rattle.index.specs.Law.{table-placed}
 use Rattle.index.specs.Below.{SameBelow, below-refl, below-then, below-zeros, below-take}
 use Rattle.tree.specs.Place.{elementAt}
+use Rattle.tree.specs.Root.{rootAt}
+use Rattle.tree.specs.declared.root.Root.{Root}
 use Rattle.tree.specs.declared.Found.{Found}
 use Rattle.rows.specs.Rows.{foundMeaning}
 use Rattle.assignments.specs.declared.section.Done.{Done}
@@ -100,7 +102,7 @@ go-all {n = n} f {w = w} h k = record {
   behind = h;
 }
 
-module _ {s : Text} (b : Bytes s) (few : length s < 2 ^ 63) (root : ℕ) (t : Tables) where
+module _ {s : Text} (b : Bytes s) (few : length s < 2 ^ 63) (root : Root) (t : Tables) where
   abbrev ends : ℕ
   ends = endsOf (t .tasks) (t .work) (t .cost)
 
@@ -108,7 +110,7 @@ module _ {s : Text} (b : Bytes s) (few : length s < 2 ^ 63) (root : ℕ) (t : Ta
       (g : Writing s at ends (findersAt s root w t) es (e ∷ fs) d p w d1 u1 w1)
       {d2 : List ℕ} {u2 : Used} {w2 : List ℕ} (h : Notes p (expenseFor (findersAt s root w1 t) e) d1 u1 w1 d2 u2 w2) where
     turn : Notes p (expenseFor (findersAt s root w t) e) d1 u1 w1 d2 u2 w2
-    turn = rw (finders-same s (elementAt s root) (t .tasks) (t .work) (t .cost) (g .below)) at h
+    turn = rw (finders-same s (rootAt s root) (t .tasks) (t .work) (t .cost) (g .below)) at h
 
     ok : FewExpenses d (g .done)
     ok = (g .fine .fit, omega (arith, g .fine .most))
@@ -195,11 +197,11 @@ ends-are x y z l ea eb ec em er = er ∙ rw (em, ea, eb, ec) (ap (max (min x l))
 
 -- ---- all
 
-module _ (s : Text) (root : ℕ) (t : Tables) (es : List Element) {d : List ℕ} {p : Place} {w w₁ : List ℕ} {d' : List ℕ} {r : Done} {w' : List ℕ} where
+module _ (s : Text) (root : Root) (t : Tables) (es : List Element) {d : List ℕ} {p : Place} {w w₁ : List ℕ} {d' : List ℕ} {r : Done} {w' : List ℕ} where
   pub section-from : SameBelow (endsOf (t .tasks) (t .work) (t .cost)) w w₁ → WroteBeside (endsOf (t .tasks) (t .work) (t .cost)) (expensesAfter (findersAt s root w₁ t) [] es) d p w₁ d' r w'
       → WroteBeside (endsOf (t .tasks) (t .work) (t .cost)) (expensesAfter (findersAt s root w t) [] es) d p w d' r w'
   section-from h x = record {
-    wrote = rw (finders-same s (elementAt s root) (t .tasks) (t .work) (t .cost) h) at (x .wrote);
+    wrote = rw (finders-same s (rootAt s root) (t .tasks) (t .work) (t .cost) h) at (x .wrote);
     below = below-then h (x .below);
   }
 

@@ -21,7 +21,8 @@ use Rattle.bits.specs.declared.Place.{Place}
 use Rattle.model.specs.Answers.{readAt}
 use Rattle.model.specs.Parts.{raw}
 use Rattle.names.specs.Records.{ExpenseFields, plainExpenses}
-use Rattle.tree.specs.Place.{elementAt}
+use Rattle.tree.specs.Root.{rootAt}
+use Rattle.tree.specs.declared.root.Root.{Root}
 use Rattle.assignments.specs.declared.section.Done.{Done}
 use Rattle.assignments.specs.declared.section.Tables.{Tables}
 use Rattle.assignments.specs.Section.{Goes}
@@ -30,8 +31,8 @@ use Rattle.assignments.specs.Finders.{Finders, findersIn, assignmentFor,
 -- ---- assignments
 
 -- by the tables of a section
-abbrev pub findersAt : Text → ℕ → List ℕ → Tables → Finders
-findersAt s root w t = findersIn s (elementAt s root) w (t .tasks) (t .work) (t .cost)
+abbrev pub findersAt : Text → Root → List ℕ → Tables → Finders
+findersAt s root w t = findersIn s (rootAt s root) w (t .tasks) (t .work) (t .cost)
 
 abbrev pub assignmentsIn : Finders → List Element → List Assignment
 assignmentsIn f es = present (map (assignmentFor f) es)

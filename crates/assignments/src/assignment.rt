@@ -10,6 +10,7 @@ ghost use Rattle.definition.specs.Format.{whole};
 ghost use Rattle.definition.specs.Pack.{assignment};
 ghost use Rattle.definition.specs.Resource.{assignmentFrom};
 ghost use Rattle.tree.specs.Place.{elementAt, laterAt};
+ghost use Rattle.tree.specs.Root.{rootAt};
 ghost use Rattle.rows.specs.Rows.{foundMeaning};
 ghost use Rattle.pack.specs.Writes.{Writes};
 ghost use Rattle.assignments.specs.Section.{Wrote};
@@ -25,11 +26,12 @@ use index::Made;
 use pack::Records;
 use rows::Listed;
 use tree::Found;
+use tree::Root;
 
 // ---- what an Assignment names
 
 // The row of its task.
-pub(crate) fn task_of(s: &[u8], root: usize, words: &[u32], t: Tables, at: usize) -> RowAnswer
+pub(crate) fn task_of(s: &[u8], root: Root, words: &[u32], t: Tables, at: usize) -> RowAnswer
     ensures { λ r. ⌜ rowMeaning r ≡ taskBy (findersAt (now (s .entry)) root (now (words .entry)) t) (elementAt (now (s .entry)) at) ⌝ }
 {
     if !fields::given(s, at, b"TaskUID") {
@@ -41,7 +43,7 @@ pub(crate) fn task_of(s: &[u8], root: usize, words: &[u32], t: Tables, at: usize
 }
 
 // Its cost resource.
-pub(crate) fn cost_of(s: &[u8], root: usize, words: &[u32], t: Tables, at: usize) -> Found
+pub(crate) fn cost_of(s: &[u8], root: Root, words: &[u32], t: Tables, at: usize) -> Found
     ensures { λ r. ⌜ foundMeaning (now (s .entry)) r ≡ costBy (findersAt (now (s .entry)) root (now (words .entry)) t) (elementAt (now (s .entry)) at) ⌝ }
 {
     if !fields::given(s, at, b"ResourceUID") {
@@ -53,7 +55,7 @@ pub(crate) fn cost_of(s: &[u8], root: usize, words: &[u32], t: Tables, at: usize
 }
 
 // The row of its work resource.
-fn work_of(s: &[u8], root: usize, words: &[u32], t: Tables, at: usize) -> RowAnswer
+fn work_of(s: &[u8], root: Root, words: &[u32], t: Tables, at: usize) -> RowAnswer
     ensures { λ r. ⌜ rowMeaning r ≡ workBy (findersAt (now (s .entry)) root (now (words .entry)) t) (elementAt (now (s .entry)) at) ⌝ }
 {
     if !fields::given(s, at, b"ResourceUID") {
@@ -95,7 +97,7 @@ fn put_one(
     out: &mut [u8],
     done: Done,
     s: &[u8],
-    root: usize,
+    root: Root,
     words: &[u32],
     t: Tables,
     at: usize,
@@ -116,7 +118,7 @@ fn put_from(
     out: &mut [u8],
     p: Place,
     s: &[u8],
-    root: usize,
+    root: Root,
     words: &[u32],
     t: Tables,
     first: usize,
@@ -139,16 +141,16 @@ pub fn put_assignments(
     out: &mut [u8],
     p: Place,
     s: &[u8],
-    root: usize,
+    root: Root,
     words: &[u32],
     tasks: Made,
     work: Made,
     cost: Made,
 ) -> Records
-    ensures { λ r. ⌜ Writes (whole assignment) (assignmentsBy (findersIn (now (s .entry)) (elementAt (now (s .entry)) root) (now (words .entry)) tasks work cost) (elementAt (now (s .entry)) root)) (now (out .entry)) p (now (out .exit)) r ⌝ }
+    ensures { λ r. ⌜ Writes (whole assignment) (assignmentsBy (findersIn (now (s .entry)) (rootAt (now (s .entry)) root) (now (words .entry)) tasks work cost) (rootAt (now (s .entry)) root)) (now (out .entry)) p (now (out .exit)) r ⌝ }
 {
     let t = Tables { tasks, work, cost };
-    match rows::first_in(s, root, b"Assignments", b"Assignment") {
+    match tree::child(s, root.assignments, b"Assignment") {
         Found::Nothing => Records { count: 0, next: p },
         Found::At(first) => records_of(put_from(out, p, s, root, words, t, first)),
     }

@@ -12,6 +12,7 @@ ghost use Rattle.definition.specs.Resource.{expenseFrom};
 ghost use Rattle.bits.specs.Clear.{cleared};
 ghost use Rattle.index.specs.Chains.{tableOf};
 ghost use Rattle.tree.specs.Place.{elementAt, laterAt};
+ghost use Rattle.tree.specs.Root.{rootAt};
 ghost use Rattle.assignments.specs.Section.{WritesIn};
 ghost use Rattle.assignments.specs.Finders.{findersIn, endsOf, expenseFor, expensesBy};
 ghost use Rattle.assignments.specs.Records.{findersAt, expensesAfter, isExpenseAt, Tells};
@@ -30,6 +31,7 @@ use index::Table;
 use model::records::Kind;
 use pack::Records;
 use tree::Found;
+use tree::Root;
 
 // What is written, and a table of it by activity and name, with the byte of each record; none once one does not fit there.
 struct Used {
@@ -203,7 +205,7 @@ fn put_one(
     start: Place,
     used: Used,
     s: &[u8],
-    root: usize,
+    root: Root,
     at: usize,
     words: &mut [u32],
     t: Tables,
@@ -224,7 +226,7 @@ fn put_from(
     out: &mut [u8],
     p: Place,
     s: &[u8],
-    root: usize,
+    root: Root,
     first: usize,
     words: &mut [u32],
     t: Tables,
@@ -249,10 +251,10 @@ fn put_from(
 }
 
 // Those of all.
-fn put_all(out: &mut [u8], p: Place, s: &[u8], root: usize, words: &mut [u32], t: Tables) -> Done
-    ensures { λ r. ⌜ WroteBeside (endsOf (t .tasks) (t .work) (t .cost)) (expensesBy (findersAt (now (s .entry)) root (now (words .entry)) t) (elementAt (now (s .entry)) root)) (now (out .entry)) p (now (words .entry)) (now (out .exit)) r (now (words .exit)) ⌝ }
+fn put_all(out: &mut [u8], p: Place, s: &[u8], root: Root, words: &mut [u32], t: Tables) -> Done
+    ensures { λ r. ⌜ WroteBeside (endsOf (t .tasks) (t .work) (t .cost)) (expensesBy (findersAt (now (s .entry)) root (now (words .entry)) t) (rootAt (now (s .entry)) root)) (now (out .entry)) p (now (words .entry)) (now (out .exit)) r (now (words .exit)) ⌝ }
 {
-    match rows::first_in(s, root, b"Assignments", b"Assignment") {
+    match tree::child(s, root.assignments, b"Assignment") {
         Found::Nothing => Done { count: 0, next: p },
         Found::At(first) => put_from(out, p, s, root, first, words, t),
     }
@@ -263,13 +265,13 @@ pub fn put_expenses(
     out: &mut [u8],
     p: Place,
     s: &[u8],
-    root: usize,
+    root: Root,
     words: &mut [u32],
     tasks: Made,
     work: Made,
     cost: Made,
 ) -> Records
-    ensures { λ r. ⌜ WritesIn (whole expense) (expensesBy (findersIn (now (s .entry)) (elementAt (now (s .entry)) root) (now (words .entry)) tasks work cost) (elementAt (now (s .entry)) root)) (now (out .entry)) p (now (out .exit)) r × (now (words .exit) ≡ cleared (endsOf tasks work cost) (now (words .entry))) ⌝ }
+    ensures { λ r. ⌜ WritesIn (whole expense) (expensesBy (findersIn (now (s .entry)) (rootAt (now (s .entry)) root) (now (words .entry)) tasks work cost) (rootAt (now (s .entry)) root)) (now (out .entry)) p (now (out .exit)) r × (now (words .exit) ≡ cleared (endsOf tasks work cost) (now (words .entry))) ⌝ }
 {
     let t = Tables { tasks, work, cost };
     let done = put_all(out, p, s, root, words, t);

@@ -16,6 +16,7 @@ ghost use Rattle.definition.specs.Resource.{workResources, resources as resourc
 ghost use Rattle.bits.specs.Clear.{cleared};
 ghost use Rattle.bits.specs.Steps.{Puts};
 ghost use Rattle.tree.specs.Place.{elementAt, laterAt};
+ghost use Rattle.tree.specs.Root.{rootAt};
 ghost use Rattle.model.specs.declared.records.Kind.the-variants.{Resources};
 ghost use Rattle.pack.specs.Value.{starredBy, nameMeaning};
 ghost use Rattle.pack.specs.Writes.{WritesIf};
@@ -35,6 +36,7 @@ use names::IdsMade;
 use pack::NameAnswer;
 use pack::Records;
 use tree::Found;
+use tree::Root;
 
 // ---- how many there are
 
@@ -67,10 +69,10 @@ fn count_from(s: &[u8], first: usize) -> u32
 }
 
 // How many there are, as far as 5,000,001.
-fn count_work(s: &[u8], root: usize) -> u32
-    ensures { λ r. ⌜ r ≡ min (length (workResources (elementAt (now (s .entry)) root))) (suc mostElements) ⌝ }
+fn count_work(s: &[u8], root: Root) -> u32
+    ensures { λ r. ⌜ r ≡ min (length (workResources (rootAt (now (s .entry)) root))) (suc mostElements) ⌝ }
 {
-    match rows::first_in(s, root, b"Resources", b"Resource") {
+    match tree::child(s, root.resources, b"Resource") {
         Found::Nothing => 0,
         Found::At(first) => count_from(s, first),
     }
@@ -94,12 +96,12 @@ fn calendar_of(
     out: &[u8],
     c: Place,
     s: &[u8],
-    root: usize,
+    root: Root,
     at: usize,
     words: &[u32],
     calendars: Made,
 ) -> CalendarName
-    ensures { λ r. ⌜ calendarName (now (s .entry)) r ≡ bind (textIn (elementAt (now (s .entry)) at) "CalendarUID") (namedIn (contextAt (now (out .entry)) c (elementAt (now (s .entry)) root)) (now (s .entry)) (now (words .entry)) calendars) ⌝ }
+    ensures { λ r. ⌜ calendarName (now (s .entry)) r ≡ bind (textIn (elementAt (now (s .entry)) at) "CalendarUID") (namedIn (contextAt (now (out .entry)) c (rootAt (now (s .entry)) root)) (now (s .entry)) (now (words .entry)) calendars) ⌝ }
 {
     if !fields::given(s, at, b"CalendarUID") {
         return CalendarName {
@@ -190,14 +192,14 @@ fn put_one(
     start: Place,
     done: Done,
     s: &[u8],
-    root: usize,
+    root: Root,
     at: usize,
     c: Place,
     words: &mut [u32],
     calendars: Made,
     ids: IdsMade,
 ) -> Done
-    ensures { λ r. ⌜ AddsResources c start (now (s .entry)) (elementAt (now (s .entry)) root) (elementAt (now (s .entry)) at ∷ []) calendars ids (now (out .entry)) (now (words .entry)) done (now (out .exit)) (now (words .exit)) r ⌝ }
+    ensures { λ r. ⌜ AddsResources c start (now (s .entry)) (rootAt (now (s .entry)) root) (elementAt (now (s .entry)) at ∷ []) calendars ids (now (out .entry)) (now (words .entry)) done (now (out .exit)) (now (words .exit)) r ⌝ }
 {
     if !is_work(s, at) {
         return done;
@@ -219,14 +221,14 @@ fn put_from(
     out: &mut [u8],
     p: Place,
     s: &[u8],
-    root: usize,
+    root: Root,
     first: usize,
     c: Place,
     words: &mut [u32],
     calendars: Made,
     ids: IdsMade,
 ) -> Done
-    ensures { λ r. ⌜ PutsResources c p (now (s .entry)) (elementAt (now (s .entry)) root) (elementAt (now (s .entry)) first ∷ laterAt (now (s .entry)) (bytes "Resource") first) calendars ids (now (out .entry)) (now (words .entry)) (now (out .exit)) (now (words .exit)) r ⌝ }
+    ensures { λ r. ⌜ PutsResources c p (now (s .entry)) (rootAt (now (s .entry)) root) (elementAt (now (s .entry)) first ∷ laterAt (now (s .entry)) (bytes "Resource") first) calendars ids (now (out .entry)) (now (words .entry)) (now (out .exit)) (now (words .exit)) r ⌝ }
 {
     let mut done = Done { count: 0, next: p };
     let mut at = first;
@@ -244,12 +246,12 @@ fn put_all(
     out: &mut [u8],
     p: Place,
     s: &[u8],
-    root: usize,
+    root: Root,
     c: Place,
     words: &mut [u32],
     at: usize,
 ) -> Records
-    ensures { λ r. ⌜ WritesIf (leb (length (workResources (elementAt (now (s .entry)) root))) mostElements && calendarsBefore (now (out .entry)) c (elementAt (now (s .entry)) root) p) (whole resource) (resourcesOf (contextAt (now (out .entry)) c (elementAt (now (s .entry)) root)) (elementAt (now (s .entry)) root)) (now (out .entry)) p (now (out .exit)) r × (cleared at (now (words .exit)) ≡ cleared at (now (words .entry))) ⌝ }
+    ensures { λ r. ⌜ WritesIf (leb (length (workResources (rootAt (now (s .entry)) root))) mostElements && calendarsBefore (now (out .entry)) c (rootAt (now (s .entry)) root) p) (whole resource) (resourcesOf (contextAt (now (out .entry)) c (rootAt (now (s .entry)) root)) (rootAt (now (s .entry)) root)) (now (out .entry)) p (now (out .exit)) r × (cleared at (now (words .exit)) ≡ cleared at (now (words .entry))) ⌝ }
 {
     let count = count_work(s, root);
     if !((count <= 5000000) & names::calendars_before(out, c, s, root, p)) {
@@ -258,7 +260,7 @@ fn put_all(
             next: PAST,
         };
     }
-    match rows::first_in(s, root, b"Resources", b"Resource") {
+    match tree::child(s, root.resources, b"Resource") {
         Found::Nothing => Records { count: 0, next: p },
         Found::At(first) => {
             let calendars = names::index_calendars(out, c, s, root, words, at);
@@ -276,12 +278,12 @@ pub fn put_resources(
     out: &mut [u8],
     p: Place,
     s: &[u8],
-    root: usize,
+    root: Root,
     c: Place,
     words: &mut [u32],
     at: usize,
 ) -> Records
-    ensures { λ r. ⌜ WritesIf (leb (length (workResources (elementAt (now (s .entry)) root))) mostElements && calendarsBefore (now (out .entry)) c (elementAt (now (s .entry)) root) p) (whole resource) (resourcesOf (contextAt (now (out .entry)) c (elementAt (now (s .entry)) root)) (elementAt (now (s .entry)) root)) (now (out .entry)) p (now (out .exit)) r × (now (words .exit) ≡ cleared at (now (words .entry))) ⌝ }
+    ensures { λ r. ⌜ WritesIf (leb (length (workResources (rootAt (now (s .entry)) root))) mostElements && calendarsBefore (now (out .entry)) c (rootAt (now (s .entry)) root) p) (whole resource) (resourcesOf (contextAt (now (out .entry)) c (rootAt (now (s .entry)) root)) (rootAt (now (s .entry)) root)) (now (out .entry)) p (now (out .exit)) r × (now (words .exit) ≡ cleared at (now (words .entry))) ⌝ }
 {
     let r = put_all(out, p, s, root, c, words, at);
     bits::clear_words_from(words, at);

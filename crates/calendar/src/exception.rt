@@ -9,9 +9,11 @@ ghost use Rattle.definition.specs.Tree.{all};
 ghost use Rattle.definition.specs.Recurrence.{recurrenceDays};
 ghost use Rattle.definition.specs.Calendar.{recurring, skipped as skippedIn};
 ghost use Rattle.tree.specs.Place.{elementAt, laterAt};
+ghost use Rattle.tree.specs.Root.{rootAt};
 ghost use Rattle.calendar.specs.Skipped.{withoutRule, inAll, oneIf};
 use recurrence::RuleAnswer;
 use tree::Found;
+use tree::Root;
 
 // 1 for an Exception that gives no rule.
 fn one_if(s: &[u8], at: usize) -> u32
@@ -72,21 +74,12 @@ fn skipped_on(s: &[u8], first: usize) -> u32
     }
 }
 
-fn skipped_under(s: &[u8], at: usize) -> u32
-    ensures { λ r. ⌜ r ≡ inAll (all (elementAt (now (s .entry)) at) (bytes "Calendar")) % 2 ^ 32 ⌝ }
+// How many exceptions give no rule, as 32 bits hold it.
+pub fn skipped(s: &[u8], root: Root) -> u32
+    ensures { λ r. ⌜ r ≡ skippedIn (rootAt (now (s .entry)) root) % 2 ^ 32 ⌝ }
 {
-    match tree::child(s, at, b"Calendar") {
+    match tree::child(s, root.calendars, b"Calendar") {
         Found::Nothing => 0,
         Found::At(p) => skipped_on(s, p),
-    }
-}
-
-// How many exceptions give no rule, as 32 bits hold it.
-pub fn skipped(s: &[u8], at: usize) -> u32
-    ensures { λ r. ⌜ r ≡ skippedIn (elementAt (now (s .entry)) at) % 2 ^ 32 ⌝ }
-{
-    match tree::child(s, at, b"Calendars") {
-        Found::Nothing => 0,
-        Found::At(p) => skipped_under(s, p),
     }
 }

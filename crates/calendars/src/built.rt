@@ -13,6 +13,7 @@ ghost use Rattle.definition.specs.Task.{contextOf};
 ghost use Rattle.definition.specs.Calendar.{calendarElements, free};
 ghost use Rattle.definition.specs.Read.{calendarsOf};
 ghost use Rattle.tree.specs.Place.{elementAt};
+ghost use Rattle.tree.specs.Root.{rootAt};
 ghost use Rattle.names.specs.Context.{wantedName};
 ghost use Rattle.names.specs.Texts.{textsAt};
 ghost use Rattle.pack.specs.Value.{starredBy};
@@ -29,6 +30,7 @@ use model::records::Kind;
 use pack::Records;
 use rows::CalendarAnswer;
 use tree::Found;
+use tree::Root;
 
 // ---- one more
 
@@ -66,8 +68,8 @@ fn base_by(out: &[u8], start: Place, count: u32, found: CalendarAnswer) -> Base
 }
 
 // The first calendar with a UID that is built.
-fn base_of(out: &[u8], start: Place, count: u32, s: &[u8], root: usize, at: usize) -> Base
-    ensures { λ r. ⌜ BaseIn (elementAt (now (s .entry)) root) (elementAt (now (s .entry)) at) start count (now (out .entry)) r ⌝ }
+fn base_of(out: &[u8], start: Place, count: u32, s: &[u8], root: Root, at: usize) -> Base
+    ensures { λ r. ⌜ BaseIn (rootAt (now (s .entry)) root) (elementAt (now (s .entry)) at) start count (now (out .entry)) r ⌝ }
 {
     if !calendar::has_base(s, at) {
         return Base::Default;
@@ -82,12 +84,12 @@ fn put_next(
     start: Place,
     done: Records,
     s: &[u8],
-    root: usize,
+    root: Root,
     at: usize,
     words: &mut [u32],
     from: usize,
 ) -> Records
-    ensures { λ r. ⌜ Adds (elementAt (now (s .entry)) root) (elementAt (now (s .entry)) at ∷ []) start (now (out .entry)) done (now (out .exit)) r ⌝ ∗ ⌜ cleared from (now (words .exit)) ≡ cleared from (now (words .entry)) ⌝ }
+    ensures { λ r. ⌜ Adds (rootAt (now (s .entry)) root) (elementAt (now (s .entry)) at ∷ []) start (now (out .entry)) done (now (out .exit)) r ⌝ ∗ ⌜ cleared from (now (words .exit)) ≡ cleared from (now (words .entry)) ⌝ }
 {
     let stars = stars_of(out, start, done.count, s, at);
     let base = base_of(out, start, done.count, s, root, at);
@@ -105,11 +107,11 @@ fn put_each(
     out: &mut [u8],
     start: Place,
     s: &[u8],
-    root: usize,
+    root: Root,
     words: &mut [u32],
     from: usize,
 ) -> Records
-    ensures { λ r. ⌜ AddsAll (elementAt (now (s .entry)) root) start (now (out .entry)) (now (out .exit)) r ⌝ ∗ ⌜ cleared from (now (words .exit)) ≡ cleared from (now (words .entry)) ⌝ }
+    ensures { λ r. ⌜ AddsAll (rootAt (now (s .entry)) root) start (now (out .entry)) (now (out .exit)) r ⌝ ∗ ⌜ cleared from (now (words .exit)) ≡ cleared from (now (words .entry)) ⌝ }
 {
     let mut built = Records {
         count: 0,
@@ -142,11 +144,11 @@ fn put_built(
     out: &mut [u8],
     p: Place,
     s: &[u8],
-    root: usize,
+    root: Root,
     words: &mut [u32],
     from: usize,
 ) -> Records
-    ensures { λ r. ⌜ PutsBuilt (elementAt (now (s .entry)) root) (now (out .entry)) p (now (out .exit)) r ⌝ ∗ ⌜ cleared from (now (words .exit)) ≡ cleared from (now (words .entry)) ⌝ }
+    ensures { λ r. ⌜ PutsBuilt (rootAt (now (s .entry)) root) (now (out .entry)) p (now (out .exit)) r ⌝ ∗ ⌜ cleared from (now (words .exit)) ≡ cleared from (now (words .entry)) ⌝ }
 {
     let done = put_each(out, p, s, root, words, from);
     or_default(out, done)
@@ -175,8 +177,8 @@ fn turn_main(out: &mut [u8], start: Place, found: CalendarAnswer)
     }
 }
 
-fn put_elapsed(out: &mut [u8], done: Records, s: &[u8], root: usize) -> Records
-    ensures { λ r. ⌜ AddsElapsed (elementAt (now (s .entry)) root) (now (out .entry)) done (now (out .exit)) r ⌝ }
+fn put_elapsed(out: &mut [u8], done: Records, s: &[u8], root: Root) -> Records
+    ensures { λ r. ⌜ AddsElapsed (rootAt (now (s .entry)) root) (now (out .entry)) done (now (out .exit)) r ⌝ }
 {
     if rows::any_elapsed(s, root) {
         return Records {
@@ -193,11 +195,11 @@ pub fn put_calendars(
     out: &mut [u8],
     p: Place,
     s: &[u8],
-    root: usize,
+    root: Root,
     words: &mut [u32],
     at: usize,
 ) -> Records
-    ensures { λ r. ⌜ WritesIf (leb (length (calendarElements (elementAt (now (s .entry)) root))) mostElements && eqb (p .bit % 8) 0) (whole calendar) (calendarsOf (contextOf (elementAt (now (s .entry)) root))) (now (out .entry)) p (now (out .exit)) r ⌝ ∗ ⌜ now (words .exit) ≡ cleared at (now (words .entry)) ⌝ }
+    ensures { λ r. ⌜ WritesIf (leb (length (calendarElements (rootAt (now (s .entry)) root))) mostElements && eqb (p .bit % 8) 0) (whole calendar) (calendarsOf (contextOf (rootAt (now (s .entry)) root))) (now (out .entry)) p (now (out .exit)) r ⌝ ∗ ⌜ now (words .exit) ≡ cleared at (now (words .entry)) ⌝ }
 {
     if !((names::count_calendars(s, root) <= 5_000_000) & (p.bit % 8 == 0)) {
         bits::clear_words_from(words, at);

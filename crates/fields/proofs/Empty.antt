@@ -16,7 +16,6 @@ use Rattle.definition.specs.Number.{Reading, numberOf, found, decimalOf}
 use Rattle.definition.specs.Duration.{durationOf, figuresOf}
 use Rattle.definition.specs.Tree.{Element, child, textOf, nonEmpty}
 use Rattle.laws.specs.Options.{bind-or}
-use Rattle.fields.specs.Said.{wholeSaid, dateSaid, numberSaid, minutesSaid}
 
 -- ---- read as the empty text
 
@@ -36,23 +35,23 @@ no-minutes : found (durationOf []) ≡ none
 unfolding durationOf figuresOf trim trimFront trimBack strip
 no-minutes = refl
 
-read-or : {A : Type 0} (f : Text → Reading A) → found (f []) ≡ none → (x : Element) (name : Text) {t : Text} → t ≡ (textOf x name or []) → {a : Reading A} → a ≡ f t → found a ≡ (textOf x name >>= λ t. found (f t))
-read-or {A} f z x name e h =
-    ap (λ (a : Reading A). found a) h ∙ ap (λ (t : Text). found (f t)) e ∙ bind-or (λ (t : Text). found (f t)) z (textOf x name)
+read-or : {A : Type 0} (f : Text → Reading A) → found (f []) ≡ none → (o : Option Text) {t : Text} → t ≡ (o or []) → {a : Reading A} → a ≡ f t → found a ≡ (o >>= λ t. found (f t))
+read-or {A} f z o e h =
+    ap (λ (a : Reading A). found a) h ∙ ap (λ (t : Text). found (f t)) e ∙ bind-or (λ (t : Text). found (f t)) z o
 
--- t is what `text_of` gives
-module _ (x : Element) (name t : Text) (e : t ≡ (textOf x name or [])) where
-  pub whole-or : signedOf 64 t ≡ wholeSaid x name
-  whole-or = ap (signedOf 64) e ∙ bind-or (signedOf 64) no-whole (textOf x name)
+-- t is what `text_of` or `own_text` gives
+module _ (o : Option Text) (t : Text) (e : t ≡ (o or [])) where
+  pub whole-or : signedOf 64 t ≡ (o >>= signedOf 64)
+  whole-or = ap (signedOf 64) e ∙ bind-or (signedOf 64) no-whole o
 
-  pub date-or : dateOf t ≡ dateSaid x name
-  date-or = ap dateOf e ∙ bind-or dateOf no-date (textOf x name)
+  pub date-or : dateOf t ≡ (o >>= dateOf)
+  date-or = ap dateOf e ∙ bind-or dateOf no-date o
 
-  pub number-or : {r : Option Float} {a : Reading Float} → r ≡ found a → a ≡ numberOf t → r ≡ numberSaid x name
-  number-or g h = g ∙ read-or numberOf no-number x name e h
+  pub number-or : {r : Option Float} {a : Reading Float} → r ≡ found a → a ≡ numberOf t → r ≡ (o >>= λ t. found (numberOf t))
+  number-or g h = g ∙ read-or numberOf no-number o e h
 
-  pub minutes-or : {r : Option ℕ} {a : Reading ℕ} → r ≡ found a → a ≡ durationOf t → r ≡ minutesSaid x name
-  minutes-or g h = g ∙ read-or durationOf no-minutes x name e h
+  pub minutes-or : {r : Option ℕ} {a : Reading ℕ} → r ≡ found a → a ≡ durationOf t → r ≡ (o >>= λ t. found (durationOf t))
+  minutes-or g h = g ∙ read-or durationOf no-minutes o e h
 
 -- ---- given
 

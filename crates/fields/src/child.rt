@@ -1,12 +1,15 @@
 // A value in a child.
 ghost use mathlib.Core.Path.{_≡_};
 ghost use mathlib.Core.List.{[]};
-ghost use Rattle.definition.specs.Base.{same, _or_, given as present};
+ghost use Rattle.definition.specs.Base.{_>>=_ as bind, same, _or_, given as present};
 ghost use Rattle.definition.specs.Tree.{textOf};
+ghost use Rattle.definition.specs.Date.{dateOf};
+ghost use Rattle.definition.specs.Number.{numberOf, found};
 ghost use Rattle.definition.specs.Answer.{dateMeaning, dayNumberOf};
 ghost use Rattle.definition.specs.Task.{ownUid};
 ghost use Rattle.text.specs.Answers.{signedMeans};
 ghost use Rattle.tree.specs.Place.{elementAt};
+ghost use Rattle.tree.specs.Root.{ownText};
 ghost use Rattle.fields.specs.Answers.{floatMeans, minutesMeans, unsignedOr};
 ghost use Rattle.fields.specs.Said.{yesSaid, wholeSaid, dateSaid, numberSaid, minutesSaid};
 use crate::value::FloatAnswer;
@@ -75,4 +78,17 @@ pub fn minutes_in(s: &[u8], at: usize, name: &[u8]) -> MinutesAnswer
     ensures { λ r. ⌜ minutesMeans r ≡ minutesSaid (elementAt (now (s .entry)) at) (now (name .entry)) ⌝ }
 {
     minutes_of(number::duration_of(tree::text_of(s, at, name)))
+}
+
+// What the element at `at` says itself.
+pub fn date_at(s: &[u8], at: usize) -> DateAnswer
+    ensures { λ r. ⌜ dateMeaning r ≡ dayNumberOf (bind (ownText (elementAt (now (s .entry)) at)) dateOf) ⌝ }
+{
+    date::date_of(tree::own_text(s, at))
+}
+
+pub fn number_at(s: &[u8], at: usize) -> FloatAnswer
+    ensures { λ r. ⌜ floatMeans r ≡ bind (ownText (elementAt (now (s .entry)) at)) (λ t. found (numberOf t)) ⌝ }
+{
+    float_of(number::number_of(tree::own_text(s, at)))
 }

@@ -3,10 +3,12 @@
 mod child;
 mod value;
 
+pub use child::date_at;
 pub use child::date_in;
 pub use child::given;
 pub use child::int_in;
 pub use child::minutes_in;
+pub use child::number_at;
 pub use child::number_in;
 pub use child::own_uid;
 pub use child::text_is;

@@ -16,7 +16,8 @@ use Rattle.definition.specs.Calendar.{defaultCalendar}
 use Rattle.definition.specs.Task.{Context}
 use Rattle.definition.specs.Link.{Fate, linkOf, fateBy, keptOf, isDangling, isAcross}
 use Rattle.index.specs.declared.Made.{Made}
-use Rattle.tree.specs.Place.{elementAt}
+use Rattle.tree.specs.Root.{rootAt}
+use Rattle.tree.specs.declared.root.Root.{Root}
 use Rattle.rows.specs.Tables.{rowIn}
 use Rattle.rows.specs.declared.table.Listed.the-variants.{Tasks}
 use Rattle.links.specs.declared.Fates.{Fates}
@@ -27,8 +28,8 @@ abbrev pub Finder : Type 0
 Finder = Text → Option ℕ
 
 -- as the words say it, by the table of the kept tasks
-abbrev pub taskIn : Text → ℕ → List ℕ → Made → Finder
-taskIn s root w tasks = rowIn s (elementAt s root) Tasks w tasks
+abbrev pub taskIn : Text → Root → List ℕ → Made → Finder
+taskIn s root w tasks = rowIn s (rootAt s root) Tasks w tasks
 
 -- ---- the definition's fates and links, by a finder
 

@@ -4,6 +4,7 @@ ghost use Rattle.definition.specs.Ascii.{bytes};
 ghost use Rattle.definition.specs.Tree.{all};
 ghost use Rattle.definition.specs.Task.{contextOf};
 ghost use Rattle.tree.specs.Place.{elementAt};
+ghost use Rattle.tree.specs.Root.{rootAt};
 ghost use Rattle.links.specs.Fates.{taskIn, fatesBy, countedBy, countedIn, Counted};
 use crate::Fates;
 use crate::fate::LinkFate;
@@ -11,6 +12,7 @@ use crate::fate::fate_of;
 use index::Made;
 use rows::KeptAnswer;
 use tree::Found;
+use tree::Root;
 
 fn counted(n: Fates, fate: LinkFate) -> Fates
     ensures { λ r. ⌜ r ≡ countedBy n fate ⌝ }
@@ -29,7 +31,7 @@ fn counted(n: Fates, fate: LinkFate) -> Fates
 }
 
 // With those of the task at `at`.
-fn counted_in(s: &[u8], root: usize, at: usize, words: &[u32], tasks: Made, n: Fates) -> Fates
+fn counted_in(s: &[u8], root: Root, at: usize, words: &[u32], tasks: Made, n: Fates) -> Fates
     ensures { λ r. ⌜ r ≡ countedIn (taskIn (now (s .entry)) root (now (words .entry)) tasks) n (all (elementAt (now (s .entry)) at) (bytes "PredecessorLink")) ⌝ }
 {
     let mut count = n;
@@ -44,8 +46,8 @@ fn counted_in(s: &[u8], root: usize, at: usize, words: &[u32], tasks: Made, n: F
 }
 
 // By the table of the kept tasks.
-pub fn count_fates(s: &[u8], root: usize, words: &[u32], tasks: Made) -> Fates
-    ensures { λ r. ⌜ Counted (fatesBy (taskIn (now (s .entry)) root (now (words .entry)) tasks) (contextOf (elementAt (now (s .entry)) root))) r ⌝ }
+pub fn count_fates(s: &[u8], root: Root, words: &[u32], tasks: Made) -> Fates
+    ensures { λ r. ⌜ Counted (fatesBy (taskIn (now (s .entry)) root (now (words .entry)) tasks) (contextOf (rootAt (now (s .entry)) root))) r ⌝ }
 {
     let mut count = Fates {
         dangling: 0,

@@ -7,6 +7,7 @@ use definition::RowAnswer;
 use index::Made;
 use rows::Listed;
 use tree::Found;
+use tree::Root;
 
 // A kept one has the row of its predecessor.
 pub(crate) enum LinkFate {
@@ -25,7 +26,7 @@ fn by_row(row: RowAnswer) -> LinkFate
 }
 
 // By the table of the kept tasks.
-pub(crate) fn fate_of(s: &[u8], root: usize, at: usize, words: &[u32], tasks: Made) -> LinkFate
+pub(crate) fn fate_of(s: &[u8], root: Root, at: usize, words: &[u32], tasks: Made) -> LinkFate
     ensures { λ r. ⌜ r ≡ fateFor (taskIn (now (s .entry)) root (now (words .entry)) tasks) (elementAt (now (s .entry)) at) ⌝ }
 {
     if tasks::is_across(s, at) {
@@ -49,7 +50,7 @@ fn is_kept(fate: LinkFate) -> bool
 }
 
 // Whether a kept link enters the task at `at`.
-pub fn is_entered(s: &[u8], root: usize, at: usize, words: &[u32], tasks: Made) -> bool
+pub fn is_entered(s: &[u8], root: Root, at: usize, words: &[u32], tasks: Made) -> bool
     ensures { λ r. ⌜ r ≡ isEntered (taskIn (now (s .entry)) root (now (words .entry)) tasks) (elementAt (now (s .entry)) at) ⌝ }
 {
     let mut link = tree::child(s, at, b"PredecessorLink");

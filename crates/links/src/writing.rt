@@ -5,6 +5,7 @@ ghost use Rattle.definition.specs.Pack.{link as linkFormat};
 ghost use Rattle.definition.specs.Tree.{all};
 ghost use Rattle.definition.specs.Task.{contextOf};
 ghost use Rattle.tree.specs.Place.{elementAt};
+ghost use Rattle.tree.specs.Root.{rootAt};
 ghost use Rattle.pack.specs.Writes.{Writes};
 ghost use Rattle.links.specs.Fates.{taskIn, linksBy, linksFor, linksIn};
 ghost use Rattle.links.specs.More.{More};
@@ -16,6 +17,7 @@ use index::Made;
 use pack::Records;
 use rows::KeptAnswer;
 use tree::Found;
+use tree::Root;
 
 // The link element at `at`, from the row of its predecessor to that of its task.
 fn put_kept(
@@ -61,7 +63,7 @@ fn put_links_in(
     out: &mut [u8],
     done: Records,
     s: &[u8],
-    root: usize,
+    root: Root,
     at: usize,
     words: &[u32],
     tasks: Made,
@@ -94,11 +96,11 @@ pub fn put_links(
     out: &mut [u8],
     p: Place,
     s: &[u8],
-    root: usize,
+    root: Root,
     words: &[u32],
     tasks: Made,
 ) -> Records
-    ensures { λ r. ⌜ Writes (whole linkFormat) (linksBy (taskIn (now (s .entry)) root (now (words .entry)) tasks) (contextOf (elementAt (now (s .entry)) root))) (now (out .entry)) p (now (out .exit)) r ⌝ }
+    ensures { λ r. ⌜ Writes (whole linkFormat) (linksBy (taskIn (now (s .entry)) root (now (words .entry)) tasks) (contextOf (rootAt (now (s .entry)) root))) (now (out .entry)) p (now (out .exit)) r ⌝ }
 {
     let per_day = tasks::per_day(s, root);
     let mut r = Records { count: 0, next: p };

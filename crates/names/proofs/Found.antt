@@ -11,7 +11,7 @@ use borrow.Author.Tests.{lt-ltb, le-ltb, le-leb, lt-leb, ltb-true, leb-true, leb
 use Rattle.definition.specs.Base.{_>>=_, _or_, same}
 use Rattle.definition.specs.Ascii.{bytes}
 use Rattle.definition.specs.Text.{Text, trim}
-use Rattle.definition.specs.Tree.{Element, all, child, nonEmpty, textOf}
+use Rattle.definition.specs.Tree.{Element, child, nonEmpty, textOf}
 use Rattle.definition.specs.Model.{Calendar}
 use Rattle.definition.specs.Calendar.{calendarElements}
 use Rattle.definition.specs.Refusal.{mostElements}
@@ -43,15 +43,6 @@ module _ (s : Text) (r : CalendarAnswer) {o : Option (ℕ × Element)} (h : cale
   pub is-absent : r ≡ Absent → o ≡ none
   unfolding calendarMeaning
   is-absent e = sym h ∙ rw e
-
--- ---- how many
-
--- the calendars under an element
-pub under-one : (root e : Element) → child root (bytes "Calendars") ≡ some e → calendarElements root ≡ all e (bytes "Calendar")
-under-one root e h = rw h
-
-pub under-none : (root : Element) → child root (bytes "Calendars") ≡ none → calendarElements root ≡ []
-under-none root h = rw h
 
 -- ---- the names
 

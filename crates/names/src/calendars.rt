@@ -4,13 +4,13 @@ ghost use mathlib.Core.List.{[], _∷_};
 ghost use lib.ListN.{length};
 ghost use Rattle.definition.specs.Base.{_or_, same};
 ghost use Rattle.definition.specs.Ascii.{bytes};
-ghost use Rattle.definition.specs.Tree.{all};
 ghost use Rattle.definition.specs.Calendar.{calendarElements, elapsedName};
 ghost use Rattle.definition.specs.Task.{unlessMain};
 ghost use Rattle.bits.specs.Places.{upTo};
 ghost use Rattle.model.specs.Answers.{readAt};
 ghost use Rattle.model.specs.Parts.{raw};
 ghost use Rattle.tree.specs.Place.{elementAt, laterAt};
+ghost use Rattle.tree.specs.Root.{rootAt};
 ghost use Rattle.pack.specs.Value.{starredBy, nameMeaning};
 ghost use Rattle.names.specs.Context.{mainRow, sectionRow, wantedBy, starsBy, starsIn, contextAt, calendarsBefore};
 use crate::records::place_of_row;
@@ -21,6 +21,7 @@ use model::records::Kind;
 use pack::NameAnswer;
 use rows::CalendarAnswer;
 use tree::Found;
+use tree::Root;
 
 // ---- how many
 
@@ -39,22 +40,13 @@ fn count_from(s: &[u8], first: usize) -> usize
     }
 }
 
-fn count_in(s: &[u8], at: usize) -> usize
-    ensures { λ r. ⌜ r ≡ length (all (elementAt (now (s .entry)) at) (bytes "Calendar")) ⌝ }
+// How many calendars there are.
+pub fn count_calendars(s: &[u8], root: Root) -> usize
+    ensures { λ r. ⌜ r ≡ length (calendarElements (rootAt (now (s .entry)) root)) ⌝ }
 {
-    match tree::child(s, at, b"Calendar") {
+    match tree::child(s, root.calendars, b"Calendar") {
         Found::Nothing => 0,
         Found::At(p) => count_from(s, p),
-    }
-}
-
-// How many calendars there are.
-pub fn count_calendars(s: &[u8], root: usize) -> usize
-    ensures { λ r. ⌜ r ≡ length (calendarElements (elementAt (now (s .entry)) root)) ⌝ }
-{
-    match tree::child(s, root, b"Calendars") {
-        Found::Nothing => 0,
-        Found::At(p) => count_in(s, p),
     }
 }
 
@@ -76,8 +68,8 @@ fn up_to(p: Place, q: Place) -> bool
 }
 
 // Whether all calendars, at most 5,000,000, are read from c on before p.
-pub fn calendars_before(out: &[u8], c: Place, s: &[u8], root: usize, p: Place) -> bool
-    ensures { λ r. ⌜ r ≡ calendarsBefore (now (out .entry)) c (elementAt (now (s .entry)) root) p ⌝ }
+pub fn calendars_before(out: &[u8], c: Place, s: &[u8], root: Root, p: Place) -> bool
+    ensures { λ r. ⌜ r ≡ calendarsBefore (now (out .entry)) c (rootAt (now (s .entry)) root) p ⌝ }
 {
     let n = count_calendars(s, root);
     if 5000000 < n {
@@ -100,8 +92,8 @@ pub fn wanted_name<'a>(s: &'a [u8], at: usize, unnamed: &'a [u8]) -> &'a [u8]
 }
 
 // The row of the main calendar among those in the order in which they are built.
-fn main_row(s: &[u8], root: usize) -> usize
-    ensures { λ r. ⌜ r ≡ mainRow (elementAt (now (s .entry)) root) ⌝ }
+fn main_row(s: &[u8], root: Root) -> usize
+    ensures { λ r. ⌜ r ≡ mainRow (rootAt (now (s .entry)) root) ⌝ }
 {
     match rows::main_calendar(s, root) {
         CalendarAnswer::Is(row, _) => row,
@@ -134,8 +126,8 @@ pub(crate) fn stars_at(out: &[u8], p: Place, s: &[u8], at: usize) -> u32
 }
 
 // That of the calendar of a row.
-pub(crate) fn stars_of(out: &[u8], c: Place, s: &[u8], root: usize, row: usize, at: usize) -> u32
-    ensures { λ r. ⌜ r ≡ starsIn (now (out .entry)) c (elementAt (now (s .entry)) root) row (elementAt (now (s .entry)) at) ⌝ }
+pub(crate) fn stars_of(out: &[u8], c: Place, s: &[u8], root: Root, row: usize, at: usize) -> u32
+    ensures { λ r. ⌜ r ≡ starsIn (now (out .entry)) c (rootAt (now (s .entry)) root) row (elementAt (now (s .entry)) at) ⌝ }
 {
     let k = section_row(main_row(s, root), row);
     let p = place_of_row(out, c, Kind::Calendars, k);
@@ -143,8 +135,8 @@ pub(crate) fn stars_of(out: &[u8], c: Place, s: &[u8], root: usize, row: usize, 
 }
 
 // Whether a text with so many `*` is the main calendar's name.
-fn is_main(out: &[u8], c: Place, s: &[u8], root: usize, text: &[u8], stars: u32) -> bool
-    ensures { λ r. ⌜ r ≡ same (starredBy (now (text .entry)) stars) (contextAt (now (out .entry)) c (elementAt (now (s .entry)) root) .main .name) ⌝ }
+fn is_main(out: &[u8], c: Place, s: &[u8], root: Root, text: &[u8], stars: u32) -> bool
+    ensures { λ r. ⌜ r ≡ same (starredBy (now (text .entry)) stars) (contextAt (now (out .entry)) c (rootAt (now (s .entry)) root) .main .name) ⌝ }
 {
     match rows::main_calendar(s, root) {
         CalendarAnswer::Is(row, at) => {
@@ -160,11 +152,11 @@ pub(crate) fn unless_main(
     out: &[u8],
     c: Place,
     s: &[u8],
-    root: usize,
+    root: Root,
     text: &[u8],
     stars: u32,
 ) -> NameAnswer
-    ensures { λ r. ⌜ nameMeaning (now (text .entry)) r ≡ unlessMain (contextAt (now (out .entry)) c (elementAt (now (s .entry)) root)) (starredBy (now (text .entry)) stars) ⌝ }
+    ensures { λ r. ⌜ nameMeaning (now (text .entry)) r ≡ unlessMain (contextAt (now (out .entry)) c (rootAt (now (s .entry)) root)) (starredBy (now (text .entry)) stars) ⌝ }
 {
     if is_main(out, c, s, root, text, stars) {
         return NameAnswer::Absent;
@@ -173,8 +165,8 @@ pub(crate) fn unless_main(
 }
 
 // The elapsed calendar's name, unless it is the main one's.
-pub(crate) fn elapsed_named(out: &[u8], c: Place, s: &[u8], root: usize) -> NameAnswer
-    ensures { λ r. ⌜ nameMeaning elapsedName r ≡ unlessMain (contextAt (now (out .entry)) c (elementAt (now (s .entry)) root)) elapsedName ⌝ }
+pub(crate) fn elapsed_named(out: &[u8], c: Place, s: &[u8], root: Root) -> NameAnswer
+    ensures { λ r. ⌜ nameMeaning elapsedName r ≡ unlessMain (contextAt (now (out .entry)) c (rootAt (now (s .entry)) root)) elapsedName ⌝ }
 {
     unless_main(out, c, s, root, b"Elapsed (24 hours)", 0)
 }

@@ -11,7 +11,7 @@ ghost use Rattle.definition.specs.Calendar.{elapsedName};
 ghost use Rattle.definition.specs.Text.{Text};
 ghost use Rattle.index.specs.Law.{Fits};
 ghost use Rattle.rows.specs.Rows.{inOrder};
-ghost use Rattle.tree.specs.Place.{elementAt};
+ghost use Rattle.tree.specs.Root.{rootAt};
 ghost use Rattle.pack.specs.Value.{nameMeaning};
 ghost use Rattle.names.specs.Context.{contextAt};
 ghost use Rattle.names.specs.Named.{nameWord, nameBy, calendarName, nameOfRow, namedBy, namedIn, elapsedIn, madeIn, namesEnd, Stays, Stand, Chained, MainOf, mainText, NotesName, NamesNoted, Ripe, Calendars, Makes};
@@ -31,12 +31,13 @@ use model::records::skip_record;
 use pack::NameAnswer;
 use rows::CalendarAnswer;
 use tree::Found;
+use tree::Root;
 
 // ---- the table is made
 
 // Room for a table of all calendars, 4 words for each and one more, where 32 bits hold each position in the tree.
-fn room_for(s: &[u8], root: usize, len: usize, at: usize) -> Made
-    ensures { λ r. ⌜ r ≡ madeIn (now (s .entry)) (elementAt (now (s .entry)) root) len at ⌝ }
+fn room_for(s: &[u8], root: Root, len: usize, at: usize) -> Made
+    ensures { λ r. ⌜ r ≡ madeIn (now (s .entry)) (rootAt (now (s .entry)) root) len at ⌝ }
 {
     if 4294967295 < s.len() {
         return Made::NoRoom;
@@ -52,9 +53,9 @@ fn room_for(s: &[u8], root: usize, len: usize, at: usize) -> Made
 }
 
 // Where each calendar stands.
-fn note_places(s: &[u8], root: usize, words: &mut [u32], t: Table)
-    requires { ⌜ Ripe (now s) (elementAt (now s) root) t (length (now words)) ⌝ }
-    ensures { λ _. ⌜ Stand (now (s .entry)) (elementAt (now (s .entry)) root) t 0 (now (words .exit)) × Stays (t .at) (namesEnd t) (now (words .entry)) (now (words .exit)) ⌝ }
+fn note_places(s: &[u8], root: Root, words: &mut [u32], t: Table)
+    requires { ⌜ Ripe (now s) (rootAt (now s) root) t (length (now words)) ⌝ }
+    ensures { λ _. ⌜ Stand (now (s .entry)) (rootAt (now (s .entry)) root) t 0 (now (words .exit)) × Stays (t .at) (namesEnd t) (now (words .entry)) (now (words .exit)) ⌝ }
 {
     let mut left = t.rows;
     let mut e = rows::first_calendar(s, root);
@@ -97,9 +98,9 @@ pub(crate) struct Main {
     pub stars: u32,
 }
 
-fn main_of(out: &[u8], c: Place, s: &[u8], root: usize) -> Main
-    requires { ⌜ 0 < length (inOrder (elementAt (now s) root)) ⌝ }
-    ensures { λ r. ⌜ MainOf (now (out .entry)) c (now (s .entry)) (elementAt (now (s .entry)) root) r ⌝ }
+fn main_of(out: &[u8], c: Place, s: &[u8], root: Root) -> Main
+    requires { ⌜ 0 < length (inOrder (rootAt (now s) root)) ⌝ }
+    ensures { λ r. ⌜ MainOf (now (out .entry)) c (now (s .entry)) (rootAt (now (s .entry)) root) r ⌝ }
 {
     match rows::main_calendar(s, root) {
         CalendarAnswer::Is(row, at) => {
@@ -169,9 +170,9 @@ fn note_names(out: &[u8], c: Place, s: &[u8], words: &mut [u32], t: Table, main:
     }
 }
 
-fn fill(out: &[u8], c: Place, s: &[u8], root: usize, words: &mut [u32], t: Table)
-    requires { ⌜ Ripe (now s) (elementAt (now s) root) t (length (now words)) ⌝ }
-    ensures { λ _. ⌜ Calendars (now (out .entry)) c (now (s .entry)) (elementAt (now (s .entry)) root) t (now (words .exit)) × Stays (t .at) (namesEnd t) (now (words .entry)) (now (words .exit)) ⌝ }
+fn fill(out: &[u8], c: Place, s: &[u8], root: Root, words: &mut [u32], t: Table)
+    requires { ⌜ Ripe (now s) (rootAt (now s) root) t (length (now words)) ⌝ }
+    ensures { λ _. ⌜ Calendars (now (out .entry)) c (now (s .entry)) (rootAt (now (s .entry)) root) t (now (words .exit)) × Stays (t .at) (namesEnd t) (now (words .entry)) (now (words .exit)) ⌝ }
 {
     note_places(s, root, words, t);
     chain_rows(s, words, t);
@@ -192,11 +193,11 @@ pub fn index_calendars(
     out: &[u8],
     c: Place,
     s: &[u8],
-    root: usize,
+    root: Root,
     words: &mut [u32],
     at: usize,
 ) -> CalendarTable
-    ensures { λ r. ⌜ Makes (now (out .entry)) c (now (s .entry)) (elementAt (now (s .entry)) root) at (now (words .entry)) (now (words .exit)) r ⌝ }
+    ensures { λ r. ⌜ Makes (now (out .entry)) c (now (s .entry)) (rootAt (now (s .entry)) root) at (now (words .entry)) (now (words .exit)) r ⌝ }
 {
     let table = room_for(s, root, words.len(), at);
     let Made::Ready(t) = table else {
@@ -245,8 +246,8 @@ fn name_of(s: &[u8], words: &[u32], t: Table, row: RowAnswer) -> CalendarName
     }
 }
 
-fn scan(out: &[u8], c: Place, s: &[u8], root: usize, uid: &[u8]) -> CalendarName
-    ensures { λ r. ⌜ calendarName (now (s .entry)) r ≡ namedBy (contextAt (now (out .entry)) c (elementAt (now (s .entry)) root)) (now (uid .entry)) ⌝ }
+fn scan(out: &[u8], c: Place, s: &[u8], root: Root, uid: &[u8]) -> CalendarName
+    ensures { λ r. ⌜ calendarName (now (s .entry)) r ≡ namedBy (contextAt (now (out .entry)) c (rootAt (now (s .entry)) root)) (now (uid .entry)) ⌝ }
 {
     match rows::calendar_with(s, root, uid) {
         CalendarAnswer::Is(row, at) => {
@@ -269,12 +270,12 @@ pub fn calendar_in(
     out: &[u8],
     c: Place,
     s: &[u8],
-    root: usize,
+    root: Root,
     words: &[u32],
     table: Made,
     uid: &[u8],
 ) -> CalendarName
-    ensures { λ r. ⌜ calendarName (now (s .entry)) r ≡ namedIn (contextAt (now (out .entry)) c (elementAt (now (s .entry)) root)) (now (s .entry)) (now (words .entry)) table (now (uid .entry)) ⌝ }
+    ensures { λ r. ⌜ calendarName (now (s .entry)) r ≡ namedIn (contextAt (now (out .entry)) c (rootAt (now (s .entry)) root)) (now (s .entry)) (now (words .entry)) table (now (uid .entry)) ⌝ }
 {
     match table {
         Made::Ready(t) => name_of(s, words, t, rows::seek(s, words, t, uid)),
@@ -287,11 +288,11 @@ pub fn elapsed_in(
     out: &[u8],
     c: Place,
     s: &[u8],
-    root: usize,
+    root: Root,
     words: &[u32],
     table: Made,
 ) -> NameAnswer
-    ensures { λ r. ⌜ nameMeaning elapsedName r ≡ elapsedIn (contextAt (now (out .entry)) c (elementAt (now (s .entry)) root)) (now (words .entry)) table ⌝ }
+    ensures { λ r. ⌜ nameMeaning elapsedName r ≡ elapsedIn (contextAt (now (out .entry)) c (rootAt (now (s .entry)) root)) (now (words .entry)) table ⌝ }
 {
     match table {
         Made::Ready(t) => by_word(index::word(words, t.at, 4 * (t.rows as usize))),

@@ -6,7 +6,7 @@ use Prim.Native.Nat.{ℕ, _*_, _%_, _^_, _<_}
 use native.Mathlib.Omega.{arith}
 use borrow.Author.Tests.{le-leb}
 use lib.Dec.{leb, eqb}
-use lib.ListN.{length, drop, getD}
+use lib.ListN.{length, getD}
 use Rattle.definition.specs.Text.{Text}
 use Rattle.definition.specs.Format.{Format, times, whole, _⊗_}
 use Rattle.definition.specs.Tree.{Element}
@@ -17,16 +17,18 @@ use Rattle.definition.specs.Link.{links, entered}
 use Rattle.definition.specs.Resource.{workResources, resources, assignments, expenses}
 use Rattle.definition.specs.Refusal.{mostElements}
 use Rattle.definition.specs.Read.{projectOf, calendarsOf, modelOf}
-use Rattle.laws.specs.Each.{Each, next, each-drop}
+use Rattle.laws.specs.Each.{Each, next}
 use Rattle.laws.specs.FitRecords.{Short, FitsCalendarBy}
-use Rattle.laws.specs.FitTrees.{slim-texts, small-element}
+use Rattle.laws.specs.FitTrees.{slim-texts}
 use Rattle.laws.specs.FitCalendars.{fit-calendars}
 use Rattle.laws.specs.Buf.{full, _▷_, ▷-full}
 use Rattle.laws.specs.Formats.{Fills, fills-whole, fills-pair}
 use Rattle.laws.specs.Bits.{bytes-of}
 use Rattle.laws.specs.Bools.{differ}
 use Rattle.bits.specs.Round.{put-inside as began, put-stood}
-use Rattle.tree.specs.Place.{elementAt}
+use Rattle.tree.specs.Root.{rootAt}
+use Rattle.tree.specs.declared.root.Root.{Root}
+use Rattle.rows.specs.Small.{small-root}
 use Rattle.bits.specs.Places.{past, inside}
 use Rattle.bits.specs.Steps.{Puts, _⨾_, said, refuses, view, view-out, puts, put-⊗}
 use Rattle.bits.specs.declared.Place.{Place}
@@ -45,8 +47,8 @@ use Rattle.read.specs.Sections.{start, low, zeros, listed, listedOf, Few
 abbrev pub Fit : Element → Type 0
 Fit e = Each (FitsCalendarBy Short) (calendarsOf (contextOf e))
 
-pub fit-tree : (s : Text) (root : ℕ) → ((i : ℕ) → getD s i 0 < 256) → Few (elementAt s root) → Fit (elementAt s root)
-fit-tree s root h few = fit-calendars slim-texts (small-element (drop root s) (each-drop root (bytes-of s h))) (few .calendars)
+pub fit-tree : (s : Text) (root : Root) → ((i : ℕ) → getD s i 0 < 256) → Few (rootAt s root) → Fit (rootAt s root)
+fit-tree s root h few = fit-calendars slim-texts (small-root s root (bytes-of s h)) (few .calendars)
 
 -- ---- one section
 

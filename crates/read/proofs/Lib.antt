@@ -3,3 +3,4 @@ pub mod Whole
 pub mod Chains
 pub mod Projects
 pub mod Tables
+pub mod Same

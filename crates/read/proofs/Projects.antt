@@ -8,11 +8,10 @@ use Prim.Native.String.{String}
 use native.Mathlib.Omega.{arith}
 use lib.IntN.{ℤ, pos}
 use lib.ListN.{length}
-use Rattle.definition.specs.Base.{_or_, _orElse_, keep, given as present}
-use Rattle.definition.specs.Ascii.{bytes}
+use Rattle.definition.specs.Base.{_>>=_, _or_, _orElse_, keep, given as present}
 use Rattle.definition.specs.Bits.{Bits, pad}
 use Rattle.definition.specs.Text.{Text}
-use Rattle.definition.specs.Date.{Date, epoch, fromDays}
+use Rattle.definition.specs.Date.{Date, dateOf, epoch, fromDays}
 use Rattle.definition.specs.Field.{textIn, dateIn}
 use Rattle.definition.specs.Tree.{Element}
 use Rattle.definition.specs.Format.{Format, field, via, _⊗_, whole}
@@ -34,7 +33,6 @@ use Rattle.bits.specs.declared.Place.{Place}
 use Rattle.pack.specs.Value.{dateBy, dateGiven, date-read, years-back}
 use Rattle.pack.specs.Record.{projectBy}
 use Rattle.pack.specs.declared.record.Skips.{Skips}
-use Rattle.fields.specs.Said.{dateSaid, date-in}
 use Rattle.read.specs.Project.{Skipped}
 
 -- ---- its fields
@@ -51,9 +49,10 @@ epoch-is : dateBy (pos 0) ≡ epoch
 unfolding fromDays
 epoch-is = refl
 
--- a date that was read
-pub date-given : (a : DateAnswer) (e : Element) (n : String) → dateMeaning a ≡ dayNumberOf (dateSaid e (bytes n)) → dateGiven a ≡ dateIn e n
-date-given a e n h = date-read a (dateIn e n) (h ∙ ap dayNumberOf (date-in e n)) (years-back (dateIn e n) (is-given (in-years e n)))
+-- a date that was read from a text
+pub date-given : (a : DateAnswer) (e : Element) (n : String) {o : Option Text} → textIn e n ≡ o → dateMeaning a ≡ dayNumberOf (o >>= dateOf) → dateGiven a ≡ dateIn e n
+unfolding dateIn
+date-given a e n k h = date-read a (dateIn e n) (h ∙ ap (λ (o : Option Text). dayNumberOf (o >>= dateOf)) (sym k)) (years-back (dateIn e n) (is-given (in-years e n)))
 
 module _ (a : DateAnswer) (o : Option Date) (h : dateGiven a ≡ o) where
   pub start-given : (d : D.Date) → a ≡ DateAnswer.Is d → dateBy (d .0) ≡ (o or epoch)

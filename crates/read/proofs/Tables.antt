@@ -20,7 +20,8 @@ use Rattle.index.specs.declared.Made.{Made}
 use Rattle.index.specs.declared.Made.the-variants.{Ready, NoRoom}
 use Rattle.index.specs.Chains.{endOf, endIn}
 use Rattle.index.specs.Frame.{SameIn}
-use Rattle.tree.specs.Place.{elementAt}
+use Rattle.tree.specs.Root.{rootAt}
+use Rattle.tree.specs.declared.root.Root.{Root}
 use Rattle.bits.specs.Clear.{cleared}
 use Rattle.bits.specs.declared.Place.{Place}
 use Rattle.pack.specs.Writes.{Writes, WritesIf}
@@ -52,7 +53,7 @@ module _ {s : Text} {root : Element} {l : Listed} {at : ℕ} {w w′ : List ℕ}
       go NoRoom x = omega arith
       go (Ready t) x = x .indexed .fits .room
 
-pub tasks-made : {s : Text} {root at : ℕ} {w w′ : List ℕ} {m : Made} → Makes s (elementAt s root) Listed.Tasks at w w′ m → Tasked s root w′ m
+pub tasks-made : {s : Text} {root : Root} {at : ℕ} {w w′ : List ℕ} {m : Made} → Makes s (rootAt s root) Listed.Tasks at w w′ m → Tasked s root w′ m
 tasks-made h = record { finds = λ u. tabled-finds u h ∙ tasks-32 _ u; ends = made-ends h }
 
 -- ---- the table of the kept tasks stays
@@ -73,13 +74,13 @@ cleared-leaves m {n} w h k = record { same = λ t e. go t (rw e at h) }
           List·getD-append (take n w) (replicate (length w - n) 0) 0 j (omega (arith, length-take-le n w k)) ∙ getD-take n w j 0 i;
     }
 
-tasked-same : {s : Text} {root : ℕ} {tasks : Made} {w w′ : List ℕ} → Tasked s root w tasks → SameFor tasks w w′ → length w′ ≡ length w → Tasked s root w′ tasks
+tasked-same : {s : Text} {root : Root} {tasks : Made} {w w′ : List ℕ} → Tasked s root w tasks → SameFor tasks w w′ → length w′ ≡ length w → Tasked s root w′ tasks
 tasked-same {s} {root} x y e = record {
-  finds = λ u. ap (λ (f : Text → Option ℕ). f u) (row-same s (elementAt s root) Listed.Tasks y) ∙ x .finds u;
+  finds = λ u. ap (λ (f : Text → Option ℕ). f u) (row-same s (rootAt s root) Listed.Tasks y) ∙ x .finds u;
   ends = omega (arith, x .ends);
 }
 
-module _ {s : Text} {root : ℕ} {w : List ℕ} {tasks : Made} (x : Tasked s root w tasks) where
+module _ {s : Text} {root : Root} {w : List ℕ} {tasks : Made} (x : Tasked s root w tasks) where
   tasked-cleared : {n : ℕ} {w′ : List ℕ} → endIn tasks ≤ n → n ≤ length w → w′ ≡ cleared n w → Tasked s root w′ tasks
   tasked-cleared {n} h k e = rw e (tasked-same x (cleared-leaves tasks w h k) (cleared-long n w k))
 
@@ -92,28 +93,28 @@ module _ {s : Text} {root : ℕ} {w : List ℕ} {tasks : Made} (x : Tasked s roo
 
   -- ---- fates and links by it
 
-  pub fates-counted : {r : Fates} → Counted (fatesBy (taskIn s root w tasks) (contextOf (elementAt s root))) r → Counted (fates (contextOf (elementAt s root))) r
+  pub fates-counted : {r : Fates} → Counted (fatesBy (taskIn s root w tasks) (contextOf (rootAt s root))) r → Counted (fates (contextOf (rootAt s root))) r
   unfolding contextOf
-  fates-counted {r} = subst (λ (l : List Fate). Counted l r) (fates-found (contextOf (elementAt s root)) (x .finds))
+  fates-counted {r} = subst (λ (l : List Fate). Counted l r) (fates-found (contextOf (rootAt s root)) (x .finds))
 
-  links-are : linksBy (taskIn s root w tasks) (contextOf (elementAt s root)) ≡ links (contextOf (elementAt s root))
+  links-are : linksBy (taskIn s root w tasks) (contextOf (rootAt s root)) ≡ links (contextOf (rootAt s root))
   unfolding contextOf
-  links-are = links-found (contextOf (elementAt s root)) (x .finds)
+  links-are = links-found (contextOf (rootAt s root)) (x .finds)
 
   module _ {d : List ℕ} {p : Place} {d' : List ℕ} {r : Records} where
-    pub links-written : {f : Format Link} → Writes f (linksBy (taskIn s root w tasks) (contextOf (elementAt s root))) d p d' r → Writes f (links (contextOf (elementAt s root))) d p d' r
+    pub links-written : {f : Format Link} → Writes f (linksBy (taskIn s root w tasks) (contextOf (rootAt s root))) d p d' r → Writes f (links (contextOf (rootAt s root))) d p d' r
     links-written {f} = subst (λ (l : List Link). Writes f l d p d' r) links-are
 
     pub activities-written : (y : Context) {test : Bool} {f : Format Activity}
-        → WritesIf test f (activities y (entered (linksBy (taskIn s root w tasks) (contextOf (elementAt s root))))) d p d' r
-        → WritesIf test f (activities y (entered (links (contextOf (elementAt s root))))) d p d' r
+        → WritesIf test f (activities y (entered (linksBy (taskIn s root w tasks) (contextOf (rootAt s root))))) d p d' r
+        → WritesIf test f (activities y (entered (links (contextOf (rootAt s root))))) d p d' r
     activities-written y {test} {f} = subst (λ (l : List Link). WritesIf test f (activities y (entered l)) d p d' r) links-are
 
   -- ---- the tables of resources behind it
 
-  pub resources-made : {at behind : ℕ} {w1 w2 : List ℕ} {work cost : Made} → at ≡ min (endIn tasks) (length w) → Makes s (elementAt s root) Listed.Work at w w1 work
-      → behind ≡ max at (min (endIn work) (length w1)) → Makes s (elementAt s root) Listed.Cost behind w1 w2 cost
-      → Finds (elementAt s root) (findersIn s (elementAt s root) w2 tasks work cost)
+  pub resources-made : {at behind : ℕ} {w1 w2 : List ℕ} {work cost : Made} → at ≡ min (endIn tasks) (length w) → Makes s (rootAt s root) Listed.Work at w w1 work
+      → behind ≡ max at (min (endIn work) (length w1)) → Makes s (rootAt s root) Listed.Cost behind w1 w2 cost
+      → Finds (rootAt s root) (findersIn s (rootAt s root) w2 tasks work cost)
   resources-made {at} {behind} {work = work} a h b k =
       let ends : endIn tasks ≤ at = omega (arith, x .ends) in
       let later : endIn tasks ≤ behind = omega arith in
@@ -122,7 +123,7 @@ module _ {s : Text} {root : ℕ} {w : List ℕ} {tasks : Made} (x : Tasked s roo
       let z = tasked-same y (makes-behind k tasks later) (made-long k) in
       record {
         task = z .finds;
-        work = λ u. ap (λ (f : Text → Option ℕ). f u) (row-same s (elementAt s root) Listed.Work (makes-behind k work ends-work)) ∙ tabled-finds u h;
+        work = λ u. ap (λ (f : Text → Option ℕ). f u) (row-same s (rootAt s root) Listed.Work (makes-behind k work ends-work)) ∙ tabled-finds u h;
         cost = λ u. tabled-cost u k;
       }
 

@@ -169,7 +169,7 @@ reads-not : (s : Text) (room : ℕ) → 0 < treeRefusal s → readAnswer s room 
 unfolding readAnswer
 reads-not s room h = rw (lt-ltb 0 (treeRefusal s) h)
 
-module _ {s : Text} {d d1 : List ℕ} {r : Sections} (w : AllPut s 0 d d1 r) where
+module _ {s : Text} {d d1 : List ℕ} {r : Sections} (w : AllPut (elementAt s 0) d d1 r) where
   pub fills-short : {out : List ℕ} → inside (length d1) (r .next) ≡ false → out ≡ replicate (length d1) 0 → A.Fills s d out (answer.Refused 9)
   fills-short {out} h e = record {
     fills = λ k.

@@ -5,7 +5,6 @@ use mathlib.Core.Bool.{true, _&&_}
 use mathlib.Core.List.{List, _++_}
 use lib.Dec.{leb}
 use lib.ListN.{length}
-use Rattle.definition.specs.Text.{Text}
 use Rattle.definition.specs.Bits.{Bits, bitsOf}
 use Rattle.definition.specs.Format.{Format, _⊗_, times, whole}
 use Rattle.definition.specs.Tree.{Element}
@@ -16,7 +15,6 @@ use Rattle.definition.specs.Task.{contextOf}
 use Rattle.definition.specs.Resource.{workResources, resources, assignments, expenses}
 use Rattle.definition.specs.Refusal.{mostElements}
 use Rattle.definition.specs.Read.{modelOf}
-use Rattle.tree.specs.Place.{elementAt}
 use Rattle.bits.specs.Places.{inside}
 use Rattle.bits.specs.Steps.{Puts}
 use Rattle.bits.specs.declared.Place.{Place}
@@ -75,15 +73,15 @@ pub record AssignedPut (e : Element) (c : Place) (d : List ℕ) (p : Place) (d' 
   pub expenses-put : WritesIn (whole expense) (expenses (contextOf e) e) d2 (r .assignments .next) d' (r .expenses)
 
 -- the sections
-pub record SectionsPut (s : Text) (root : ℕ) (d : List ℕ) (p : Place) (d' : List ℕ) (r : Sections) : Type 0 where
+pub record SectionsPut (e : Element) (d : List ℕ) (p : Place) (d' : List ℕ) (r : Sections) : Type 0 where
   pub same : length d' ≡ length d
-  pub puts : Few (elementAt s root) → Whole d p → Puts (listed (countsOf (modelOf (elementAt s root)))) (listedOf (modelOf (elementAt s root))) d p d' (r .next)
-  pub counts : Few (elementAt s root) → Whole d p → Counted (elementAt s root) d' r
+  pub puts : Few e → Whole d p → Puts (listed (countsOf (modelOf e))) (listedOf (modelOf e)) d p d' (r .next)
+  pub counts : Few e → Whole d p → Counted e d' r
 
 -- all from the start on, with open counts
-pub record AllPut (s : Text) (root : ℕ) (d d' : List ℕ) (r : Sections) : Type 0 where
-  pub puts : Few (elementAt s root) → Puts (counts ⊗ body (countsOf (modelOf (elementAt s root)))) (zeros, bodyOf (modelOf (elementAt s root))) d start d' (r .next)
-  pub counts : Few (elementAt s root) → Counted (elementAt s root) d' r
+pub record AllPut (e : Element) (d d' : List ℕ) (r : Sections) : Type 0 where
+  pub puts : Few e → Puts (counts ⊗ body (countsOf (modelOf e))) (zeros, bodyOf (modelOf e)) d start d' (r .next)
+  pub counts : Few e → Counted e d' r
 
 -- counts laid over zeros, and nothing else changed
 pub record Closes (n : P.Counts) (d d' : List ℕ) : Type 0 where

@@ -1,7 +1,7 @@
 // Resources, assignments and expenses, with the tables of resources.
 ghost use mathlib.Core.Path.{_≡_};
 ghost use Prim.Native.Nat.{max};
-ghost use Rattle.tree.specs.Place.{elementAt};
+ghost use Rattle.tree.specs.Root.{rootAt};
 ghost use Rattle.assignments.specs.Finders.{Finds, findersIn};
 ghost use Rattle.read.specs.Sections.{AssignedPut};
 ghost use Rattle.read.specs.Tables.{Tasked};
@@ -9,6 +9,7 @@ use bits::Place;
 use index::Made;
 use pack::Records;
 use rows::Listed;
+use tree::Root;
 
 // Those of work and of cost resources.
 pub(crate) struct ResourceTables {
@@ -31,9 +32,9 @@ fn later(a: usize, b: usize) -> usize
 }
 
 // The tables of resources behind that of the kept tasks, each where it finds room.
-fn index_resources(s: &[u8], root: usize, words: &mut [u32], tasks: Made) -> ResourceTables
+fn index_resources(s: &[u8], root: Root, words: &mut [u32], tasks: Made) -> ResourceTables
     requires { ⌜ Tasked (now s) root (now words) tasks ⌝ }
-    ensures { λ r. ⌜ Finds (elementAt (now (s .entry)) root) (findersIn (now (s .entry)) (elementAt (now (s .entry)) root) (now (words .exit)) tasks (r .work) (r .cost)) ⌝ }
+    ensures { λ r. ⌜ Finds (rootAt (now (s .entry)) root) (findersIn (now (s .entry)) (rootAt (now (s .entry)) root) (now (words .exit)) tasks (r .work) (r .cost)) ⌝ }
 {
     let at = index::end_of(tasks, words.len());
     let work = rows::index_rows(s, root, Listed::Work, words, at);
@@ -47,13 +48,13 @@ pub(crate) fn put_assigned(
     out: &mut [u8],
     p: Place,
     s: &[u8],
-    root: usize,
+    root: Root,
     c: Place,
     words: &mut [u32],
     tasks: Made,
 ) -> Assigned
     requires { ⌜ Tasked (now s) root (now words) tasks ⌝ }
-    ensures { λ r. ⌜ AssignedPut (elementAt (now (s .entry)) root) c (now (out .entry)) p (now (out .exit)) r ⌝ }
+    ensures { λ r. ⌜ AssignedPut (rootAt (now (s .entry)) root) c (now (out .entry)) p (now (out .exit)) r ⌝ }
 {
     let at = index::end_of(tasks, words.len());
     let resources = assignments::put_resources(out, p, s, root, c, words, at);

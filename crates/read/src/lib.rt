@@ -21,7 +21,8 @@ pub enum ReadAnswer {
 fn put_model(tree: &[u8], model: &mut [u8], work: &mut [u32]) -> ReadAnswer
     ensures { λ r. ⌜ Fills (now (tree .entry)) (now (model .entry)) (now (model .exit)) r ⌝ }
 {
-    let n = put_all(model, tree, 0, work);
+    let root = tree::root_of(tree, 0);
+    let n = put_all(model, tree, root, work);
     let end = n.next;
     let room = model.len();
     if !bits::inside(room, end) {

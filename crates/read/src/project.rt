@@ -8,7 +8,7 @@ ghost use Rattle.definition.specs.Format.{whole};
 ghost use Rattle.definition.specs.Pack.{project};
 ghost use Rattle.definition.specs.Read.{projectOf};
 ghost use Rattle.definition.specs.Task.{contextOf};
-ghost use Rattle.tree.specs.Place.{elementAt};
+ghost use Rattle.tree.specs.Root.{rootAt};
 ghost use Rattle.bits.specs.Steps.{Puts};
 ghost use Rattle.pack.specs.Value.{dateBy};
 ghost use Rattle.read.specs.Project.{Skipped};
@@ -18,30 +18,32 @@ use definition::Date;
 use definition::DateAnswer;
 use index::Made;
 use pack::Skips;
+use tree::Root;
 
 // The title, else the name.
-fn project_name<'a>(s: &'a [u8], root: usize) -> &'a [u8]
-    ensures { λ r. ⌜ now r ≡ ((textIn (elementAt (now (s .entry)) root) "Title" orElse textIn (elementAt (now (s .entry)) root) "Name") or []) ⌝ }
+fn project_name<'a>(s: &'a [u8], root: Root) -> &'a [u8]
+    ensures { λ r. ⌜ now r ≡ ((textIn (rootAt (now (s .entry)) root) "Title" orElse textIn (rootAt (now (s .entry)) root) "Name") or []) ⌝ }
 {
-    if fields::given(s, root, b"Title") {
-        return tree::text_of(s, root, b"Title");
+    let title = tree::own_text(s, root.title);
+    if title.len() != 0 {
+        return title;
     }
-    tree::text_of(s, root, b"Name")
+    tree::own_text(s, root.name)
 }
 
 // 1 January 1970 where no start is given.
-fn start_of(s: &[u8], root: usize) -> Date
-    ensures { λ r. ⌜ dateBy (r .0) ≡ (dateIn (elementAt (now (s .entry)) root) "StartDate" or epoch) ⌝ }
+fn start_of(s: &[u8], root: Root) -> Date
+    ensures { λ r. ⌜ dateBy (r .0) ≡ (dateIn (rootAt (now (s .entry)) root) "StartDate" or epoch) ⌝ }
 {
-    match fields::date_in(s, root, b"StartDate") {
+    match fields::date_at(s, root.start) {
         DateAnswer::Is(d) => d,
         DateAnswer::Absent => Date(0),
     }
 }
 
-fn skips_of(s: &[u8], root: usize, words: &[u32], tasks: Made) -> Skips
+fn skips_of(s: &[u8], root: Root, words: &[u32], tasks: Made) -> Skips
     requires { ⌜ Tasked (now s) root (now words) tasks ⌝ }
-    ensures { λ r. ⌜ Skipped (elementAt (now (s .entry)) root) r ⌝ }
+    ensures { λ r. ⌜ Skipped (rootAt (now (s .entry)) root) r ⌝ }
 {
     let fates = links::count_fates(s, root, words, tasks);
     Skips {
@@ -55,17 +57,17 @@ pub(crate) fn put_project(
     out: &mut [u8],
     p: Place,
     s: &[u8],
-    root: usize,
+    root: Root,
     words: &[u32],
     tasks: Made,
 ) -> Place
     requires { ⌜ Tasked (now s) root (now words) tasks ⌝ }
-    ensures { λ r. ⌜ Puts (whole project) (projectOf (contextOf (elementAt (now (s .entry)) root)) (elementAt (now (s .entry)) root)) (now (out .entry)) p (now (out .exit)) r ⌝ }
+    ensures { λ r. ⌜ Puts (whole project) (projectOf (contextOf (rootAt (now (s .entry)) root)) (rootAt (now (s .entry)) root)) (now (out .entry)) p (now (out .exit)) r ⌝ }
 {
     let name = project_name(s, root);
     let start = start_of(s, root);
-    let currency = tree::text_of(s, root, b"CurrencySymbol");
+    let currency = tree::own_text(s, root.currency);
     let skips = skips_of(s, root, words, tasks);
-    let status = fields::date_in(s, root, b"StatusDate");
+    let status = fields::date_at(s, root.status);
     pack::put_project(out, p, name, start, currency, skips, status)
 }

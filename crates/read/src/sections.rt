@@ -1,4 +1,5 @@
 // The six sections, one after another, and their counts.
+ghost use Rattle.tree.specs.Root.{rootAt};
 ghost use Rattle.read.specs.Sections.{SectionsPut, AllPut, Closes};
 ghost use Rattle.read.specs.Tables.{Tasked};
 use crate::assigned::put_assigned;
@@ -7,6 +8,7 @@ use bits::Place;
 use index::Made;
 use pack::Counts;
 use rows::Listed;
+use tree::Root;
 
 // How many records of each kind were put, and the place behind the last.
 pub(crate) struct Sections {
@@ -19,12 +21,12 @@ fn put_sections(
     out: &mut [u8],
     p: Place,
     s: &[u8],
-    root: usize,
+    root: Root,
     words: &mut [u32],
     tasks: Made,
 ) -> Sections
     requires { ⌜ Tasked (now s) root (now words) tasks ⌝ }
-    ensures { λ r. ⌜ SectionsPut (now (s .entry)) root (now (out .entry)) p (now (out .exit)) r ⌝ }
+    ensures { λ r. ⌜ SectionsPut (rootAt (now (s .entry)) root) (now (out .entry)) p (now (out .exit)) r ⌝ }
 {
     let behind = index::end_of(tasks, words.len());
     let a = calendars::put_calendars(out, p, s, root, words, behind);
@@ -46,8 +48,8 @@ fn put_sections(
 }
 
 // All from the first byte on, the six counts left open.
-pub(crate) fn put_all(out: &mut [u8], s: &[u8], root: usize, words: &mut [u32]) -> Sections
-    ensures { λ r. ⌜ AllPut (now (s .entry)) root (now (out .entry)) (now (out .exit)) r ⌝ }
+pub(crate) fn put_all(out: &mut [u8], s: &[u8], root: Root, words: &mut [u32]) -> Sections
+    ensures { λ r. ⌜ AllPut (rootAt (now (s .entry)) root) (now (out .entry)) (now (out .exit)) r ⌝ }
 {
     let open = Counts {
         calendars: 0,

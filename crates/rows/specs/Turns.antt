@@ -8,12 +8,13 @@ use mathlib.Core.Option.{Option, some, none}
 use lib.ListN.{length, take}
 use Rattle.definition.specs.Base.{if_then_else_, _>>=_, _or_, given, keep, some?}
 use Rattle.definition.specs.Ascii.{bytes}
-use Rattle.definition.specs.Text.{Text}
-use Rattle.definition.specs.Tree.{Element, child, allIn}
+use Rattle.definition.specs.Text.{Text, trim}
+use Rattle.definition.specs.Tree.{Element, child, allIn, nonEmpty}
 use Rattle.definition.specs.Task.{isKept}
 use Rattle.definition.specs.Calendar.{baseOf}
 use Rattle.definition.specs.Resource.{isResource, isCost, workResources, costResources}
 use Rattle.tree.specs.Place.{elementAt, laterAt, listOf, Past, Starts}
+use Rattle.tree.specs.Root.{ownText}
 use Rattle.tree.specs.declared.Found.{Found}
 use Rattle.tree.specs.declared.Found.the-variants.{At, Nothing}
 use Rattle.rows.specs.Walks.{ahead, keptBy, room, Kept, passes, pickedBy, Picks, laterInOrder, orderBy, orderRoom, Orders}
@@ -158,3 +159,26 @@ text-given (some u) f g e = ap f e
 pub text-missing : {A : Type 0} (o : Option Text) (f : Text → Option A) → given o ≡ false → none ≡ (o >>= f)
 text-missing none f g = refl
 text-missing (some u) f g = absurd (false≢true (sym g))
+
+-- the trimmed text of an element
+pub own-given : (e : Element) {t : Text} → t ≡ (ownText e or []) → (length t ≡ 0 → ⊥) → given (ownText e) ≡ true
+own-given e {t} h k = by (trim (e .text)) h
+  where
+    by : (u : Text) → t ≡ (nonEmpty u or []) → given (nonEmpty u) ≡ true
+    by [] i = absurd (k (ap length i))
+    by (b ∷ u) i = refl
+
+pub own-missing : (e : Element) {t : Text} → t ≡ (ownText e or []) → length t ≡ 0 → given (ownText e) ≡ false
+own-missing e {t} h k = by (trim (e .text)) h
+  where
+    by : (u : Text) → t ≡ (nonEmpty u or []) → given (nonEmpty u) ≡ false
+    by [] i = refl
+    by (b ∷ u) i = let z : length t ≡ suc (length u) = ap length i in absurd (omega arith)
+
+-- ---- a section of the root
+
+pub starts-same : {s n : Text} {l k : List Element} {m : ℕ} {r : Found} → k ≡ l → Starts s n l m r → Starts s n k m r
+starts-same e h = record { is = e ∙ h .is; on = h .on }
+
+pub picks-same : {s n : Text} {w : Which} {l k : List Element} {m : ℕ} {r : Found} → k ≡ l → Picks s n w l m r → Picks s n w k m r
+picks-same {w = w} e h = record { is = ap (keep (passes w)) e ∙ h .is; on = h .on }

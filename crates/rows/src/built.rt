@@ -4,33 +4,33 @@ ghost use Prim.Native.Nat.{suc, _+_};
 ghost use lib.ListN.{length};
 ghost use Rattle.definition.specs.Base.{_>>=_ as bind, _orElse_, first as firstOf, numbered};
 ghost use Rattle.definition.specs.Field.{textIn};
-ghost use Rattle.tree.specs.Place.{elementAt};
+ghost use Rattle.tree.specs.Root.{rootAt};
 ghost use Rattle.tree.specs.declared.Found.the-variants.{At as FoundAt};
 ghost use Rattle.rows.specs.Rows.{inOrder, withUidIn, mainIn, calendarMeaning, rowZero};
 ghost use Rattle.rows.specs.Walks.{laterInOrder, orderRoom, Orders, OrdersAfter};
 use crate::CalendarAnswer;
 use crate::section::Which;
-use crate::section::first_in;
 use crate::section::first_which;
 use crate::section::next_which;
 use crate::section::which_from;
 use tree::Found;
+use tree::Root;
 
 // After those without a base, the first over one.
-fn or_derived(s: &[u8], root: usize, plain: Found) -> Found
-    ensures { λ r. ⌜ OrdersAfter (now (s .entry)) (elementAt (now (s .entry)) root) plain r ⌝ }
+fn or_derived(s: &[u8], root: Root, plain: Found) -> Found
+    ensures { λ r. ⌜ OrdersAfter (now (s .entry)) (rootAt (now (s .entry)) root) plain r ⌝ }
 {
     match plain {
         Found::At(at) => Found::At(at),
-        Found::Nothing => first_which(s, root, b"Calendars", b"Calendar", Which::Derived),
+        Found::Nothing => first_which(s, root.calendars, b"Calendar", Which::Derived),
     }
 }
 
 // The first calendar to be built.
-pub fn first_calendar(s: &[u8], root: usize) -> Found
-    ensures { λ r. ⌜ Orders (now (s .entry)) (elementAt (now (s .entry)) root) (inOrder (elementAt (now (s .entry)) root)) (suc (length (now (s .entry)) + length (now (s .entry)))) r ⌝ }
+pub fn first_calendar(s: &[u8], root: Root) -> Found
+    ensures { λ r. ⌜ Orders (now (s .entry)) (rootAt (now (s .entry)) root) (inOrder (rootAt (now (s .entry)) root)) (suc (length (now (s .entry)) + length (now (s .entry)))) r ⌝ }
 {
-    let first = first_in(s, root, b"Calendars", b"Calendar");
+    let first = tree::child(s, root.calendars, b"Calendar");
     match which_from(s, first, b"Calendar", Which::Plain) {
         Found::At(at) => Found::At(at),
         Found::Nothing => which_from(s, first, b"Calendar", Which::Derived),
@@ -38,8 +38,8 @@ pub fn first_calendar(s: &[u8], root: usize) -> Found
 }
 
 // The one to be built after that at `at`.
-pub fn next_calendar(s: &[u8], root: usize, at: usize) -> Found
-    ensures { λ r. ⌜ Orders (now (s .entry)) (elementAt (now (s .entry)) root) (laterInOrder (now (s .entry)) (elementAt (now (s .entry)) root) at) (orderRoom (now (s .entry)) (FoundAt at)) r ⌝ }
+pub fn next_calendar(s: &[u8], root: Root, at: usize) -> Found
+    ensures { λ r. ⌜ Orders (now (s .entry)) (rootAt (now (s .entry)) root) (laterInOrder (now (s .entry)) (rootAt (now (s .entry)) root) at) (orderRoom (now (s .entry)) (FoundAt at)) r ⌝ }
 {
     if calendar::has_base(s, at) {
         return next_which(s, at, b"Calendar", Which::Derived);
@@ -48,8 +48,8 @@ pub fn next_calendar(s: &[u8], root: usize, at: usize) -> Found
 }
 
 // The first calendar with a UID, in the order in which calendars are built.
-pub fn calendar_with(s: &[u8], root: usize, uid: &[u8]) -> CalendarAnswer
-    ensures { λ r. ⌜ calendarMeaning (now (s .entry)) r ≡ withUidIn (elementAt (now (s .entry)) root) (now (uid .entry)) ⌝ }
+pub fn calendar_with(s: &[u8], root: Root, uid: &[u8]) -> CalendarAnswer
+    ensures { λ r. ⌜ calendarMeaning (now (s .entry)) r ≡ withUidIn (rootAt (now (s .entry)) root) (now (uid .entry)) ⌝ }
 {
     let mut row: usize = 0;
     let mut c = first_calendar(s, root);
@@ -66,11 +66,12 @@ pub fn calendar_with(s: &[u8], root: usize, uid: &[u8]) -> CalendarAnswer
 }
 
 // The calendar of CalendarUID.
-fn named_calendar(s: &[u8], root: usize) -> CalendarAnswer
-    ensures { λ r. ⌜ calendarMeaning (now (s .entry)) r ≡ bind (textIn (elementAt (now (s .entry)) root) "CalendarUID") (withUidIn (elementAt (now (s .entry)) root)) ⌝ }
+fn named_calendar(s: &[u8], root: Root) -> CalendarAnswer
+    ensures { λ r. ⌜ calendarMeaning (now (s .entry)) r ≡ bind (textIn (rootAt (now (s .entry)) root) "CalendarUID") (withUidIn (rootAt (now (s .entry)) root)) ⌝ }
 {
-    if fields::given(s, root, b"CalendarUID") {
-        return calendar_with(s, root, tree::text_of(s, root, b"CalendarUID"));
+    let uid = tree::own_text(s, root.calendar);
+    if uid.len() != 0 {
+        return calendar_with(s, root, uid);
     }
     CalendarAnswer::Absent
 }
@@ -85,8 +86,8 @@ fn row_0(c: Found) -> CalendarAnswer
 }
 
 // A calendar, or the first where there is none.
-fn or_first(s: &[u8], root: usize, c: CalendarAnswer) -> CalendarAnswer
-    ensures { λ r. ⌜ calendarMeaning (now (s .entry)) r ≡ (calendarMeaning (now (s .entry)) c orElse firstOf (numbered 0 (inOrder (elementAt (now (s .entry)) root)))) ⌝ }
+fn or_first(s: &[u8], root: Root, c: CalendarAnswer) -> CalendarAnswer
+    ensures { λ r. ⌜ calendarMeaning (now (s .entry)) r ≡ (calendarMeaning (now (s .entry)) c orElse firstOf (numbered 0 (inOrder (rootAt (now (s .entry)) root)))) ⌝ }
 {
     match c {
         CalendarAnswer::Is(row, at) => CalendarAnswer::Is(row, at),
@@ -95,8 +96,8 @@ fn or_first(s: &[u8], root: usize, c: CalendarAnswer) -> CalendarAnswer
 }
 
 // The main calendar: that of CalendarUID, else the first.
-pub fn main_calendar(s: &[u8], root: usize) -> CalendarAnswer
-    ensures { λ r. ⌜ calendarMeaning (now (s .entry)) r ≡ mainIn (elementAt (now (s .entry)) root) ⌝ }
+pub fn main_calendar(s: &[u8], root: Root) -> CalendarAnswer
+    ensures { λ r. ⌜ calendarMeaning (now (s .entry)) r ≡ mainIn (rootAt (now (s .entry)) root) ⌝ }
 {
     or_first(s, root, named_calendar(s, root))
 }

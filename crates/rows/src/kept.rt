@@ -6,11 +6,12 @@ ghost use Rattle.definition.specs.Base.{_orElse_, when, keep, some?};
 ghost use Rattle.definition.specs.Ascii.{bytes};
 ghost use Rattle.definition.specs.Answer.{rowMeaning};
 ghost use Rattle.definition.specs.Task.{levelOf, mostTasks, isKept, keptTasks, parentOf, isElapsed};
-ghost use Rattle.tree.specs.Place.{elementAt, laterAt, listOf};
+ghost use Rattle.tree.specs.Place.{laterAt, listOf};
+ghost use Rattle.tree.specs.Root.{rootAt};
 ghost use Rattle.rows.specs.Walks.{Kept};
-use crate::section::first_in;
 use definition::RowAnswer;
 use tree::Found;
+use tree::Root;
 
 // Where a kept task stands, and how many tasks after it may be kept.
 pub enum KeptAnswer {
@@ -40,10 +41,10 @@ fn kept_from(s: &[u8], start: Found, most: u32) -> KeptAnswer
 }
 
 // The first kept task.
-pub fn first_kept(s: &[u8], root: usize) -> KeptAnswer
-    ensures { λ r. ⌜ Kept (now (s .entry)) (keptTasks (elementAt (now (s .entry)) root)) mostTasks r ⌝ }
+pub fn first_kept(s: &[u8], root: Root) -> KeptAnswer
+    ensures { λ r. ⌜ Kept (now (s .entry)) (keptTasks (rootAt (now (s .entry)) root)) mostTasks r ⌝ }
 {
-    kept_from(s, first_in(s, root, b"Tasks", b"Task"), 100000)
+    kept_from(s, tree::child(s, root.tasks, b"Task"), 100000)
 }
 
 // The next one, of at most `left` tasks after the one at `at`.
@@ -75,8 +76,8 @@ pub(crate) fn or_row(a: RowAnswer, b: RowAnswer) -> RowAnswer
 }
 
 // The nearest kept task of a lower level before the task of a row.
-pub fn parent_row(s: &[u8], root: usize, row: u32, level: u64) -> RowAnswer
-    ensures { λ r. ⌜ rowMeaning r ≡ parentOf (map levelOf (take row (keptTasks (elementAt (now (s .entry)) root)))) level ⌝ }
+pub fn parent_row(s: &[u8], root: Root, row: u32, level: u64) -> RowAnswer
+    ensures { λ r. ⌜ rowMeaning r ≡ parentOf (map levelOf (take row (keptTasks (rootAt (now (s .entry)) root)))) level ⌝ }
 {
     let mut found = RowAnswer::Absent;
     let mut n: u32 = 0;
@@ -93,8 +94,8 @@ pub fn parent_row(s: &[u8], root: usize, row: u32, level: u64) -> RowAnswer
     found
 }
 
-pub fn any_elapsed(s: &[u8], root: usize) -> bool
-    ensures { λ r. ⌜ r ≡ some? isElapsed (keptTasks (elementAt (now (s .entry)) root)) ⌝ }
+pub fn any_elapsed(s: &[u8], root: Root) -> bool
+    ensures { λ r. ⌜ r ≡ some? isElapsed (keptTasks (rootAt (now (s .entry)) root)) ⌝ }
 {
     let mut task = first_kept(s, root);
     loop {

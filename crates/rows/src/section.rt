@@ -1,7 +1,7 @@
-// The elements of a name in a section of the root, and those of them that pass a test, one after another.
+// The elements of a name in a section, and those of them that pass a test, one after another.
 ghost use mathlib.Core.Path.{_≡_};
 ghost use Prim.Native.Nat.{_+_};
-ghost use Rattle.definition.specs.Tree.{child as childOf, allIn};
+ghost use Rattle.definition.specs.Tree.{child as childOf, all, allIn};
 ghost use Rattle.tree.specs.Place.{elementAt, laterAt, Starts};
 ghost use Rattle.rows.specs.Walks.{passes as passesBy, Picks, PicksFrom};
 use tree::Found;
@@ -51,11 +51,11 @@ pub(crate) fn which_from(s: &[u8], start: Found, name: &[u8], which: Which) -> F
     }
 }
 
-// The first of a section that passes.
-pub(crate) fn first_which(s: &[u8], at: usize, section: &[u8], name: &[u8], which: Which) -> Found
-    ensures { λ r. ⌜ Picks (now (s .entry)) (now (name .entry)) which (allIn (childOf (elementAt (now (s .entry)) at) (now (section .entry))) (now (name .entry))) (at + 1) r ⌝ }
+// The first of the section at `at` that passes.
+pub(crate) fn first_which(s: &[u8], at: usize, name: &[u8], which: Which) -> Found
+    ensures { λ r. ⌜ Picks (now (s .entry)) (now (name .entry)) which (all (elementAt (now (s .entry)) at) (now (name .entry))) (at + 1) r ⌝ }
 {
-    which_from(s, first_in(s, at, section, name), name, which)
+    which_from(s, tree::child(s, at, name), name, which)
 }
 
 // The next sibling of the name that passes.

@@ -3,7 +3,7 @@ ghost use mathlib.Core.Path.{_≡_};
 ghost use Prim.Native.Nat.{suc, _^_, _<_, max};
 ghost use lib.ListN.{length};
 ghost use Rattle.definition.specs.Answer.{rowMeaning};
-ghost use Rattle.tree.specs.Place.{elementAt};
+ghost use Rattle.tree.specs.Root.{rootAt};
 ghost use Rattle.rows.specs.declared.kept.KeptAnswer.the-variants.{Is as KeptIs};
 ghost use Rattle.rows.specs.Rows.{foundMeaning};
 ghost use Rattle.rows.specs.Tables.{listed, rowIn32, soughtIn, rowIn, costIn, laterIn, mostIn, roomIn, Lists, unboundedOf, foundIn, Ripe, Tabled, Makes};
@@ -21,6 +21,7 @@ use index::Made;
 use index::Row;
 use index::Table;
 use tree::Found;
+use tree::Root;
 
 // The kept tasks, the work resources, the cost resources.
 pub enum Listed {
@@ -41,13 +42,13 @@ fn unbounded(e: Found) -> KeptAnswer
     }
 }
 
-fn first_listed(s: &[u8], root: usize, list: Listed) -> KeptAnswer
-    ensures { λ r. ⌜ Lists (now (s .entry)) list (listed list (elementAt (now (s .entry)) root)) (suc (mostIn (now (s .entry)) list)) r ⌝ }
+fn first_listed(s: &[u8], root: Root, list: Listed) -> KeptAnswer
+    ensures { λ r. ⌜ Lists (now (s .entry)) list (listed list (rootAt (now (s .entry)) root)) (suc (mostIn (now (s .entry)) list)) r ⌝ }
 {
     match list {
         Listed::Tasks => first_kept(s, root),
-        Listed::Work => unbounded(first_which(s, root, b"Resources", b"Resource", Which::Work)),
-        Listed::Cost => unbounded(first_which(s, root, b"Resources", b"Resource", Which::Cost)),
+        Listed::Work => unbounded(first_which(s, root.resources, b"Resource", Which::Work)),
+        Listed::Cost => unbounded(first_which(s, root.resources, b"Resource", Which::Cost)),
     }
 }
 
@@ -64,9 +65,9 @@ fn next_listed(s: &[u8], list: Listed, at: usize, left: u32) -> KeptAnswer
 // ---- a table is made
 
 // How many there are, in a tree of fewer than 2 ^ 32 bytes.
-fn count_listed(s: &[u8], root: usize, list: Listed, first: KeptAnswer) -> u32
-    requires { ⌜ (length (now s) < 2 ^ 32) × Lists (now s) list (listed list (elementAt (now s) root)) (suc (mostIn (now s) list)) first ⌝ }
-    ensures { λ r. ⌜ r ≡ length (listed list (elementAt (now (s .entry)) root)) ⌝ }
+fn count_listed(s: &[u8], root: Root, list: Listed, first: KeptAnswer) -> u32
+    requires { ⌜ (length (now s) < 2 ^ 32) × Lists (now s) list (listed list (rootAt (now s) root)) (suc (mostIn (now s) list)) first ⌝ }
+    ensures { λ r. ⌜ r ≡ length (listed list (rootAt (now (s .entry)) root)) ⌝ }
 {
     let mut n: u32 = 0;
     let mut e = first;
@@ -79,9 +80,9 @@ fn count_listed(s: &[u8], root: usize, list: Listed, first: KeptAnswer) -> u32
     }
 }
 
-fn fill(s: &[u8], root: usize, list: Listed, first: KeptAnswer, words: &mut [u32], t: Table)
-    requires { ⌜ Ripe (now s) (elementAt (now s) root) list t (now words) × Lists (now s) list (listed list (elementAt (now s) root)) (suc (mostIn (now s) list)) first ⌝ }
-    ensures { λ _. ⌜ Tabled (now (s .entry)) (elementAt (now (s .entry)) root) list t (now (words .entry)) (now (words .exit)) ⌝ }
+fn fill(s: &[u8], root: Root, list: Listed, first: KeptAnswer, words: &mut [u32], t: Table)
+    requires { ⌜ Ripe (now s) (rootAt (now s) root) list t (now words) × Lists (now s) list (listed list (rootAt (now s) root)) (suc (mostIn (now s) list)) first ⌝ }
+    ensures { λ _. ⌜ Tabled (now (s .entry)) (rootAt (now (s .entry)) root) list t (now (words .entry)) (now (words .exit)) ⌝ }
 {
     index::clear(words, t);
     let mut row: u32 = 0;
@@ -105,8 +106,8 @@ fn rows_for(n: u32) -> u32
 }
 
 // A table of a list, in the words from a place on, where there is room for it and 32 bits hold each position in the tree.
-pub fn index_rows(s: &[u8], root: usize, list: Listed, words: &mut [u32], at: usize) -> Made
-    ensures { λ r. ⌜ Makes (now (s .entry)) (elementAt (now (s .entry)) root) list at (now (words .entry)) (now (words .exit)) r ⌝ }
+pub fn index_rows(s: &[u8], root: Root, list: Listed, words: &mut [u32], at: usize) -> Made
+    ensures { λ r. ⌜ Makes (now (s .entry)) (rootAt (now (s .entry)) root) list at (now (words .entry)) (now (words .exit)) r ⌝ }
 {
     if 4294967295 < s.len() {
         return Made::NoRoom;
@@ -141,8 +142,8 @@ pub fn seek(s: &[u8], words: &[u32], t: Table, uid: &[u8]) -> RowAnswer
 }
 
 // The row of the last of a list with a UID, as 32 bits hold it, by a look at all of them.
-fn scan(s: &[u8], root: usize, list: Listed, uid: &[u8]) -> RowAnswer
-    ensures { λ r. ⌜ rowMeaning r ≡ rowIn32 list (elementAt (now (s .entry)) root) (now (uid .entry)) ⌝ }
+fn scan(s: &[u8], root: Root, list: Listed, uid: &[u8]) -> RowAnswer
+    ensures { λ r. ⌜ rowMeaning r ≡ rowIn32 list (rootAt (now (s .entry)) root) (now (uid .entry)) ⌝ }
 {
     let mut found = RowAnswer::Absent;
     let mut row: u32 = 0;
@@ -161,13 +162,13 @@ fn scan(s: &[u8], root: usize, list: Listed, uid: &[u8]) -> RowAnswer
 // The row of the last of a list with a UID, by a table in the words; by a scan where there is none.
 pub fn row_with(
     s: &[u8],
-    root: usize,
+    root: Root,
     list: Listed,
     words: &[u32],
     made: Made,
     uid: &[u8],
 ) -> RowAnswer
-    ensures { λ r. ⌜ rowMeaning r ≡ rowIn (now (s .entry)) (elementAt (now (s .entry)) root) list (now (words .entry)) made (now (uid .entry)) ⌝ }
+    ensures { λ r. ⌜ rowMeaning r ≡ rowIn (now (s .entry)) (rootAt (now (s .entry)) root) list (now (words .entry)) made (now (uid .entry)) ⌝ }
 {
     match made {
         Made::Ready(t) => seek(s, words, t, uid),
@@ -186,8 +187,8 @@ fn place_of(words: &[u32], t: Table, row: RowAnswer) -> Found
 }
 
 // The last cost resource with a UID, by a table in the words; by a scan where there is none.
-pub fn cost_with(s: &[u8], root: usize, words: &[u32], made: Made, uid: &[u8]) -> Found
-    ensures { λ r. ⌜ foundMeaning (now (s .entry)) r ≡ costIn (now (s .entry)) (elementAt (now (s .entry)) root) (now (words .entry)) made (now (uid .entry)) ⌝ }
+pub fn cost_with(s: &[u8], root: Root, words: &[u32], made: Made, uid: &[u8]) -> Found
+    ensures { λ r. ⌜ foundMeaning (now (s .entry)) r ≡ costIn (now (s .entry)) (rootAt (now (s .entry)) root) (now (words .entry)) made (now (uid .entry)) ⌝ }
 {
     match made {
         Made::Ready(t) => place_of(words, t, seek(s, words, t, uid)),

@@ -10,6 +10,7 @@ ghost use Rattle.definition.specs.Task.{constraintFrom, constraintOf, durationT
 ghost use Rattle.definition.specs.Task.{underWay, remainingOf, percentOf};
 ghost use Rattle.text.specs.Answers.{i64Of};
 ghost use Rattle.tree.specs.Place.{elementAt};
+ghost use Rattle.tree.specs.Root.{rootAt};
 ghost use Rattle.fields.specs.Said.{wholeSaid};
 ghost use Rattle.tasks.specs.Task.{constraintMeans, dayNumbered};
 use crate::value::quotient;
@@ -19,6 +20,7 @@ use definition::DateAnswer;
 use fields::FloatAnswer;
 use fields::MinutesAnswer;
 use text::I64Answer;
+use tree::Root;
 
 // MSPDI's codes 1 to 7.
 pub enum Constraint {
@@ -108,10 +110,10 @@ fn day_from(m: f64) -> u64
 }
 
 // MinutesPerDay of the root, from 1 to 1440; else 480.
-pub fn per_day(s: &[u8], at: usize) -> u64
-    ensures { λ r. ⌜ r ≡ perDayOf (elementAt (now (s .entry)) at) ⌝ }
+pub fn per_day(s: &[u8], root: Root) -> u64
+    ensures { λ r. ⌜ r ≡ perDayOf (rootAt (now (s .entry)) root) ⌝ }
 {
-    match fields::number_in(s, at, b"MinutesPerDay") {
+    match fields::number_at(s, root.minutes) {
         FloatAnswer::Is(m) => day_from(m),
         FloatAnswer::Absent => 480,
     }

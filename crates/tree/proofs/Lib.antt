@@ -3,3 +3,4 @@ pub mod Heads
 pub mod Walk
 pub mod Rows
 pub mod Passes
+pub mod Parts

@@ -13,6 +13,7 @@ use Rattle.definition.specs.Text.{Text, trim}
 use Rattle.definition.specs.Tree.{Rec, size, Element, elements, level, element, all, nonEmpty, textOf}
 use Rattle.tree.specs.Place.{headAt, recordsAt, under, after, elementAt, named, siblings, laterAt, listOf, Past, Starts}
 use Rattle.tree.specs.Answer.{found-child, none-child}
+use Rattle.tree.specs.Root.{ownText}
 use Rattle.tree.specs.declared.Head.the-variants.{Whole, Cut}
 use Rattle.tree.specs.declared.Found.{Found}
 use Rattle.tree.specs.declared.Found.the-variants.{At, Nothing}
@@ -105,7 +106,7 @@ module _ (s n : Text) (at : ℕ) where
   later-cut h = record { is = rw (records-cut s at h); on = tt }
 
   module _ {d a b e : ℕ} (h : headAt s at ≡ Whole d a b e) where
-    all-row : all (elementAt s at) n ≡ row s n (d + 1) e
+    pub all-row : all (elementAt s at) n ≡ row s n (d + 1) e
     unfolding all element
     all-row = rw (bounds s at h .here)
 
@@ -125,17 +126,20 @@ module _ (s n : Text) (at : ℕ) where
 pub name-is : (s n : Text) (at : ℕ) {d a b e : ℕ} {r : Bool} → headAt s at ≡ Whole d a b e → r ≡ same (part s a b) n → r ≡ same (elementAt s at .name) n
 name-is s n at h q = rw (← name-whole s at h) q
 
--- ---- the trimmed text of a child
+-- ---- the trimmed text of an element, and of a child
 
 non-empty : (t : Text) → t ≡ (nonEmpty t or [])
 non-empty [] = refl
 non-empty (b ∷ t) = refl
+
+pub own-trimmed : (e : Element) {t u : Text} → t ≡ e .text → u ≡ trim t → u ≡ (ownText e or [])
+own-trimmed e i k = k ∙ rw i (non-empty _)
 
 module _ {s n : Text} (e : Element) {m : ℕ} {r : Found} (h : Starts s n (all e n) m r) where
   pub text-none : r ≡ Nothing → [] ≡ (textOf e n or [])
   unfolding textOf
   text-none q = rw (none-child e h q)
 
-  pub text-found : {p : ℕ} {t u : Text} → r ≡ At p → t ≡ elementAt s p .text → u ≡ trim t → u ≡ (textOf e n or [])
+  pub text-found : {p : ℕ} {u : Text} → r ≡ At p → u ≡ (ownText (elementAt s p) or []) → u ≡ (textOf e n or [])
   unfolding textOf
-  text-found q i k = k ∙ rw (i, found-child e h q) (non-empty _)
+  text-found q k = k ∙ rw (found-child e h q)

@@ -6,10 +6,14 @@ ghost use lib.ListN.{length};
 ghost use Rattle.definition.specs.Base.{same, _or_};
 ghost use Rattle.definition.specs.Tree.{rightAt, size, level, all, textOf};
 ghost use Rattle.tree.specs.Place.{IsWord, headAt, verdict, recordsAt, under, elementAt, named, laterAt, Starts};
+ghost use Rattle.tree.specs.Root.{ownText};
 
 mod refusal;
+mod root; // where the parts of a project stand
 
 pub use refusal::judge;
+pub use root::Root;
+pub use root::root_of;
 
 // The bytes of a record's head.
 const HEAD: usize = 4;
@@ -246,12 +250,19 @@ fn text(s: &[u8], at: usize) -> &[u8]
     }
 }
 
+// The trimmed text of the element at `at`.
+pub fn own_text(s: &[u8], at: usize) -> &[u8]
+    ensures { λ r. ⌜ now r ≡ (ownText (elementAt (now (s .entry)) at) or []) ⌝ }
+{
+    text::trim(text(s, at))
+}
+
 // The trimmed text of the first child of the name, empty where there is none.
 pub fn text_of<'a>(s: &'a [u8], at: usize, name: &[u8]) -> &'a [u8]
     ensures { λ r. ⌜ now r ≡ (textOf (elementAt (now (s .entry)) at) (now (name .entry)) or []) ⌝ }
 {
     match child(s, at, name) {
         Found::Nothing => &s[0..0],
-        Found::At(p) => text::trim(text(s, p)),
+        Found::At(p) => own_text(s, p),
     }
 }

@@ -4,7 +4,7 @@ use Rattle.definition.specs.Format.{whole}
 use Rattle.definition.specs.Pack.{activity}
 use Rattle.index.specs.Below.{below-refl, below-then}
 use Rattle.pack.specs.Writes.{writes-if, writes-not}
-use Rattle.tree.specs.Place.{elementAt}
+use Rattle.tree.specs.Root.{rootAt}
 use Rattle.activities.proofs.Ids.{cleared-behind}
 use Rattle.activities.proofs.Turn.{found-same, writes-found}
 use borrow.Author.Tests.{not-true, not-false}
@@ -63,7 +63,7 @@ returns-2 c =
     let e = b .before .before in
     let a = e .before .before .before .before .args in
     let same = o .own-for .ensures .1 in (
-      writes-if (whole activity) (sym (b .calendars-before .ensures) ∙ not-false _ (i .if1 .left)) (writes-found (elementAt (now (a .s)) (a .root)) (found-same (now (a .s)) (a .root) (a .tasks) same) _ (p .put-tasks .ensures .0)),
+      writes-if (whole activity) (sym (b .calendars-before .ensures) ∙ not-false _ (i .if1 .left)) (writes-found (rootAt (now (a .s)) (a .root)) (found-same (now (a .s)) (a .root) (a .tasks) same) _ (p .put-tasks .ensures .0)),
       cleared-behind (below-then same (p .put-tasks .ensures .1)) (e .end-of .ensures) (w .clear-words-from2 .ensures),
     )
 

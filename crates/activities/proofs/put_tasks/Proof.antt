@@ -1,19 +1,18 @@
 use Prim.Native.Nat.{_+_, _≤_}
 use native.Mathlib.Omega.{arith}
 use mathlib.Core.Path.{_≡_, refl, sym, _∙_}
-use lib.ListN.{length, drop}
+use lib.ListN.{length}
 use denote.Ref.{now}
 use Rattle.definition.specs.Task.{mostTasks}
 use Rattle.index.specs.Below.{below-then}
-use Rattle.laws.specs.Each.{each-drop}
-use Rattle.laws.specs.FitTrees.{small-element}
 use Rattle.links.specs.Fates.{taskIn}
 use Rattle.names.specs.Seen.{bytes-of}
 use Rattle.names.specs.Context.{contextAt}
 use Rattle.rows.proofs.Listing.{first-tasks, next-tasks}
+use Rattle.rows.specs.Small.{small-at, small-root}
 use Rattle.rows.specs.Turns.{kept-end, kept-at, room-at}
 use Rattle.rows.specs.Walks.{keptBy, room}
-use Rattle.tree.specs.Place.{elementAt}
+use Rattle.tree.specs.Root.{rootAt}
 use Rattle.activities.proofs.Ids.{row-below, row-held}
 use Rattle.activities.proofs.Loop.{written-none, written-all}
 use Rattle.activities.proofs.Turn.{Stays, stays-begin, stays-ready, found-same, Goes, goes-task, goes-finds, goes-on, ids-on}
@@ -23,8 +22,8 @@ use Rattle.activities.proofs.put_tasks.Tie as tie
 
 abbrev Inv-loop : tie.InvT-loop
 Inv-loop out₀ p s root c words₀ tasks own per-day q₀ row₀ task₀ out words q row task =
-    (length out ≡ length out₀) × (row + room task ≤ mostTasks) × Goes (taskIn s root words₀ tasks) out₀ c (elementAt s root) p out q row (keptBy s task)
-    × Stays s (elementAt s root) tasks own p words₀ words out q row task
+    (length out ≡ length out₀) × (row + room task ≤ mostTasks) × Goes (taskIn s root words₀ tasks) out₀ c (rootAt s root) p out q row (keptBy s task)
+    × Stays s (rootAt s root) tasks own p words₀ words out q row task
 
 abbrev μ-loop : tie.MeasureT-loop
 μ-loop out₀ p s root c words₀ tasks own per-day q₀ row₀ task₀ out words q row task = room task
@@ -40,7 +39,7 @@ unfolding contextAt
 loop-holds c =
     let s = c .before .before .before .before .before in
     let a = s .args in
-    (refl, omega (arith, c .first-kept .ensures .on), written-none (c .first-kept .ensures .is), stays-begin (s .pre .1) (first-tasks (now (a .s)) (elementAt (now (a .s)) (a .root)) (c .first-kept .ensures) .there))
+    (refl, omega (arith, c .first-kept .ensures .on), written-none (c .first-kept .ensures .is), stays-begin (s .pre .1) (first-tasks (now (a .s)) (rootAt (now (a .s)) (a .root)) (c .first-kept .ensures) .there))
 
 enum-known-task : tie.Need-enum-known-task Inv-loop μ-loop
 enum-known-task c = search needs
@@ -68,8 +67,8 @@ put-row-requires c κs =
     let s = b .before .before in
     let a = s .args in
     let bytes = bytes-of (now (a .s)) (λ i. omega (arith, b .shared-slice-known .given i)) in
-    let root = elementAt (now (a .s)) (a .root) in
-    let small = small-element (drop (a .root) (now (a .s))) (each-drop (a .root) bytes) in
+    let root = rootAt (now (a .s)) (a .root) in
+    let small = small-root (now (a .s)) (a .root) bytes in
     let w = rw (kept-at (now (a .s)) (t .task .given .1)) at (l .loop .inv .2) in
     let g = goes-task _ (a .c) root (s .pre .0) small w in
     (stays-ready (l .loop .inv .3) (s .pre .1) (t .task .given .1) (g .1), d .per-day .ensures, goes-finds _ (a .c) root (s .pre .0) small w (l .loop .inv .3 .names) (s .pre .2), rw (l .loop .inv .0) (s .pre .1 .opened), l .loop .inv .3 .ids)
@@ -97,12 +96,12 @@ loop-again c =
     let b = l .before .before .before .before in
     let z = b .before .before in
     let a = z .args in
-    let root = elementAt (now (a .s)) (a .root) in
+    let root = rootAt (now (a .s)) (a .root) in
     let at = t .task .given .0 .0 in
     let k = room-at (t .task .given .1) in
     let bytes = bytes-of (now (a .s)) (λ i. omega (arith, b .shared-slice-known .given i)) in
-    let small = small-element (drop (a .root) (now (a .s))) (each-drop (a .root) bytes) in
-    let own = small-element (drop at (now (a .s))) (each-drop at bytes) in
+    let small = small-root (now (a .s)) (a .root) bytes in
+    let own = small-at (now (a .s)) bytes at in
     let x = l .loop .inv .3 in
     let w = rw (kept-at (now (a .s)) (t .task .given .1)) at (l .loop .inv .2) in
     let g = goes-task _ (a .c) root (z .pre .0) small w in

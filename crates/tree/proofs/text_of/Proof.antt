@@ -21,17 +21,14 @@ part-result-end c = search needs
 enum-known-p : tie.Need-enum-known-p
 enum-known-p c = search needs
 
-text-requires : tie.Need-text-requires
-text-requires c κs = search needs
-
-trim-requires : tie.Need-trim-requires
-trim-requires c κs = search needs
+own-text-requires : tie.Need-own-text-requires
+own-text-requires c κs = search needs
 
 returns : tie.Need-returns
 returns c = text-none _ (c .before .before .before .child .ensures) (c .before .enum-told .given .1)
 
 returns-2 : tie.Need-returns-2
-returns-2 c = text-found _ (c .before .before .before .before .before .child .ensures) (c .before .before .before .p .given .1) (c .before .text .ensures) (c .trim .ensures)
+returns-2 c = text-found _ (c .before .before .before .before .child .ensures) (c .before .before .p .given .1) (c .own-text .ensures)
 
 pub text-of-spec : {M : Type 1} → statement M
 text-of-spec =
@@ -43,7 +40,6 @@ text-of-spec =
     part-result-start
     part-result-end
     enum-known-p
-    text-requires
-    trim-requires
+    own-text-requires
     returns
     returns-2)

@@ -9,6 +9,7 @@ use Rattle.model.specs.declared.records.Kind.the-variants.{Activities}
 use Rattle.names.specs.Context.{contextAt}
 use Rattle.names.specs.Texts.{textsAt}
 use Rattle.tree.specs.Place.{elementAt}
+use Rattle.tree.specs.Root.{rootAt}
 use Rattle.activities.proofs.Ids.{ids-moved, row-noted}
 use Rattle.activities.proofs.Values.{calendar-found, row-puts}
 use borrow.Author.Needs.{needs}
@@ -68,7 +69,7 @@ returns c =
     let ie = cf .before .before .before in
     let start = ie .before .before .before .before .before in
     let a = start .args in
-    let root = elementAt (now (a .s)) (a .root) in
+    let root = rootAt (now (a .s)) (a .root) in
     let t = elementAt (now (a .s)) (a .at) in (
       row-puts (contextAt (now (a .out)) (a .c) root) (textsAt Activities (now (a .out)) (a .start) (a .row)) (map levelOf (take (a .row) (keptTasks root))) _ t (plan .plan-of .result) (now (wi .wanted-id .result)) (sf .stars-for .result)
           (ie .is-elapsed .ensures) (cf .calendar-for .ensures ∙ calendar-found (start .pre .2) (ie .is-elapsed .result) t) (wi .wanted-id .ensures) (sf .stars-for .ensures) (day .day-of .ensures) (start .pre .1) (po .parent-of .ensures .0) (plan .plan-of .ensures) (pt .put-task .ensures),

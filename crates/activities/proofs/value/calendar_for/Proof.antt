@@ -3,6 +3,7 @@ use denote.Ref.{now}
 use lib.ListN.{length}
 use Rattle.names.specs.Context.{contextAt}
 use Rattle.tree.specs.Place.{elementAt}
+use Rattle.tree.specs.Root.{rootAt}
 use Rattle.activities.proofs.Values.{by-elapsed, by-none, by-own}
 use borrow.Author.Needs.{needs}
 use Rattle.activities.proofs.value.calendar_for.Statement.{statement}
@@ -14,7 +15,7 @@ elapsed-in-requires c κs = search needs
 returns : tie.Need-returns
 returns c =
     let a = c .before .before .before .before .before .args in
-    by-elapsed (contextAt (now (a .out)) (a .c) (elementAt (now (a .s)) (a .root))) (now (a .s)) (now (a .words)) (a .calendars) (elementAt (now (a .s)) (a .at)) (c .before .if1 .taken) (record { at = a .at; name = c .elapsed-in .result }) (c .elapsed-in .ensures)
+    by-elapsed (contextAt (now (a .out)) (a .c) (rootAt (now (a .s)) (a .root))) (now (a .s)) (now (a .words)) (a .calendars) (elementAt (now (a .s)) (a .at)) (c .before .if1 .taken) (record { at = a .at; name = c .elapsed-in .result }) (c .elapsed-in .ensures)
 
 slice-aggregate-text-of : tie.Need-slice-aggregate-text-of
 slice-aggregate-text-of c = search needs
@@ -32,7 +33,7 @@ returns-2 c =
     let i = to .before .before in
     let start = i .before .before .before .before in
     let a = start .args in
-    by-none (contextAt (now (a .out)) (a .c) (elementAt (now (a .s)) (a .root))) (now (a .s)) (now (a .words)) (a .calendars) (elementAt (now (a .s)) (a .at)) (i .if1 .left) _ (to .text-of .ensures) (nc .names-calendar .ensures) (c .if2 .taken) (length (now (a .s)))
+    by-none (contextAt (now (a .out)) (a .c) (rootAt (now (a .s)) (a .root))) (now (a .s)) (now (a .words)) (a .calendars) (elementAt (now (a .s)) (a .at)) (i .if1 .left) _ (to .text-of .ensures) (nc .names-calendar .ensures) (c .if2 .taken) (length (now (a .s)))
 
 calendar-in-requires : tie.Need-calendar-in-requires
 calendar-in-requires c κs = search needs
@@ -45,7 +46,7 @@ returns-3 c =
     let i2 = to .before .before in
     let start = i2 .before .before .before .before in
     let a = start .args in
-    by-own (contextAt (now (a .out)) (a .c) (elementAt (now (a .s)) (a .root))) (now (a .s)) (now (a .words)) (a .calendars) (elementAt (now (a .s)) (a .at)) (i2 .if1 .left) _ (to .text-of .ensures) (nc .names-calendar .ensures) (i .if2 .left) (c .calendar-in .result) (c .calendar-in .ensures)
+    by-own (contextAt (now (a .out)) (a .c) (rootAt (now (a .s)) (a .root))) (now (a .s)) (now (a .words)) (a .calendars) (elementAt (now (a .s)) (a .at)) (i2 .if1 .left) _ (to .text-of .ensures) (nc .names-calendar .ensures) (i .if2 .left) (c .calendar-in .result) (c .calendar-in .ensures)
 
 pub calendar-for-spec : {M : Type 1} → statement M
 calendar-for-spec =

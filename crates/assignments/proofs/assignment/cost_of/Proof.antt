@@ -1,5 +1,6 @@
 use Rattle.definition.specs.Field.{textIn}
 use Rattle.tree.specs.Place.{elementAt}
+use Rattle.tree.specs.Root.{rootAt}
 use Rattle.rows.specs.Rows.{foundMeaning}
 use Rattle.rows.specs.Tables.{costIn}
 use Rattle.assignments.proofs.Given.{look-not, look-up}
@@ -32,7 +33,7 @@ returns-2 : tie.Need-returns-2
 returns-2 c =
     let g = c .before .before .before .before in
     let a = c .before .before .before .before .before .before .before .before .args in
-    look-up (textIn (elementAt (a .s .now) (a .at)) "ResourceUID") (g .given .ensures) (costIn (a .s .now) (elementAt (a .s .now) (a .root)) (a .words .now) (a .t .cost)) (c .before .before .before .if1 .left) (c .before .text-of .ensures) (c .cost-with .ensures)
+    look-up (textIn (elementAt (a .s .now) (a .at)) "ResourceUID") (g .given .ensures) (costIn (a .s .now) (rootAt (a .s .now) (a .root)) (a .words .now) (a .t .cost)) (c .before .before .before .if1 .left) (c .before .text-of .ensures) (c .cost-with .ensures)
 
 pub cost-of-spec : {M : Type 1} → statement M
 cost-of-spec =

@@ -1,4 +1,6 @@
-use Rattle.tree.specs.Place.{elementAt}
+use mathlib.Core.Path.{_∙_}
+use Rattle.definition.specs.Ascii.{bytes}
+use Rattle.tree.specs.Root.{rootAt, in-assignments}
 use Rattle.tree.specs.Answer.{found-list, none-list}
 use Rattle.assignments.specs.Finders.{findersIn}
 use Rattle.assignments.proofs.Assignments.{assignments-none, assignments-all}
@@ -6,14 +8,11 @@ use borrow.Author.Needs.{needs}
 use Rattle.assignments.proofs.assignment.put_assignments.Statement.{statement}
 use Rattle.assignments.proofs.assignment.put_assignments.Tie as tie
 
-slice-aggregate-first-in : tie.Need-slice-aggregate-first-in
-slice-aggregate-first-in c = search needs
+slice-aggregate-child : tie.Need-slice-aggregate-child
+slice-aggregate-child c = search needs
 
-slice-aggregate-first-in-2 : tie.Need-slice-aggregate-first-in-2
-slice-aggregate-first-in-2 c = search needs
-
-first-in-requires : tie.Need-first-in-requires
-first-in-requires c κs = search needs
+child-requires : tie.Need-child-requires
+child-requires c κs = search needs
 
 enum-told : tie.Need-enum-told
 enum-told c = search needs
@@ -29,26 +28,25 @@ records-of-requires c κs = search needs
 
 returns : tie.Need-returns
 returns c =
-    let a = c .before .before .before .before .before .before .before .before .args in
-    let root = elementAt (a .s .now) (a .root) in
-    assignments-none (findersIn (a .s .now) root (a .words .now) (a .tasks) (a .work) (a .cost)) root (none-list (c .before .before .first-in .ensures) (c .enum-told .given .1))
+    let a = c .before .before .before .before .before .before .before .args in
+    let root = rootAt (a .s .now) (a .root) in
+    assignments-none (findersIn (a .s .now) root (a .words .now) (a .tasks) (a .work) (a .cost)) root (in-assignments (a .s .now) (a .root) (bytes "Assignment") ∙ none-list (c .before .before .child .ensures) (c .enum-told .given .1))
 
 same-length : tie.Need-same-length
 same-length c = search needs
 
 returns-2 : tie.Need-returns-2
 returns-2 c =
-    let a = c .before .before .before .before .before .before .before .before .before .before .before .before .before .before .args in
-    let root = elementAt (a .s .now) (a .root) in
-    assignments-all (findersIn (a .s .now) root (a .words .now) (a .tasks) (a .work) (a .cost)) root (found-list (c .before .before .before .before .before .before .before .before .first-in .ensures) (c .before .before .before .before .before .before .first .given .1)) (c .before .before .before .put-from .ensures) (c .records-of .ensures)
+    let a = c .before .before .before .before .before .before .before .before .before .before .before .before .before .args in
+    let root = rootAt (a .s .now) (a .root) in
+    assignments-all (findersIn (a .s .now) root (a .words .now) (a .tasks) (a .work) (a .cost)) root (in-assignments (a .s .now) (a .root) (bytes "Assignment") ∙ found-list (c .before .before .before .before .before .before .before .before .child .ensures) (c .before .before .before .before .before .before .first .given .1)) (c .before .before .before .put-from .ensures) (c .records-of .ensures)
 
 pub put-assignments-spec : {M : Type 1} → statement M
 put-assignments-spec =
     tie.close
     (tie.spec
-    slice-aggregate-first-in
-    slice-aggregate-first-in-2
-    first-in-requires
+    slice-aggregate-child
+    child-requires
     enum-told
     enum-known-first
     put-from-requires

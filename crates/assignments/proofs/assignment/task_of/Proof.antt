@@ -1,6 +1,7 @@
 use Rattle.definition.specs.Answer.{rowMeaning}
 use Rattle.definition.specs.Field.{textIn}
 use Rattle.tree.specs.Place.{elementAt}
+use Rattle.tree.specs.Root.{rootAt}
 use Rattle.rows.specs.Tables.{rowIn}
 use Rattle.rows.specs.declared.table.Listed.{Listed}
 use Rattle.assignments.proofs.Given.{look-not, look-up}
@@ -33,7 +34,7 @@ returns-2 : tie.Need-returns-2
 returns-2 c =
     let g = c .before .before .before .before in
     let a = c .before .before .before .before .before .before .before .before .args in
-    look-up (textIn (elementAt (a .s .now) (a .at)) "TaskUID") (g .given .ensures) (rowIn (a .s .now) (elementAt (a .s .now) (a .root)) Listed.Tasks (a .words .now) (a .t .tasks)) (c .before .before .before .if1 .left) (c .before .text-of .ensures) (c .row-with .ensures)
+    look-up (textIn (elementAt (a .s .now) (a .at)) "TaskUID") (g .given .ensures) (rowIn (a .s .now) (rootAt (a .s .now) (a .root)) Listed.Tasks (a .words .now) (a .t .tasks)) (c .before .before .before .if1 .left) (c .before .text-of .ensures) (c .row-with .ensures)
 
 pub task-of-spec : {M : Type 1} → statement M
 task-of-spec =

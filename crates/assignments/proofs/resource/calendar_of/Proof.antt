@@ -4,6 +4,7 @@ use Rattle.names.specs.Context.{contextAt}
 use Rattle.names.specs.Named.{namedIn}
 use Rattle.pack.specs.Value.{nameMeaning}
 use Rattle.tree.specs.Place.{elementAt}
+use Rattle.tree.specs.Root.{rootAt}
 use Rattle.assignments.proofs.Given.{look-not, look-up}
 use borrow.Author.Needs.{needs}
 use Rattle.assignments.proofs.resource.calendar_of.Statement.{statement}
@@ -35,7 +36,7 @@ returns-2 c =
     let g = i .before in
     let start = g .before .before .before .before .before in
     let a = start .args in
-    look-up (textIn (elementAt (a .s .now) (a .at)) "CalendarUID") (g .given .ensures) (namedIn (contextAt (a .out .now) (a .c) (elementAt (a .s .now) (a .root))) (a .s .now) (a .words .now) (a .calendars)) (i .if1 .left) (to .text-of .ensures) (c .calendar-in .ensures)
+    look-up (textIn (elementAt (a .s .now) (a .at)) "CalendarUID") (g .given .ensures) (namedIn (contextAt (a .out .now) (a .c) (rootAt (a .s .now) (a .root))) (a .s .now) (a .words .now) (a .calendars)) (i .if1 .left) (to .text-of .ensures) (c .calendar-in .ensures)
 
 pub calendar-of-spec : {M : Type 1} → statement M
 calendar-of-spec =

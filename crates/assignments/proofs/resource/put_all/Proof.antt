@@ -1,6 +1,7 @@
 -- `assignments::resource::put_all` meets its contract. Assumes nothing.
-use mathlib.Core.Path.{refl}
-use Rattle.tree.specs.Place.{elementAt}
+use mathlib.Core.Path.{refl, _∙_}
+use Rattle.definition.specs.Ascii.{bytes}
+use Rattle.tree.specs.Root.{rootAt, in-resources}
 use Rattle.tree.specs.Answer.{found-list, none-list}
 use Rattle.assignments.proofs.Work.{resources-not, resources-none, resources-all}
 use borrow.Author.Needs.{needs}
@@ -19,16 +20,13 @@ same-length c = search needs
 returns : tie.Need-returns
 returns c =
     let a = c .before .before .before .before .before .before .before .args in
-    (resources-not (a .out .now) (a .c) (elementAt (a .s .now) (a .root)) (a .p) (c .before .before .before .count-work .ensures) (c .before .calendars-before .ensures) (c .if1 .taken), refl)
+    (resources-not (a .out .now) (a .c) (rootAt (a .s .now) (a .root)) (a .p) (c .before .before .before .count-work .ensures) (c .before .calendars-before .ensures) (c .if1 .taken), refl)
 
-slice-aggregate-first-in : tie.Need-slice-aggregate-first-in
-slice-aggregate-first-in c = search needs
+slice-aggregate-child : tie.Need-slice-aggregate-child
+slice-aggregate-child c = search needs
 
-slice-aggregate-first-in-2 : tie.Need-slice-aggregate-first-in-2
-slice-aggregate-first-in-2 c = search needs
-
-first-in-requires : tie.Need-first-in-requires
-first-in-requires c κs = search needs
+child-requires : tie.Need-child-requires
+child-requires c κs = search needs
 
 enum-told : tie.Need-enum-told
 enum-told c = search needs
@@ -54,12 +52,12 @@ same-length-2 c = search needs
 returns-2 : tie.Need-returns-2
 returns-2 c =
     let fi = c .before .before in
-    let i = fi .before .before .before in
+    let i = fi .before .before in
     let cb = i .before in
     let cw = cb .before .before in
     let start = cw .before .before .before .before in
     let a = start .args in
-    (resources-none (a .out .now) (a .c) (elementAt (a .s .now) (a .root)) (a .p) (cw .count-work .ensures) (cb .calendars-before .ensures) (i .if1 .left) (none-list (fi .first-in .ensures) (c .enum-told .given .1)), refl)
+    (resources-none (a .out .now) (a .c) (rootAt (a .s .now) (a .root)) (a .p) (cw .count-work .ensures) (cb .calendars-before .ensures) (i .if1 .left) (in-resources (a .s .now) (a .root) (bytes "Resource") ∙ none-list (fi .child .ensures) (c .enum-told .given .1)), refl)
 
 same-length-3 : tie.Need-same-length-3
 same-length-3 c = search needs
@@ -74,12 +72,12 @@ returns-3 c =
     let ic = if .before .before .before .before in
     let f = ic .before .before .before .before in
     let fi = f .before .before in
-    let i = fi .before .before .before in
+    let i = fi .before .before in
     let cb = i .before in
     let cw = cb .before .before in
     let start = cw .before .before .before .before in
     let a = start .args in
-    resources-all (a .out .now) (a .c) (elementAt (a .s .now) (a .root)) (a .p) (cw .count-work .ensures) (cb .calendars-before .ensures) (i .if1 .left) (found-list (fi .first-in .ensures) (f .first .given .1)) (ic .index-calendars .ensures) (if .ids-for .ensures) (pf .put-from .ensures) (c .records-of .ensures)
+    resources-all (a .out .now) (a .c) (rootAt (a .s .now) (a .root)) (a .p) (cw .count-work .ensures) (cb .calendars-before .ensures) (i .if1 .left) (in-resources (a .s .now) (a .root) (bytes "Resource") ∙ found-list (fi .child .ensures) (f .first .given .1)) (ic .index-calendars .ensures) (if .ids-for .ensures) (pf .put-from .ensures) (c .records-of .ensures)
 
 pub put-all-spec : {M : Type 1} → statement M
 put-all-spec =
@@ -89,9 +87,8 @@ put-all-spec =
     calendars-before-requires
     same-length
     returns
-    slice-aggregate-first-in
-    slice-aggregate-first-in-2
-    first-in-requires
+    slice-aggregate-child
+    child-requires
     enum-told
     enum-known-first
     index-calendars-requires

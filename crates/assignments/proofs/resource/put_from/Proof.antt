@@ -6,17 +6,18 @@ use mathlib.Core.List.{_∷_}
 use lib.ListN.{length}
 use Rattle.definition.specs.Ascii.{bytes}
 use Rattle.tree.specs.Place.{elementAt, laterAt}
+use Rattle.tree.specs.Root.{rootAt}
 use Rattle.tree.specs.Answer.{found-list, none-list, found-on}
 use Rattle.names.specs.Seen.{bytes-of}
 use Rattle.assignments.proofs.Work.{Going-in, go-all, go-more, go-last}
-use Rattle.assignments.proofs.Fit.{small-at}
+use Rattle.rows.specs.Small.{small-at, small-root}
 use Rattle.assignments.proofs.resource.put_from.Statement.{statement}
 use Rattle.assignments.proofs.resource.put_from.Tie as tie
 
 abbrev Inv-loop : tie.InvT-loop
 Inv-loop out₀ p s root first c words₀ calendars ids done₀ at₀ t12 out words done at =
     (length out ≡ length out₀) × (length words ≡ length words₀)
-    × Going-in c s (elementAt s root) calendars ids (elementAt s first ∷ laterAt s (bytes "Resource") first) (elementAt s at ∷ laterAt s (bytes "Resource") at) out₀ p words₀ out words done
+    × Going-in c s (rootAt s root) calendars ids (elementAt s first ∷ laterAt s (bytes "Resource") first) (elementAt s at ∷ laterAt s (bytes "Resource") at) out₀ p words₀ out words done
 
 abbrev μ-loop : tie.MeasureT-loop
 μ-loop out₀ p s root first c words₀ calendars ids done₀ at₀ t12 out words done at = length s - at
@@ -68,10 +69,10 @@ loop-again c =
     let n = m .before .before in
     let o = n .before .before in
     let s = o .args .s .now in
-    let small = small-at s (bytes-of s (λ i. omega (arith, n .shared-slice-known .given i))) in (
+    let is = bytes-of s (λ i. omega (arith, n .shared-slice-known .given i)) in (
       l .put-one .kept .0 ∙ m .loop .inv .0,
       l .put-one .kept .1 .1 .1 .1 .1 .1 .1 .0 ∙ m .loop .inv .1,
-      go-more _ _ _ _ _ (m .loop .inv .2) (l .put-one .ensures) (found-list (k .next-child .ensures) (c .before .next .given .1)) (small (o .args .root)) (small (m .loop .at)),
+      go-more _ _ _ _ _ (m .loop .inv .2) (l .put-one .ensures) (found-list (k .next-child .ensures) (c .before .next .given .1)) (small-root s (o .args .root) is) (small-at s is (m .loop .at)),
     )
 
 pub put-from-spec : {M : Type 1} → statement M

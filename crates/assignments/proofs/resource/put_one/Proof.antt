@@ -2,6 +2,7 @@
 use mathlib.Core.Path.{sym, _∙_}
 use borrow.Author.Tests.{not-true, not-false}
 use Rattle.tree.specs.Place.{elementAt}
+use Rattle.tree.specs.Root.{rootAt}
 use Rattle.assignments.proofs.Work.{adds-said, adds-other}
 use borrow.Author.Needs.{needs}
 use Rattle.assignments.proofs.resource.put_one.Statement.{statement}
@@ -13,7 +14,7 @@ is-work-requires c κs = search needs
 returns : tie.Need-returns
 returns c =
     let a = c .before .before .before .before .before .args in
-    adds-other (a .c) (a .s .now) (elementAt (a .s .now) (a .root)) (a .calendars) (a .ids) (elementAt (a .s .now) (a .at)) (sym (c .before .is-work .ensures) ∙ not-true _ (c .if1 .taken))
+    adds-other (a .c) (a .s .now) (rootAt (a .s .now) (a .root)) (a .calendars) (a .ids) (elementAt (a .s .now) (a .at)) (sym (c .before .is-work .ensures) ∙ not-true _ (c .if1 .taken))
 
 wanted-id-requires : tie.Need-wanted-id-requires
 wanted-id-requires c κs = search needs
@@ -60,7 +61,7 @@ returns-2 c =
     let iw = i .before in
     let start = iw .before .before .before .before in
     let a = start .args in
-    let root = elementAt (a .s .now) (a .root) in
+    let root = rootAt (a .s .now) (a .root) in
     let e = elementAt (a .s .now) (a .at) in
     adds-said (a .c) (a .s .now) root (a .calendars) e (sym (iw .is-work .ensures) ∙ not-false _ (i .if1 .left)) (a .ids) (a .words .now) (sf .stars-for .result) (wi .wanted-id .ensures) (sf .stars-for .ensures) (co .calendar-of .result) (co .calendar-of .ensures) (wn .wanted-name .ensures) (ps .put-said .ensures) (n .note .ensures) (c .more .ensures)
 

@@ -1,11 +1,10 @@
 use Prim.Native.Nat.{ℕ, _%_, _^_}
 use mathlib.Core.Path.{sym, ap, _∙_}
-use mathlib.Core.Option.{Option}
+use mathlib.Core.List.{List}
 use Rattle.definition.specs.Ascii.{bytes}
-use Rattle.definition.specs.Tree.{Element, allIn}
-use Rattle.definition.specs.Calendar.{calendarElements}
-use Rattle.tree.specs.Place.{elementAt}
-use Rattle.tree.specs.Answer.{found-child, none-child}
+use Rattle.definition.specs.Tree.{Element}
+use Rattle.tree.specs.Answer.{found-list, none-list}
+use Rattle.tree.specs.Root.{rootAt, in-calendars}
 use Rattle.calendar.specs.Skipped.{inAll}
 use Rattle.calendar.proofs.Counts.{no-sum, all-none, skipped-is}
 use borrow.Author.Needs.{needs}
@@ -24,26 +23,24 @@ enum-told c = search needs
 enum-known-p : tie.Need-enum-known-p
 enum-known-p c = search needs
 
-skipped-under-requires : tie.Need-skipped-under-requires
-skipped-under-requires c κs = search needs
+skipped-on-requires : tie.Need-skipped-on-requires
+skipped-on-requires c κs = search needs
 
 returns : tie.Need-returns
 returns c =
     let k = c .before .before in
-    let s = k .before .before .before in
-    let e = elementAt (s .args .s .now) (s .args .at) in
-    no-sum (2 ^ 32) (λ l. inAll l) all-none (calendarElements e) (ap (λ (o : Option Element). allIn o (bytes "Calendar")) (none-child e (k .child .ensures) (c .enum-told .given .1)))
-    ∙ ap (λ (n : ℕ). n % 2 ^ 32) (sym (skipped-is e))
+    let a = k .before .before .before .args in
+    no-sum (2 ^ 32) (λ l. inAll l) all-none _ (in-calendars (a .s .now) (a .root) (bytes "Calendar") ∙ none-list (k .child .ensures) (c .enum-told .given .1))
+    ∙ ap (λ (n : ℕ). n % 2 ^ 32) (sym (skipped-is (rootAt (a .s .now) (a .root))))
 
 returns-2 : tie.Need-returns-2
 returns-2 c =
     let p = c .before .before in
     let k = p .before .before in
-    let s = k .before .before .before in
-    let e = elementAt (s .args .s .now) (s .args .at) in
-    c .skipped-under .ensures
-    ∙ sym (ap (λ (o : Option Element). inAll (allIn o (bytes "Calendar")) % 2 ^ 32) (found-child e (k .child .ensures) (p .p .given .1)))
-    ∙ ap (λ (n : ℕ). n % 2 ^ 32) (sym (skipped-is e))
+    let a = k .before .before .before .args in
+    c .skipped-on .ensures
+    ∙ sym (ap (λ (l : List Element). inAll l % 2 ^ 32) (in-calendars (a .s .now) (a .root) (bytes "Calendar") ∙ found-list (k .child .ensures) (p .p .given .1)))
+    ∙ ap (λ (n : ℕ). n % 2 ^ 32) (sym (skipped-is (rootAt (a .s .now) (a .root))))
 
 pub skipped-spec : {M : Type 1} → statement M
 skipped-spec =
@@ -53,6 +50,6 @@ skipped-spec =
     child-requires
     enum-told
     enum-known-p
-    skipped-under-requires
+    skipped-on-requires
     returns
     returns-2)

@@ -1,11 +1,9 @@
 use borrow.Author.Tests.{not-true, not-false}
 use native.Mathlib.Omega.{arith}
 use mathlib.Core.Path.{refl, _∙_}
-use lib.ListN.{drop}
-use Rattle.laws.specs.Each.{each-drop}
-use Rattle.laws.specs.FitTrees.{small-element}
 use Rattle.names.specs.Seen.{bytes-of}
-use Rattle.tree.specs.Place.{elementAt}
+use Rattle.tree.specs.Root.{rootAt}
+use Rattle.rows.specs.Small.{small-root}
 use Rattle.calendars.proofs.Builts.{calendars-if, calendars-not}
 use borrow.Author.Needs.{needs}
 use Rattle.calendars.proofs.built.put_calendars.Statement.{statement}
@@ -24,7 +22,7 @@ returns : tie.Need-returns
 returns c =
     let k = c .before .before .before .before in
     let a = c .before .before .before .before .before .before .before .before .before .before .args in
-    (calendars-not (a .s .now) (elementAt (a .s .now) (a .root)) {p = a .p} (k .before .before .count-calendars .ensures) (not-true _ (k .if1 .taken)) refl, c .before .before .clear-words-from .ensures)
+    (calendars-not (a .s .now) (rootAt (a .s .now) (a .root)) {p = a .p} (k .before .before .count-calendars .ensures) (not-true _ (k .if1 .taken)) refl, c .before .before .clear-words-from .ensures)
 
 put-built-requires : tie.Need-put-built-requires
 put-built-requires c κs = search needs
@@ -56,7 +54,7 @@ returns-2 c =
     let n = k .before .before in
     let a = n .before .before .before .before .args in
     let bytes = bytes-of (a .s .now) (λ i. omega (arith, n .before .before .shared-slice-known .given i)) in (
-      calendars-if (a .s .now) (elementAt (a .s .now) (a .root)) {p = a .p} (n .count-calendars .ensures) (small-element (drop (a .root) (a .s .now)) (each-drop (a .root) bytes)) (not-false _ (k .if1 .left)) _ (t .before .main-calendar .ensures) (b .put-built .ensures .0) (t .turn-main .ensures) (c .before .before .put-elapsed .ensures),
+      calendars-if (a .s .now) (rootAt (a .s .now) (a .root)) {p = a .p} (n .count-calendars .ensures) (small-root (a .s .now) (a .root) bytes) (not-false _ (k .if1 .left)) _ (t .before .main-calendar .ensures) (b .put-built .ensures .0) (t .turn-main .ensures) (c .before .before .put-elapsed .ensures),
       w .clear-words-from2 .ensures ∙ b .put-built .ensures .1,
     )
 

@@ -1,7 +1,7 @@
 use Rattle.bits.specs.Clear.{cleared}
 use mathlib.Core.Path.{_≡_, refl, _∙_}
 use lib.ListN.{length}
-use Rattle.tree.specs.Place.{elementAt}
+use Rattle.tree.specs.Root.{rootAt}
 use Rattle.rows.specs.Walks.{orderBy, orderRoom}
 use Rattle.rows.specs.Turns.{order-end, order-next, order-less}
 use Rattle.calendars.proofs.Builts.{Sofar, sofar-none, sofar-more, sofar-all}
@@ -10,7 +10,7 @@ use Rattle.calendars.proofs.built.put_each.Statement.{statement}
 use Rattle.calendars.proofs.built.put_each.Tie as tie
 
 abbrev Inv-loop : tie.InvT-loop
-Inv-loop out₀ start s root words₀ from built₀ found₀ out words built found = ((length out ≡ length out₀) × ((length words ≡ length words₀) × (cleared from words ≡ cleared from words₀))) × Sofar (elementAt s root) start out₀ (orderBy s (elementAt s root) found) out built
+Inv-loop out₀ start s root words₀ from built₀ found₀ out words built found = ((length out ≡ length out₀) × ((length words ≡ length words₀) × (cleared from words ≡ cleared from words₀))) × Sofar (rootAt s root) start out₀ (orderBy s (rootAt s root) found) out built
 
 abbrev μ-loop : tie.MeasureT-loop
 μ-loop out₀ start s root words₀ from built₀ found₀ out words built found = orderRoom s found
@@ -37,7 +37,7 @@ returns : tie.Need-returns Inv-loop μ-loop
 returns c =
     let l = c .before .before in
     let a = c .before .before .before .before .before .before .before .args in
-    (sofar-all (order-end (a .s .now) (elementAt (a .s .now) (a .root)) (c .enum-told .given .1)) (l .loop .inv .1), l .loop .inv .0 .1 .1)
+    (sofar-all (order-end (a .s .now) (rootAt (a .s .now) (a .root)) (c .enum-told .given .1)) (l .loop .inv .1), l .loop .inv .0 .1 .1)
 
 put-next-requires : tie.Need-put-next-requires Inv-loop μ-loop
 put-next-requires c κs = search needs

@@ -1,3 +1,4 @@
+use Rattle.definition.specs.Tree.{textOf}
 use Rattle.tree.specs.Place.{elementAt}
 use mathlib.Core.Path.{ap, _∙_}
 use Rattle.definition.specs.Answer.{dayNumberOf}
@@ -9,7 +10,7 @@ use Rattle.fields.proofs.child.date_in.Tie as tie
 returns : tie.Need-returns
 returns c =
     let s = c .before .before .before .before in
-    c .date-of .ensures ∙ ap dayNumberOf (date-or (elementAt (s .args .s .now) (s .args .at)) (s .args .name .now) _ (c .before .text-of .ensures))
+    c .date-of .ensures ∙ ap dayNumberOf (date-or (textOf (elementAt (s .args .s .now) (s .args .at)) (s .args .name .now)) _ (c .before .text-of .ensures))
 
 pub date-in-spec : {M : Type 1} → statement M
 date-in-spec =

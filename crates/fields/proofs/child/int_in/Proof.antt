@@ -1,3 +1,4 @@
+use Rattle.definition.specs.Tree.{textOf}
 use Rattle.tree.specs.Place.{elementAt}
 use mathlib.Core.Path.{_∙_}
 use Rattle.fields.proofs.Empty.{whole-or}
@@ -8,7 +9,7 @@ use Rattle.fields.proofs.child.int_in.Tie as tie
 returns : tie.Need-returns
 returns c =
     let s = c .before .before .before .before in
-    c .whole-of .ensures ∙ whole-or (elementAt (s .args .s .now) (s .args .at)) (s .args .name .now) _ (c .before .text-of .ensures)
+    c .whole-of .ensures ∙ whole-or (textOf (elementAt (s .args .s .now) (s .args .at)) (s .args .name .now)) _ (c .before .text-of .ensures)
 
 pub int-in-spec : {M : Type 1} → statement M
 int-in-spec =

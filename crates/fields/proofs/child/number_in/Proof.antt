@@ -1,3 +1,4 @@
+use Rattle.definition.specs.Tree.{textOf}
 use Rattle.tree.specs.Place.{elementAt}
 use Rattle.fields.proofs.Empty.{number-or}
 use borrow.Author.Needs.{needs}
@@ -7,7 +8,7 @@ use Rattle.fields.proofs.child.number_in.Tie as tie
 returns : tie.Need-returns
 returns c =
     let s = c .before .before .before .before .before in
-    number-or (elementAt (s .args .s .now) (s .args .at)) (s .args .name .now) _ (c .before .before .text-of .ensures) (c .float-of .ensures) (c .before .number-of .ensures)
+    number-or (textOf (elementAt (s .args .s .now) (s .args .at)) (s .args .name .now)) _ (c .before .before .text-of .ensures) (c .float-of .ensures) (c .before .number-of .ensures)
 
 pub number-in-spec : {M : Type 1} → statement M
 number-in-spec = tie.close (tie.spec (λ c κs. search needs) (λ c κs. search needs) (λ c κs. search needs) returns)

@@ -1,5 +1,5 @@
 use Rattle.definition.specs.Task.{keptTasks}
-use Rattle.tree.specs.Place.{elementAt}
+use Rattle.tree.specs.Root.{rootAt}
 use Rattle.rows.specs.Walks.{keptBy, room}
 use Rattle.rows.specs.Turns.{kept-end, kept-next, kept-less}
 use Rattle.links.specs.Fates.{taskIn, countedOf}
@@ -10,7 +10,7 @@ use Rattle.links.proofs.counting.count_fates.Statement.{statement}
 use Rattle.links.proofs.counting.count_fates.Tie as tie
 
 abbrev Inv-loop : tie.InvT-loop
-Inv-loop s root words tasks count₀ task₀ count task = CountOf (taskIn s root words tasks) (countedOf (taskIn s root words tasks) count₀ (keptTasks (elementAt s root))) count (keptBy s task)
+Inv-loop s root words tasks count₀ task₀ count task = CountOf (taskIn s root words tasks) (countedOf (taskIn s root words tasks) count₀ (keptTasks (rootAt s root))) count (keptBy s task)
 
 abbrev μ-loop : tie.MeasureT-loop
 μ-loop s root words tasks count₀ task₀ count task = room task

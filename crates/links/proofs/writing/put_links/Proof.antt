@@ -4,7 +4,7 @@ use lib.ListN.{length}
 use Rattle.definition.specs.Format.{whole}
 use Rattle.definition.specs.Pack.{link as linkFormat}
 use Rattle.definition.specs.Task.{contextOf, mostTasks}
-use Rattle.tree.specs.Place.{elementAt}
+use Rattle.tree.specs.Root.{rootAt}
 use Rattle.rows.specs.Walks.{keptBy, room}
 use Rattle.rows.specs.Turns.{kept-end, kept-next, kept-less, room-at}
 use Rattle.links.specs.Fates.{taskIn, linksBy, linksFrom}
@@ -16,7 +16,7 @@ use Rattle.links.proofs.writing.put_links.Statement.{statement}
 use Rattle.links.proofs.writing.put_links.Tie as tie
 
 abbrev Inv-loop : tie.InvT-loop
-Inv-loop out₀ s root words tasks per-day r₀ row₀ task₀ out r row task = (length out ≡ length out₀) × Left (whole linkFormat) (linksBy (taskIn s root words tasks) (contextOf (elementAt s root))) (linksFrom per-day (taskIn s root words tasks) row (keptBy s task)) out₀ r₀ out r × (row + room task ≤ mostTasks)
+Inv-loop out₀ s root words tasks per-day r₀ row₀ task₀ out r row task = (length out ≡ length out₀) × Left (whole linkFormat) (linksBy (taskIn s root words tasks) (contextOf (rootAt s root))) (linksFrom per-day (taskIn s root words tasks) row (keptBy s task)) out₀ r₀ out r × (row + room task ≤ mostTasks)
 
 abbrev μ-loop : tie.MeasureT-loop
 μ-loop out₀ s root words tasks per-day r₀ row₀ task₀ out r row task = room task

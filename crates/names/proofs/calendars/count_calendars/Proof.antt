@@ -2,10 +2,10 @@
 use mathlib.Core.Path.{sym, ap, _∙_}
 use mathlib.Core.List.{List}
 use lib.ListN.{length}
+use Rattle.definition.specs.Ascii.{bytes}
 use Rattle.definition.specs.Tree.{Element}
-use Rattle.tree.specs.Place.{elementAt}
-use Rattle.tree.specs.Answer.{found-child, none-child}
-use Rattle.names.proofs.Found.{under-one, under-none}
+use Rattle.tree.specs.Root.{in-calendars}
+use Rattle.tree.specs.Answer.{found-list, none-list}
 use borrow.Author.Needs.{needs}
 use Rattle.names.proofs.calendars.count_calendars.Statement.{statement}
 use Rattle.names.proofs.calendars.count_calendars.Tie as tie
@@ -22,18 +22,22 @@ enum-told c = search needs
 enum-known-p : tie.Need-enum-known-p
 enum-known-p c = search needs
 
-count-in-requires : tie.Need-count-in-requires
-count-in-requires c κs = search needs
+count-from-requires : tie.Need-count-from-requires
+count-from-requires c κs = search needs
 
 returns : tie.Need-returns
 returns c =
-    let e = elementAt (c .before .before .before .before .before .args .s .now) (c .before .before .before .before .before .args .root) in
-    sym (ap (λ (l : List Element). length l) (under-none e (none-child e (c .before .before .child .ensures) (c .enum-told .given .1))))
+    let k = c .before .before in
+    let a = k .before .before .before .args in
+    sym (ap (λ (l : List Element). length l) (in-calendars (a .s .now) (a .root) (bytes "Calendar") ∙ none-list (k .child .ensures) (c .enum-told .given .1)))
 
 returns-2 : tie.Need-returns-2
 returns-2 c =
-    let e = elementAt (c .before .before .before .before .before .before .before .args .s .now) (c .before .before .before .before .before .before .before .args .root) in
-    c .count-in .ensures ∙ sym (ap (λ (l : List Element). length l) (under-one e _ (found-child e (c .before .before .before .before .child .ensures) (c .before .before .p .given .1))))
+    let p = c .before .before in
+    let k = p .before .before in
+    let a = k .before .before .before .args in
+    c .count-from .ensures
+    ∙ sym (ap (λ (l : List Element). length l) (in-calendars (a .s .now) (a .root) (bytes "Calendar") ∙ found-list (k .child .ensures) (p .p .given .1)))
 
 pub count-calendars-spec : {M : Type 1} → statement M
 count-calendars-spec =
@@ -43,6 +47,6 @@ count-calendars-spec =
     child-requires
     enum-told
     enum-known-p
-    count-in-requires
+    count-from-requires
     returns
     returns-2)

@@ -3,7 +3,7 @@ use mathlib.Core.Path.{ap, _∙_}
 use Rattle.definition.specs.Calendar.{elapsedName}
 use Rattle.definition.specs.Task.{unlessMain}
 use Rattle.definition.specs.Text.{Text}
-use Rattle.tree.specs.Place.{elementAt}
+use Rattle.tree.specs.Root.{rootAt}
 use Rattle.names.specs.Context.{contextAt}
 use Rattle.names.specs.Stars.{star-none}
 use borrow.Author.Needs.{needs}
@@ -19,7 +19,7 @@ unless-main-requires c κs = search needs
 returns : tie.Need-returns
 returns c =
     let a = c .before .before .before .before .args in
-    c .unless-main .ensures ∙ ap (λ (t : Text). unlessMain (contextAt (a .out .now) (a .c) (elementAt (a .s .now) (a .root))) t) (star-none elapsedName)
+    c .unless-main .ensures ∙ ap (λ (t : Text). unlessMain (contextAt (a .out .now) (a .c) (rootAt (a .s .now) (a .root))) t) (star-none elapsedName)
 
 pub elapsed-named-spec : {M : Type 1} → statement M
 elapsed-named-spec = tie.close (tie.spec slice-aggregate-unless-main unless-main-requires returns)

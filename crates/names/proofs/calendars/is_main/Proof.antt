@@ -2,7 +2,7 @@
 use mathlib.Core.Path.{sym, ap, _∙_}
 use Rattle.definition.specs.Base.{same}
 use Rattle.definition.specs.Ascii.{bytes}
-use Rattle.tree.specs.Place.{elementAt}
+use Rattle.tree.specs.Root.{rootAt}
 use Rattle.pack.specs.Value.{starredBy}
 use Rattle.names.specs.Stars.{star-none}
 use Rattle.names.specs.ByUid.{main-there, main-absent}
@@ -43,14 +43,14 @@ returns c =
     let a = c .before .before .before .before .before .before .before .before .before .before .before .args in
     let x = c .before .before .before .before .before .before .before .main-calendar in
     let t = starredBy (a .text .now) (a .stars) in
-    c .same-starred .ensures ∙ main-same (a .out .now) (a .c) (elementAt (a .s .now) (a .root)) _ _ (c .before .wanted-name .ensures) t (c .before .before .before .stars-of .ensures) ∙ ap (same t) (sym (main-there (a .out .now) (a .c) (elementAt (a .s .now) (a .root)) _ (is-there (a .s .now) (x .result) (x .ensures) (c .before .before .before .before .before .row .given .1))))
+    c .same-starred .ensures ∙ main-same (a .out .now) (a .c) (rootAt (a .s .now) (a .root)) _ _ (c .before .wanted-name .ensures) t (c .before .before .before .stars-of .ensures) ∙ ap (same t) (sym (main-there (a .out .now) (a .c) (rootAt (a .s .now) (a .root)) _ (is-there (a .s .now) (x .result) (x .ensures) (c .before .before .before .before .before .row .given .1))))
 
 returns-2 : tie.Need-returns-2
 returns-2 c =
     let a = c .before .before .before .before .before .before .before .before .args in
     let x = c .before .before .before .before .main-calendar in
     let t = starredBy (a .text .now) (a .stars) in
-    c .same-starred2 .ensures ∙ ap (same t) (star-none (bytes "Standard") ∙ sym (main-absent (a .out .now) (a .c) (elementAt (a .s .now) (a .root)) (is-absent (a .s .now) (x .result) (x .ensures) (c .before .before .enum-told .given .1))))
+    c .same-starred2 .ensures ∙ ap (same t) (star-none (bytes "Standard") ∙ sym (main-absent (a .out .now) (a .c) (rootAt (a .s .now) (a .root)) (is-absent (a .s .now) (x .result) (x .ensures) (c .before .before .enum-told .given .1))))
 
 pub is-main-spec : {M : Type 1} → statement M
 is-main-spec =

@@ -1,5 +1,6 @@
 -- `names::calendars::stars_of` meets its contract. Assumes nothing.
 use Rattle.tree.specs.Place.{elementAt}
+use Rattle.tree.specs.Root.{rootAt}
 use Rattle.names.proofs.Found.{stars-row}
 use borrow.Author.Needs.{needs}
 use Rattle.names.proofs.calendars.stars_of.Statement.{statement}
@@ -20,7 +21,7 @@ stars-at-requires c κs = search needs
 returns : tie.Need-returns
 returns c =
     let a = c .before .before .before .before .before .before .args in
-    stars-row (a .out .now) (a .c) (elementAt (a .s .now) (a .root)) (a .row) (elementAt (a .s .now) (a .at)) (c .before .before .before .main-row .ensures) (c .before .before .section-row .ensures) (c .before .place-of-row .ensures) (c .stars-at .ensures)
+    stars-row (a .out .now) (a .c) (rootAt (a .s .now) (a .root)) (a .row) (elementAt (a .s .now) (a .at)) (c .before .before .before .main-row .ensures) (c .before .before .section-row .ensures) (c .before .place-of-row .ensures) (c .stars-at .ensures)
 
 pub stars-of-spec : {M : Type 1} → statement M
 stars-of-spec =

@@ -1,6 +1,6 @@
 -- `names::named::index_calendars` meets its contract. Assumes nothing.
 use mathlib.Core.Path.{sym, _∙_}
-use Rattle.tree.specs.Place.{elementAt}
+use Rattle.tree.specs.Root.{rootAt}
 use lib.ListN.{length}
 use Rattle.names.specs.Naming.{made-ripe}
 use Rattle.names.proofs.Wording.{makes-none, makes-ready}
@@ -25,7 +25,7 @@ fill-requires c κs =
     let t = c .before .before in
     let rf = t .before .before in
     let start = rf .before .before .before .before in
-    made-ripe (start .args .s .now) (elementAt (start .args .s .now) (start .args .root)) (length (start .args .words .now)) (start .args .at) (sym (t .table .given .1) ∙ rf .room-for .ensures)
+    made-ripe (start .args .s .now) (rootAt (start .args .s .now) (start .args .root)) (length (start .args .words .now)) (start .args .at) (sym (t .table .given .1) ∙ rf .room-for .ensures)
 
 cast-t9 : tie.Need-cast-t9
 cast-t9 c = search needs

@@ -1,6 +1,6 @@
 -- `names::named::main_of` meets its contract. Assumes nothing.
 use native.Mathlib.Omega.{arith}
-use Rattle.tree.specs.Place.{elementAt}
+use Rattle.tree.specs.Root.{rootAt}
 use Rattle.names.proofs.Found.{is-there, is-absent}
 use Rattle.names.proofs.Wording.{main-none}
 use borrow.Author.Needs.{needs}
@@ -29,7 +29,7 @@ returns c =
 returns-2 : tie.Need-returns-2
 returns-2 c =
     let a = c .before .before .before .before .before .args in
-    absurd (omega (arith, c .before .before .before .before .before .pre, main-none (elementAt (a .s .now) (a .root)) (is-absent (a .s .now) (c .before .before .main-calendar .result) (c .before .before .main-calendar .ensures) (c .enum-told .given .1))))
+    absurd (omega (arith, c .before .before .before .before .before .pre, main-none (rootAt (a .s .now) (a .root)) (is-absent (a .s .now) (c .before .before .main-calendar .result) (c .before .before .main-calendar .ensures) (c .enum-told .given .1))))
 
 pub main-of-spec : {M : Type 1} → statement M
 main-of-spec =

@@ -1,6 +1,6 @@
 -- `names::named::note_places` meets its contract. Assumes nothing.
 use native.Mathlib.Omega.{arith}
-use Rattle.tree.specs.Place.{elementAt}
+use Rattle.tree.specs.Root.{rootAt}
 use Rattle.rows.specs.Turns.{order-less}
 use Rattle.rows.specs.Walks.{orderRoom}
 use Rattle.names.proofs.Placing.{Placing, placing-begin, placing-end, placing-more, placing-at, placing-turn}
@@ -9,7 +9,7 @@ use Rattle.names.proofs.named.note_places.Statement.{statement}
 use Rattle.names.proofs.named.note_places.Tie as tie
 
 abbrev Inv-loop : tie.InvT-loop
-Inv-loop s root words₀ t left₀ e₀ words left e = Placing s (elementAt s root) t left e words₀ words
+Inv-loop s root words₀ t left₀ e₀ words left e = Placing s (rootAt s root) t left e words₀ words
 
 abbrev μ-loop : tie.MeasureT-loop
 μ-loop s root words₀ t left₀ e₀ words left e = orderRoom s e

@@ -1,5 +1,5 @@
 -- `names::named::scan` meets its contract. Assumes nothing.
-use Rattle.tree.specs.Place.{elementAt}
+use Rattle.tree.specs.Root.{rootAt}
 use Rattle.names.proofs.Found.{is-there, is-absent, beside}
 use Rattle.names.proofs.Answered.{scan-there, scan-absent}
 use borrow.Author.Needs.{needs}
@@ -36,14 +36,14 @@ returns c =
     let start = cw .before .before .before .before in
     let a = start .args in
     let x = cw .calendar-with in
-    scan-there (a .out .now) (a .c) (elementAt (a .s .now) (a .root)) (a .uid .now) _ _ _ (is-there (a .s .now) (x .result) (x .ensures) (r .row .given .1))
-    (beside (a .out .now) (a .c) (elementAt (a .s .now) (a .root)) _ _ _ (wn .wanted-name .ensures) (so .stars-of .ensures) (c .unless-main .ensures))
+    scan-there (a .out .now) (a .c) (rootAt (a .s .now) (a .root)) (a .uid .now) _ _ _ (is-there (a .s .now) (x .result) (x .ensures) (r .row .given .1))
+    (beside (a .out .now) (a .c) (rootAt (a .s .now) (a .root)) _ _ _ (wn .wanted-name .ensures) (so .stars-of .ensures) (c .unless-main .ensures))
 
 returns-2 : tie.Need-returns-2
 returns-2 c =
     let a = c .before .before .before .before .before .before .args in
     let x = c .before .before .calendar-with in
-    scan-absent (a .out .now) (a .c) (elementAt (a .s .now) (a .root)) (a .uid .now) _ (is-absent (a .s .now) (x .result) (x .ensures) (c .enum-told .given .1))
+    scan-absent (a .out .now) (a .c) (rootAt (a .s .now) (a .root)) (a .uid .now) _ (is-absent (a .s .now) (x .result) (x .ensures) (c .enum-told .given .1))
 
 pub scan-spec : {M : Type 1} → statement M
 scan-spec =

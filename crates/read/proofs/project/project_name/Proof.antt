@@ -1,44 +1,44 @@
-use mathlib.Core.Path.{sym, _∙_}
+use mathlib.Core.Path.{sym, ap, _∙_}
+use mathlib.Core.List.{[]}
+use mathlib.Core.Option.{Option}
+use Rattle.definition.specs.Base.{_or_, _orElse_}
+use Rattle.definition.specs.Text.{Text}
 use Rattle.definition.specs.Field.{textIn}
 use Rattle.tree.specs.Place.{elementAt}
+use Rattle.tree.specs.Root.{ownText, rootAt, title-is, name-is}
+use Rattle.rows.specs.Turns.{own-given, own-missing}
 use Rattle.read.proofs.Projects.{given-first, given-second}
 use borrow.Author.Needs.{needs}
 use Rattle.read.proofs.project.project_name.Statement.{statement}
 use Rattle.read.proofs.project.project_name.Tie as tie
 
-slice-aggregate-given : tie.Need-slice-aggregate-given
-slice-aggregate-given c = search needs
-
-given-requires : tie.Need-given-requires
-given-requires c κs = search needs
-
-slice-aggregate-text-of : tie.Need-slice-aggregate-text-of
-slice-aggregate-text-of c = search needs
-
-text-of-requires : tie.Need-text-of-requires
-text-of-requires c κs = search needs
+own-text-requires : tie.Need-own-text-requires
+own-text-requires c κs = search needs
 
 returns : tie.Need-returns
-returns c = let e = elementAt (c .before .before .before .before .before .before .args .s .now) (c .before .before .before .before .before .before .args .root) in c .text-of .ensures ∙ given-first (textIn e "Title") (textIn e "Name") (sym (c .before .before .before .given .ensures) ∙ c .before .before .if1 .taken)
+returns c =
+    let t = c .before in
+    let a = t .before .before .args in
+    let e = rootAt (a .s .now) (a .root) in
+    let title = elementAt (a .s .now) (a .root .title) in
+    t .own-text .ensures
+    ∙ given-first (ownText title) (textIn e "Name") (own-given title (t .own-text .ensures) (c .if1 .taken))
+    ∙ ap (λ (o : Option Text). (o orElse textIn e "Name") or []) (sym (title-is (a .s .now) (a .root)))
 
-slice-aggregate-text-of-2 : tie.Need-slice-aggregate-text-of-2
-slice-aggregate-text-of-2 c = search needs
-
-text-of-requires-2 : tie.Need-text-of-requires-2
-text-of-requires-2 c κs = search needs
+own-text-requires-2 : tie.Need-own-text-requires-2
+own-text-requires-2 c κs = search needs
 
 returns-2 : tie.Need-returns-2
-returns-2 c = let e = elementAt (c .before .before .before .before .before .before .args .s .now) (c .before .before .before .before .before .before .args .root) in c .text-of2 .ensures ∙ given-second (textIn e "Title") (textIn e "Name") (sym (c .before .before .before .given .ensures) ∙ c .before .before .if1 .left)
+returns-2 c =
+    let i = c .before in
+    let t = i .before in
+    let a = t .before .before .args in
+    let e = rootAt (a .s .now) (a .root) in
+    let title = elementAt (a .s .now) (a .root .title) in
+    c .own-text2 .ensures
+    ∙ ap (λ (o : Option Text). o or []) (sym (name-is (a .s .now) (a .root)))
+    ∙ given-second (ownText title) (textIn e "Name") (own-missing title (t .own-text .ensures) (i .if1 .left))
+    ∙ ap (λ (o : Option Text). (o orElse textIn e "Name") or []) (sym (title-is (a .s .now) (a .root)))
 
 pub project-name-spec : {M : Type 1} → statement M
-project-name-spec =
-    tie.close
-    (tie.spec
-    slice-aggregate-given
-    given-requires
-    slice-aggregate-text-of
-    text-of-requires
-    returns
-    slice-aggregate-text-of-2
-    text-of-requires-2
-    returns-2)
+project-name-spec = tie.close (tie.spec own-text-requires returns own-text-requires-2 returns-2)

@@ -1,5 +1,5 @@
 use Rattle.definition.specs.Pack.{project}
-use Rattle.tree.specs.Place.{elementAt}
+use Rattle.tree.specs.Root.{rootAt}
 use Rattle.read.proofs.Chains.{whole-after, all-put}
 use Rattle.read.proofs.Tables.{tasks-made}
 use Rattle.read.proofs.Whole.{fills-counts}
@@ -28,7 +28,7 @@ same-length-2 c = search needs
 returns : tie.Need-returns
 returns c =
     let a = c .before .before .before .before .before .before .before .before .before .before .before .before .before .before .before .before .before .before .before .before .before .before .before .args in
-    let e = elementAt (a .s .now) (a .root) in
+    let e = rootAt (a .s .now) (a .root) in
     let x = c .before .before .before .before .before .before .before .before .before .before .before .before .before .before .before .before .before .before .put-counts .ensures in
     let y = c .before .before .before .before .before .before .before .before .before .put-project .ensures in
     let z = c .before .before .before .before .put-sections .ensures in

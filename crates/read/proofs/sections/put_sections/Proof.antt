@@ -1,7 +1,7 @@
 use mathlib.Core.Path.{_∙_}
 use native.Mathlib.Omega.{arith}
 use Rattle.read.specs.Sections.{Few}
-use Rattle.tree.specs.Place.{elementAt}
+use Rattle.tree.specs.Root.{rootAt}
 use Rattle.read.proofs.Chains.{Fit, fit-tree, six-same, six-put, six-counted}
 use Rattle.read.proofs.Tables.{tasked-from, tasked-behind, links-written, activities-written}
 use borrow.Author.Needs.{needs}
@@ -26,7 +26,7 @@ put-assigned-requires c κs = tasked-behind (tasked-from (c .before .before .bef
 returns : tie.Need-returns
 returns c =
     let a = c .before .before .before .before .before .before .before .before .before .before .before .before .before .before .before .before .before .before .before .before .before .before .before .before .before .before .before .before .before .before .before .args in
-    let e = elementAt (a .s .now) (a .root) in
+    let e = rootAt (a .s .now) (a .root) in
     let t1 = tasked-from (c .before .before .before .before .before .before .before .before .before .before .before .before .before .before .before .before .before .before .before .before .before .before .before .before .before .before .before .before .before .before .before .pre) (c .before .before .before .before .before .before .before .before .before .before .before .before .before .before .before .before .before .before .before .before .before .before .before .before .before .before .before .end-of .ensures) (c .before .before .before .before .before .before .before .before .before .before .before .before .before .before .before .before .before .before .before .before .before .before .before .before .put-calendars .ensures .1) in
     let t2 = tasked-behind t1 (c .before .before .before .before .before .before .before .before .before .before .before .before .before .before .before .before .before .put-activities .ensures .1) in
     let w1 = c .before .before .before .before .before .before .before .before .before .before .before .before .before .before .before .before .before .before .before .before .before .before .before .before .put-calendars .ensures .0 in

@@ -1,7 +1,7 @@
 use Prim.Native.Nat.{_+_, _≤_}
 use mathlib.Core.Path.{sym, _∙_}
 use lib.ListN.{length}
-use Rattle.tree.specs.Place.{elementAt}
+use Rattle.tree.specs.Root.{rootAt}
 use Rattle.rows.specs.Walks.{orderBy, orderRoom}
 use Rattle.rows.specs.Rows.{hasUid, withUidIn, calendarMeaning}
 use Rattle.rows.specs.Turns.{order-end, order-at, order-some, order-next, order-less}
@@ -12,7 +12,7 @@ use Rattle.rows.proofs.built.calendar_with.Statement.{statement}
 use Rattle.rows.proofs.built.calendar_with.Tie as tie
 
 abbrev Inv-loop : tie.InvT-loop
-Inv-loop s root uid row₀ c₀ t7 row c = FirstIn (hasUid uid) (withUidIn (elementAt s root) uid) row (orderBy s (elementAt s root) c) × (row + orderRoom s c ≤ length s + length s)
+Inv-loop s root uid row₀ c₀ t7 row c = FirstIn (hasUid uid) (withUidIn (rootAt s root) uid) row (orderBy s (rootAt s root) c) × (row + orderRoom s c ≤ length s + length s)
 
 abbrev μ-loop : tie.MeasureT-loop
 μ-loop s root uid row₀ c₀ t7 row c = orderRoom s c

@@ -1,50 +1,45 @@
-use mathlib.Core.Path.{sym, _∙_}
+use mathlib.Core.Path.{sym, ap, _∙_}
+use mathlib.Core.Option.{Option}
+use Rattle.definition.specs.Base.{_>>=_}
+use Rattle.definition.specs.Text.{Text}
 use Rattle.tree.specs.Place.{elementAt}
-use Rattle.definition.specs.Field.{textIn}
+use Rattle.tree.specs.Root.{ownText, rootAt, calendar-uid}
 use Rattle.rows.specs.Rows.{withUidIn, calendarMeaning}
-use Rattle.rows.specs.Turns.{text-given, text-missing}
+use Rattle.rows.specs.Turns.{text-given, text-missing, own-given, own-missing}
 use borrow.Author.Needs.{needs}
 use Rattle.rows.proofs.built.named_calendar.Statement.{statement}
 use Rattle.rows.proofs.built.named_calendar.Tie as tie
 
-slice-aggregate-given : tie.Need-slice-aggregate-given
-slice-aggregate-given c = search needs
-
-given-requires : tie.Need-given-requires
-given-requires c κs = search needs
-
-slice-aggregate-text-of : tie.Need-slice-aggregate-text-of
-slice-aggregate-text-of c = search needs
-
-text-of-requires : tie.Need-text-of-requires
-text-of-requires c κs = search needs
+own-text-requires : tie.Need-own-text-requires
+own-text-requires c κs = search needs
 
 calendar-with-requires : tie.Need-calendar-with-requires
 calendar-with-requires c κs = search needs
 
 returns : tie.Need-returns
 returns c =
-    let t = c .before in
-    let i = t .before .before in
-    let g = i .before in
-    let a = g .before .before .before .args in
-    c .calendar-with .ensures ∙ text-given (textIn (elementAt (a .s .now) (a .root)) "CalendarUID") (withUidIn (elementAt (a .s .now) (a .root))) (sym (g .given .ensures) ∙ i .if1 .taken) (t .text-of .ensures)
+    let i = c .before in
+    let t = i .before in
+    let a = t .before .before .args in
+    let e = elementAt (a .s .now) (a .root .calendar) in
+    c .calendar-with .ensures
+    ∙ text-given (ownText e) (withUidIn (rootAt (a .s .now) (a .root))) (own-given e (t .own-text .ensures) (i .if1 .taken)) (t .own-text .ensures)
+    ∙ ap (λ (o : Option Text). o >>= withUidIn (rootAt (a .s .now) (a .root))) (sym (calendar-uid (a .s .now) (a .root)))
 
 returns-2 : tie.Need-returns-2
 unfolding calendarMeaning
 returns-2 c =
-    let g = c .before in
-    let a = g .before .before .before .args in
-    text-missing (textIn (elementAt (a .s .now) (a .root)) "CalendarUID") (withUidIn (elementAt (a .s .now) (a .root))) (sym (g .given .ensures) ∙ c .if1 .left)
+    let t = c .before in
+    let a = t .before .before .args in
+    let e = elementAt (a .s .now) (a .root .calendar) in
+    text-missing (ownText e) (withUidIn (rootAt (a .s .now) (a .root))) (own-missing e (t .own-text .ensures) (c .if1 .left))
+    ∙ ap (λ (o : Option Text). o >>= withUidIn (rootAt (a .s .now) (a .root))) (sym (calendar-uid (a .s .now) (a .root)))
 
 pub named-calendar-spec : {M : Type 1} → statement M
 named-calendar-spec =
     tie.close
     (tie.spec
-    slice-aggregate-given
-    given-requires
-    slice-aggregate-text-of
-    text-of-requires
+    own-text-requires
     calendar-with-requires
     returns
     returns-2)

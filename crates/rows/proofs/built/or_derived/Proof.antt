@@ -1,3 +1,6 @@
+use Rattle.definition.specs.Ascii.{bytes}
+use Rattle.tree.specs.Root.{in-calendars}
+use Rattle.rows.specs.Turns.{picks-same}
 use Rattle.rows.proofs.Walking.{after-plain, after-none}
 use borrow.Author.Needs.{needs}
 use Rattle.rows.proofs.built.or_derived.Statement.{statement}
@@ -12,9 +15,6 @@ enum-told c = search needs
 slice-aggregate-first-which : tie.Need-slice-aggregate-first-which
 slice-aggregate-first-which c = search needs
 
-slice-aggregate-first-which-2 : tie.Need-slice-aggregate-first-which-2
-slice-aggregate-first-which-2 c = search needs
-
 first-which-requires : tie.Need-first-which-requires
 first-which-requires c κs = search needs
 
@@ -22,7 +22,10 @@ returns : tie.Need-returns
 returns c = after-plain _ (c .before .plain .given .1)
 
 returns-2 : tie.Need-returns-2
-returns-2 c = after-none _ _ (c .before .before .before .enum-told .given .1) (c .first-which .ensures)
+returns-2 c =
+    let t = c .before .before in
+    let a = t .before .before .before .args in
+    after-none _ _ (t .enum-told .given .1) (picks-same (in-calendars (a .s .now) (a .root) (bytes "Calendar")) (c .first-which .ensures))
 
 pub or-derived-spec : {M : Type 1} → statement M
 or-derived-spec =
@@ -31,7 +34,6 @@ or-derived-spec =
     enum-known-plain
     enum-told
     slice-aggregate-first-which
-    slice-aggregate-first-which-2
     first-which-requires
     returns
     returns-2)

@@ -1,7 +1,6 @@
-use mathlib.Core.Path.{sym, _∙_}
+use mathlib.Core.Path.{refl, sym, ap, _∙_}
 use Rattle.definition.specs.Base.{some?}
-use Rattle.definition.specs.Task.{keptTasks, isElapsed}
-use Rattle.tree.specs.Place.{elementAt}
+use Rattle.definition.specs.Task.{isElapsed}
 use Rattle.rows.specs.Walks.{keptBy, room}
 use Rattle.rows.specs.Turns.{kept-end, kept-at, kept-less, AnyIn, any-begin, any-end, any-here, any-on}
 use borrow.Author.Needs.{needs}
@@ -10,16 +9,16 @@ use Rattle.rows.proofs.kept.any_elapsed.Statement.{statement}
 use Rattle.rows.proofs.kept.any_elapsed.Tie as tie
 
 abbrev Inv-loop : tie.InvT-loop
-Inv-loop s root task₀ task = AnyIn isElapsed (some? isElapsed (keptTasks (elementAt s root))) (keptBy s task)
+Inv-loop s task₀ task = AnyIn isElapsed (some? isElapsed (keptBy s task₀)) (keptBy s task)
 
 abbrev μ-loop : tie.MeasureT-loop
-μ-loop s root task₀ task = room task
+μ-loop s task₀ task = room task
 
 first-kept-requires : tie.Need-first-kept-requires Inv-loop μ-loop
 first-kept-requires c κs = search needs
 
 loop-holds : tie.Need-loop-holds Inv-loop μ-loop
-loop-holds c = any-begin isElapsed (c .first-kept .ensures .is)
+loop-holds c = any-begin isElapsed refl
 
 enum-known-task : tie.Need-enum-known-task Inv-loop μ-loop
 enum-known-task c = search needs
@@ -28,7 +27,9 @@ enum-told : tie.Need-enum-told Inv-loop μ-loop
 enum-told c = search needs
 
 returns : tie.Need-returns Inv-loop μ-loop
-returns c = any-end (c .before .before .loop .inv) (kept-end _ (c .enum-told .given .1))
+returns c =
+    let l = c .before .before in
+    any-end (l .loop .inv) (kept-end _ (c .enum-told .given .1)) ∙ ap (some? isElapsed) (sym (l .before .first-kept .ensures .is))
 
 is-elapsed-requires : tie.Need-is-elapsed-requires Inv-loop μ-loop
 is-elapsed-requires c κs = search needs
@@ -37,7 +38,8 @@ returns-2 : tie.Need-returns-2 Inv-loop μ-loop
 returns-2 c =
     let k = c .before in
     let t = k .before .before in
-    any-here (t .before .before .loop .inv) (kept-at _ (t .task .given .1)) (sym (k .is-elapsed .ensures) ∙ c .if1 .taken)
+    let l = t .before .before in
+    any-here (l .loop .inv) (kept-at _ (t .task .given .1)) (sym (k .is-elapsed .ensures) ∙ c .if1 .taken) ∙ ap (some? isElapsed) (sym (l .before .first-kept .ensures .is))
 
 next-kept-requires : tie.Need-next-kept-requires Inv-loop μ-loop
 next-kept-requires c κs = search needs

@@ -1,10 +1,10 @@
 use Prim.Native.Nat.{_-_}
-use mathlib.Core.Path.{refl, ap}
-use mathlib.Core.List.{map}
+use mathlib.Core.Path.{refl, sym, ap, _∙_}
+use mathlib.Core.List.{List, map}
 use lib.Dec.{ltb}
 use lib.ListN.{take}
-use Rattle.definition.specs.Task.{keptTasks, levelOf, parentOf}
-use Rattle.tree.specs.Place.{elementAt}
+use Rattle.definition.specs.Task.{levelOf, parentOf}
+use Rattle.definition.specs.Tree.{Element}
 use Rattle.rows.specs.Walks.{keptBy, room}
 use Rattle.rows.specs.Turns.{kept-end, kept-next, kept-less}
 use Rattle.rows.proofs.Lasts.{RowIn, up, parents-begin, row-turn, row-end}
@@ -15,16 +15,16 @@ use Rattle.rows.proofs.kept.parent_row.Statement.{statement}
 use Rattle.rows.proofs.kept.parent_row.Tie as tie
 
 abbrev Inv-loop : tie.InvT-loop
-Inv-loop s root row level found₀ n₀ task₀ found n task = RowIn up (λ e. ltb (levelOf e) level) (parentOf (map levelOf (take row (keptTasks (elementAt s root)))) level) n (take (row - n) (keptBy s task)) found
+Inv-loop s row level found₀ n₀ task₀ found n task = RowIn up (λ e. ltb (levelOf e) level) (parentOf (map levelOf (take row (keptBy s task₀))) level) n (take (row - n) (keptBy s task)) found
 
 abbrev μ-loop : tie.MeasureT-loop
-μ-loop s root row level found₀ n₀ task₀ found n task = room task
+μ-loop s row level found₀ n₀ task₀ found n task = room task
 
 first-kept-requires : tie.Need-first-kept-requires Inv-loop μ-loop
 first-kept-requires c κs = search needs
 
 loop-holds : tie.Need-loop-holds Inv-loop μ-loop
-loop-holds c = parents-begin (c .before .before .args .row) _ _ (c .first-kept .ensures .is)
+loop-holds c = parents-begin (c .before .before .args .row) _ _ refl
 
 enum-known-task : tie.Need-enum-known-task Inv-loop μ-loop
 enum-known-task c = search needs
@@ -35,7 +35,10 @@ enum-told c = search needs
 returns : tie.Need-returns Inv-loop μ-loop
 returns c =
     let l = c .before .before .before in
-    row-end (l .loop .inv) (take-out (l .before .before .before .args .row - l .loop .n) (kept-end _ (c .enum-told .given .1)))
+    let f = l .before in
+    let a = f .before .before .args in
+    row-end (l .loop .inv) (take-out (a .row - l .loop .n) (kept-end _ (c .enum-told .given .1)))
+    ∙ ap (λ (l : List Element). parentOf (map levelOf (take (a .row) l)) (a .level)) (sym (f .first-kept .ensures .is))
 
 level-of-requires : tie.Need-level-of-requires Inv-loop μ-loop
 level-of-requires c κs = search needs
@@ -68,7 +71,10 @@ loop-again c =
 returns-2 : tie.Need-returns-2 Inv-loop μ-loop
 returns-2 c =
     let l = c .before in
-    row-end (l .loop .inv) (take-last (l .before .before .before .args .row) (l .loop .n) _ (c .loop-test .left))
+    let f = l .before in
+    let a = f .before .before .args in
+    row-end (l .loop .inv) (take-last (a .row) (l .loop .n) _ (c .loop-test .left))
+    ∙ ap (λ (l : List Element). parentOf (map levelOf (take (a .row) l)) (a .level)) (sym (f .first-kept .ensures .is))
 
 pub parent-row-spec : {M : Type 1} → statement M
 parent-row-spec =

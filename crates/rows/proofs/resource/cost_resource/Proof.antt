@@ -1,34 +1,30 @@
-use mathlib.Core.Path.{sym, _∙_}
+use mathlib.Core.Path.{refl, sym, ap, _∙_}
 use Rattle.definition.specs.Base.{findLast}
 use Rattle.definition.specs.Ascii.{bytes}
-use Rattle.definition.specs.Resource.{costResources}
-use Rattle.tree.specs.Place.{elementAt}
+use Rattle.tree.specs.Root.{in-resources}
 use Rattle.rows.specs.Walks.{ahead, pickedBy}
 use Rattle.rows.specs.Rows.{hasUid}
 use Rattle.rows.specs.declared.section.Which.the-variants.{Cost}
-use Rattle.rows.specs.Turns.{ahead-less, picked-end, picked-next, cost-picked}
+use Rattle.rows.specs.Turns.{ahead-less, picked-end, picked-next, cost-picked, picks-same}
 use Rattle.rows.proofs.Lasts.{LastIn, last-begin, last-turn, last-end}
 use borrow.Author.Needs.{needs}
 use Rattle.rows.proofs.resource.cost_resource.Statement.{statement}
 use Rattle.rows.proofs.resource.cost_resource.Tie as tie
 
 abbrev Inv-loop : tie.InvT-loop
-Inv-loop s root uid found₀ e₀ t9 t10 found e = LastIn s (hasUid uid) (findLast (hasUid uid) (costResources (elementAt s root))) (pickedBy s (bytes "Resource") Cost e) found
+Inv-loop s uid found₀ e₀ t9 t10 found e = LastIn s (hasUid uid) (findLast (hasUid uid) (pickedBy s (bytes "Resource") Cost e₀)) (pickedBy s (bytes "Resource") Cost e) found
 
 abbrev μ-loop : tie.MeasureT-loop
-μ-loop s root uid found₀ e₀ t9 t10 found e = ahead s e
+μ-loop s uid found₀ e₀ t9 t10 found e = ahead s e
 
 slice-aggregate-first-which : tie.Need-slice-aggregate-first-which Inv-loop μ-loop
 slice-aggregate-first-which c = search needs
-
-slice-aggregate-first-which-2 : tie.Need-slice-aggregate-first-which-2 Inv-loop μ-loop
-slice-aggregate-first-which-2 c = search needs
 
 first-which-requires : tie.Need-first-which-requires Inv-loop μ-loop
 first-which-requires c κs = search needs
 
 loop-holds : tie.Need-loop-holds Inv-loop μ-loop
-loop-holds c = last-begin _ _ (sym (cost-picked _) ∙ c .first-which .ensures .is)
+loop-holds c = last-begin _ _ refl
 
 enum-known-e : tie.Need-enum-known-e Inv-loop μ-loop
 enum-known-e c = search needs
@@ -37,7 +33,12 @@ enum-told : tie.Need-enum-told Inv-loop μ-loop
 enum-told c = search needs
 
 returns : tie.Need-returns Inv-loop μ-loop
-returns c = last-end (c .before .before .loop .inv) (picked-end _ _ _ (c .enum-told .given .1))
+returns c =
+    let l = c .before .before in
+    let f = l .before in
+    let a = f .before .before .before .before .args in
+    last-end (l .loop .inv) (picked-end _ _ _ (c .enum-told .given .1))
+    ∙ ap (findLast (hasUid (a .uid .now))) (sym (sym (cost-picked _) ∙ picks-same (in-resources (a .s .now) (a .root) (bytes "Resource")) (f .first-which .ensures) .is))
 
 slice-aggregate-text-is : tie.Need-slice-aggregate-text-is Inv-loop μ-loop
 slice-aggregate-text-is c = search needs
@@ -71,7 +72,6 @@ cost-resource-spec =
     Inv-loop
     μ-loop
     slice-aggregate-first-which
-    slice-aggregate-first-which-2
     first-which-requires
     loop-holds
     enum-known-e

@@ -1,7 +1,7 @@
 -- The invariant: those so far and those that are left are all.
-use mathlib.Core.Path.{refl}
-use Rattle.tree.specs.Place.{elementAt}
-use Rattle.rows.specs.Tables.{listed, roomIn}
+use mathlib.Core.Path.{refl, sym, ap, _∙_}
+use lib.ListN.{length}
+use Rattle.rows.specs.Tables.{listedBy, roomIn}
 use Rattle.rows.proofs.Listing.{Counting, counts-begin, counts-end, counts-room, counts-turn, lists-less}
 use native.Mathlib.Omega.{arith}
 use borrow.Author.Needs.{needs}
@@ -9,13 +9,13 @@ use Rattle.rows.proofs.table.count_listed.Statement.{statement}
 use Rattle.rows.proofs.table.count_listed.Tie as tie
 
 abbrev Inv-loop : tie.InvT-loop
-Inv-loop s root list n₀ e₀ n e = Counting s list (listed list (elementAt s root)) n e
+Inv-loop s list n₀ e₀ n e = Counting s list (listedBy s list e₀) n e
 
 abbrev μ-loop : tie.MeasureT-loop
-μ-loop s root list n₀ e₀ n e = roomIn s list e
+μ-loop s list n₀ e₀ n e = roomIn s list e
 
 loop-holds : tie.Need-loop-holds Inv-loop μ-loop
-loop-holds c = counts-begin (c .before .pre .1)
+loop-holds c = let h = c .before .pre .1 in counts-begin (record { is = refl; on = h .on; there = h .there })
 
 enum-known-e : tie.Need-enum-known-e Inv-loop μ-loop
 enum-known-e c = search needs
@@ -24,7 +24,9 @@ enum-told : tie.Need-enum-told Inv-loop μ-loop
 enum-told c = search needs
 
 returns : tie.Need-returns Inv-loop μ-loop
-returns c = counts-end (c .before .before .loop .inv) (c .enum-told .given .1)
+returns c =
+    let l = c .before .before in
+    counts-end (l .loop .inv) (c .enum-told .given .1) ∙ ap length (sym (l .before .before .pre .1 .is))
 
 add-n : tie.Need-add-n Inv-loop μ-loop
 add-n c = omega (arith, counts-room (c .before .before .before .loop .inv) (c .before .e .given .1) (c .before .before .before .before .before .pre .0))

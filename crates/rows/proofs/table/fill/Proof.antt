@@ -1,7 +1,9 @@
 -- `rows::table::fill` meets its contract. The invariant: the rows so far are in the table. Assumes nothing.
 use mathlib.Core.Path.{refl, _∙_}
-use Rattle.tree.specs.Place.{elementAt}
-use Rattle.rows.specs.Tables.{roomIn}
+use Prim.Native.Nat.{ℕ}
+use mathlib.Core.List.{List}
+use Rattle.definition.specs.Tree.{Element}
+use Rattle.rows.specs.Tables.{roomIn, Ripe}
 use Rattle.rows.proofs.Listing.{lists-less}
 use Rattle.rows.proofs.Filling.{Filling, fill-begin, fill-end, fill-place, fill-row, fill-turn}
 use native.Mathlib.Omega.{arith}
@@ -10,18 +12,17 @@ use Rattle.rows.proofs.table.fill.Statement.{statement}
 use Rattle.rows.proofs.table.fill.Tie as tie
 
 abbrev Inv-loop : tie.InvT-loop
-Inv-loop s root list words₀ t row₀ e₀ t12 words row e = Filling s (elementAt s root) list t words₀ row e words
+Inv-loop s list words₀ t row₀ e₀ t12 words row e =
+    (root : Element) (w : List ℕ) → Ripe s root list t w → Filling s root list t words₀ 0 e₀ words₀ → Filling s root list t words₀ row e words
 
 abbrev μ-loop : tie.MeasureT-loop
-μ-loop s root list words₀ t row₀ e₀ t12 words row e = roomIn s list e
+μ-loop s list words₀ t row₀ e₀ t12 words row e = roomIn s list e
 
 clear-requires : tie.Need-clear-requires Inv-loop μ-loop
 clear-requires c κs = search needs
 
 loop-holds : tie.Need-loop-holds Inv-loop μ-loop
-loop-holds c =
-    let p = c .before .before .before .before .before .before .pre in
-    fill-begin (p .0) (c .before .before .clear .ensures) (p .1)
+loop-holds c = λ root w r h. h
 
 enum-known-e : tie.Need-enum-known-e Inv-loop μ-loop
 enum-known-e c = search needs
@@ -32,12 +33,14 @@ enum-told c = search needs
 same-length : tie.Need-same-length Inv-loop μ-loop
 same-length c =
     let k = c .before .before .before .before .before in
-    c .before .before .loop .inv .length-same ∙ k .clear .kept .0
+    let p = k .before .before .before .before .pre in
+    c .before .before .loop .inv _ _ (p .0) (fill-begin (p .0) (k .clear .ensures) (p .1)) .length-same ∙ k .clear .kept .0
 
 returns : tie.Need-returns Inv-loop μ-loop
 returns c =
     let k = c .before .before .before .before .before in
-    fill-end (k .before .before .before .before .pre .0) (c .before .before .loop .inv) (k .clear .ensures) (c .enum-told .given .1)
+    let p = k .before .before .before .before .pre in
+    fill-end (p .0) (c .before .before .loop .inv _ _ (p .0) (fill-begin (p .0) (k .clear .ensures) (p .1))) (k .clear .ensures) (c .enum-told .given .1)
 
 slice-aggregate-text-of : tie.Need-slice-aggregate-text-of Inv-loop μ-loop
 slice-aggregate-text-of c = search needs
@@ -52,7 +55,9 @@ cast-put : tie.Need-cast-put Inv-loop μ-loop
 cast-put c =
     let t = c .before .before .before .before .before in
     let l = t .before .before in
-    omega (arith, fill-place (l .before .before .before .before .before .before .before .pre .0) (l .loop .inv) (t .e .given .1))
+    let k = l .before .before .before in
+    let p = k .before .before .before .before .pre in
+    omega (arith, fill-place (p .0) (l .loop .inv _ _ (p .0) (fill-begin (p .0) (k .clear .ensures) (p .1))) (t .e .given .1))
 
 put-requires : tie.Need-put-requires Inv-loop μ-loop
 put-requires c κs = search needs
@@ -61,7 +66,9 @@ add-row : tie.Need-add-row Inv-loop μ-loop
 add-row c =
     let t = c .before .before .before .before .before .before .before .before in
     let l = t .before .before in
-    omega (arith, fill-row (l .before .before .before .before .before .before .before .pre .0) (l .loop .inv) (t .e .given .1))
+    let k = l .before .before .before in
+    let p = k .before .before .before .before .pre in
+    omega (arith, fill-row (p .0) (l .loop .inv _ _ (p .0) (fill-begin (p .0) (k .clear .ensures) (p .1))) (t .e .given .1))
 
 next-listed-requires : tie.Need-next-listed-requires Inv-loop μ-loop
 next-listed-requires c κs = search needs
@@ -76,7 +83,7 @@ loop-again c =
     let u = h .before in
     let t = u .before .before .before in
     let l = t .before .before in
-    fill-turn (l .before .before .before .before .before .before .before .pre .0) (l .loop .inv) (t .e .given .1) (c .next-listed .ensures) (u .text-of .ensures) (h .hash-of .ensures) (p .put .ensures)
+    λ root w r i. fill-turn r (l .loop .inv root w r i) (t .e .given .1) (c .next-listed .ensures) (u .text-of .ensures) (h .hash-of .ensures) (p .put .ensures)
 
 pub fill-spec : {M : Type 1} → statement M
 fill-spec =

@@ -1,4 +1,4 @@
-use Rattle.tree.specs.Place.{elementAt}
+use Rattle.tree.specs.Root.{rootAt}
 use Rattle.rows.proofs.Filling.{makes-long, makes-none, made-ripe, makes-filled}
 use native.Mathlib.Omega.{arith}
 use borrow.Author.Needs.{needs}
@@ -8,7 +8,7 @@ use Rattle.rows.proofs.table.index_rows.Tie as tie
 returns : tie.Need-returns
 returns c =
     let a = c .before .before .before .args in
-    makes-long (a .s .now) (elementAt (a .s .now) (a .root)) (a .list) (a .at) (a .words .now) (omega (arith, c .if1 .taken))
+    makes-long (a .s .now) (rootAt (a .s .now) (a .root)) (a .list) (a .at) (a .words .now) (omega (arith, c .if1 .taken))
 
 first-listed-requires : tie.Need-first-listed-requires
 first-listed-requires c κs = search needs
@@ -35,7 +35,7 @@ returns-2 c =
     let n = r .before in
     let f = n .before in
     let a = f .before .before .before .before .args in
-    makes-none (a .s .now) (elementAt (a .s .now) (a .root)) (a .list) (a .at) (a .words .now) (omega (arith, f .before .if1 .left)) (n .count-listed .ensures) (r .rows-for .ensures) (t .table-at .ensures) (c .enum-told .given .1)
+    makes-none (a .s .now) (rootAt (a .s .now) (a .root)) (a .list) (a .at) (a .words .now) (omega (arith, f .before .if1 .left)) (n .count-listed .ensures) (r .rows-for .ensures) (t .table-at .ensures) (c .enum-told .given .1)
 
 fill-requires : tie.Need-fill-requires
 fill-requires c κs =
@@ -45,7 +45,7 @@ fill-requires c κs =
     let n = r .before in
     let f = n .before in
     let a = f .before .before .before .before .args in (
-      made-ripe (a .s .now) (elementAt (a .s .now) (a .root)) (a .list) (a .at) (a .words .now) (omega (arith, f .before .if1 .left)) (n .count-listed .ensures) (r .rows-for .ensures) (t .table-at .ensures) (m .made .given .1) (omega arith),
+      made-ripe (a .s .now) (rootAt (a .s .now) (a .root)) (a .list) (a .at) (a .words .now) (omega (arith, f .before .if1 .left)) (n .count-listed .ensures) (r .rows-for .ensures) (t .table-at .ensures) (m .made .given .1) (omega arith),
       f .first-listed .ensures,
     )
 
@@ -61,7 +61,7 @@ returns-3 c =
     let n = r .before in
     let f = n .before in
     let a = f .before .before .before .before .args in
-    makes-filled (a .s .now) (elementAt (a .s .now) (a .root)) (a .list) (a .at) (a .words .now) (omega (arith, f .before .if1 .left)) (n .count-listed .ensures) (r .rows-for .ensures) (t .table-at .ensures) (m .made .given .1) (w .fill .ensures)
+    makes-filled (a .s .now) (rootAt (a .s .now) (a .root)) (a .list) (a .at) (a .words .now) (omega (arith, f .before .if1 .left)) (n .count-listed .ensures) (r .rows-for .ensures) (t .table-at .ensures) (m .made .given .1) (w .fill .ensures)
 
 pub index-rows-spec : {M : Type 1} → statement M
 index-rows-spec =

@@ -1,9 +1,13 @@
 -- `rows::table::scan` meets its contract. The invariant: the row of the last among those left, else the row so far. Assumes nothing.
-use Prim.Native.Nat.{_^_}
-use mathlib.Core.Path.{refl}
-use Rattle.tree.specs.Place.{elementAt}
+use Prim.Native.Nat.{_^_, _%_}
+use mathlib.Core.Path.{refl, sym, ap, _∙_}
+use mathlib.Core.List.{List}
+use mathlib.Core.Option.{some}
+use Rattle.definition.specs.Base.{_>>=_}
+use Rattle.definition.specs.Tree.{Element}
+use Rattle.definition.specs.Task.{rowOf}
 use Rattle.rows.specs.Rows.{hasUid}
-use Rattle.rows.specs.Tables.{rowIn32, listedBy, roomIn}
+use Rattle.rows.specs.Tables.{listedBy, roomIn}
 use Rattle.rows.proofs.Lasts.{RowIn, upWithin, within-begin, row-turn, row-end}
 use Rattle.rows.proofs.Listing.{lists-end, lists-next, lists-less}
 use borrow.Author.Needs.{needs}
@@ -11,16 +15,16 @@ use Rattle.rows.proofs.table.scan.Statement.{statement}
 use Rattle.rows.proofs.table.scan.Tie as tie
 
 abbrev Inv-loop : tie.InvT-loop
-Inv-loop s root list uid found₀ row₀ e₀ t11 found row e = RowIn (upWithin (2 ^ 32)) (hasUid uid) (rowIn32 list (elementAt s root) uid) row (listedBy s list e) found
+Inv-loop s list uid found₀ row₀ e₀ t11 found row e = RowIn (upWithin (2 ^ 32)) (hasUid uid) (rowOf (listedBy s list e₀) uid >>= λ n. some (n % 2 ^ 32)) row (listedBy s list e) found
 
 abbrev μ-loop : tie.MeasureT-loop
-μ-loop s root list uid found₀ row₀ e₀ t11 found row e = roomIn s list e
+μ-loop s list uid found₀ row₀ e₀ t11 found row e = roomIn s list e
 
 first-listed-requires : tie.Need-first-listed-requires Inv-loop μ-loop
 first-listed-requires c κs = search needs
 
 loop-holds : tie.Need-loop-holds Inv-loop μ-loop
-loop-holds c = within-begin (2 ^ 32) _ _ (c .first-listed .ensures .is)
+loop-holds c = within-begin (2 ^ 32) _ _ refl
 
 enum-known-e : tie.Need-enum-known-e Inv-loop μ-loop
 enum-known-e c = search needs
@@ -29,7 +33,11 @@ enum-told : tie.Need-enum-told Inv-loop μ-loop
 enum-told c = search needs
 
 returns : tie.Need-returns Inv-loop μ-loop
-returns c = row-end (c .before .before .loop .inv) (lists-end _ _ (c .enum-told .given .1))
+returns c =
+    let l = c .before .before in
+    let f = l .before in
+    row-end (l .loop .inv) (lists-end _ _ (c .enum-told .given .1))
+    ∙ ap (λ (es : List Element). rowOf es (f .before .before .before .args .uid .now) >>= λ n. some (n % 2 ^ 32)) (sym (f .first-listed .ensures .is))
 
 slice-aggregate-text-is : tie.Need-slice-aggregate-text-is Inv-loop μ-loop
 slice-aggregate-text-is c = search needs
