@@ -164,6 +164,26 @@ pub fn calendars_tree(count: usize) -> Vec<u8> {
     out
 }
 
+/// An exception of so many days, every so many, in a calendar's Exceptions: off, or worked from 7 to 12 and from 13 to 16.
+fn put_days(out: &mut Vec<u8>, from: &str, days: usize, period: usize, worked: bool) {
+    put_record(out, 5, "Exception", "");
+    put_record(out, 6, "Type", "1");
+    put_record(out, 6, "Period", &period.to_string());
+    put_record(out, 6, "EnteredByOccurrences", "1");
+    put_record(out, 6, "Occurrences", &days.to_string());
+    put_record(out, 6, "TimePeriod", "");
+    put_record(out, 7, "FromDate", &format!("{from}T00:00:00"));
+    put_record(out, 6, "DayWorking", if worked { "1" } else { "0" });
+    if worked {
+        put_record(out, 6, "WorkingTimes", "");
+        for (from, to) in [("07:00:00", "12:00:00"), ("13:00:00", "16:00:00")] {
+            put_record(out, 7, "WorkingTime", "");
+            put_record(out, 8, "FromTime", from);
+            put_record(out, 8, "ToTime", to);
+        }
+    }
+}
+
 /// A packed tree with a base calendar of 5,000 days with hours, every second day, and one over it that has the days between.
 pub fn hours_tree() -> Vec<u8> {
     let mut out = Vec::new();
@@ -172,20 +192,37 @@ pub fn hours_tree() -> Vec<u8> {
     for (uid, from) in [(1, "2000-01-01"), (2, "2000-01-02")] {
         put_calendar(&mut out, uid, "Site", if uid == 1 { None } else { Some(1) });
         put_record(&mut out, 4, "Exceptions", "");
-        put_record(&mut out, 5, "Exception", "");
-        put_record(&mut out, 6, "Type", "1");
-        put_record(&mut out, 6, "Period", "2");
-        put_record(&mut out, 6, "EnteredByOccurrences", "1");
-        put_record(&mut out, 6, "Occurrences", "5000");
-        put_record(&mut out, 6, "TimePeriod", "");
-        put_record(&mut out, 7, "FromDate", &format!("{from}T00:00:00"));
-        put_record(&mut out, 6, "DayWorking", "1");
-        put_record(&mut out, 6, "WorkingTimes", "");
-        for (from, to) in [("07:00:00", "12:00:00"), ("13:00:00", "16:00:00")] {
-            put_record(&mut out, 7, "WorkingTime", "");
-            put_record(&mut out, 8, "FromTime", from);
-            put_record(&mut out, 8, "ToTime", to);
-        }
+        put_days(&mut out, from, 5_000, 2, true);
+    }
+    out
+}
+
+/// A packed tree with one calendar of 5,000 exceptions of one day with hours, one every 17 months.
+pub fn sparse_tree() -> Vec<u8> {
+    let mut out = Vec::new();
+    put_record(&mut out, 1, "Project", "");
+    put_record(&mut out, 2, "Calendars", "");
+    put_calendar(&mut out, 1, "Site", None);
+    put_record(&mut out, 4, "Exceptions", "");
+    for month in (0..5_000).map(|k| 17 * k) {
+        put_days(&mut out, &format!("{:04}-{:02}-01", 1 + month / 12, month % 12 + 1), 1, 1, true);
+    }
+    out
+}
+
+/// A packed tree with a base calendar whose two days off lie in the years 1 and 9999, and so many calendars over it, each with 20 days off.
+pub fn far_days_tree(count: usize) -> Vec<u8> {
+    let mut out = Vec::new();
+    put_record(&mut out, 1, "Project", "");
+    put_record(&mut out, 2, "Calendars", "");
+    put_calendar(&mut out, 1, "Standard", None);
+    put_record(&mut out, 4, "Exceptions", "");
+    put_day_off(&mut out, "0001-01-01");
+    put_day_off(&mut out, "9999-12-31");
+    for k in 2..=count + 1 {
+        put_calendar(&mut out, k, &format!("Crew {k}"), Some(1));
+        put_record(&mut out, 4, "Exceptions", "");
+        put_days(&mut out, &format!("2026-{:02}-{:02}", k % 12 + 1, k / 12 % 28 + 1), 20, 1, false);
     }
     out
 }

@@ -62,14 +62,6 @@ come-years r c = by-sound (sound (scaledBy r) && isRule (asRule (scaledBy r))) r
         let at = max (m .from) (dayCount (c .at .0)) in
         each-take (c .left) (each-kept (fits m) (λ k u t. u) (each-count at (suc (m .last) - at) (λ k u v. (omega arith, omega arith))))
 
-pub come-rise : (r : Rule) (c : Cursor) → rises ltb (coming r c) ≡ true
-unfolding toCome rises
-come-rise r c = by-rule (meaning r)
-  where
-    by-rule : (o : Option D.Rule) → rises ltb ((o >>= λ m. some (take (c .left) (fromOn (fits m) (m .last) (max (m .from) (dayCount (c .at .0)))))) or []) ≡ true
-    by-rule none = refl
-    by-rule (some m) = let at = max (m .from) (dayCount (c .at .0)) in rises-take (c .left) _ (rises-keep (fits m) (count at (suc (m .last) - at)) (rises-count at (suc (m .last) - at)))
-
 fewer : (r : Rule) (c : Cursor) (x : Date) (l : List Date) → toCome r c ≡ some (x ∷ l) → 0 < c .left
 unfolding toCome
 fewer r c x l e = by-left (c .left) refl (meaning r) e

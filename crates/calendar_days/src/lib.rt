@@ -6,6 +6,7 @@ mod exceptions;
 mod hours;
 mod list;
 mod notes;
+mod own;
 mod pass;
 mod reach;
 mod whole;
