@@ -19,8 +19,6 @@ ghost use Rattle.activities.specs.Own.{IdsOpen, IdsNoted, RowNoted};
 ghost use Rattle.activities.specs.Parents.{Ready};
 ghost use Rattle.activities.specs.Values.{nameFound, activityPlanned};
 use crate::own::Own;
-use crate::own::note_stars;
-use crate::own::stars_for;
 use crate::parents::parent_of;
 use crate::value::calendar_for;
 use crate::value::dates_of;
@@ -117,8 +115,8 @@ pub(crate) fn put_row(
     let found = calendar_for(out, c, s, root, at, words, calendars, elapsed);
     let parent = parent_of(s, root, at, words, columns, row);
     let id = wanted_id(s, at);
-    let stars = stars_for(out, start, p, words, ids, row, id);
-    note_stars(words, ids, row, id, stars, p);
+    let stars = names::stars_for(out, Kind::Activities, start, p, words, ids, row, id);
+    names::note_stars(words, ids, row, id, stars, p);
     let day = day_of(elapsed, per_day);
     let plan = plan_of(s, root, at, words, tasks, day, parent);
     put_task(out, p, s, at, elapsed, found, id, stars, plan)
