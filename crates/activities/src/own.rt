@@ -1,19 +1,11 @@
 // The section's own words, behind the table of the kept tasks: a table of the calendars, columns of parents, and tables of the ids that are taken.
-ghost use mathlib.Core.Path.{_≡_};
-ghost use mathlib.Core.Bool.{true};
-ghost use Prim.Native.Nat.{_%_, _^_, _<_, _≤_};
 ghost use lib.ListN.{length};
-ghost use Rattle.definition.specs.Calendar.{free};
-ghost use Rattle.bits.specs.Places.{inside};
 ghost use Rattle.index.specs.Below.{SameBelow};
 ghost use Rattle.index.specs.Chains.{endIn};
 ghost use Rattle.names.specs.Context.{contextAt};
 ghost use Rattle.names.specs.Naming.{Finds};
-ghost use Rattle.names.specs.Texts.{textsAt};
-ghost use Rattle.pack.specs.Value.{starredBy};
 ghost use Rattle.tree.specs.Place.{elementAt};
-ghost use Rattle.activities.specs.Parents.{endOf};
-ghost use Rattle.activities.specs.Own.{IdsBegun, IdsNoted, idNoted, OwnRoom};
+ghost use Rattle.activities.specs.Own.{OwnRoom};
 use crate::parents::Columns;
 use crate::parents::columns_for;
 use bits::Place;

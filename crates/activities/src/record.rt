@@ -13,9 +13,11 @@ ghost use Rattle.links.specs.Fates.{taskIn, isEntered};
 ghost use Rattle.names.specs.Texts.{textsAt};
 ghost use Rattle.names.specs.Context.{contextAt};
 ghost use Rattle.names.specs.Naming.{Finds};
+ghost use Rattle.names.specs.Lent.{NotedIn};
+ghost use Rattle.model.specs.declared.records.Kind.the-variants.{Activities};
 ghost use Rattle.pack.specs.Value.{nameMeaning, starredBy};
 ghost use Rattle.tree.specs.Place.{elementAt};
-ghost use Rattle.activities.specs.Own.{IdsOpen, IdsNoted, RowNoted};
+ghost use Rattle.activities.specs.Own.{IdsOpen, RowNoted};
 ghost use Rattle.activities.specs.Parents.{Ready};
 ghost use Rattle.activities.specs.Values.{nameFound, activityPlanned};
 use crate::own::Own;
@@ -105,7 +107,7 @@ pub(crate) fn put_row(
     own: Own,
     per_day: u64,
 ) -> Place
-    requires { ⌜ Ready (now s) (elementAt (now s) root) (own .columns) row at (now words) × («per_day» ≡ perDayOf (elementAt (now s) root)) × Finds (contextAt (now out) c (elementAt (now s) root)) (now s) (own .calendars) (now words) × IdsOpen (own .ids) (own .columns) start (length (now out)) × (inside (length (now out)) p ≡ true → IdsNoted (own .ids) (now out) start (now words) row) ⌝ }
+    requires { ⌜ Ready (now s) (elementAt (now s) root) (own .columns) row at (now words) × («per_day» ≡ perDayOf (elementAt (now s) root)) × Finds (contextAt (now out) c (elementAt (now s) root)) (now s) (own .calendars) (now words) × IdsOpen (own .ids) (own .columns) start (length (now out)) × (inside (length (now out)) p ≡ true → NotedIn Activities (own .ids) (now out) start (now words) row) ⌝ }
     ensures { λ r. ⌜ Puts (whole activity) (activityOf (contextAt (now (out .entry)) c (elementAt (now (s .entry)) root)) (textsAt Kind.Activities (now (out .entry)) start row) (map levelOf (take row (keptTasks (elementAt (now (s .entry)) root)))) (isEntered (taskIn (now (s .entry)) root (now (words .exit)) tasks) (elementAt (now (s .entry)) at)) (elementAt (now (s .entry)) at)) (now (out .entry)) p (now (out .exit)) r × RowNoted own row at (parentOf (map levelOf (take row (keptTasks (elementAt (now (s .entry)) root)))) (levelOf (elementAt (now (s .entry)) at))) (wantedId (elementAt (now (s .entry)) at)) (p .byte % 2 ^ 32) (textsAt Kind.Activities (now (out .entry)) start row) (inside (length (now (out .entry))) p) (now (words .entry)) (now (words .exit)) ⌝ }
 {
     let calendars = own.calendars;
