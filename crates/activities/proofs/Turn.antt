@@ -14,6 +14,7 @@ use Rattle.definition.specs.Pack.{activity}
 use Rattle.definition.specs.Task.{Context, contextOf, keptTasks, levelOf, wantedId, activityOf, activities, mostTasks}
 use Rattle.definition.specs.Text.{Text}
 use Rattle.definition.specs.Tree.{Element}
+use Rattle.laws.specs.Each.{empty, next, each-append}
 use Rattle.laws.specs.FitActivities.{fit-activity}
 use Rattle.laws.specs.FitRecords.{Short, FitsActivityBy}
 use Rattle.laws.specs.FitTrees.{Small, slim-texts}
@@ -132,7 +133,7 @@ module _ (find : Finder) {d₀ : List ℕ} (c : Place) (root : Element) {p : Pla
       ids-on i =
           let texts : inside (length d) q ≡ true → textsAt Activities d p row ≡ idsOf (w .done) = λ h. ap (textsAt Activities d p) (sym (w .done-are)) ∙ texts-activities _ (w .puts) h (w .fits) in
           let made = noted-row (whole activity) plain-activities front-activities activityFields same-activities (fills-whole activity) (λ j g. let x = open-at j g in (x .whole, x .short))
-          (λ h. rw (sym (w .done-are)) at (ids-moved open-at (before-it h) at₀ o refl)) (w .fits) new-fits _ (w .puts) new-put (wantedId t) (y .stars)
+          (λ h. rw (sym (w .done-are)) at (ids-moved open-at (before-it h) at₀ o refl)) (each-append (w .fits) (next new-fits empty)) _ (w .puts) new-put (wantedId t) (y .stars)
           (λ h. (rw (sym (w .done-are)) at (y .free-is h), next-id ∙ ap (λ (l : List Text). free l (wantedId t)) (sym (texts h)) ∙ sym (y .free-is h)))
           (rw (sym (w .done-are)) at (y .is)) i in
           rw (w .done-are) at made

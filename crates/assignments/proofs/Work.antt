@@ -22,7 +22,7 @@ use Rattle.definition.specs.Calendar.{nameOf, free}
 use Rattle.definition.specs.Refusal.{mostElements}
 use Rattle.definition.specs.Task.{Context, unlessMain}
 use Rattle.definition.specs.Resource.{isResource, isCost, workResources, resourceKind, maxUnits, priceOf, resourceOf, resourcesAfter, resources}
-use Rattle.laws.specs.Each.{Each, empty, next, each-back}
+use Rattle.laws.specs.Each.{Each}
 use Rattle.laws.specs.Formats.{fills-whole}
 use Rattle.laws.specs.FitRecords.{Short, FitsResourceBy}
 use Rattle.laws.specs.FitTrees.{Small}
@@ -204,12 +204,6 @@ count-is {n} {k} e h = e ∙ mod-eq-of-lt (omega arith)
 low-is : {n k : ℕ} → n ≡ k → k < 2 ^ 32 → n % 2 ^ 32 ≡ k
 low-is e h = rw e (mod-eq-of-lt h)
 
-last-fits : {A : Type 0} {P : A → Type 0} (xs : List A) {y : A} → Each P (xs ++ (y ∷ [])) → P y
-last-fits {A} {P} xs {y} h = by (each-back xs (y ∷ []) h)
-  where
-    by : Each P (y ∷ []) → P y
-    by (next k empty) = k
-
 one-room : (e : Element) (n rows : ℕ) → isWork e ≡ true → n + length (keep isWork (e ∷ [])) ≤ rows → n < rows
 unfolding keep
 one-room e n rows t h = let k : n + 1 ≤ rows = rw t at h in omega arith
@@ -272,7 +266,7 @@ module _ (c : Place) (s : Text) (root : Element) (k : Made) {start : Place} {d :
       noted = λ there.
           let k = length-append xs (made ∷ []) in
           let count : r' .count ≡ length xs + 1 = count-is (wrote-made .counts refl) (omega (arith, few, ok .few)) ∙ k in
-          rw count (noted-row (whole resource) plain-resources front-resources resourceFields same-resources (fills-whole resource) (held .opened) (λ i. rw count-now at (held .noted i)) (ok .fit) (last-fits xs f) (length xs) (wrote .puts) put-made
+          rw count (noted-row (whole resource) plain-resources front-resources resourceFields same-resources (fills-whole resource) (held .opened) (λ i. rw count-now at (held .noted i)) f (length xs) (wrote .puts) put-made
           (wantedId a) stars (λ i. (stars-are i, id-made i)) (rw low-now at notes) (rw (n .1) at there));
     }
 

@@ -102,9 +102,11 @@ fn base_of(
     if !calendar::has_base(s, at) {
         return Base::Default;
     }
+    let uids = tables.uids;
+    let names = tables.names;
     let uid = tree::text_of(s, at, b"BaseCalendarUID");
-    let found = names::calendar_by(s, root, words, tables.uids, uid);
-    base_by(out, start, count, words, tables.names, found)
+    let found = names::calendar_by(s, root, words, uids, uid);
+    base_by(out, start, count, words, names, found)
 }
 
 // One calendar more, behind those that were built from `start` on.

@@ -13,7 +13,7 @@ use Rattle.definition.specs.Base.{if_then_else_}
 use Rattle.definition.specs.Text.{Text}
 use Rattle.definition.specs.Format.{Format, times}
 use Rattle.definition.specs.Calendar.{free}
-use Rattle.laws.specs.Each.{Each, empty, next, each-append}
+use Rattle.laws.specs.Each.{Each, each-front}
 use Rattle.laws.specs.Formats.{Fills, fills-times}
 use Rattle.bits.specs.Clear.{cleared}
 use Rattle.bits.specs.Places.{inside, fits-room, room-fits}
@@ -162,11 +162,11 @@ notes-below w (Ready i) row u stars byte h =
 
 module _ {kind : Kind} {A B : Type 0} (f : Format A) {g : Format B} {G : B → Type 0} {front : B → Text} (k : Plain kind g G) (fronts : Fronts g front) (from : A → B)
     (same : (n : ℕ) (a : A) → f .put n a ≡ g .put n (from a)) (fills : Fills f) {m : IdsMade} {d₀ d d′ : List ℕ} {start q q′ : Place} {xs : List A} {y : A} where
-  pub noted-row : OpenIn m start (length d) → {w : List ℕ} → (inside (length d) q ≡ true → NotedIn kind m d start w (length xs)) → Each (λ x. G (from x)) xs → G (from y)
+  pub noted-row : OpenIn m start (length d) → {w : List ℕ} → (inside (length d) q ≡ true → NotedIn kind m d start w (length xs)) → Each (λ x. G (from x)) (xs ++ (y ∷ []))
       → (many : ℕ) → Puts (times many f) xs d₀ start d q → Puts f y d q d′ q′ → (u : Text) (stars : ℕ)
       → (inside (length d) q ≡ true → (starredBy u stars ≡ free (textsAt kind d start (length xs)) u) × (front (from y) ≡ starredBy u stars))
       → {w′ : List ℕ} → w′ ≡ notedBy w m (length xs) u stars (q .byte % 2 ^ 32) → inside (length d′) q′ ≡ true → NotedIn kind m d′ start w′ (length xs + 1)
-  noted-row open-at {w} before-it fit fits many puts put u stars say {w′} e there i h few =
+  noted-row open-at {w} before-it fit many puts put u stars say {w′} e there i h few =
       let b = put-stood put there .began in
       let here : inside (length d) q ≡ true = fits-room {n = length d} {p = q} {w = 0} (record { bit = b .bit; ends = omega (arith, b .ends) }) in
       let (whole, short) = open-at i h in
@@ -174,8 +174,8 @@ module _ {kind : Kind} {A B : Type 0} (f : Format A) {g : Format B} {G : B → T
       let n : length (map from xs) ≡ length xs = length-map xs from in
       let byte : q .byte % 2 ^ 32 ≡ q .byte = mod-eq-of-lt (omega (arith, b .ends, short)) in
       let made : w′ ≡ noted w i (length (map from xs)) u stars (q .byte) = e ∙ rw (h, byte, n) in
-      let lies = put-lies f g {G = G} from same many puts here fit in
-      let lies′ : Lies g G d′ start (map from xs ++ (from y ∷ [])) q′ = rw (map-append from xs (y ∷ [])) at (put-lies f g {G = G} from same _ (put-more many puts put) there (each-append fit (next fits empty))) in
+      let lies = put-lies f g {G = G} from same many puts here (each-front xs (y ∷ []) fit) in
+      let lies′ : Lies g G d′ start (map from xs ++ (from y ∷ [])) q′ = rw (map-append from xs (y ∷ [])) at (put-lies f g {G = G} from same _ (put-more many puts put) there fit) in
       let x = noted-put k fronts (rw n (before-it here i h (omega arith))) (omega (arith, n)) lies lies′ (step-kept (put .step)) (omega (arith, before-in (length d) q b))
       (put-ends (fills-times many fills) puts here whole) u stars (rw n free-is) front-is made in
       rw (length-append (map from xs) (from y ∷ []) ∙ ap (λ (j : ℕ). j + 1) n) at x

@@ -104,4 +104,3 @@ pub record Chained (s : Text) (t : Table) (n : ℕ) (w w′ : List ℕ) : Type 0
   pub indexed : Indexed t (λ r. hashOf (uidOf (elementAt s (placeOf w t r)))) (placeOf w t) n w′
   pub ahead : (r : ℕ) → n ≤ r → r < t .rows → placeOf w′ t r ≡ placeOf w t r
   pub stays : Stays (t .at) (endOf t) w w′
-

@@ -21,7 +21,7 @@ is-work-requires : tie.Need-is-work-requires
 is-work-requires c κs = search needs
 
 returns : tie.Need-returns
-returns c = 
+returns c =
     let a = (c .before .before .before .before .before .args) in
     adds-other (a .c) (a .s .now) (elementAt (a .s .now) (a .root)) (a .calendars) (a .ids) (elementAt (a .s .now) (a .at)) (sym (c .before .is-work .ensures) ∙ not-true _ (c .if1 .taken))
 
@@ -59,7 +59,7 @@ same-length-2 : tie.Need-same-length-2
 same-length-2 c = search needs
 
 returns-2 : tie.Need-returns-2
-returns-2 c = 
+returns-2 c =
     let a = (c .before .before .before .before .before .before .before .before .before .before .before .before .before .before .before .before .before .before .before .before .before .before .before .before .before .args) in
     let root = elementAt (a .s .now) (a .root) in
     let e = elementAt (a .s .now) (a .at) in
