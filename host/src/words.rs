@@ -15,14 +15,15 @@ struct Elements {
     tasks: usize,
     resources: usize,
     assignments: usize,
-    /// Exceptions of either form that may have days: an Exception, or a WeekDay of DayType 0, has them by its TimePeriod.
-    exceptions: usize,
     calendars: usize,
+    /// The most exceptions of one calendar, of either form, that may have days: an Exception, or a WeekDay of DayType 0, has them by its TimePeriod.
+    exceptions: usize,
 }
 
 impl Elements {
     fn of(tree: &[u8]) -> Elements {
         let mut n = Elements::default();
+        let mut here = 0;
         let mut rest = tree;
         while let [first, second, high, low, behind @ ..] = rest {
             let name_length = usize::from(first & 1) << 8 | usize::from(*second);
@@ -32,10 +33,11 @@ impl Elements {
                 b"Task" => n.tasks += 1,
                 b"Resource" => n.resources += 1,
                 b"Assignment" => n.assignments += 1,
-                b"TimePeriod" => n.exceptions += 1,
-                b"Calendar" => n.calendars += 1,
+                b"Calendar" => (n.calendars, here) = (n.calendars + 1, 0),
+                b"TimePeriod" => here += 1,
                 _ => (),
             }
+            n.exceptions = n.exceptions.max(here);
             rest = next;
         }
         n
@@ -43,8 +45,8 @@ impl Elements {
 }
 
 /// How many words of `work` serve best when a tree is read: a table of the kept tasks' UIDs (3 words a task), and behind it, one after the other, what the
-/// sections need: marks of a calendar's days; the calendars by their UIDs (4 words each), with a task's place, its parent and its id (8 words a task) or with
-/// the ids of resources; then tables of the resources' UIDs and of the expenses.
+/// sections need: the calendars by their UIDs (4 words each) with their names (6 words each) and marks of a calendar's days, with a task's place, its parent
+/// and its id (8 words a task), or with the ids of resources; then tables of the resources' UIDs and of the expenses.
 pub fn work_words(tree: &[u8]) -> usize {
     let n = Elements::of(tree);
     let tasks = n.tasks.clamp(1, MOST_TASKS);
@@ -53,8 +55,8 @@ pub fn work_words(tree: &[u8]) -> usize {
         1..=MANY_EXCEPTIONS => ALL_DAYS / 100,
         _ => ALL_DAYS,
     };
-    let named = 4 * n.calendars + 2;
-    let sections = [days, named + 8 * tasks, named + 6 * n.resources, 3 * (n.resources + n.assignments + 2)];
+    let named = 4 * n.calendars.max(1) + 1;
+    let sections = [named + 6 * n.calendars + days, named + 8 * tasks, named + 6 * n.resources, 3 * (n.resources + n.assignments + 2)];
     3 * tasks + sections.into_iter().max().unwrap_or(0)
 }
 

@@ -1,10 +1,9 @@
 -- A turn of the loop over the kept tasks: what is read in the buffer is what was put. Assumes nothing.
 use Prim.Native.Nat.{ℕ, _+_, _%_, _^_, _≤_, _<_}
-use native.Mathlib.Nat.{mod-eq-of-lt}
 use native.Mathlib.Omega.{arith}
 use mathlib.Core.Path.{_≡_, refl, sym, ap, subst, _∙_}
 use mathlib.Core.Bool.{true}
-use mathlib.Core.List.{List, [], _∷_, _++_, map, map-append}
+use mathlib.Core.List.{List, _∷_, _++_, map}
 use mathlib.Core.Option.{Option}
 use lib.ListN.{length, getD, take, length-map, length-append}
 use lib.Seq.{getD-at}
@@ -19,10 +18,9 @@ use Rattle.laws.specs.Each.{empty, next, each-append}
 use Rattle.laws.specs.FitActivities.{fit-activity}
 use Rattle.laws.specs.FitRecords.{Short, FitsActivityBy}
 use Rattle.laws.specs.FitTrees.{Small, slim-texts}
-use Rattle.laws.specs.Formats.{fills-whole, fills-times}
-use Rattle.bits.specs.Places.{at, inside, fits-room}
-use Rattle.bits.specs.Round.{put-stood}
-use Rattle.bits.specs.Steps.{Puts, before-in, put-more}
+use Rattle.laws.specs.Formats.{fills-whole}
+use Rattle.bits.specs.Places.{inside}
+use Rattle.bits.specs.Steps.{Puts}
 use Rattle.bits.specs.declared.Place.{Place}
 use Rattle.links.specs.Entered.{entered-is}
 use Rattle.index.specs.Below.{SameBelow, below-refl, below-in}
@@ -34,10 +32,10 @@ use Rattle.links.specs.Fates.{Finder, taskIn, linksBy, isEntered}
 use Rattle.model.specs.declared.records.Kind.the-variants.{Activities}
 use Rattle.names.specs.Carried.{context-carried}
 use Rattle.names.specs.Context.{contextAt, calendarsBefore}
-use Rattle.names.specs.Kept.{step-kept, put-ends}
-use Rattle.names.specs.Naming.{Finds, endNames, finds-kept}
-use Rattle.names.specs.Noted.{noted-put}
-use Rattle.names.specs.Records.{Lies, FitsActivityFields, activityFields, plainActivities, plain-activities, front-activities, activities-lie, texts-activities}
+use Rattle.names.specs.Naming.{Finds, finds-kept}
+use Rattle.names.specs.Lent.{NotedIn, noted-row}
+use Rattle.names.specs.Records.{activityFields, same-activities, plain-activities, front-activities, texts-activities}
+use Rattle.names.specs.Sought.{endNames}
 use Rattle.names.specs.Short.{built-short}
 use Rattle.names.specs.Texts.{textsAt}
 use Rattle.pack.specs.Writes.{Writes}
@@ -49,10 +47,10 @@ use Rattle.rows.specs.declared.kept.KeptAnswer.the-variants.{Is}
 use Rattle.rows.specs.declared.table.Listed.the-variants.{Tasks}
 use Rattle.tree.specs.Root.{rootAt}
 use Rattle.tree.specs.declared.root.Root.{Root}
-use Rattle.activities.specs.Own.{IdsOpen, IdsNoted, OwnRoom, RowNoted}
+use Rattle.activities.specs.Own.{IdsOpen, OwnRoom, RowNoted}
 use Rattle.activities.specs.Parents.{taskAt, Held, Ready}
 use Rattle.activities.specs.declared.own.Own.{Own}
-use Rattle.activities.proofs.Ids.{ids-moved, noted-of}
+use Rattle.activities.proofs.Ids.{ids-moved}
 use Rattle.activities.proofs.Loop.{Written, nextOf, written-more, next-put, tasks-before, idsOf}
 
 -- what a turn leaves of the words: those of the tables before them, and those of the rows before
@@ -60,7 +58,7 @@ pub record Stays (s : Text) (root : Element) (tasks : Made) (own : Own) (start :
   pub same : SameBelow (endIn tasks) w₀ w
   pub names : SameBelow (endNames (own .calendars)) w₀ w
   pub held : row ≤ own .columns .rows → Held s root (own .columns .at) row w
-  pub ids : inside (length d) q ≡ true → IdsNoted (own .ids) d start w row
+  pub ids : inside (length d) q ≡ true → NotedIn Activities (own .ids) d start w row
   pub there : (at left : ℕ) → task ≡ Is at left → at < length s
 
 module _ {s : Text} {root : Element} {tasks : Made} {own : Own} {start : Place} {w₀ : List ℕ} where
@@ -131,22 +129,12 @@ module _ (find : Finder) {d₀ : List ℕ} (c : Place) (root : Element) {p : Pla
 
     -- the ids of the rows are noted
     module _ {own : Own} {at₀ : ℕ} {o : Option ℕ} {u : List ℕ} {u₂ : List ℕ} (y : RowNoted own row at₀ o (wantedId t) (q .byte % 2 ^ 32) (textsAt Activities d p row) (inside (length d) q) u u₂)
-        (open-at : IdsOpen (own .ids) (own .columns) p (length d)) (before-it : inside (length d) q ≡ true → IdsNoted (own .ids) d p u row) where
-      pub ids-on : inside (length d') r ≡ true → IdsNoted (own .ids) d' p u₂ (row + 1)
-      ids-on i j g few =
-          let b = put-stood new-put i .began in
-          let i₀ : inside (length d) q ≡ true = fits-room {n = length d} {p = q} {w = 0} (record { bit = b .bit; ends = omega (arith, b .ends) }) in
-          let x = open-at j g in
-          let long : length (map activityFields (w .done)) ≡ row = length-map (w .done) activityFields ∙ w .done-are in
-          let texts : textsAt Activities d p row ≡ idsOf (w .done) = ap (textsAt Activities d p) (sym (w .done-are)) ∙ texts-activities _ (w .puts) i₀ (w .fits) in
-          let byte : q .byte % 2 ^ 32 ≡ q .byte = mod-eq-of-lt (omega (arith, b .ends, x .short)) in
-          let made = noted-of g row (wantedId t) (y .stars) (q .byte % 2 ^ 32) _ (y .is) in
-          let n₁ : length (map activityFields (w .done) ++ (activityFields (nextOf w) ∷ [])) ≡ row + 1 = length-append (map activityFields (w .done)) (activityFields (nextOf w) ∷ []) ∙ ap (λ (m : ℕ). m + 1) long in
-          rw n₁ at
-          (noted-put plain-activities front-activities (rw (sym long) at (ids-moved open-at (before-it i₀) at₀ o refl j g (omega arith))) (omega arith)
-          (activities-lie _ (w .puts) i₀ (w .fits))
-          (subst (λ l. Lies plainActivities FitsActivityFields d' p l r) (map-append activityFields (w .done) (nextOf w ∷ [])) (activities-lie _ (put-more _ (w .puts) new-put) i (each-append (w .fits) (next new-fits empty))))
-          (step-kept (new-put .step)) (omega (arith, before-in (length d) q b)) (put-ends (fills-times _ (fills-whole activity)) (w .puts) i₀ (x .whole)) (wantedId t) (y .stars)
-          (rw (sym long) at (y .free-is i₀))
-          (next-id ∙ ap (λ (l : List Text). free l (wantedId t)) (sym texts) ∙ sym (y .free-is i₀))
-          (rw (byte, sym long) at made))
+        (open-at : IdsOpen (own .ids) (own .columns) p (length d)) (before-it : inside (length d) q ≡ true → NotedIn Activities (own .ids) d p u row) where
+      pub ids-on : inside (length d') r ≡ true → NotedIn Activities (own .ids) d' p u₂ (row + 1)
+      ids-on i =
+          let texts : inside (length d) q ≡ true → textsAt Activities d p row ≡ idsOf (w .done) = λ h. ap (textsAt Activities d p) (sym (w .done-are)) ∙ texts-activities _ (w .puts) h (w .fits) in
+          let made = noted-row (whole activity) plain-activities front-activities activityFields same-activities (fills-whole activity) (λ j g. let x = open-at j g in (x .whole, x .short))
+          (λ h. rw (sym (w .done-are)) at (ids-moved open-at (before-it h) at₀ o refl)) (each-append (w .fits) (next new-fits empty)) _ (w .puts) new-put (wantedId t) (y .stars)
+          (λ h. (rw (sym (w .done-are)) at (y .free-is h), next-id ∙ ap (λ (l : List Text). free l (wantedId t)) (sym (texts h)) ∙ sym (y .free-is h)))
+          (rw (sym (w .done-are)) at (y .is)) i in
+          rw (w .done-are) at made

@@ -13,15 +13,15 @@ ghost use Rattle.links.specs.Fates.{taskIn, isEntered};
 ghost use Rattle.names.specs.Texts.{textsAt};
 ghost use Rattle.names.specs.Context.{contextAt};
 ghost use Rattle.names.specs.Naming.{Finds};
+ghost use Rattle.names.specs.Lent.{NotedIn};
+ghost use Rattle.model.specs.declared.records.Kind.the-variants.{Activities};
 ghost use Rattle.pack.specs.Value.{nameMeaning, starredBy};
 ghost use Rattle.tree.specs.Place.{elementAt};
 ghost use Rattle.tree.specs.Root.{rootAt};
-ghost use Rattle.activities.specs.Own.{IdsOpen, IdsNoted, RowNoted};
+ghost use Rattle.activities.specs.Own.{IdsOpen, RowNoted};
 ghost use Rattle.activities.specs.Parents.{Ready};
 ghost use Rattle.activities.specs.Values.{nameFound, activityPlanned};
 use crate::own::Own;
-use crate::own::note_stars;
-use crate::own::stars_for;
 use crate::parents::parent_of;
 use crate::value::calendar_for;
 use crate::value::dates_of;
@@ -109,7 +109,7 @@ pub(crate) fn put_row(
     own: Own,
     per_day: u64,
 ) -> Place
-    requires { ⌜ Ready (now s) (rootAt (now s) root) (own .columns) row at (now words) × («per_day» ≡ perDayOf (rootAt (now s) root)) × Finds (contextAt (now out) c (rootAt (now s) root)) (now s) (own .calendars) (now words) × IdsOpen (own .ids) (own .columns) start (length (now out)) × (inside (length (now out)) p ≡ true → IdsNoted (own .ids) (now out) start (now words) row) ⌝ }
+    requires { ⌜ Ready (now s) (rootAt (now s) root) (own .columns) row at (now words) × («per_day» ≡ perDayOf (rootAt (now s) root)) × Finds (contextAt (now out) c (rootAt (now s) root)) (now s) (own .calendars) (now words) × IdsOpen (own .ids) (own .columns) start (length (now out)) × (inside (length (now out)) p ≡ true → NotedIn Activities (own .ids) (now out) start (now words) row) ⌝ }
     ensures { λ r. ⌜ Puts (whole activity) (activityOf (contextAt (now (out .entry)) c (rootAt (now (s .entry)) root)) (textsAt Kind.Activities (now (out .entry)) start row) (map levelOf (take row (keptTasks (rootAt (now (s .entry)) root)))) (isEntered (taskIn (now (s .entry)) root (now (words .exit)) tasks) (elementAt (now (s .entry)) at)) (elementAt (now (s .entry)) at)) (now (out .entry)) p (now (out .exit)) r × RowNoted own row at (parentOf (map levelOf (take row (keptTasks (rootAt (now (s .entry)) root)))) (levelOf (elementAt (now (s .entry)) at))) (wantedId (elementAt (now (s .entry)) at)) (p .byte % 2 ^ 32) (textsAt Kind.Activities (now (out .entry)) start row) (inside (length (now (out .entry))) p) (now (words .entry)) (now (words .exit)) ⌝ }
 {
     let calendars = own.calendars;
@@ -119,8 +119,8 @@ pub(crate) fn put_row(
     let found = calendar_for(out, c, s, root, at, words, calendars, elapsed);
     let parent = parent_of(s, root, at, words, columns, row);
     let id = wanted_id(s, at);
-    let stars = stars_for(out, start, p, words, ids, row, id);
-    note_stars(words, ids, row, id, stars, p);
+    let stars = names::stars_for(out, Kind::Activities, start, p, words, ids, row, id);
+    names::note_stars(words, ids, row, id, stars, p);
     let day = day_of(elapsed, per_day);
     let plan = plan_of(s, root, at, words, tasks, day, parent);
     put_task(out, p, s, at, elapsed, found, id, stars, plan)

@@ -3,13 +3,13 @@ use Prim.Native.Nat.{ℕ, suc, _+_, _%_, _^_, _≤_, _<_, min}
 use native.Mathlib.Nat.{zero-add, mod-eq-of-lt}
 use native.Mathlib.Omega.{arith}
 use mathlib.Core.Path.{_≡_, refl, sym, ap, subst, _∙_}
-use mathlib.Core.Bool.{Bool, true, false, true≢false, _&&_, _||_, not, and-eq-true-iff}
-use mathlib.Core.List.{List, [], _∷_, _++_, map, map-append}
+use mathlib.Core.Bool.{Bool, true, false, _&&_, not, and-eq-true-iff}
+use mathlib.Core.List.{List, [], _∷_, _++_, map}
 use mathlib.Core.Option.{Option, some, none}
-use lib.Dec.{leb, ltb, eqb}
+use lib.Dec.{leb}
 use lib.IntN.{ℤ}
-use lib.ListN.{length, length-map, length-append}
-use borrow.Author.Tests.{eqb-true, ltb-false, leb-true, leb-false, le-leb, lt-leb, not-true, not-false}
+use lib.ListN.{length, length-append}
+use borrow.Author.Tests.{leb-true, leb-false, le-leb, lt-leb, not-true, not-false}
 use Rattle.definition.specs.Base.{if_then_else_, _>>=_, _or_, keep}
 use Rattle.definition.specs.Ascii.{bytes}
 use Rattle.definition.specs.Text.{Text}
@@ -23,12 +23,13 @@ use Rattle.definition.specs.Refusal.{mostElements}
 use Rattle.definition.specs.Task.{Context, unlessMain}
 use Rattle.definition.specs.Resource.{isResource, isCost, workResources, resourceKind, maxUnits, priceOf, resourceOf, resourcesAfter, resources}
 use Rattle.laws.specs.Each.{Each}
-use Rattle.laws.specs.Formats.{fills-whole, fills-times}
+use Rattle.laws.specs.Formats.{fills-whole}
 use Rattle.laws.specs.FitRecords.{Short, FitsResourceBy}
 use Rattle.laws.specs.FitTrees.{Small}
 use Rattle.bits.specs.Clear.{cleared}
-use Rattle.bits.specs.Places.{inside, room-fits}
-use Rattle.bits.specs.Steps.{Puts, put-same, before-in}
+use Rattle.bits.specs.Places.{inside}
+use Rattle.bits.specs.Steps.{Puts, put-same}
+use Rattle.index.specs.Below.{SameBelow}
 use Rattle.bits.specs.declared.Place.{Place}
 use Rattle.index.specs.declared.Made.{Made}
 use Rattle.model.specs.declared.records.Kind.the-variants.{Resources}
@@ -43,23 +44,21 @@ use Rattle.pack.specs.declared.record.Records.{Records}
 use Rattle.names.specs.Texts.{textsAt}
 use Rattle.names.specs.Cleared.{below-cleared, cleared-below, below-less}
 use Rattle.names.specs.Context.{wantedName, contextAt, calendarsBefore}
-use Rattle.names.specs.Ids.{idsOf, noIds, noted, freeIn}
-use Rattle.names.specs.Kept.{step-kept, put-ends}
+use Rattle.names.specs.Ids.{idsFor, begun, notedBy, starredIn}
+use Rattle.names.specs.Lent.{Behind, begun-open, begun-behind, begun-noted, begun-same, stars-free, notes-below, noted-row}
 use Rattle.names.specs.Named.{namedIn, calendarName, Makes}
-use Rattle.names.specs.Naming.{Finds, endNames, finds-kept, makes-finds, makes-behind, makes-below}
-use Rattle.names.specs.Noted.{ids-placed, noted-none, noted-free, noted-put, cleared-none, cleared-noted}
-use Rattle.names.specs.Records.{ResourceFields, resourceFields, plain-resources, front-resources, resources-lie, texts-resources}
+use Rattle.names.specs.Naming.{Finds, finds-kept, makes-finds, makes-behind, makes-below}
+use Rattle.names.specs.Records.{resourceFields, same-resources, plain-resources, front-resources, texts-resources}
+use Rattle.names.specs.Sought.{endNames}
 use Rattle.names.specs.Carried.{context-carried}
 use Rattle.names.specs.Short.{built-short}
 use Rattle.names.specs.declared.named.CalendarName.{CalendarName}
-use Rattle.names.specs.declared.named.CalendarTable.{CalendarTable}
-use Rattle.names.specs.declared.ids.Ids.{Ids}
+use Rattle.names.specs.declared.uids.CalendarTable.{CalendarTable}
 use Rattle.names.specs.declared.ids.IdsMade.{IdsMade}
-use Rattle.names.specs.declared.ids.IdsMade.the-variants.{Ready, NoRoom}
 use Rattle.assignments.specs.declared.section.Done.{Done}
 use Rattle.assignments.specs.Section.{Wrote}
-use Rattle.assignments.specs.Resources.{isWork, wantedId, resourceWith, NotedIn, notedIn, Held, HeldIn, Behind, MakesIds, FewResources, AddsResources, PutsResources}
-use Rattle.assignments.proofs.Turns.{put-began, wrote-more, wrote-as, writes, writes-none, Going, going-all, going-more, going-last}
+use Rattle.assignments.specs.Resources.{isWork, wantedId, resourceWith, HeldIn, FewResources, AddsResources, PutsResources}
+use Rattle.assignments.proofs.Turns.{wrote-more, wrote-as, writes, writes-none, Going, going-all, going-more, going-last}
 use Rattle.assignments.proofs.Fit.{FineResources, fine-all, fine-on, fine-few}
 
 -- ---- which they are
@@ -205,56 +204,16 @@ count-is {n} {k} e h = e ∙ mod-eq-of-lt (omega arith)
 low-is : {n k : ℕ} → n ≡ k → k < 2 ^ 32 → n % 2 ^ 32 ≡ k
 low-is e h = rw e (mod-eq-of-lt h)
 
--- the tables have those so far
-noted-in : (rows : ℕ) (m : IdsMade) (p : Place) (d w : List ℕ) (r : Done) {n : ℕ} → HeldIn rows m p d w r → inside (length d) (r .next) ≡ true → r .count ≡ n → NotedIn m d p w n
-noted-in rows NoRoom p d w r h i e = tt
-noted-in rows (Ready t) p d w r h i e = rw e at (h .noted i)
-
-abbrev fieldsOf : List Resource → List ResourceFields
-fieldsOf xs = map resourceFields xs
-
--- one more record was put, and noted
-module _ {rows : ℕ} {i : Ids} {start : Place} {d₀ d d' w : List ℕ} {r r' : Done} {q : Place} {xs : List Resource} {y : Resource} (held : Held rows i start d w r)
-    (few : length xs < rows) (wrote : Wrote (whole resource) true xs d₀ start d r) (fit : Each (FitsResourceBy Short) xs) (puts : Puts (whole resource) y d (r .next) d' q)
-    (wrote' : Wrote (whole resource) true (xs ++ (y ∷ [])) d₀ start d' r') (fit' : Each (FitsResourceBy Short) (xs ++ (y ∷ []))) (next : r' .next ≡ q) where
-  held-more : rows < 2 ^ 32 → (u : Text) (stars : ℕ) → (inside (length d) (r .next) ≡ true → (starredBy u stars ≡ free (textsAt Resources d start (length xs)) u) × (y .id ≡ starredBy u stars))
-      → {w' : List ℕ} → w' ≡ noted w i (r .count % 2 ^ 32) u stars (r .next .byte % 2 ^ 32) → Held rows i start d' w' r'
-  held-more most u stars say e = record {
-    rows-are = held .rows-are;
-    begin = held .begin;
-    short = rw (puts .step .same) (held .short);
-    noted = λ there.
-        let here : inside (length d) (r .next) ≡ true = put-began puts (rw next at there) in
-        let f = room-fits (length d) (r .next) 0 here in
-        let n : length (fieldsOf xs) ≡ length xs = length-map xs resourceFields in
-        let count : r .count ≡ length (fieldsOf xs) = count-is (wrote .counts refl) (omega arith) ∙ sym n in
-        let low : r .count % 2 ^ 32 ≡ length (fieldsOf xs) = low-is count (omega arith) in
-        let byte : r .next .byte % 2 ^ 32 ≡ r .next .byte = low-is refl (omega (arith, f .ends, held .short)) in
-        let (free-is, id-is) = say here in
-        let lies = resources-lie (length xs) (wrote .puts) here fit in
-        let lies' = rw (map-append resourceFields xs (y ∷ [])) at (resources-lie (length (xs ++ (y ∷ []))) (wrote' .puts) there fit') in
-        let bit = put-ends (fills-times (length xs) (fills-whole resource)) (wrote .puts) here (held .begin) in
-        let x = noted-put plain-resources front-resources (rw count at (held .noted here)) (omega (arith, held .rows-are)) lies lies' (step-kept (puts .step)) (omega (arith, before-in (length d) (r .next) f)) bit
-        u stars (rw n free-is) id-is (e ∙ rw (low, byte)) in
-        let k = length-append xs (y ∷ []) in
-        let m : length (fieldsOf xs ++ (resourceFields y ∷ [])) ≡ length (xs ++ (y ∷ [])) = length-append (fieldsOf xs) (resourceFields y ∷ []) ∙ omega arith in
-        rw (m ∙ sym (count-is (wrote' .counts refl) (omega arith))) at x;
-  }
-
-keeps-noted : (from : ℕ) (w : List ℕ) (m : IdsMade) (row : ℕ) (u : Text) (stars byte : ℕ) → Behind from m → cleared from (notedIn w m row u stars byte) ≡ cleared from w
-keeps-noted from w NoRoom row u stars byte h = refl
-keeps-noted from w (Ready i) row u stars byte (k, l) = cleared-noted from w i k l row u stars byte
-
 one-room : (e : Element) (n rows : ℕ) → isWork e ≡ true → n + length (keep isWork (e ∷ [])) ≤ rows → n < rows
 unfolding keep
 one-room e n rows t h = let k : n + 1 ≤ rows = rw t at h in omega arith
 
 module _ (c : Place) (s : Text) (root : Element) (k : Made) {start : Place} {d : List ℕ} {r : Done} {d' : List ℕ} {q : Place} {r' : Done} (a : Element) (t : isWork a ≡ true) (m : IdsMade) (w w' : List ℕ) (stars : ℕ) {name : Option Text}
-    (say : NotedIn m d start w (r .count % 2 ^ 32) → starredBy (wantedId a) stars ≡ free (textsAt Resources d start (r .count % 2 ^ 32)) (wantedId a))
+    (say : starredBy (wantedId a) stars ≡ starredIn Resources d start (r .next) w m (r .count % 2 ^ 32) (wantedId a))
     (named : name ≡ (textIn a "CalendarUID" >>= namedIn (contextAt d c root) s w k)) (puts : Puts (whole resource) (resourceWith name (starredBy (wantedId a) stars) a) d (r .next) d' q)
-    (notes : w' ≡ notedIn w m (r .count % 2 ^ 32) (wantedId a) stars (r .next .byte % 2 ^ 32))
+    (notes : w' ≡ notedBy w m (r .count % 2 ^ 32) (wantedId a) stars (r .next .byte % 2 ^ 32))
     (n : (r' .count ≡ (r .count + 1) % 2 ^ 64) × (r' .next ≡ q)) where
-  module _ (rows : ℕ) (d₀ : List ℕ) (xs : List Resource) (ok : FewResources c start s root k w rows (a ∷ []) d₀ xs) (held : HeldIn rows m start d w r) (wrote : Wrote (whole resource) true xs d₀ start d r) where
+  module _ (rows : ℕ) (d₀ : List ℕ) (xs : List Resource) (ok : FewResources c start s root k w rows (a ∷ []) d₀ xs) (held : HeldIn m start d w r) (wrote : Wrote (whole resource) true xs d₀ start d r) where
     few : length xs < rows
     few = one-room a (length xs) rows t (ok .room)
 
@@ -275,7 +234,8 @@ module _ (c : Place) (s : Text) (root : Element) (k : Made) {start : Place} {d :
       texts-are = texts-resources (length xs) (wrote .puts) i (ok .fit)
 
       stars-are : starredBy (wantedId a) stars ≡ free (textsAt Resources d start (length xs)) (wantedId a)
-      stars-are = say (noted-in rows m start d w r held i (count-now ∙ sym low-now)) ∙ ap (λ (k : ℕ). free (textsAt Resources d start k) (wantedId a)) low-now
+      stars-are =
+          say ∙ ap (λ (k : ℕ). starredIn Resources d start (r .next) w m k (wantedId a)) low-now ∙ stars-free (rw count-now at (held .noted i)) (r .next) i (wantedId a)
 
     put-made : Puts (whole resource) made d (r .next) d' q
     unfolding made
@@ -300,18 +260,21 @@ module _ (c : Place) (s : Text) (root : Element) (k : Made) {start : Place} {d :
     unfolding made resourceOf
     id-made i = sym (stars-are i ∙ ap (λ (ids : List Text). free ids (wantedId a)) (texts-are i))
 
-    holds-made : Each (FitsResourceBy Short) (xs ++ (made ∷ [])) → HeldIn rows m start d' w' r'
-    holds-made f = by m held notes
-      where
-        by : (m : IdsMade) → HeldIn rows m start d w r → w' ≡ notedIn w m (r .count % 2 ^ 32) (wantedId a) stars (r .next .byte % 2 ^ 32) → HeldIn rows m start d' w' r'
-        by NoRoom h e = tt
-        by (Ready i) h e = held-more h few wrote (ok .fit) put-made wrote-made f (n .1) (ok .few) (wantedId a) stars (λ i. (stars-are i, id-made i)) e
+    holds-made : Each (FitsResourceBy Short) (xs ++ (made ∷ [])) → HeldIn m start d' w' r'
+    holds-made f = record {
+      opened = rw (puts .step .same) (held .opened);
+      noted = λ there.
+          let k = length-append xs (made ∷ []) in
+          let count : r' .count ≡ length xs + 1 = count-is (wrote-made .counts refl) (omega (arith, few, ok .few)) ∙ k in
+          rw count (noted-row (whole resource) plain-resources front-resources resourceFields same-resources (fills-whole resource) (held .opened) (λ i. rw count-now at (held .noted i)) f (length xs) (wrote .puts) put-made
+          (wantedId a) stars (λ i. (stars-are i, id-made i)) (rw low-now at notes) (rw (n .1) at there));
+    }
 
   adds-work : AddsResources c start s root (a ∷ []) k m d w r d' w' r'
   adds-work = record {
     adds = λ rows. record { goes = λ d₀ xs ok wrote. wrote-as (after-is rows d₀ xs (ok .0) (ok .1) wrote) (wrote-made rows d₀ xs (ok .0) (ok .1) wrote) };
     holds = λ rows d₀ xs ok held wrote f. holds-made rows d₀ xs ok held wrote (subst (Each (FitsResourceBy Short)) (sym (after-is rows d₀ xs ok held wrote)) f);
-    keeps = λ from h. ap (cleared from) notes ∙ keeps-noted from w m (r .count % 2 ^ 32) (wantedId a) stars (r .next .byte % 2 ^ 32) h;
+    keeps = λ from h. ap (cleared from) notes ∙ cleared-below (notes-below w m (r .count % 2 ^ 32) (wantedId a) stars (r .next .byte % 2 ^ 32) h);
   }
 
 -- not a work resource
@@ -324,18 +287,15 @@ adds-other c s root k m a t = record {
 
 -- ---- what the callees say, about the element's own texts
 
-stars-said : {id w : Text} (stars : ℕ) (ids : List Text) → id ≡ w → starredBy id stars ≡ free ids id → starredBy w stars ≡ free ids w
-stars-said stars ids e h = subst (λ (t : Text). starredBy t stars ≡ free ids t) e h
-
 -- a work resource is put
 pub adds-said : (c : Place) (s : Text) (root : Element) (k : Made) {start : Place} {d : List ℕ} {r : Done} {d' : List ℕ} {q : Place} {r' : Done} (a : Element) → isWork a ≡ true → (m : IdsMade) (w : List ℕ) {w' : List ℕ}
-    → {id : Text} (stars : ℕ) → id ≡ wantedId a → (NotedIn m d start w (r .count % 2 ^ 32) → starredBy id stars ≡ free (textsAt Resources d start (r .count % 2 ^ 32)) id)
+    → {id : Text} (stars : ℕ) → id ≡ wantedId a → starredBy id stars ≡ starredIn Resources d start (r .next) w m (r .count % 2 ^ 32) id
     → (found : CalendarName) → calendarName s found ≡ (textIn a "CalendarUID" >>= namedIn (contextAt d c root) s w k) → {calendar : Text} → calendar ≡ wantedName (elementAt s (found .at))
     → Puts (whole resource) (resourceWith (nameMeaning calendar (found .name)) (starredBy (wantedId a) stars) a) d (r .next) d' q
-    → w' ≡ notedIn w m (r .count % 2 ^ 32) id stars (r .next .byte % 2 ^ 32) → (r' .count ≡ (r .count + 1) % 2 ^ 64) × (r' .next ≡ q) → AddsResources c start s root (a ∷ []) k m d w r d' w' r'
+    → w' ≡ notedBy w m (r .count % 2 ^ 32) id stars (r .next .byte % 2 ^ 32) → (r' .count ≡ (r .count + 1) % 2 ^ 64) × (r' .next ≡ q) → AddsResources c start s root (a ∷ []) k m d w r d' w' r'
 adds-said c s root k {start} {d} {r} a t m w {w'} stars ei es found en ec puts notes n =
-    adds-work c s root k a t m w w' stars (λ h. stars-said stars (textsAt Resources d start (r .count % 2 ^ 32)) ei (es h)) (ap (λ (t : Text). nameMeaning t (found .name)) ec ∙ en) puts
-    (notes ∙ ap (λ (u : Text). notedIn w m (r .count % 2 ^ 32) u stars (r .next .byte % 2 ^ 32)) ei) n
+    adds-work c s root k a t m w w' stars (subst (λ (u : Text). starredBy u stars ≡ starredIn Resources d start (r .next) w m (r .count % 2 ^ 32) u) ei es) (ap (λ (t : Text). nameMeaning t (found .name)) ec ∙ en) puts
+    (notes ∙ ap (λ (u : Text). notedBy w m (r .count % 2 ^ 32) u stars (r .next .byte % 2 ^ 32)) ei) n
 
 -- ---- a loop over elements
 
@@ -345,9 +305,9 @@ GoingOn rows x es fs = Going (whole resource) true (λ xs es. resourcesAfter x x
 
 -- in a buffer in which the calendars stand, with words that say their names before those of the ids
 pub record Going-in (c : Place) (s : Text) (root : Element) (k : Made) (m : IdsMade) (es fs : List Element) (d : List ℕ) (p : Place) (w d' w' : List ℕ) (r : Done) : Type 0 where
-  pub going : calendarsBefore d c root p ≡ true → length (keep isWork es) ≤ mostElements → HeldIn (length (keep isWork es)) m p d w (record { count = 0; next = p })
+  pub going : calendarsBefore d c root p ≡ true → length (keep isWork es) ≤ mostElements → HeldIn m p d w (record { count = 0; next = p })
       → Finds (contextAt d c root) s k w → Behind (endNames k) m
-      → GoingOn (length (keep isWork es)) (contextAt d c root) es fs d p d' r × HeldIn (length (keep isWork es)) m p d' w' r
+      → GoingOn (length (keep isWork es)) (contextAt d c root) es fs d p d' r × HeldIn m p d' w' r
   pub keeps : (from : ℕ) → Behind from m → cleared from w' ≡ cleared from w
 
 module _ (c : Place) (s : Text) (root : Element) (k : Made) (m : IdsMade) {es : List Element} {d : List ℕ} {p : Place} {w : List ℕ} where
@@ -385,34 +345,8 @@ module _ (c : Place) (s : Text) (root : Element) (k : Made) (m : IdsMade) {es : 
 
 -- ---- the tables
 
-behind-less : {from to : ℕ} → from ≤ to → (m : IdsMade) → Behind to m → Behind from m
-behind-less k NoRoom h = tt
-behind-less k (Ready i) (a, b) = (omega arith, omega arith)
-
-pub tables-may : (bit len : ℕ) → (not (eqb bit 0) || ltb 4294967295 len) ≡ false → (bit ≡ 0) × (len < 2 ^ 32)
-tables-may bit len h = by (eqb bit 0) refl h
-  where
-    by : (t : Bool) → eqb bit 0 ≡ t → (not t || ltb 4294967295 len) ≡ false → (bit ≡ 0) × (len < 2 ^ 32)
-    by true e h = let k = ltb-false 4294967295 len h in (eqb-true bit 0 e, omega arith)
-    by false e h = absurd (true≢false h)
-
-pub stars-by : (d : List ℕ) (p : Place) (w : List ℕ) (m : IdsMade) (n : ℕ) (u : Text) {i : Ids} {stars : ℕ} → m ≡ Ready i → stars ≡ freeIn d w i n u
-    → NotedIn m d p w n → starredBy u stars ≡ free (textsAt Resources d p n) u
-stars-by d p w m n u e h x = ap (starredBy u) h ∙ noted-free (subst (λ (m : IdsMade). NotedIn m d p w n) e x) u
-
-pub note-by : (w : List ℕ) (m : IdsMade) (row : ℕ) (u : Text) (stars byte : ℕ) {w' : List ℕ} {i : Ids} → m ≡ Ready i → w' ≡ noted w i row u stars byte → w' ≡ notedIn w m row u stars byte
-note-by w m row u stars byte e h = h ∙ ap (λ (m : IdsMade). notedIn w m row u stars byte) (sym e)
-
-pub makes-ids : (len : ℕ) (p : Place) (from rows : ℕ) (w : List ℕ) {w' : List ℕ} {i : Ids} → Ready i ≡ idsOf (length w) from rows → w' ≡ noIds w i → p .bit ≡ 0 → len < 2 ^ 32
-    → MakesIds len p from rows w w' (Ready i)
-makes-ids len p from rows w {w'} {i} e z b l =
-    let (x, n) = ids-placed (length w) from rows e in
-    let k : from ≤ i .wanted .at = omega (arith, x .begin, x .apart) in
-    record {
-      held = λ d h. record { rows-are = n; begin = b; short = rw h l; noted = λ there. rw z (noted-none Resources d p w x) };
-      behind = (omega (arith, x .begin), k);
-      keeps = ap (cleared from) z ∙ cleared-none from w i (omega (arith, x .begin)) k;
-    }
+behind-less : {from to : ℕ} → from ≤ to → {m : IdsMade} → Behind to m → Behind from m
+behind-less k h i e = let (a, b) = h i e in (omega arith, omega arith)
 
 -- ---- all
 
@@ -438,17 +372,17 @@ module _ (d : List ℕ) (c : Place) (root : Element) (p : Place) {n : ℕ} {u : 
     resources-none e = let x = contextAt d c root in writes-if (whole resource) holds (writes-none (all-resources x root e ∙ no-resources x []))
 
     pub resources-all : {es : List Element} → allIn (child root (bytes "Resources")) (bytes "Resource") ≡ es → {s : Text} {from : ℕ} {t : CalendarTable} {m : IdsMade} {w w₁ w₂ w₃ d' : List ℕ} {r : Done} {a : Records}
-        → Makes d c s root from w w₁ t → MakesIds (length d) p (t .end) n w₁ w₂ m → PutsResources c p s root es (t .table) m d w₂ d' w₃ r → (a .count ≡ r .count % 2 ^ 32) × (a .next ≡ r .next)
+        → Makes d c s root from w w₁ t → (m ≡ idsFor (length d) p (length w₁) (t .end) n) × (w₂ ≡ begun w₁ m) → PutsResources c p s root es (t .table) m d w₂ d' w₃ r → (a .count ≡ r .count % 2 ^ 32) × (a .next ≡ r .next)
         → WritesIf (Tested d c root p) (whole resource) (resources (contextAt d c root) root) d p d' a × (cleared from w₃ ≡ cleared from w)
-    resources-all {es} e {s} {from} {t} {m} {w} {w₁} {w₂} i k g o =
+    resources-all {es} e {s} {from} {t} {m} {w} {w₁} {w₂} i (j, v) g o =
         let (most, stand) = and-eq-true-iff (leb (length (workResources root)) mostElements) (calendarsBefore d c root p) .0 holds in
         let z : length (workResources root) ≡ length (keep isWork es) = ap length (work-kept root ∙ ap (keep isWork) e) in
         let l : length (workResources root) ≤ mostElements = leb-true _ _ most in
-        let rows : n ≡ length (keep isWork es) = omega arith in
-        let held = subst (λ (n : ℕ). HeldIn n m p d w₂ (record { count = 0; next = p })) rows (k .held d refl) in
+        let held : HeldIn m p d w₂ (record { count = 0; next = p }) = record { opened = begun-open (length d) p w₁ (t .end) n j; noted = λ there. rw v (begun-noted (length d) p w₁ (t .end) n j Resources d) } in
+        let behind = begun-behind (length d) p w₁ (t .end) n j in
         let (at, end) = makes-behind i in
-        let ids = below-cleared (k .keeps) in
+        let ids : SameBelow (t .end) w₁ w₂ = rw v (begun-same (length d) p w₁ (t .end) n j (λ l h. omega arith)) in
         let found = finds-kept (below-less end ids) (makes-finds i) in (
-          writes-if (whole resource) holds (writes (wrote-as (sym (all-resources (contextAt d c root) root e)) (g .puts stand (omega arith) held found (behind-less end m (k .behind)))) o),
-          g .keeps from (behind-less at m (k .behind)) ∙ cleared-below (below-less at ids) ∙ cleared-below (makes-below i),
+          writes-if (whole resource) holds (writes (wrote-as (sym (all-resources (contextAt d c root) root e)) (g .puts stand (omega arith) held found (behind-less end behind))) o),
+          g .keeps from (behind-less at behind) ∙ cleared-below (below-less at ids) ∙ cleared-below (makes-below i),
         )

@@ -22,12 +22,10 @@ use Rattle.bits.specs.declared.Place.{Place}
 use Rattle.index.specs.declared.Made.{Made}
 use Rattle.model.specs.declared.records.Kind.the-variants.{Resources}
 use Rattle.names.specs.Context.{contextAt, calendarsBefore}
-use Rattle.names.specs.Ids.{noted}
-use Rattle.names.specs.Naming.{Finds, endNames}
-use Rattle.names.specs.Noted.{Noted}
-use Rattle.names.specs.declared.ids.Ids.{Ids}
+use Rattle.names.specs.Lent.{OpenIn, NotedIn, Behind}
+use Rattle.names.specs.Naming.{Finds}
+use Rattle.names.specs.Sought.{endNames}
 use Rattle.names.specs.declared.ids.IdsMade.{IdsMade}
-use Rattle.names.specs.declared.ids.IdsMade.the-variants.{Ready, NoRoom}
 use Rattle.assignments.specs.declared.section.Done.{Done}
 use Rattle.assignments.specs.Section.{Wrote, Goes}
 
@@ -51,35 +49,10 @@ resourceWith calendar id r = record {
 
 -- ---- the ids in the words
 
--- those of so many records, where there are tables
-abbrev pub NotedIn : IdsMade → List ℕ → Place → List ℕ → ℕ → Type 0
-NotedIn NoRoom d p w n = Unit {0}
-NotedIn (Ready i) d p w n = Noted Resources d p w i n
-
-abbrev pub notedIn : List ℕ → IdsMade → ℕ → Text → ℕ → ℕ → List ℕ
-notedIn w NoRoom row id stars byte = w
-notedIn w (Ready i) row id stars byte = noted w i row id stars byte
-
 -- the records begin at whole bytes, 32 bits hold their positions, and all so far are noted where they fitted
-pub record Held (rows : ℕ) (i : Ids) (p : Place) (d w : List ℕ) (r : Done) : Type 0 where
-  pub rows-are : i .ids .rows ≡ rows
-  pub begin : p .bit ≡ 0
-  pub short : length d < 2 ^ 32
-  pub noted : inside (length d) (r .next) ≡ true → Noted Resources d p w i (r .count)
-
-abbrev pub HeldIn : ℕ → IdsMade → Place → List ℕ → List ℕ → Done → Type 0
-HeldIn rows NoRoom p d w r = Unit {0}
-HeldIn rows (Ready i) p d w r = Held rows i p d w r
-
--- the tables stand behind a place
-abbrev pub Behind : ℕ → IdsMade → Type 0
-Behind from NoRoom = Unit {0}
-Behind from (Ready i) = (from ≤ i .ids .at) × (from ≤ i .wanted .at)
-
-pub record MakesIds (len : ℕ) (p : Place) (from rows : ℕ) (w w' : List ℕ) (m : IdsMade) : Type 0 where
-  pub held : (d : List ℕ) → length d ≡ len → HeldIn rows m p d w' (record { count = 0; next = p })
-  pub behind : Behind from m
-  pub keeps : cleared from w' ≡ cleared from w
+pub record HeldIn (m : IdsMade) (p : Place) (d w : List ℕ) (r : Done) : Type 0 where
+  pub opened : OpenIn m p (length d)
+  pub noted : inside (length d) (r .next) ≡ true → NotedIn Resources m d p w (r .count)
 
 -- ---- resources one after another
 
@@ -92,12 +65,12 @@ pub record FewResources (c p : Place) (s : Text) (root : Element) (k : Made) (w 
   pub few : rows < 2 ^ 32
 
 pub record AddsResources (c p : Place) (s : Text) (root : Element) (es : List Element) (k : Made) (m : IdsMade) (d w : List ℕ) (r : Done) (d' w' : List ℕ) (r' : Done) : Type 0 where
-  pub adds : (rows : ℕ) → Goes (whole resource) true p (λ d₀ xs. FewResources c p s root k w rows es d₀ xs × HeldIn rows m p d w r) (λ d₀ xs. resourcesAfter (contextAt d₀ c root) xs (keep isWork es)) d r d' r'
-  pub holds : (rows : ℕ) (d₀ : List ℕ) (xs : List Resource) → FewResources c p s root k w rows es d₀ xs → HeldIn rows m p d w r → Wrote (whole resource) true xs d₀ p d r
-      → Each (FitsResourceBy Short) (resourcesAfter (contextAt d₀ c root) xs (keep isWork es)) → HeldIn rows m p d' w' r'
+  pub adds : (rows : ℕ) → Goes (whole resource) true p (λ d₀ xs. FewResources c p s root k w rows es d₀ xs × HeldIn m p d w r) (λ d₀ xs. resourcesAfter (contextAt d₀ c root) xs (keep isWork es)) d r d' r'
+  pub holds : (rows : ℕ) (d₀ : List ℕ) (xs : List Resource) → FewResources c p s root k w rows es d₀ xs → HeldIn m p d w r → Wrote (whole resource) true xs d₀ p d r
+      → Each (FitsResourceBy Short) (resourcesAfter (contextAt d₀ c root) xs (keep isWork es)) → HeldIn m p d' w' r'
   pub keeps : (from : ℕ) → Behind from m → cleared from w' ≡ cleared from w
 
 pub record PutsResources (c p : Place) (s : Text) (root : Element) (es : List Element) (k : Made) (m : IdsMade) (d w d' w' : List ℕ) (r : Done) : Type 0 where
-  pub puts : calendarsBefore d c root p ≡ true → length (keep isWork es) ≤ mostElements → HeldIn (length (keep isWork es)) m p d w (record { count = 0; next = p })
+  pub puts : calendarsBefore d c root p ≡ true → length (keep isWork es) ≤ mostElements → HeldIn m p d w (record { count = 0; next = p })
       → Finds (contextAt d c root) s k w → Behind (endNames k) m → Wrote (whole resource) true (resourcesAfter (contextAt d c root) [] (keep isWork es)) d p d' r
   pub keeps : (from : ℕ) → Behind from m → cleared from w' ≡ cleared from w

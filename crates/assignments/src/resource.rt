@@ -2,28 +2,25 @@
 ghost use mathlib.Core.Path.{_≡_};
 ghost use mathlib.Core.Bool.{_&&_};
 ghost use mathlib.Core.List.{[], _∷_};
-ghost use Prim.Native.Nat.{suc, _%_, _^_, min};
+ghost use Prim.Native.Nat.{suc, min};
 ghost use lib.Dec.{leb};
 ghost use lib.ListN.{length};
 ghost use Rattle.definition.specs.Ascii.{bytes};
-ghost use Rattle.definition.specs.Base.{if_then_else_, _>>=_ as bind, _or_, keep};
+ghost use Rattle.definition.specs.Base.{_>>=_ as bind, keep};
 ghost use Rattle.definition.specs.Field.{textIn};
 ghost use Rattle.definition.specs.Format.{whole};
 ghost use Rattle.definition.specs.Pack.{resource};
-ghost use Rattle.definition.specs.Calendar.{free};
 ghost use Rattle.definition.specs.Refusal.{mostElements};
 ghost use Rattle.definition.specs.Resource.{workResources, resources as resourcesOf};
 ghost use Rattle.bits.specs.Clear.{cleared};
 ghost use Rattle.bits.specs.Steps.{Puts};
 ghost use Rattle.tree.specs.Place.{elementAt, laterAt};
 ghost use Rattle.tree.specs.Root.{rootAt};
-ghost use Rattle.model.specs.declared.records.Kind.the-variants.{Resources};
 ghost use Rattle.pack.specs.Value.{starredBy, nameMeaning};
 ghost use Rattle.pack.specs.Writes.{WritesIf};
-ghost use Rattle.names.specs.Texts.{textsAt};
 ghost use Rattle.names.specs.Context.{contextAt, calendarsBefore};
 ghost use Rattle.names.specs.Named.{namedIn, calendarName};
-ghost use Rattle.assignments.specs.Resources.{isWork, wantedId, resourceWith, NotedIn, notedIn, MakesIds, AddsResources, PutsResources};
+ghost use Rattle.assignments.specs.Resources.{isWork, wantedId, resourceWith, AddsResources, PutsResources};
 use crate::section::Done;
 use crate::section::more;
 use crate::section::records_of;
@@ -113,44 +110,6 @@ fn calendar_of(
     names::calendar_in(out, c, s, root, words, calendars, uid)
 }
 
-// ---- which ids are taken
-
-// Tables of the ids in the words from a place on, where there is room for them, each record begins at a whole byte and 32 bits hold its position.
-fn ids_for(len: usize, p: Place, words: &mut [u32], at: usize, rows: u32) -> IdsMade
-    ensures { λ r. ⌜ MakesIds len p at rows (now (words .entry)) (now (words .exit)) r ⌝ }
-{
-    if (p.bit != 0) | (4294967295 < len) {
-        return IdsMade::NoRoom;
-    }
-    let IdsMade::Ready(ids) = names::ids_at(words.len(), at, rows) else {
-        return IdsMade::NoRoom;
-    };
-    names::clear_ids(words, ids);
-    IdsMade::Ready(ids)
-}
-
-// How many `*` an id needs, by the tables, or by a look at all records.
-fn stars_for(out: &[u8], start: Place, count: u32, id: &[u8], words: &[u32], made: IdsMade) -> u32
-    ensures { λ r. ⌜ (NotedIn made (now (out .entry)) start (now (words .entry)) count → starredBy (now (id .entry)) r ≡ free (textsAt Resources (now (out .entry)) start count) (now (id .entry))) ⌝ }
-{
-    match made {
-        IdsMade::Ready(ids) => names::free_in(out, words, ids, count, id),
-        IdsMade::NoRoom => names::free_stars(out, start, Kind::Resources, count, id),
-    }
-}
-
-// Notes the id of the record of a row, which stands at a place.
-fn note(words: &mut [u32], made: IdsMade, row: u32, id: &[u8], stars: u32, p: Place)
-    ensures { λ _. ⌜ now (words .exit) ≡ notedIn (now (words .entry)) made row (now (id .entry)) stars (p .byte % 2 ^ 32) ⌝ }
-{
-    match made {
-        IdsMade::Ready(ids) => {
-            names::note_id(words, ids, row, id, stars, (p.byte % 4294967296) as u32)
-        }
-        IdsMade::NoRoom => {}
-    }
-}
-
 // ---- one after another
 
 // The values that need no other record.
@@ -206,13 +165,13 @@ fn put_one(
     }
     let id = wanted_id(s, at);
     let count = (done.count % 4294967296) as u32;
-    let stars = stars_for(out, start, count, id, words, ids);
+    let p = done.next;
+    let stars = names::stars_for(out, Kind::Resources, start, p, words, ids, count, id);
     let found = calendar_of(out, c, s, root, at, words, calendars);
     let calendar = names::wanted_name(s, found.at, b"Calendar");
     let named = found.name;
-    let p = done.next;
     let next = put_said(out, p, s, at, stars, calendar, named);
-    note(words, ids, count, id, stars, p);
+    names::note_stars(words, ids, count, id, stars, p);
     more(done, next)
 }
 
@@ -265,7 +224,7 @@ fn put_all(
         Found::At(first) => {
             let calendars = names::index_calendars(out, c, s, root, words, at);
             let table = calendars.table;
-            let ids = ids_for(out.len(), p, words, calendars.end, count);
+            let ids = names::ids_for(out.len(), p, words, calendars.end, count);
             let done = put_from(out, p, s, root, first, c, words, table, ids);
             records_of(done)
         }

@@ -6,7 +6,7 @@ use mathlib.Core.Option.{Option, some, none}
 use Prim.Native.Nat.{ℕ, suc, _+_, _%_, _^_, _≤_, _<_}
 use native.Mathlib.Omega.{arith}
 use lib.Dec.{leb, eqb}
-use borrow.Author.Tests.{leb-true, eqb-true}
+use borrow.Author.Tests.{leb-true, eqb-true, not-false}
 use lib.ListN.{length, take, drop, getElem?, length-append, length-map}
 use Rattle.definition.specs.Base.{if_then_else_, _>>=_, _or_, _orElse_, given, keep, first, same, some?}
 use Rattle.definition.specs.Bits.{pad}
@@ -22,10 +22,13 @@ use Rattle.definition.specs.Task.{contextOf, keptTasks, isElapsed}
 use Rattle.definition.specs.Calendar.{Named, baseOf, withUid, build, builtCalendars, mainCalendar, calendarElements, calendarOf, renamed, free, defaultCalendar, elapsedCalendar}
 use Rattle.laws.specs.Bools.{both}
 use Rattle.laws.specs.Each.{Each, empty, next, each-append, each-front}
+use Rattle.laws.specs.Formats.{fills-whole}
+use Rattle.bits.specs.Clear.{cleared}
 use Rattle.bits.specs.Places.{at, place, inside, room-fits}
 use Rattle.bits.specs.Reads.{Reads, rest-in}
 use Rattle.bits.specs.Steps.{Puts, put-same, put-no, put-more}
 use Rattle.bits.specs.declared.Place.{Place}
+use Rattle.index.specs.Below.{SameBelow, below-then}
 use Rattle.model.specs.Parts.{calendarParts, raw, textBy}
 use Rattle.model.specs.Places.{CalendarAt}
 use Rattle.model.specs.Splits.{split-⊗}
@@ -34,25 +37,33 @@ use Rattle.model.specs.declared.records.Kind.the-variants.{Calendars}
 use Rattle.pack.specs.Value.{starredBy}
 use Rattle.pack.specs.Writes.{Writes, WritesIf, noRecords, put-any, writes-if, writes-not}
 use Rattle.pack.specs.declared.record.Records.{Records}
-use Rattle.rows.specs.Rows.{inOrder, mainIn, calendarMeaning, withUidIn}
+use Rattle.rows.specs.Rows.{inOrder, mainIn, calendarMeaning}
 use Rattle.rows.specs.declared.CalendarAnswer.{CalendarAnswer}
 use Rattle.rows.specs.declared.CalendarAnswer.the-variants.{Is, Absent}
 use Rattle.names.specs.Context.{wantedName}
+use Rattle.names.specs.Cleared.{below-cleared, cleared-below, below-less}
+use Rattle.names.specs.Ids.{idsFor, begun, endIds, notedBy, starredIn, placeIn}
+use Rattle.names.specs.Lent.{NotedIn, begun-open, begun-behind, begun-before, begun-noted, begun-same, stars-free, place-is, noted-below, notes-below, noted-row}
+use Rattle.names.specs.Sought.{uids-kept, uids-find, uids-behind, uids-below}
 use Rattle.names.specs.Texts.{textsAt, placeOfRow}
+use Rattle.names.specs.Uids.{MakesUids, calendarBy}
+use Rattle.names.specs.declared.ids.IdsMade.{IdsMade}
+use Rattle.names.specs.declared.uids.CalendarTable.{CalendarTable}
 use Rattle.laws.specs.FitLists.{each-keep}
 use Rattle.laws.specs.FitRecords.{Short, FitsCalendarBy, CalendarParts, good-calendar-parts}
 use Rattle.laws.specs.FitTrees.{Small, holds-calendars, slim-texts}
 use Rattle.laws.specs.FitNames.{Distinct, calendarsIn, namesIn, keep-both, built-distinct, names-are, others}
 use Rattle.laws.specs.FitCalendars.{FitsNamedBy, fit-build}
 use Rattle.names.specs.Kept.{There, there-at, there-inside, there-split, there-reads, reads-there}
-use Rattle.names.specs.Records.{calendarFields, plainCalendars, plain-calendars, good-raw, parted, calendars-lie, Lies, row-reads, texts-calendars}
+use Rattle.names.specs.Records.{calendarFields, same-calendars, front-calendars, plainCalendars, plain-calendars, good-raw, parted, calendars-lie, Lies, row-reads, texts-calendars}
 use Rattle.calendars.specs.declared.base.Base.{Base}
+use Rattle.calendars.specs.declared.built.Tables.{Tables}
 use Rattle.calendars.specs.declared.base.Base.the-variants.{At, Default}
 use Rattle.calendars.specs.Base.{Based, BaseIs}
 use Rattle.calendars.specs.Record.{PutsCalendar}
 use Rattle.calendars.proofs.Orders.{get-out, get-in, built-in-order, built-more, made, of-length, found-base, base-given, no-base, main-row, main-none}
 use Rattle.calendars.proofs.Turning.{put-times}
-use Rattle.calendars.specs.Built.{Stand, builtOf, rowOr, foundOr, Finds, BaseFound, baseIn, BaseIn, Adds, AddsAll, orDefault, AddsDefault, PutsBuilt, turned, TurnsMain, elapsedIn, AddsElapsed}
+use Rattle.calendars.specs.Built.{Stand, builtOf, rowOr, foundOr, Finds, BaseFound, baseIn, BaseIn, Laid, Held, noneYet, Begins, Adds, AddsAll, orDefault, AddsDefault, PutsBuilt, turned, TurnsMain, elapsedIn, AddsElapsed}
 
 -- ---- what is built fits
 
@@ -90,50 +101,47 @@ row-based {r} {d} {m} {e} {q} {c} t le fit a =
     let (s4, s5) = split-⊗ here s3 (a .hours) in
     record { week = s2; hours = s4; lists = record { end = end; reads = s5; inner = inner; before = omega (arith, there-at y, le) } }
 
-module _ {start : Place} {count : ℕ} {d : List ℕ} where
+module _ {m : IdsMade} {start : Place} {count : ℕ} {d w : List ℕ} where
   -- a row that is not built
-  pub row-none : {row : ℕ} → count ≤ row → Finds (λ cs. rowOr cs row) start count d Default
+  pub row-none : {row : ℕ} → count ≤ row → Finds (λ cs. rowOr cs row) m start count d w Default
   unfolding BaseIs
-  row-none {row} le = record { finds = λ d₀ cs q fit s i. ap (λ (o : Option Calendar). o or defaultCalendar) (get-out cs row (omega (arith, s .counts))) }
+  row-none {row} le = record { finds = λ d₀ cs q noted fit s i. ap (λ (o : Option Calendar). o or defaultCalendar) (get-out cs row (omega (arith, s .counts))) }
 
   -- that of a row
-  pub row-at : {row : ℕ} {m : Place} {r : CalendarPlaces} → row < count → m ≡ placeOfRow Calendars d start row → CalendarAt d m r → Finds (λ cs. rowOr cs row) start count d (At r)
+  pub row-at : {row : ℕ} {p : Place} {r : CalendarPlaces} → row < count → p ≡ placeIn Calendars d start w m count row → CalendarAt d p r → Finds (λ cs. rowOr cs row) m start count d w (At r)
   unfolding BaseIs
-  row-at {row} {m} {r} lt em a = record {
-    finds = λ d₀ cs q fit s i.
+  row-at {row} {p} {r} lt em a = record {
+    finds = λ d₀ cs q noted fit s i.
         let (c, g) = get-in cs row (omega (arith, s .counts)) in
         let (us, vs, z, n) = parted cs row c g in
         let all : Lies plainCalendars (CalendarParts Short) d start (map calendarFields us ++ (calendarFields c ∷ map calendarFields vs)) q = rw (z, map-append calendarFields us (c ∷ vs)) at (calendars-lie (length cs) (s .puts) i fit) in
         let (e, h, ie, le) = row-reads plain-calendars (map calendarFields us) (calendarFields c) (map calendarFields vs) all in
-        let k : placeOfRow Calendars d start (length (map calendarFields us)) ≡ m = ap (placeOfRow Calendars d start) (length-map us calendarFields ∙ n) ∙ sym em in
+        let k : placeOfRow Calendars d start (length (map calendarFields us)) ≡ p = ap (placeOfRow Calendars d start) (length-map us calendarFields ∙ n) ∙ sym (em ∙ place-is noted row lt) in
         let (f, t) = reads-there (plain-calendars .good) h ie in
-        let w : rowOr cs row ≡ c = ap (λ (o : Option Calendar). o or defaultCalendar) g in
-        subst (λ c. Based r d q c) (sym w) (row-based (rw k at t) le f a);
+        let v : rowOr cs row ≡ c = ap (λ (o : Option Calendar). o or defaultCalendar) g in
+        subst (λ c. Based r d q c) (sym v) (row-based (rw k at t) le f a);
   }
 
-  pub base-absent : BaseFound Absent start count d Default
+  pub base-absent : BaseFound Absent m start count d w Default
   unfolding BaseIs
-  base-absent = record { finds = λ d₀ cs q fit s i. refl }
+  base-absent = record { finds = λ d₀ cs q noted fit s i. refl }
 
-module _ (root e : Element) (start : Place) (count : ℕ) (d : List ℕ) where
-  pub base-none : given (baseOf e) ≡ false → BaseIn root e start count d Default
+module _ (s : Text) (root e : Element) (t : Tables) (start : Place) (count : ℕ) (d w : List ℕ) where
+  pub base-none : given (baseOf e) ≡ false → BaseIn s root e t start count d w Default
   unfolding BaseIs
-  base-none h = record { finds = λ d₀ done todo q z fit st i. ap (λ (o : Option Text). (o >>= λ u. withUid u (build [] done)) or defaultCalendar) (no-base e h) }
+  base-none h = record { finds = λ d₀ done todo q z f noted fit st i. ap (λ (o : Option Text). (o >>= λ u. withUid u (build [] done)) or defaultCalendar) (no-base e h) }
 
-pub base-found : (s : Text) {root e : Element} {start : Place} {count : ℕ} {d : List ℕ} {b : Base} → given (baseOf e) ≡ true → (found : CalendarAnswer) → calendarMeaning s found ≡ withUidIn root (textIn e "BaseCalendarUID" or [])
-    → BaseFound found start count d b → BaseIn root e start count d b
-base-found s {root} {e} {start} {count} {d} {b} g found m h = record {
-  finds = λ d₀ done todo q z fit st i.
-      let u = textIn e "BaseCalendarUID" or [] in
-      let w : baseIn done e ≡ foundOr (builtOf done) found =
-      ap (λ (o : Option Text). (o >>= λ u. withUid u (build [] done)) or defaultCalendar) (base-given e g) ∙ found-base s root u done todo z found m in
-      subst (λ c. BaseIs b d q c) (sym w) (h .finds d₀ (builtOf done) q fit st i);
+pub base-found : (s : Text) {root e : Element} {t : Tables} {start : Place} {count : ℕ} {d w : List ℕ} {b : Base} → given (baseOf e) ≡ true → (found : CalendarAnswer) {u : Text} → u ≡ (textIn e "BaseCalendarUID" or [])
+    → calendarMeaning s found ≡ calendarBy s root w (t .uids) u → BaseFound found (t .names) start count d w b → BaseIn s root e t start count d w b
+base-found s {root} {e} {t} {start} {count} {d} {w} {b} g found {u} j m h = record {
+  finds = λ d₀ done todo q z f noted fit st i.
+      let v = textIn e "BaseCalendarUID" or [] in
+      let y : baseIn done e ≡ foundOr (builtOf done) found =
+      ap (λ (o : Option Text). (o >>= λ u. withUid u (build [] done)) or defaultCalendar) (base-given e g) ∙ found-base s root v done todo z found (m ∙ ap (calendarBy s root w (t .uids)) j ∙ f .found v) in
+      subst (λ c. BaseIs b d q c) (sym y) (h .finds d₀ (builtOf done) q noted fit st i);
 }
 
 -- ---- one more
-
-pub stars-as : {v w : Text} (r : ℕ) (names : List Text) → w ≡ v → starredBy w r ≡ free names w → starredBy v r ≡ free names v
-stars-as r names e h = subst (λ t. starredBy t r ≡ free names t) e h
 
 stand-more : {cs : List Calendar} {d₀ : List ℕ} {start : Place} {d : List ℕ} {r : Records} {c : Calendar} {d' : List ℕ} {r' : Records} → Stand cs d₀ start d r → Puts (whole calendar) c d (r .next) d' (r' .next)
     → r' .count ≡ r .count + 1 → Stand (cs ++ (c ∷ [])) d₀ start d' r'
@@ -142,63 +150,130 @@ stand-more {cs} {c = c} s x n = record {
   counts = n ∙ ap (λ (k : ℕ). k + 1) (s .counts) ∙ sym (length-append cs (c ∷ []));
 }
 
-pub adds-one : {root e : Element} {start : Place} {d : List ℕ} {r : Records} (stars : ℕ) {b : Base} {d' : List ℕ} {r' : Records} → starredBy (wantedName e) stars ≡ free (textsAt Calendars d start (r .count)) (wantedName e)
-    → BaseIn root e start (r .count) d b → PutsCalendar e stars b d (r .next) d' (r' .next) → r' .count ≡ (r .count + 1) % 2 ^ 32 → Adds root (e ∷ []) start d r d' r'
-unfolding calendarOf
-adds-one {root} {e} {start} {d} {r} stars {b} {d'} {r'} st base put n = record {
-  adds = λ small few d₀ done todo z s.
-      let fit = fits-done root done ((e ∷ []) ++ todo) small few z in
-      let len = of-length done in
-      let k : length done ≤ 5000000 = omega (arith, ap length z ∙ length-append done ((e ∷ []) ++ todo)) in
-      let up : r' .count ≡ r .count + 1 = n ∙ omega (arith, s .counts) in
-      rw (built-more done e) (stand-more s (next-put done todo z fit s (inside (length d) (r .next)) refl) up);
-}
-  where
-    next-put : {d₀ : List ℕ} (done todo : List Element) → inOrder root ≡ done ++ ((e ∷ []) ++ todo) → Each (FitsCalendarBy Short) (builtOf done) → Stand (builtOf done) d₀ start d r → (t : Bool) → inside (length d) (r .next) ≡ t
-        → Puts (whole calendar) (made done e) d (r .next) d' (r' .next)
-    next-put done todo z fit s false i = put-any (made done e) i (put .puts (baseIn done e) (λ j. absurd (true≢false (sym j ∙ i))))
-    next-put {d₀} done todo z fit s true i =
-        let c = baseIn done e in
-        let names : textsAt Calendars d start (r .count) ≡ namesIn (build [] done) = ap (textsAt Calendars d start) (s .counts) ∙ texts-calendars (length (builtOf done)) (s .puts) i fit ∙ names-are (build [] done) in
-        let n : starredBy (wantedName e) stars ≡ free (namesIn (build [] done)) (wantedName e) = st ∙ ap (λ (l : List Text). free l (wantedName e)) names in
-        put-same (ap (λ (t : Text). renamed t (calendarOf e c)) n) (put .puts c (λ j. base .finds d₀ done ((e ∷ []) ++ todo) (r .next) z fit s i))
+-- the elements so far and the next one
+record Turn (s : Text) (root e : Element) (t : Tables) (start : Place) (d w : List ℕ) (r : Records) (d₀ : List ℕ) (done todo : List Element) : Type 0 where
+  small : Small root
+  few : length (inOrder root) ≤ mostElements
+  laid : Laid t
+  order : inOrder root ≡ done ++ ((e ∷ []) ++ todo)
+  held : Held s root t start d w r
+  stand : Stand (builtOf done) d₀ start d r
+
+module _ {s : Text} {root e : Element} {t : Tables} {start : Place} {d w : List ℕ} {r : Records} (stars : ℕ) {b : Base} {d' : List ℕ} {q : Place}
+    (st : starredBy (wantedName e) stars ≡ starredIn Calendars d start (r .next) w (t .names) (r .count) (wantedName e)) (base : BaseIn s root e t start (r .count) d w b) (put : PutsCalendar e stars b d (r .next) d' q) where
+  module _ {d₀ : List ℕ} {done todo : List Element} (x : Turn s root e t start d w r d₀ done todo) where
+    fits-now : Each (FitsCalendarBy Short) (builtOf done)
+    fits-now = fits-done root done ((e ∷ []) ++ todo) (x .small) (x .few) (x .order)
+
+    few-done : length done ≤ 4999999
+    few-done = omega (arith, ap length (x .order) ∙ length-append done ((e ∷ []) ++ todo), length-append (e ∷ []) todo, x .few)
+
+    module _ (i : inside (length d) (r .next) ≡ true) where
+      names-are-now : textsAt Calendars d start (length (builtOf done)) ≡ namesIn (build [] done)
+      names-are-now = texts-calendars (length (builtOf done)) (x .stand .puts) i fits-now ∙ names-are (build [] done)
+
+      noted-now : NotedIn Calendars (t .names) d start w (length (builtOf done))
+      noted-now = rw (x .stand .counts) at (x .held .noted i)
+
+      free-now : starredBy (wantedName e) stars ≡ free (textsAt Calendars d start (length (builtOf done))) (wantedName e)
+      free-now = rw (x .stand .counts) at st ∙ stars-free noted-now (r .next) i (wantedName e)
+
+      name-now : free (namesIn (build [] done)) (wantedName e) ≡ starredBy (wantedName e) stars
+      name-now = sym (free-now ∙ ap (λ (l : List Text). free l (wantedName e)) names-are-now)
+
+    next-put : Puts (whole calendar) (made done e) d (r .next) d' q
+    unfolding calendarOf
+    next-put = by (inside (length d) (r .next)) refl
+      where
+        by : (b : Bool) → inside (length d) (r .next) ≡ b → Puts (whole calendar) (made done e) d (r .next) d' q
+        by false i = put-any (made done e) i (put .puts (baseIn done e) (λ j. absurd (true≢false (sym j ∙ i))))
+        by true i =
+            let c = baseIn done e in
+            put-same (ap (λ (n : Text). renamed n (calendarOf e c)) (sym (name-now i))) (put .puts c (λ j. base .finds d₀ done ((e ∷ []) ++ todo) (r .next) (x .order) (x .held .found) (x .held .noted i) fits-now (x .stand) i))
+
+    fits-next : Each (FitsCalendarBy Short) (builtOf done ++ (made done e ∷ []))
+    fits-next = rw (built-more done e) at (fits-done root (done ++ (e ∷ [])) todo (x .small) (x .few) (x .order ∙ sym (append-assoc done (e ∷ []) todo)))
+
+    name-made : made done e .name ≡ free (namesIn (build [] done)) (wantedName e)
+    unfolding calendarOf
+    name-made = refl
+
+    -- the words after it
+    module _ (w₁ : List ℕ) {w₂ : List ℕ} {r' : Records} (free-words : cleared (t .from) w₁ ≡ cleared (t .from) w) (notes : w₂ ≡ notedBy w₁ (t .names) (r .count) (wantedName e) stars (r .next .byte % 2 ^ 32)) (n : r' .count ≡ (r .count + 1) % 2 ^ 32)
+        (z : r' .next ≡ q) where
+      count-next : r' .count ≡ length (builtOf done) + 1
+      count-next = n ∙ omega (arith, x .stand .counts, of-length done, few-done)
+
+      stand-next : Stand (builtOf (done ++ (e ∷ []))) d₀ start d' r'
+      stand-next = rw (built-more done e) (stand-more (x .stand) (rw z next-put) (count-next ∙ ap (λ (k : ℕ). k + 1) (sym (x .stand .counts))))
+
+      below-first : SameBelow (t .from) w w₁
+      below-first = below-cleared free-words
+
+      held-next : Held s root t start d' w₂ r'
+      held-next = record {
+        found = uids-kept (below-then (below-less (x .laid .uids) below-first) (rw notes (notes-below w₁ (t .names) (r .count) (wantedName e) stars (r .next .byte % 2 ^ 32) (x .laid .behind)))) (x .held .found);
+        opened = rw (next-put .step .same) (x .held .opened);
+        noted = λ there.
+            rw count-next
+            (noted-row (whole calendar) plain-calendars front-calendars calendarFields same-calendars (fills-whole calendar) (x .held .opened) (λ i. noted-below (x .laid .before) below-first (noted-now i)) fits-next
+            (length (builtOf done)) (x .stand .puts) next-put (wantedName e) stars (λ i. (free-now i, name-made ∙ name-now i)) (rw (x .stand .counts) at notes) (rw z at there));
+      }
+
+  pub adds-one : (w₁ : List ℕ) {w₂ : List ℕ} {r' : Records} → cleared (t .from) w₁ ≡ cleared (t .from) w → w₂ ≡ notedBy w₁ (t .names) (r .count) (wantedName e) stars (r .next .byte % 2 ^ 32) → r' .count ≡ (r .count + 1) % 2 ^ 32
+      → r' .next ≡ q → Adds s root (e ∷ []) t start d w r d' w₂ r'
+  adds-one w₁ c notes n z = record {
+    adds = λ small few laid d₀ done todo o held stand.
+        let x : Turn s root e t start d w r d₀ done todo = record { small = small; few = few; laid = laid; order = o; held = held; stand = stand } in
+        (stand-next x w₁ c notes n z, held-next x w₁ c notes n z);
+    keeps = λ at (a, b). ap (cleared at) notes ∙ cleared-below (notes-below w₁ (t .names) (r .count) (wantedName e) stars (r .next .byte % 2 ^ 32) b) ∙ cleared-below (below-less a (below-cleared c));
+  }
+
+-- as the callees say it, about the text that was asked for
+pub adds-said : {s : Text} {root e : Element} {t : Tables} {start : Place} {d w : List ℕ} {r : Records} (stars : ℕ) {b : Base} {d' : List ℕ} {q : Place} {name : Text} → name ≡ wantedName e
+    → starredBy name stars ≡ starredIn Calendars d start (r .next) w (t .names) (r .count) name → BaseIn s root e t start (r .count) d w b → PutsCalendar e stars b d (r .next) d' q
+    → (w₁ : List ℕ) {w₂ : List ℕ} {r' : Records} → cleared (t .from) w₁ ≡ cleared (t .from) w → w₂ ≡ notedBy w₁ (t .names) (r .count) name stars (r .next .byte % 2 ^ 32) → r' .count ≡ (r .count + 1) % 2 ^ 32 → r' .next ≡ q
+    → Adds s root (e ∷ []) t start d w r d' w₂ r'
+adds-said {t = t} {start} {d} {w} {r} stars i st base put w₁ c notes n z =
+    adds-one stars (subst (λ (u : Text). starredBy u stars ≡ starredIn Calendars d start (r .next) w (t .names) (r .count) u) i st) base put w₁ c
+    (notes ∙ ap (λ (u : Text). notedBy w₁ (t .names) (r .count) u stars (r .next .byte % 2 ^ 32)) i) n z
 
 -- ---- one after another
 
-pub adds-none : (root : Element) (start : Place) (d : List ℕ) (r : Records) → Adds root [] start d r d r
-adds-none root start d r = record { adds = λ small few d₀ done todo z s. rw (append-nil done) s }
+pub adds-none : (s : Text) (root : Element) (t : Tables) (start : Place) (d w : List ℕ) (r : Records) → Adds s root [] t start d w r d w r
+adds-none s root t start d w r = record { adds = λ small few laid d₀ done todo z h st. rw (append-nil done) (st, h); keeps = λ at h. refl }
 
-module _ {root : Element} {start : Place} {d : List ℕ} {r : Records} {d' : List ℕ} {r' : Records} where
-  pub adds-as : {xs ys : List Element} → xs ≡ ys → Adds root xs start d r d' r' → Adds root ys start d r d' r'
-  adds-as e h = subst (λ zs. Adds root zs start d r d' r') e h
-
-  pub adds-both : (xs ys : List Element) {d'' : List ℕ} {r'' : Records} → Adds root xs start d r d' r' → Adds root ys start d' r' d'' r'' → Adds root (xs ++ ys) start d r d'' r''
+module _ {s : Text} {root : Element} {t : Tables} {start : Place} {d w : List ℕ} {r : Records} {d' w' : List ℕ} {r' : Records} where
+  pub adds-both : (xs ys : List Element) {d'' w'' : List ℕ} {r'' : Records} → Adds s root xs t start d w r d' w' r' → Adds s root ys t start d' w' r' d'' w'' r'' → Adds s root (xs ++ ys) t start d w r d'' w'' r''
   adds-both xs ys h i = record {
-    adds = λ small few d₀ done todo z s.
-        let a = h .adds small few d₀ done (ys ++ todo) (z ∙ ap (λ (l : List Element). done ++ l) (append-assoc xs ys todo)) s in
-        let b = i .adds small few d₀ (done ++ xs) todo (z ∙ ap (λ (l : List Element). done ++ l) (append-assoc xs ys todo) ∙ sym (append-assoc done xs (ys ++ todo))) a in
-        rw (← append-assoc done xs ys) b;
+    adds = λ small few laid d₀ done todo z held st.
+        let (a, b) = h .adds small few laid d₀ done (ys ++ todo) (z ∙ ap (λ (l : List Element). done ++ l) (append-assoc xs ys todo)) held st in
+        let c = i .adds small few laid d₀ (done ++ xs) todo (z ∙ ap (λ (l : List Element). done ++ l) (append-assoc xs ys todo) ∙ sym (append-assoc done xs (ys ++ todo))) b a in
+        rw (← append-assoc done xs ys) c;
+    keeps = λ at l. i .keeps at l ∙ h .keeps at l;
   }
 
 -- what is built so far, and what is left of the order
-pub record Sofar (root : Element) (start : Place) (d₀ : List ℕ) (left : List Element) (d : List ℕ) (r : Records) : Type 0 where
+pub record Sofar (s : Text) (root : Element) (t : Tables) (start : Place) (d₀ w₀ : List ℕ) (left : List Element) (d w : List ℕ) (r : Records) : Type 0 where
   done : List Element
   is : inOrder root ≡ done ++ left
-  adds : Adds root done start d₀ record { count = 0; next = start } d r
+  adds : Adds s root done t start d₀ w₀ (noneYet start) d w r
 
-module _ {root : Element} {start : Place} {d₀ : List ℕ} where
-  pub sofar-none : {left : List Element} → inOrder root ≡ left → Sofar root start d₀ left d₀ record { count = 0; next = start }
-  sofar-none e = record { done = []; is = e; adds = adds-none root start d₀ record { count = 0; next = start } }
+module _ {s : Text} {root : Element} {t : Tables} {start : Place} {d₀ w₀ : List ℕ} where
+  pub sofar-none : {left : List Element} → inOrder root ≡ left → Sofar s root t start d₀ w₀ left d₀ w₀ (noneYet start)
+  sofar-none e = record { done = []; is = e; adds = adds-none s root t start d₀ w₀ (noneYet start) }
 
-  pub sofar-more : {all : List Element} {e : Element} {left : List Element} {d : List ℕ} {r : Records} {d' : List ℕ} {r' : Records} → all ≡ e ∷ left → Sofar root start d₀ all d r → Adds root (e ∷ []) start d r d' r' → Sofar root start d₀ left d' r'
-  sofar-more {e = e} {left} z s a = record { done = s .done ++ (e ∷ []); is = s .is ∙ ap (λ (l : List Element). s .done ++ l) z ∙ sym (append-assoc (s .done) (e ∷ []) left); adds = adds-both (s .done) (e ∷ []) (s .adds) a }
+  pub sofar-more : {all : List Element} {e : Element} {left : List Element} {d w : List ℕ} {r : Records} {d' w' : List ℕ} {r' : Records} → all ≡ e ∷ left → Sofar s root t start d₀ w₀ all d w r → Adds s root (e ∷ []) t start d w r d' w' r'
+      → Sofar s root t start d₀ w₀ left d' w' r'
+  sofar-more {e = e} {left} z x a = record { done = x .done ++ (e ∷ []); is = x .is ∙ ap (λ (l : List Element). x .done ++ l) z ∙ sym (append-assoc (x .done) (e ∷ []) left); adds = adds-both (x .done) (e ∷ []) (x .adds) a }
 
-  pub sofar-all : {left : List Element} {d : List ℕ} {r : Records} → left ≡ [] → Sofar root start d₀ left d r → AddsAll root start d₀ d r
+  pub sofar-all : {left : List Element} {d w : List ℕ} {r : Records} → left ≡ [] → Sofar s root t start d₀ w₀ left d w r → AddsAll s root t start d₀ w₀ d w r
   unfolding build
-  sofar-all z s = record {
-    adds = λ small few.
-        let e : inOrder root ≡ s .done = s .is ∙ ap (λ (l : List Element). s .done ++ l) z ∙ append-nil (s .done) in
-        rw e (s .adds .adds small few d₀ [] [] (e ∙ sym (append-nil (s .done))) (record { puts = put-no 0 (whole calendar) d₀ start; counts = refl }));
+  sofar-all z x = record {
+    adds = λ small few laid held.
+        let e : inOrder root ≡ x .done = x .is ∙ ap (λ (l : List Element). x .done ++ l) z ∙ append-nil (x .done) in
+        rw e (x .adds .adds small few laid d₀ [] [] (e ∙ sym (append-nil (x .done))) held (record { puts = put-no 0 (whole calendar) d₀ start; counts = refl }) .0);
+    keeps = x .adds .keeps;
   }
 
 -- ---- the default one
@@ -217,8 +292,31 @@ default-put {d} {r} {d'} {q} h x = record { adds = λ d₀ start cs s. by-list c
     by-list [] s = stand-more s x (omega arith)
     by-list (c ∷ cs) s = absurd (omega (arith, s .counts))
 
-pub built-put : {root : Element} {d : List ℕ} {p : Place} {d1 : List ℕ} {r1 : Records} {d2 : List ℕ} {r2 : Records} → AddsAll root p d d1 r1 → AddsDefault d1 r1 d2 r2 → PutsBuilt root d p d2 r2
-built-put {root} {d} {p} a f = record { stand = λ small few. rw (built-in-order root) (f .adds d p (builtOf (inOrder root)) (a .adds small few)) }
+-- the tables, before the first one
+pub tables-begin : {s : Text} {root : Element} {d : List ℕ} {start : Place} {at : ℕ} {w w₁ w₂ : List ℕ} {u : CalendarTable} {m : IdsMade} (rows : ℕ) {from : ℕ} → MakesUids s root at w w₁ u
+    → (m ≡ idsFor (length d) start (length w₁) (u .end) rows) × (w₂ ≡ begun w₁ m) → from ≡ endIds m (u .end) (length w₂) → Begins s root d start at w w₂ (record { uids = u .table; names = m; from = from })
+tables-begin {d = d} {start} {w = w} {w₁} {w₂} {u} {m} rows i (j, v) z =
+    let (first, end) = uids-behind i in
+    let behind = begun-behind (length d) start w₁ (u .end) rows j in
+    let ids : SameBelow (u .end) w₁ w₂ = rw v (begun-same (length d) start w₁ (u .end) rows j (λ l h. omega arith)) in
+    let (upto, before) = begun-before (length d) start w₁ (u .end) rows j (z ∙ ap (endIds m (u .end)) (ids .long)) in
+    record {
+      laid = record { uids = omega arith; behind = λ l h. let (a, b) = behind l h in (omega arith, omega arith); before = before };
+      held = record {
+        found = uids-kept (below-less end ids) (uids-find i);
+        opened = begun-open (length d) start w₁ (u .end) rows j;
+        noted = λ there. rw v (begun-noted (length d) start w₁ (u .end) rows j Calendars d);
+      };
+      from = (omega arith, λ l h. let (a, b) = behind l h in (omega arith, omega arith));
+      keeps = cleared-below (below-less first ids) ∙ cleared-below (uids-below i);
+    }
+
+pub built-put : {s : Text} {root : Element} {t : Tables} {at : ℕ} {d : List ℕ} {p : Place} {w w1 w2 d1 : List ℕ} {r1 : Records} {d2 : List ℕ} {r2 : Records} → Begins s root d p at w w1 t → AddsAll s root t p d w1 d1 w2 r1 → AddsDefault d1 r1 d2 r2
+    → PutsBuilt root d p d2 r2 × (cleared at w2 ≡ cleared at w)
+built-put {root = root} {at = at} {d} {p} b a f = (
+  record { stand = λ small few. rw (built-in-order root) (f .adds d p (builtOf (inOrder root)) (a .adds small few (b .laid) (b .held))) },
+  a .keeps at (b .from) ∙ b .keeps,
+)
 
 -- ---- the main one first
 
@@ -276,6 +374,9 @@ elapsed-length root = by-test (some? isElapsed (keptTasks root))
     by-test false = omega arith
 
 -- ---- the whole
+
+pub few-counted : (n : ℕ) (b : Bool) → not (leb n 5000000 && b) ≡ false → n ≤ 5000000
+few-counted n b h = leb-true n 5000000 (both (leb n 5000000) b (not-false _ h) .0)
 
 pub calendars-written : (s : Text) (root : Element) (found : CalendarAnswer) → calendarMeaning s found ≡ mainIn root → Small root → length (calendarElements root) ≤ mostElements → {d : List ℕ} {p : Place} {d1 : List ℕ} {r : Records} {d2 d3 : List ℕ} {r' : Records}
     → p .bit % 8 ≡ 0 → PutsBuilt root d p d1 r → TurnsMain found p d1 d2 → AddsElapsed root d2 r d3 r' → Writes (whole calendar) (calendarsOf (contextOf root)) d p d3 r'

@@ -6,6 +6,7 @@ use mathlib.Core.Option.{some}
 use Prim.Native.Nat.{ℕ, suc, _%_, _≤_}
 use lib.ListN.{length, take, drop, getElem?}
 use Rattle.definition.specs.Base.{if_then_else_, _>>=_, _or_, some?}
+use Rattle.definition.specs.Text.{Text}
 use Rattle.definition.specs.Tree.{Element}
 use Rattle.definition.specs.Format.{times, whole}
 use Rattle.definition.specs.Model.{Calendar}
@@ -17,14 +18,20 @@ use Rattle.laws.specs.Each.{Each}
 use Rattle.laws.specs.FitRecords.{Short, FitsCalendarBy}
 use Rattle.laws.specs.FitTrees.{Small}
 use Rattle.laws.specs.FitNames.{calendarsIn}
+use Rattle.bits.specs.Clear.{cleared}
 use Rattle.bits.specs.Places.{inside}
 use Rattle.bits.specs.Steps.{Puts}
 use Rattle.bits.specs.declared.Place.{Place}
+use Rattle.model.specs.declared.records.Kind.the-variants.{Calendars}
+use Rattle.names.specs.Lent.{OpenIn, NotedIn, Behind, Before}
+use Rattle.names.specs.Sought.{endNames, FindsUids}
+use Rattle.names.specs.declared.ids.IdsMade.{IdsMade}
 use Rattle.pack.specs.declared.record.Records.{Records}
 use Rattle.rows.specs.Rows.{inOrder}
 use Rattle.rows.specs.declared.CalendarAnswer.{CalendarAnswer}
 use Rattle.rows.specs.declared.CalendarAnswer.the-variants.{Is, Absent}
 use Rattle.calendars.specs.declared.base.Base.{Base}
+use Rattle.calendars.specs.declared.built.Tables.{Tables}
 use Rattle.calendars.specs.Base.{BaseIs}
 
 -- calendars stand from a place on, one after another, up to q; so many
@@ -46,33 +53,62 @@ abbrev pub foundOr : List Calendar → CalendarAnswer → Calendar
 foundOr cs (Is row at) = rowOr cs row
 foundOr cs Absent = defaultCalendar
 
--- a base that stands in the buffer before the place behind all
-pub record Finds (pick : List Calendar → Calendar) (start : Place) (count : ℕ) (d : List ℕ) (b : Base) : Type 0 where
-  pub finds : (d₀ : List ℕ) (cs : List Calendar) (q : Place) → Each (FitsCalendarBy Short) cs → Stand cs d₀ start d record { count = count; next = q } → inside (length d) q ≡ true → BaseIs b d q (pick cs)
+-- a base that stands in the buffer before the place behind all, where the names so far are noted
+pub record Finds (pick : List Calendar → Calendar) (m : IdsMade) (start : Place) (count : ℕ) (d w : List ℕ) (b : Base) : Type 0 where
+  pub finds : (d₀ : List ℕ) (cs : List Calendar) (q : Place) → NotedIn Calendars m d start w count → Each (FitsCalendarBy Short) cs → Stand cs d₀ start d record { count = count; next = q } → inside (length d) q ≡ true → BaseIs b d q (pick cs)
 
-abbrev pub AtRow : ℕ → Place → ℕ → List ℕ → Base → Type 0
+abbrev pub AtRow : ℕ → IdsMade → Place → ℕ → List ℕ → List ℕ → Base → Type 0
 AtRow row = Finds (λ cs. rowOr cs row)
 
-abbrev pub BaseFound : CalendarAnswer → Place → ℕ → List ℕ → Base → Type 0
+abbrev pub BaseFound : CalendarAnswer → IdsMade → Place → ℕ → List ℕ → List ℕ → Base → Type 0
 BaseFound found = Finds (λ cs. foundOr cs found)
 
 abbrev pub baseIn : List Element → Element → Calendar
 baseIn done e = (baseOf e >>= λ u. withUid u (build [] done)) or defaultCalendar
 
-pub record BaseIn (root e : Element) (start : Place) (count : ℕ) (d : List ℕ) (b : Base) : Type 0 where
-  pub finds : (d₀ : List ℕ) (done todo : List Element) (q : Place) → inOrder root ≡ done ++ todo → Each (FitsCalendarBy Short) (builtOf done)
-      → Stand (builtOf done) d₀ start d record { count = count; next = q } → inside (length d) q ≡ true → BaseIs b d q (baseIn done e)
+pub record BaseIn (s : Text) (root e : Element) (t : Tables) (start : Place) (count : ℕ) (d w : List ℕ) (b : Base) : Type 0 where
+  pub finds : (d₀ : List ℕ) (done todo : List Element) (q : Place) → inOrder root ≡ done ++ todo → FindsUids s root (t .uids) w → NotedIn Calendars (t .names) d start w count
+      → Each (FitsCalendarBy Short) (builtOf done) → Stand (builtOf done) d₀ start d record { count = count; next = q } → inside (length d) q ≡ true → BaseIs b d q (baseIn done e)
+
+-- ---- the words
+
+-- the tables stand one behind the other, before the words that are free
+pub record Laid (t : Tables) : Type 0 where
+  pub uids : endNames (t .uids) ≤ t .from
+  pub behind : Behind (endNames (t .uids)) (t .names)
+  pub before : Before (t .names) (t .from)
+
+-- they find each UID, and those so far are noted where they fitted
+pub record Held (s : Text) (root : Element) (t : Tables) (start : Place) (d w : List ℕ) (r : Records) : Type 0 where
+  pub found : FindsUids s root (t .uids) w
+  pub opened : OpenIn (t .names) start (length d)
+  pub noted : inside (length d) (r .next) ≡ true → NotedIn Calendars (t .names) d start w (r .count)
+
+-- the words from a place on
+abbrev pub From : ℕ → Tables → Type 0
+From at t = (at ≤ t .from) × Behind at (t .names)
+
+abbrev pub noneYet : Place → Records
+noneYet start = record { count = 0; next = start }
+
+pub record Begins (s : Text) (root : Element) (d : List ℕ) (start : Place) (at : ℕ) (w w' : List ℕ) (t : Tables) : Type 0 where
+  pub laid : Laid t
+  pub held : Held s root t start d w' (noneYet start)
+  pub from : From at t
+  pub keeps : cleared at w' ≡ cleared at w
 
 -- ---- one after another
 
 -- elements were built behind those that were, wherever these were begun
-pub record Adds (root : Element) (es : List Element) (start : Place) (d : List ℕ) (r : Records) (d' : List ℕ) (r' : Records) : Type 0 where
-  pub adds : Small root → length (inOrder root) ≤ mostElements → (d₀ : List ℕ) (done todo : List Element) → inOrder root ≡ done ++ (es ++ todo)
-      → Stand (builtOf done) d₀ start d r → Stand (builtOf (done ++ es)) d₀ start d' r'
+pub record Adds (s : Text) (root : Element) (es : List Element) (t : Tables) (start : Place) (d w : List ℕ) (r : Records) (d' w' : List ℕ) (r' : Records) : Type 0 where
+  pub adds : Small root → length (inOrder root) ≤ mostElements → Laid t → (d₀ : List ℕ) (done todo : List Element) → inOrder root ≡ done ++ (es ++ todo)
+      → Held s root t start d w r → Stand (builtOf done) d₀ start d r → Stand (builtOf (done ++ es)) d₀ start d' r' × Held s root t start d' w' r'
+  pub keeps : (at : ℕ) → From at t → cleared at w' ≡ cleared at w
 
 -- all of them
-pub record AddsAll (root : Element) (start : Place) (d : List ℕ) (d' : List ℕ) (r : Records) : Type 0 where
-  pub adds : Small root → length (inOrder root) ≤ mostElements → Stand (builtOf (inOrder root)) d start d' r
+pub record AddsAll (s : Text) (root : Element) (t : Tables) (start : Place) (d w d' w' : List ℕ) (r : Records) : Type 0 where
+  pub adds : Small root → length (inOrder root) ≤ mostElements → Laid t → Held s root t start d w (noneYet start) → Stand (builtOf (inOrder root)) d start d' r
+  pub keeps : (at : ℕ) → From at t → cleared at w' ≡ cleared at w
 
 -- the default one where there is none
 abbrev pub orDefault : List Calendar → List Calendar

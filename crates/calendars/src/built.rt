@@ -10,72 +10,105 @@ ghost use Rattle.definition.specs.Format.{whole};
 ghost use Rattle.definition.specs.Pack.{calendar};
 ghost use Rattle.definition.specs.Refusal.{mostElements};
 ghost use Rattle.definition.specs.Task.{contextOf};
-ghost use Rattle.definition.specs.Calendar.{calendarElements, free};
+ghost use Rattle.definition.specs.Calendar.{calendarElements};
 ghost use Rattle.definition.specs.Read.{calendarsOf};
 ghost use Rattle.tree.specs.Place.{elementAt};
 ghost use Rattle.tree.specs.Root.{rootAt};
-ghost use Rattle.names.specs.Context.{wantedName};
-ghost use Rattle.names.specs.Texts.{textsAt};
-ghost use Rattle.pack.specs.Value.{starredBy};
 ghost use Rattle.pack.specs.Writes.{WritesIf};
-ghost use Rattle.model.specs.declared.records.Kind.the-variants.{Calendars};
-ghost use Rattle.calendars.specs.Built.{AtRow, BaseFound, BaseIn, Adds, AddsAll, AddsDefault, PutsBuilt, Turns, TurnsMain, AddsElapsed};
+ghost use Rattle.calendars.specs.Built.{Begins, AtRow, BaseFound, BaseIn, Adds, AddsAll, AddsDefault, PutsBuilt, Turns, TurnsMain, AddsElapsed};
 use crate::base::Base;
 use crate::plain::put_default_calendar;
 use crate::plain::put_elapsed_calendar;
 use crate::record::put_calendar;
 use bits::PAST;
 use bits::Place;
+use index::Made;
 use model::records::Kind;
+use names::IdsMade;
 use pack::Records;
 use rows::CalendarAnswer;
 use tree::Found;
 use tree::Root;
 
-// ---- one more
+// ---- the section's words
 
-// How many `*` the name needs among those that were built.
-fn stars_of(out: &[u8], start: Place, count: u32, s: &[u8], at: usize) -> u32
-    ensures { λ r. ⌜ starredBy (wantedName (elementAt (now (s .entry)) at)) r ≡ free (textsAt Calendars (now (out .entry)) start count) (wantedName (elementAt (now (s .entry)) at)) ⌝ }
-{
-    names::free_stars(
-        out,
-        start,
-        Kind::Calendars,
-        count,
-        names::wanted_name(s, at, b"Calendar"),
-    )
+// The calendars by their UIDs, the names that are taken, and where the words behind them begin.
+pub(crate) struct Tables {
+    pub uids: Made,
+    pub names: IdsMade,
+    pub from: usize,
 }
 
+// In the words from a place on, each where there is room, for so many calendars from p on.
+fn tables_for(
+    out: &[u8],
+    p: Place,
+    s: &[u8],
+    root: Root,
+    words: &mut [u32],
+    at: usize,
+    rows: u32,
+) -> Tables
+    ensures { λ r. ⌜ Begins (now (s .entry)) (rootAt (now (s .entry)) root) (now (out .entry)) p at (now (words .entry)) (now (words .exit)) r ⌝ }
+{
+    let made = names::index_uids(s, root, words, at);
+    let uids = made.table;
+    let end = made.end;
+    let names = names::ids_for(out.len(), p, words, end, rows);
+    let from = names::end_of_ids(names, end, words.len());
+    Tables { uids, names, from }
+}
+
+// ---- one more
+
 // The calendar of a row, if it is built.
-fn base_at(out: &[u8], start: Place, count: u32, row: usize) -> Base
-    ensures { λ r. ⌜ AtRow row start count (now (out .entry)) r ⌝ }
+fn base_at(out: &[u8], start: Place, count: u32, words: &[u32], names: IdsMade, row: usize) -> Base
+    ensures { λ r. ⌜ AtRow row names start count (now (out .entry)) (now (words .entry)) r ⌝ }
 {
     if count as usize <= row {
         return Base::Default;
     }
-    let p = names::place_of_row(out, start, Kind::Calendars, row);
+    let p = names::place_in(out, Kind::Calendars, start, words, names, count, row as u32);
     Base::At(model::parts::calendar_places(out, p))
 }
 
-fn base_by(out: &[u8], start: Place, count: u32, found: CalendarAnswer) -> Base
-    ensures { λ r. ⌜ BaseFound found start count (now (out .entry)) r ⌝ }
+fn base_by(
+    out: &[u8],
+    start: Place,
+    count: u32,
+    words: &[u32],
+    names: IdsMade,
+    found: CalendarAnswer,
+) -> Base
+    ensures { λ r. ⌜ BaseFound found names start count (now (out .entry)) (now (words .entry)) r ⌝ }
 {
     match found {
-        CalendarAnswer::Is(row, _) => base_at(out, start, count, row),
+        CalendarAnswer::Is(row, _) => base_at(out, start, count, words, names, row),
         CalendarAnswer::Absent => Base::Default,
     }
 }
 
 // The first calendar with a UID that is built.
-fn base_of(out: &[u8], start: Place, count: u32, s: &[u8], root: Root, at: usize) -> Base
-    ensures { λ r. ⌜ BaseIn (rootAt (now (s .entry)) root) (elementAt (now (s .entry)) at) start count (now (out .entry)) r ⌝ }
+fn base_of(
+    out: &[u8],
+    start: Place,
+    count: u32,
+    s: &[u8],
+    root: Root,
+    at: usize,
+    words: &[u32],
+    tables: Tables,
+) -> Base
+    ensures { λ r. ⌜ BaseIn (now (s .entry)) (rootAt (now (s .entry)) root) (elementAt (now (s .entry)) at) tables start count (now (out .entry)) (now (words .entry)) r ⌝ }
 {
     if !calendar::has_base(s, at) {
         return Base::Default;
     }
-    let found = rows::calendar_with(s, root, tree::text_of(s, at, b"BaseCalendarUID"));
-    base_by(out, start, count, found)
+    let uids = tables.uids;
+    let names = tables.names;
+    let uid = tree::text_of(s, at, b"BaseCalendarUID");
+    let found = names::calendar_by(s, root, words, uids, uid);
+    base_by(out, start, count, words, names, found)
 }
 
 // One calendar more, behind those that were built from `start` on.
@@ -87,15 +120,20 @@ fn put_next(
     root: Root,
     at: usize,
     words: &mut [u32],
-    from: usize,
+    tables: Tables,
 ) -> Records
-    ensures { λ r. ⌜ Adds (rootAt (now (s .entry)) root) (elementAt (now (s .entry)) at ∷ []) start (now (out .entry)) done (now (out .exit)) r ⌝ ∗ ⌜ cleared from (now (words .exit)) ≡ cleared from (now (words .entry)) ⌝ }
+    ensures { λ r. ⌜ Adds (now (s .entry)) (rootAt (now (s .entry)) root) (elementAt (now (s .entry)) at ∷ []) tables start (now (out .entry)) (now (words .entry)) done (now (out .exit)) (now (words .exit)) r ⌝ }
 {
-    let stars = stars_of(out, start, done.count, s, at);
-    let base = base_of(out, start, done.count, s, root, at);
-    let next = put_calendar(out, done.next, s, at, stars, base, words, from);
+    let count = done.count;
+    let p = done.next;
+    let ids = tables.names;
+    let name = names::wanted_name(s, at, b"Calendar");
+    let stars = names::stars_for(out, Kind::Calendars, start, p, words, ids, count, name);
+    let base = base_of(out, start, count, s, root, at, words, tables);
+    let next = put_calendar(out, p, s, at, stars, base, words, tables.from);
+    names::note_stars(words, ids, count, name, stars, p);
     Records {
-        count: std::num::wrapping_add_u32(done.count, 1),
+        count: std::num::wrapping_add_u32(count, 1),
         next,
     }
 }
@@ -109,9 +147,9 @@ fn put_each(
     s: &[u8],
     root: Root,
     words: &mut [u32],
-    from: usize,
+    tables: Tables,
 ) -> Records
-    ensures { λ r. ⌜ AddsAll (rootAt (now (s .entry)) root) start (now (out .entry)) (now (out .exit)) r ⌝ ∗ ⌜ cleared from (now (words .exit)) ≡ cleared from (now (words .entry)) ⌝ }
+    ensures { λ r. ⌜ AddsAll (now (s .entry)) (rootAt (now (s .entry)) root) tables start (now (out .entry)) (now (words .entry)) (now (out .exit)) (now (words .exit)) r ⌝ }
 {
     let mut built = Records {
         count: 0,
@@ -122,7 +160,7 @@ fn put_each(
         let Found::At(at) = found else {
             return built;
         };
-        built = put_next(out, start, built, s, root, at, words, from);
+        built = put_next(out, start, built, s, root, at, words, tables);
         found = rows::next_calendar(s, root, at);
     }
 }
@@ -146,11 +184,13 @@ fn put_built(
     s: &[u8],
     root: Root,
     words: &mut [u32],
-    from: usize,
+    at: usize,
+    rows: u32,
 ) -> Records
-    ensures { λ r. ⌜ PutsBuilt (rootAt (now (s .entry)) root) (now (out .entry)) p (now (out .exit)) r ⌝ ∗ ⌜ cleared from (now (words .exit)) ≡ cleared from (now (words .entry)) ⌝ }
+    ensures { λ r. ⌜ PutsBuilt (rootAt (now (s .entry)) root) (now (out .entry)) p (now (out .exit)) r ⌝ ∗ ⌜ cleared at (now (words .exit)) ≡ cleared at (now (words .entry)) ⌝ }
 {
-    let done = put_each(out, p, s, root, words, from);
+    let tables = tables_for(out, p, s, root, words, at, rows);
+    let done = put_each(out, p, s, root, words, tables);
     or_default(out, done)
 }
 
@@ -201,14 +241,15 @@ pub fn put_calendars(
 ) -> Records
     ensures { λ r. ⌜ WritesIf (leb (length (calendarElements (rootAt (now (s .entry)) root))) mostElements && eqb (p .bit % 8) 0) (whole calendar) (calendarsOf (contextOf (rootAt (now (s .entry)) root))) (now (out .entry)) p (now (out .exit)) r ⌝ ∗ ⌜ now (words .exit) ≡ cleared at (now (words .entry)) ⌝ }
 {
-    if !((names::count_calendars(s, root) <= 5_000_000) & (p.bit % 8 == 0)) {
+    let n = names::count_calendars(s, root);
+    if !((n <= 5_000_000) & (p.bit % 8 == 0)) {
         bits::clear_words_from(words, at);
         return Records {
             count: 0,
             next: PAST,
         };
     }
-    let done = put_built(out, p, s, root, words, at);
+    let done = put_built(out, p, s, root, words, at, n as u32);
     bits::clear_words_from(words, at);
     turn_main(out, p, rows::main_calendar(s, root));
     put_elapsed(out, done, s, root)

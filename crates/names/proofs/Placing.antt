@@ -31,7 +31,7 @@ use Rattle.rows.proofs.Filling.{drop-in, drop-out, drop-is, cons-head, cons-tai
 use Rattle.tree.specs.Place.{elementAt}
 use Rattle.tree.specs.declared.Found.{Found}
 use Rattle.tree.specs.declared.Found.the-variants.{At, Nothing}
-use Rattle.names.specs.Named.{namesEnd, howMany, ofRow, Stays, Ripe, Stand, Chained}
+use Rattle.names.specs.Uids.{namesEnd, howMany, ofRow, Stays, Ripe, Stand, Chained}
 
 -- ---- words that stay
 
@@ -91,6 +91,7 @@ kept-there s p h = go (ltb p (length s)) refl
 
 pub record Placing (s : Text) (root : Element) (t : Table) (left : ℕ) (e : Found) (w w′ : List ℕ) : Type 0 where
   pub few : left ≤ t .rows
+  pub most : t .rows - left ≤ howMany root
   pub ahead : drop (t .rows - left) (inOrder root) ≡ orderBy s root e
   pub stand : Stand s root t left w′
   pub stays : Stays (t .at) (namesEnd t) w w′
@@ -101,17 +102,20 @@ module _ {s : Text} {root : Element} {t : Table} {w : List ℕ} (ripe : Ripe s r
       let z : t .rows - t .rows ≡ 0 = omega arith in
       record {
         few = omega arith;
+        most = omega arith;
         ahead = ap (λ (k : ℕ). drop k (inOrder root)) z ∙ h .is;
         stand = record { stands = λ r a b. absurd (omega arith) };
         stays = stays-refl (t .at) (namesEnd t) w;
       }
 
   module _ {left : ℕ} {e : Found} {w₁ : List ℕ} (p : Placing s root t left e w w₁) where
-    pub placing-end : e ≡ Nothing → Stand s root t 0 w₁ × Stays (t .at) (namesEnd t) w w₁
+    none-left : e ≡ Nothing → t .rows - left ≡ howMany root
+    none-left i = omega (arith, drop-out (t .rows - left) (inOrder root) (p .ahead ∙ order-end s root i), p .most)
+
+    pub placing-end : e ≡ Nothing → (t .rows - left ≡ howMany root) × Stand s root t 0 w₁ × Stays (t .at) (namesEnd t) w w₁
     placing-end i =
-        let z : howMany root ≤ t .rows - left = drop-out (t .rows - left) (inOrder root) (p .ahead ∙ order-end s root i) in
-        let y : left ≡ 0 = omega (arith, p .few, ripe .rows, ripe .some) in
-        (rw (← y) (p .stand), p .stays)
+        let z = none-left i in
+        (z, record { stands = λ r a b. p .stand .stands r (omega (arith, p .few, ripe .rows)) b }, p .stays)
 
     module _ {at : ℕ} (i : e ≡ At at) where
       split : drop (t .rows - left) (inOrder root) ≡ elementAt s at ∷ laterInOrder s root at
@@ -119,6 +123,9 @@ module _ {s : Text} {root : Element} {t : Table} {w : List ℕ} (ripe : Ripe s r
 
       pub placing-more : 0 < left
       placing-more = omega (arith, drop-in (t .rows - left) (inOrder root) split, ripe .rows, p .few)
+
+      placing-rows : t .rows ≡ howMany root
+      placing-rows = omega (arith, drop-in (t .rows - left) (inOrder root) split, ripe .rows)
 
       pub placing-at : at < 2 ^ 32
       placing-at =
@@ -129,11 +136,11 @@ module _ {s : Text} {root : Element} {t : Table} {w : List ℕ} (ripe : Ripe s r
 
       here : elementAt s at ≡ ofRow root (left - 1)
       here =
-          let z : t .rows - left ≡ howMany root - suc (left - 1) = omega (arith, placing-more, ripe .rows) in
+          let z : t .rows - left ≡ howMany root - suc (left - 1) = omega (arith, placing-more, placing-rows) in
           sym (cons-head both) ∙ ap (λ (k : ℕ). getD (inOrder root) k noElement) z
 
       module _ {w₂ : List ℕ} (j : w₂ ≡ set w₁ (placeAt t (left - 1)) at) where
-        stood : (r : ℕ) (b : Bool) → eqb r (left - 1) ≡ b → left - 1 ≤ r → r < t .rows → elementAt s (placeOf w₂ t r) ≡ ofRow root r
+        stood : (r : ℕ) (b : Bool) → eqb r (left - 1) ≡ b → left - 1 ≤ r → r < howMany root → elementAt s (placeOf w₂ t r) ≡ ofRow root r
         stood r true z a b =
             let y : r ≡ left - 1 = eqb-true r (left - 1) z in
             let x : placeOf w₂ t (left - 1) ≡ at =
@@ -150,6 +157,7 @@ module _ {s : Text} {root : Element} {t : Table} {w : List ℕ} (ripe : Ripe s r
             let z : t .rows - left + 1 ≡ t .rows - (left - 1) = omega (arith, placing-more, p .few) in
             record {
               few = omega (arith, p .few);
+              most = omega (arith, drop-in (t .rows - left) (inOrder root) split, p .few);
               ahead = ap (λ (k : ℕ). drop k (inOrder root)) (sym z) ∙ cons-tail both ∙ h .is;
               stand = record { stands = λ r a b. stood r (eqb r (left - 1)) refl a b };
               stays = stays-then (p .stays) (rw j (stays-set w₁ (placeAt t (left - 1)) at (omega arith) (omega (arith, placing-more, p .few))));

@@ -1,5 +1,5 @@
 -- The words of the calendars' names while they are noted, and the whole table. Assumes nothing.
-use Prim.Native.Nat.{ℕ, zero, suc, _+_, _-_, _*_, _^_, _≤_, _<_}
+use Prim.Native.Nat.{ℕ, suc, _+_, _-_, _*_, _^_, _≤_, _<_, max}
 use native.Mathlib.Omega.{arith}
 use mathlib.Core.Path.{_≡_, refl, sym, ap, _∙_}
 use mathlib.Core.Bool.{Bool, true, false}
@@ -10,7 +10,7 @@ use lib.ListN.{length, getD, set}
 use lib.Seq.{getD-set-same, getD-set-other}
 use borrow.Author.Tests.{ltb-true, ltb-false, eqb-true, eqb-false, ne-eqb, lt-ltb, le-ltb, lt-leb, le-leb}
 use Rattle.definition.specs.Ascii.{bytes}
-use Rattle.definition.specs.Base.{if_then_else_, _>>=_, _or_, _orElse_, first, numbered, same}
+use Rattle.definition.specs.Base.{if_then_else_, _>>=_, _or_, _orElse_, first, find, keep, numbered, same}
 use Rattle.definition.specs.Calendar.{calendarElements, elapsedName}
 use Rattle.definition.specs.Field.{textIn}
 use Rattle.definition.specs.Format.{times}
@@ -23,25 +23,32 @@ use Rattle.index.specs.declared.Made.{Made}
 use Rattle.index.specs.declared.Made.the-variants.{Ready, NoRoom}
 use Rattle.index.specs.Hash.{hashOf}
 use Rattle.index.specs.Chains.{placeAt, placeOf, endOf, tableOf}
-use Rattle.index.specs.Law.{indexed-same}
+use Rattle.index.specs.Law.{Fits, indexed-same}
 use Rattle.index.specs.Frame.{SameIn, indexed-kept}
-use Rattle.index.specs.Steps.{table-none, table-short}
+use Rattle.index.specs.Steps.{table-short}
 use Rattle.bits.specs.declared.Place.{Place}
 use Rattle.model.specs.Answers.{readAt}
 use Rattle.model.specs.Parts.{raw, recordOf}
 use Rattle.model.specs.Passes.{Passes, pass-no, pass-more}
 use Rattle.model.specs.declared.records.Kind.the-variants as kind
 use Rattle.pack.specs.Value.{starredBy}
-use Rattle.rows.specs.Rows.{inOrder, mainIn, withUidIn}
-use Rattle.rows.specs.Tables.{uidOf}
+use Rattle.rows.specs.Rows.{inOrder, hasUid, mainIn, withUidIn, calendarMeaning}
+use Rattle.definition.specs.Answer.{rowMeaning}
+use Rattle.definition.specs.declared.RowAnswer.{RowAnswer}
+use Rattle.definition.specs.declared.RowAnswer.the-variants.{Is as IsRow, Absent as NoRow}
+use Rattle.rows.specs.Tables.{uidOf, soughtIn}
+use Rattle.rows.specs.declared.CalendarAnswer.{CalendarAnswer}
+use Rattle.rows.specs.declared.CalendarAnswer.the-variants.{Is, Absent}
 use Rattle.tree.specs.Place.{elementAt}
 use Rattle.names.specs.declared.named.Main.{Main}
+use Rattle.names.specs.declared.uids.CalendarTable.{CalendarTable}
 use Rattle.names.specs.Texts.{textAt}
 use Rattle.names.specs.Seen.{text-here, raw-length}
 use Rattle.names.specs.Turned.{order-length}
 use Rattle.names.specs.Context.{mainRow, sectionRow, wantedName, starsBy, starsIn, contextAt}
-use Rattle.names.specs.ByUid.{main-there}
-use Rattle.names.specs.Named.{nameWord, nameAt, namesEnd, howMany, madeIn, ofRow, Stays, Calendars, Ripe, Stand, Chained, MainOf, mainText, nthIn, wordBy, NotesName, NamesNoted, Makes}
+use Rattle.names.specs.ByUid.{main-there, main-absent}
+use Rattle.names.specs.Named.{nameWord, nameAt, Calendars, MainOf, mainText, nthIn, wordBy, NotesName, NamesNoted, Makes}
+use Rattle.names.specs.Uids.{namesEnd, howMany, madeIn, ofRow, Stays, Uids, MakesUids, orderRow, rowFound, calendarBy, Ripe, Stand, Chained}
 use Rattle.names.proofs.Placing.{stays-refl, stays-then, stays-wider, stays-set}
 
 -- ---- the word of a name
@@ -84,6 +91,16 @@ main-none root e = go (textIn root "CalendarUID" >>= withUidIn root) (inOrder ro
     go none [] e = refl
     go none (x ∷ l) e = never (sym e)
     go (some y) l e = never (sym e)
+
+pub main-some : (root : Element) {x : ℕ × Element} → mainIn root ≡ some x → 0 < howMany root
+unfolding mainIn first numbered keep
+main-some root {x} e = go (textIn root "CalendarUID") (inOrder root) e
+  where
+    go : (o : Option Text) (l : List Element) → ((o >>= λ u. find (λ (y : ℕ × Element). hasUid u (y .1)) (numbered 0 l)) orElse first (numbered 0 l)) ≡ some x → 0 < length l
+    go none [] e = never e
+    go (some u) [] e = never e
+    go none (y ∷ l) e = omega arith
+    go (some u) (y ∷ l) e = omega arith
 
 module _ {d : List ℕ} {c : Place} {s : Text} {root : Element} {m : Main} (h : MainOf d c s root m) where
   main-name : mainText s m ≡ contextAt d c root .main .name
@@ -187,61 +204,99 @@ module _ {d : List ℕ} {c : Place} {s : Text} {t : Table} {m : Main} {n : ℕ} 
 
 -- ---- the whole table
 
-module _ {d : List ℕ} {c : Place} {s : Text} {root : Element} {t : Table} {w : List ℕ} (ripe : Ripe s root t (length w)) where
-  module _ {w₁ w₂ w₃ w₄ : List ℕ} {m : Main} {word : ℕ} (a : Stand s root t 0 w₁ × Stays (t .at) (namesEnd t) w w₁) (b : Chained s t (t .rows) w₁ w₂) (main : MainOf d c s root m)
-      (n : NamesNoted d c s t m (t .rows) w₂ w₃) (e : word ≡ nameWord (mainText s m) elapsedName 0) (i : w₄ ≡ set w₃ (t .at + 4 * t .rows) word) where
-    last-set : Stays (endOf t) (namesEnd t) w₃ w₄
-    last-set = rw i (stays-set w₃ (t .at + 4 * t .rows) word (omega arith) (omega arith))
+-- words behind the table count for nothing in it
+module _ {s : Text} {root : Element} {t : Table} {w : List ℕ} (uids : Uids s root t w) where
+  uids-stay : {w′ : List ℕ} → Stays (endOf t) (namesEnd t) w w′ → Uids s root t w′
+  uids-stay {w′} x =
+      let in-table : SameIn t w w′ = record { long = x .long; words = λ j h k. x .outside j (λ a b. omega arith) } in
+      let place : (r : ℕ) → r < howMany root → placeOf w t r ≡ placeOf w′ t r = λ r h. sym (in-table .words (placeAt t r) (omega arith) (omega (arith, uids .indexed .few))) in
+      record {
+        rows = uids .rows;
+        room = rw (x .long) (uids .room);
+        indexed = indexed-same (indexed-kept in-table (uids .indexed)) (λ r h. refl) place;
+        stands = λ r h. ap (elementAt s) (sym (place r h)) ∙ uids .stands r h;
+      }
 
-    names-set : Stays (endOf t) (namesEnd t) w₂ w₄
-    names-set = stays-then (n .stays) last-set
+module _ {d : List ℕ} {c : Place} {s : Text} {root : Element} {t : Table} {w : List ℕ} (uids : Uids s root t w) where
+  -- no calendar: the default one is no elapsed one
+  pub filled-none : mainIn root ≡ none → {w′ : List ℕ} → w′ ≡ set w (t .at + 4 * t .rows) 1 → Calendars d c s root t w′ × Stays (endOf t) (namesEnd t) w w′
+  unfolding nameWord same
+  filled-none e {w′} i =
+      let x : Stays (endOf t) (namesEnd t) w w′ = rw i (stays-set w (t .at + 4 * t .rows) 1 (omega arith) (omega arith)) in
+      let z : nameAt t (t .rows) ≡ t .at + 4 * t .rows = omega arith in (
+        record {
+          uids = uids-stay uids x;
+          names = λ r h. absurd (omega (arith, main-none root e));
+          elapsed =
+              ap (λ (l : List ℕ). getD l (nameAt t (t .rows)) 0) i
+              ∙ ap (λ (k : ℕ). getD (set w (t .at + 4 * t .rows) 1) k 0) z
+              ∙ getD-set-same w (t .at + 4 * t .rows) 1 0 (omega (arith, uids .room))
+              ∙ ap (λ (name : Text). nameWord name elapsedName 0) (sym (main-absent d c root e));
+        },
+        x,
+      )
 
-    in-table : SameIn t w₂ w₄
-    in-table = record { long = names-set .long; words = λ j h k. names-set .outside j (λ x y. omega arith) }
+  module _ {w₁ w₂ : List ℕ} {m : Main} {word : ℕ} (main : MainOf d c s root m)
+      (n : NamesNoted d c s t m (t .rows) w w₁) (e : word ≡ nameWord (mainText s m) elapsedName 0) (i : w₂ ≡ set w₁ (t .at + 4 * t .rows) word) where
+    names-set : Stays (endOf t) (namesEnd t) w w₂
+    names-set = stays-then (n .stays) (rw i (stays-set w₁ (t .at + 4 * t .rows) word (omega arith) (omega arith)))
 
-    place-kept : (r : ℕ) → r < t .rows → placeOf w₁ t r ≡ placeOf w₄ t r
-    place-kept r h = sym (in-table .words (placeAt t r) (omega arith) (omega arith) ∙ b .indexed .places r h)
+    rows-are : t .rows ≡ howMany root
+    rows-are = omega (arith, uids .rows, main-some root (main .there))
 
-    stood : (r : ℕ) → r < t .rows → elementAt s (placeOf w₄ t r) ≡ ofRow root r
-    stood r h = ap (elementAt s) (sym (place-kept r h)) ∙ a .0 .stands r (omega arith) h
-
-    long-all : length w₃ ≡ length w
-    long-all = n .stays .long ∙ b .stays .long ∙ a .1 .long
-
-    named : (r : ℕ) → r < t .rows → getD w₄ (nameAt t r) 0 ≡ nameWord (contextAt d c root .main .name) (wantedName (ofRow root r)) (starsIn d c root (howMany root - suc r) (ofRow root r))
+    named : (r : ℕ) → r < howMany root → getD w₂ (nameAt t r) 0 ≡ nameWord (contextAt d c root .main .name) (wantedName (ofRow root r)) (starsIn d c root (howMany root - suc r) (ofRow root r))
     named r h =
-        let z : r ≡ t .rows - suc (t .rows - suc r) = omega arith in
-        let x : t .rows - suc r ≡ howMany root - suc r = omega (arith, ripe .rows) in
-        let y : elementAt s (placeOf w₂ t r) ≡ ofRow root r = ap (elementAt s) (b .indexed .places r h) ∙ a .0 .stands r (omega arith) h in
+        let z : r ≡ t .rows - suc (t .rows - suc r) = omega (arith, rows-are) in
+        let x : t .rows - suc r ≡ howMany root - suc r = omega (arith, rows-are) in
         ap (λ (l : List ℕ). getD l (nameAt t r) 0) i
-        ∙ getD-set-other w₃ (t .at + 4 * t .rows) (nameAt t r) word 0 (λ q. omega arith)
-        ∙ ap (λ (k : ℕ). getD w₃ (nameAt t k) 0) z
-        ∙ n .names (t .rows - suc r) (omega arith)
-        ∙ ap (λ (k : ℕ). wordBy s m (textAt kind.Calendars d c (sectionRow (m .row) (t .rows - suc r))) (elementAt s (placeOf w₂ t k))) (sym z)
-        ∙ ap (wordBy s m (textAt kind.Calendars d c (sectionRow (m .row) (t .rows - suc r)))) y
+        ∙ getD-set-other w₁ (t .at + 4 * t .rows) (nameAt t r) word 0 (λ q. omega (arith, rows-are))
+        ∙ ap (λ (k : ℕ). getD w₁ (nameAt t k) 0) z
+        ∙ n .names (t .rows - suc r) (omega (arith, rows-are))
+        ∙ ap (λ (k : ℕ). wordBy s m (textAt kind.Calendars d c (sectionRow (m .row) (t .rows - suc r))) (elementAt s (placeOf w t k))) (sym z)
+        ∙ ap (wordBy s m (textAt kind.Calendars d c (sectionRow (m .row) (t .rows - suc r)))) (uids .stands r h)
         ∙ ap (λ (k : ℕ). wordBy s m (textAt kind.Calendars d c (sectionRow k (t .rows - suc r))) (ofRow root r)) (main-is main)
         ∙ ap (λ (k : ℕ). wordBy s m (textAt kind.Calendars d c (sectionRow (mainRow root) k)) (ofRow root r)) x
         ∙ ap (λ (name : Text). nameWord name (wantedName (ofRow root r)) (starsIn d c root (howMany root - suc r) (ofRow root r))) (main-name main)
 
-    pub filled : Calendars d c s root t w₄ × Stays (t .at) (namesEnd t) w w₄
+    pub filled : Calendars d c s root t w₂ × Stays (endOf t) (namesEnd t) w w₂
     filled = (
       record {
-        rows = ripe .rows;
-        indexed = indexed-same (indexed-kept in-table (b .indexed)) (λ r h. ap (λ (e : Element). hashOf (uidOf e)) (a .0 .stands r (omega arith) h)) place-kept;
-        stands = stood;
+        uids = uids-stay uids names-set;
         names = named;
         elapsed =
             let z : nameAt t (t .rows) ≡ t .at + 4 * t .rows = omega arith in
             ap (λ (l : List ℕ). getD l (nameAt t (t .rows)) 0) i
-            ∙ ap (λ (k : ℕ). getD (set w₃ (t .at + 4 * t .rows) word) k 0) z
-            ∙ getD-set-same w₃ (t .at + 4 * t .rows) word 0 (omega (arith, long-all, ripe .room))
+            ∙ ap (λ (k : ℕ). getD (set w₁ (t .at + 4 * t .rows) word) k 0) z
+            ∙ getD-set-same w₁ (t .at + 4 * t .rows) word 0 (omega (arith, n .stays .long, uids .room))
             ∙ e
             ∙ ap (λ (name : Text). nameWord name elapsedName 0) (main-name main);
       },
-      stays-then (a .1) (stays-then (stays-wider (omega arith) (omega arith) (b .stays)) (stays-wider (omega arith) (omega arith) names-set)),
+      names-set,
     )
 
+-- ---- the rows that stand in their places, and their chains
+
+module _ {s : Text} {root : Element} {t : Table} {w w₁ : List ℕ} {count : ℕ} (ripe : Ripe s root t (length w)) (a : (count ≡ howMany root) × Stand s root t 0 w₁ × Stays (t .at) (namesEnd t) w w₁) where
+  pub chain-fits : Fits t (length w₁) × (count ≤ t .rows)
+  chain-fits = (record { some = ripe .some; room = omega (arith, ripe .room, a .2 .long) }, omega (arith, a .0, ripe .rows))
+
+  pub uids-made : {w₂ : List ℕ} → Chained s t count w₁ w₂ → Uids s root t w₂ × Stays (t .at) (namesEnd t) w w₂
+  uids-made {w₂} b =
+      let c : Chained s t (howMany root) w₁ w₂ = rw (a .0) at b in
+      let x = stays-then (a .2) (stays-wider (omega arith) (omega arith) (c .stays)) in (
+        record {
+          rows = ripe .rows;
+          room = rw (x .long) (ripe .room);
+          indexed = indexed-same (c .indexed) (λ r h. ap (λ (e : Element). hashOf (uidOf e)) (a .1 .stands r (omega arith) h)) (λ r h. sym (c .indexed .places r h));
+          stands = λ r h. ap (elementAt s) (c .indexed .places r h) ∙ a .1 .stands r (omega arith) h;
+        },
+        x,
+      )
+
 -- ---- room for it
+
+pub rows-none : {n : ℕ} → n ≡ 0 → 1 ≡ max 1 n
+rows-none e = omega arith
 
 module _ (s : Text) (root : Element) (len at : ℕ) where
   pub room-long : 2 ^ 32 ≤ length s → NoRoom ≡ madeIn s root len at
@@ -254,24 +309,67 @@ module _ (s : Text) (root : Element) (len at : ℕ) where
     pub room-many : mostElements < n → NoRoom ≡ madeIn s root len at
     room-many l = rw (lt-ltb (length s) (2 ^ 32) h, lt-leb (howMany root) mostElements (omega (arith, count)))
 
-    pub room-is : {r : Made} → n ≤ mostElements → r ≡ tableOf (len - n - 1) at n → r ≡ madeIn s root len at
-    room-is l e =
-        let z : len - n - 1 ≡ len - suc n = omega arith in
-        e
-        ∙ ap (λ (k : ℕ). tableOf k at n) z
-        ∙ ap (λ (k : ℕ). tableOf (len - suc k) at k) count
-        ∙ sym (rw (lt-ltb (length s) (2 ^ 32) h, le-leb (howMany root) mostElements (omega (arith, count))))
+    module _ (l : n ≤ mostElements) {rows : ℕ} (j : rows ≡ max 1 n) where
+      pub room-is : {r : Made} → r ≡ tableOf (len - rows - 1) at rows → r ≡ madeIn s root len at
+      room-is e =
+          let z : len - rows - 1 ≡ len - suc rows = omega arith in
+          e
+          ∙ ap (λ (k : ℕ). tableOf k at rows) z
+          ∙ ap (λ (k : ℕ). tableOf (len - suc k) at k) (j ∙ ap (max 1) count)
+          ∙ sym (rw (lt-ltb (length s) (2 ^ 32) h, le-leb (howMany root) mostElements (omega (arith, count))))
 
-    pub room-short : n ≤ mostElements → len ≤ n → NoRoom ≡ madeIn s root len at
-    room-short l i = room-is l (go n refl)
-      where
-        go : (k : ℕ) → n ≡ k → NoRoom ≡ tableOf (len - n - 1) at n
-        go zero e = table-none (len - n - 1) at n e
-        go (suc k) e = table-short (len - n - 1) at n (omega arith) (omega arith)
+      pub room-short : len ≤ rows → NoRoom ≡ madeIn s root len at
+      room-short i = room-is (table-short (len - rows - 1) at rows (omega arith) (omega arith))
 
-module _ {d : List ℕ} {c : Place} {s : Text} {root : Element} {at : ℕ} {w : List ℕ} {m : Made} (h : m ≡ madeIn s root (length w) at) where
-  pub makes-none : m ≡ NoRoom → Makes d c s root at w w (record { table = NoRoom; end = at })
-  makes-none e = record { made = sym e ∙ h; end = refl; words = refl }
+module _ {s : Text} {root : Element} {at : ℕ} {w : List ℕ} {m : Made} (h : m ≡ madeIn s root (length w) at) where
+  pub uids-none : m ≡ NoRoom → MakesUids s root at w w (record { table = NoRoom; end = at })
+  uids-none e = record { made = sym e ∙ h; end = refl; words = refl }
 
-  pub makes-ready : {t : Table} {w′ : List ℕ} → m ≡ Ready t → Calendars d c s root t w′ × Stays (t .at) (namesEnd t) w w′ → Makes d c s root at w w′ (record { table = Ready t; end = t .at + 4 * t .rows + 1 })
-  makes-ready e x = record { made = sym e ∙ h; end = omega arith; words = x }
+  pub uids-ready : {t : Table} {w′ : List ℕ} → m ≡ Ready t → Uids s root t w′ × Stays (t .at) (namesEnd t) w w′ → MakesUids s root at w w′ (record { table = Ready t; end = t .at + 4 * t .rows + 1 })
+  uids-ready e x = record { made = sym e ∙ h; end = omega arith; words = x }
+
+pub makes-uids : {s : Text} {root : Element} {at : ℕ} {w w₁ : List ℕ} {r : CalendarTable} → MakesUids s root at w w₁ r → {t : Table} → r .table ≡ Ready t → Uids s root t w₁
+makes-uids {s} {root} {w = w} {w₁} h {t} e = let y : Uids s root t w₁ × Stays (t .at) (namesEnd t) w w₁ = rw e at (h .words) in y .0
+
+module _ {d : List ℕ} {c : Place} {s : Text} {root : Element} {at : ℕ} {w w₁ : List ℕ} {r : CalendarTable} (h : MakesUids s root at w w₁ r) where
+  pub makes-none : r .table ≡ NoRoom → Makes d c s root at w w₁ r
+  makes-none e = record { made = h .made; end = h .end; words = rw e (rw e at (h .words)) }
+
+  pub makes-ready : {t : Table} {w₂ : List ℕ} → r .table ≡ Ready t → Calendars d c s root t w₂ × Stays (endOf t) (namesEnd t) w₁ w₂ → Makes d c s root at w w₂ r
+  makes-ready {t} e x =
+      let y : Uids s root t w₁ × Stays (t .at) (namesEnd t) w w₁ = rw e at (h .words) in
+      record { made = h .made; end = h .end; words = rw e (x .0, stays-then (y .1) (stays-wider (omega arith) (omega arith) (x .1))) }
+
+-- ---- a calendar by it
+
+in-order : (s : Text) (w : List ℕ) (t : Table) (o : Option ℕ) → calendarMeaning s (orderRow w t o) ≡ (o >>= rowFound s w t)
+unfolding orderRow calendarMeaning
+in-order s w t none = refl
+in-order s w t (some r) = refl
+
+module _ (w : List ℕ) (t : Table) {a : RowAnswer} where
+  pub row-absent : a ≡ NoRow → Absent ≡ orderRow w t (rowMeaning a)
+  unfolding orderRow rowMeaning
+  row-absent e = rw e
+
+  pub row-there : {r : ℕ} → a ≡ IsRow r → {row at : ℕ} → row ≡ t .rows - suc r → at ≡ placeOf w t r → Is row at ≡ orderRow w t (rowMeaning a)
+  unfolding orderRow rowMeaning
+  row-there e h i = rw e (λ j. Is (h j) (i j))
+
+module _ (s : Text) (root : Element) (w : List ℕ) {m : Made} (u : Text) where
+  pub by-table : {t : Table} → m ≡ Ready t → (o : RowAnswer) → rowMeaning o ≡ soughtIn s w t u → {a : CalendarAnswer} → a ≡ orderRow w t (rowMeaning o) → calendarMeaning s a ≡ calendarBy s root w m u
+  unfolding calendarBy
+  by-table {t} e o h i = ap (calendarMeaning s) i ∙ in-order s w t (rowMeaning o) ∙ rw (e, h)
+
+  pub by-scan : m ≡ NoRoom → (a : CalendarAnswer) → calendarMeaning s a ≡ withUidIn root u → calendarMeaning s a ≡ calendarBy s root w m u
+  unfolding calendarBy
+  by-scan e a h = rw e h
+
+module _ (s : Text) (root : Element) {a : CalendarAnswer} (h : calendarMeaning s a ≡ mainIn root) where
+  pub main-missing : a ≡ Absent → mainIn root ≡ none
+  unfolding calendarMeaning
+  main-missing e = sym h ∙ rw e
+
+  pub main-given : {d : List ℕ} {c : Place} {row at : ℕ} → a ≡ Is row at → {stars : ℕ} → stars ≡ starsIn d c root row (elementAt s at) → MainOf d c s root (record { row = row; at = at; stars = stars })
+  unfolding calendarMeaning
+  main-given e i = record { there = sym h ∙ rw e; stars = i }

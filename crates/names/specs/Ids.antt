@@ -3,16 +3,22 @@
 use mathlib.Core.Bool.{Bool, _&&_}
 use mathlib.Core.List.{List, []}
 use mathlib.Core.Option.{some}
-use Prim.Native.Nat.{ℕ, suc, _+_, _-_, _*_}
-use lib.Dec.{ltb, leb}
+use Prim.Native.Nat.{ℕ, suc, _+_, _-_, _*_, min}
+use lib.Dec.{ltb, leb, eqb}
+use lib.ListN.{length}
 use Rattle.definition.specs.Base.{if_then_else_, _>>=_, _or_, given, find, same}
+use Rattle.definition.specs.Calendar.{free}
 use Rattle.definition.specs.Text.{Text}
+use Rattle.bits.specs.Places.{inside}
+use Rattle.bits.specs.declared.Place.{Place}
 use Rattle.index.specs.Hash.{hashOf}
-use Rattle.index.specs.Chains.{zeros, added, placeOf, chainOf}
+use Rattle.index.specs.Chains.{zeros, added, placeOf, chainOf, endOf}
 use Rattle.model.specs.Answers.{readAt}
 use Rattle.model.specs.Parts.{raw}
+use Rattle.model.specs.declared.records.Kind.{Kind}
 use Rattle.pack.specs.Value.{starredBy}
 use Rattle.names.specs.Stars.{tries}
+use Rattle.names.specs.Texts.{placeOfRow, textsAt}
 use Rattle.names.specs.declared.ids.Ids.{Ids}
 use Rattle.names.specs.declared.ids.IdsMade.{IdsMade}
 use Rattle.names.specs.declared.ids.IdsMade.the-variants as made
@@ -60,3 +66,38 @@ starsFrom d w i count wanted =
 -- how many `*` a text needs, as the words say
 unfoldable pub freeIn : List ℕ → List ℕ → Ids → ℕ → Text → ℕ
 freeIn d w i count wanted = let k = starsFrom d w i count wanted in tries (count - k) (takenIn d w i wanted) k
+
+-- ---- the ids of a section that is written, with tables or with none
+
+-- tables for a section that begins at a place of a buffer of so many bytes: each record begins at a whole byte, and 32 bits hold where
+unfoldable pub idsFor : ℕ → Place → ℕ → ℕ → ℕ → IdsMade
+idsFor bytes start len at rows = if eqb (start .bit) 0 && leb bytes 4294967295 then idsOf len at rows else made.NoRoom
+
+-- none noted yet
+abbrev pub begun : List ℕ → IdsMade → List ℕ
+begun w made.NoRoom = w
+begun w (made.Ready i) = noIds w i
+
+-- where the words behind them begin
+abbrev pub endIds : IdsMade → ℕ → ℕ → ℕ
+endIds made.NoRoom at len = at
+endIds (made.Ready i) at len = min (endOf (i .wanted)) len
+
+-- with the id of a row more
+abbrev pub notedBy : List ℕ → IdsMade → ℕ → Text → ℕ → ℕ → List ℕ
+notedBy w made.NoRoom row u stars byte = w
+notedBy w (made.Ready i) row u stars byte = noted w i row u stars byte
+
+-- the text with the `*` that it needs among the first records, by tables that have words for so many, else by all records
+abbrev pub freeBy : Kind → List ℕ → Place → List ℕ → IdsMade → ℕ → Text → Text
+freeBy kind d start w made.NoRoom count u = free (textsAt kind d start count) u
+freeBy kind d start w (made.Ready i) count u = if ltb (i .ids .rows) count then free (textsAt kind d start count) u else starredBy u (freeIn d w i count u)
+
+-- with none once the place is past the end
+unfoldable pub starredIn : Kind → List ℕ → Place → Place → List ℕ → IdsMade → ℕ → Text → Text
+starredIn kind d start p w m count u = if inside (length d) p then freeBy kind d start w m count u else starredBy u 0
+
+-- where the record of a row stands among so many
+unfoldable pub placeIn : Kind → List ℕ → Place → List ℕ → IdsMade → ℕ → ℕ → Place
+placeIn kind d start w made.NoRoom count row = placeOfRow kind d start row
+placeIn kind d start w (made.Ready i) count row = if ltb (i .ids .rows) count then placeOfRow kind d start row else record { byte = placeOf w (i .ids) row; bit = 0 }

@@ -11,6 +11,9 @@ pub mod Carried
 pub mod Agree
 pub mod Turned
 pub mod ByUid
+pub mod Uids
+pub mod Sought
 pub mod Named
 pub mod Naming
 pub mod Cleared
+pub mod Lent

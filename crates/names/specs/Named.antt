@@ -1,37 +1,35 @@
 -- The name of a calendar by its UID, as words say it. Assumes nothing: these are definitions.
-use Prim.Native.Nat.{ℕ, zero, suc, _+_, _-_, _*_, _^_, _≤_, _<_}
+use Prim.Native.Nat.{ℕ, zero, suc, _+_, _-_, _*_, _<_}
 use mathlib.Core.Path.{_≡_}
-use mathlib.Core.Bool.{false, _&&_}
+use mathlib.Core.Bool.{false}
 use mathlib.Core.List.{List, []}
 use mathlib.Core.Option.{Option, some, none}
-use lib.Dec.{leb, ltb, eqb}
+use lib.Dec.{eqb}
 use lib.ListN.{length, getD, set}
 use Rattle.definition.specs.Base.{if_then_else_, _>>=_, _or_, same}
 use Rattle.definition.specs.Calendar.{nameOf, elapsedName}
 use Rattle.definition.specs.Format.{times}
-use Rattle.definition.specs.Refusal.{mostElements}
 use Rattle.definition.specs.Task.{Context, unlessMain}
 use Rattle.definition.specs.Text.{Text}
 use Rattle.definition.specs.Tree.{Element}
 use Rattle.index.specs.declared.Table.{Table}
 use Rattle.index.specs.declared.Made.{Made}
 use Rattle.index.specs.declared.Made.the-variants as made
-use Rattle.index.specs.Hash.{hashOf}
-use Rattle.index.specs.Chains.{tableOf, placeOf, endOf}
-use Rattle.index.specs.Law.{Indexed}
+use Rattle.index.specs.Chains.{placeOf, endOf}
 use Rattle.bits.specs.declared.Place.{Place}
 use Rattle.model.specs.Answers.{readAt}
 use Rattle.model.specs.Parts.{raw, recordOf}
 use Rattle.model.specs.Passes.{Passes}
 use Rattle.model.specs.declared.records.Kind.the-variants as kind
 use Rattle.pack.specs.Value.{starredBy, nameMeaning}
-use Rattle.rows.specs.Rows.{inOrder, mainIn}
-use Rattle.rows.specs.Tables.{uidOf, soughtIn, noElement}
+use Rattle.rows.specs.Rows.{mainIn}
+use Rattle.rows.specs.Tables.{soughtIn}
 use Rattle.tree.specs.Place.{elementAt}
 use Rattle.names.specs.declared.named.CalendarName.{CalendarName}
-use Rattle.names.specs.declared.named.CalendarTable.{CalendarTable}
+use Rattle.names.specs.declared.uids.CalendarTable.{CalendarTable}
 use Rattle.names.specs.declared.named.Main.{Main}
 use Rattle.names.specs.Texts.{textAt}
+use Rattle.names.specs.Uids.{namesEnd, howMany, madeIn, ofRow, Stays, Uids, endFrom}
 use Rattle.names.specs.Context.{sectionRow, wantedName, starsBy, starsIn, contextAt}
 
 -- ---- a name as a word
@@ -47,12 +45,9 @@ nameBy text (suc stars) = some (starredBy text stars)
 
 -- ---- the words of a table
 
--- where the word of a row's name stands, and where all end; the last one is the elapsed calendar's
+-- where the word of a row's name stands; the last one is the elapsed calendar's
 abbrev pub nameAt : Table → ℕ → ℕ
 nameAt t row = t .at + (3 * t .rows + row)
-
-abbrev pub namesEnd : Table → ℕ
-namesEnd t = t .at + (4 * t .rows + 1)
 
 -- the name of a UID, unless it is the main calendar's
 abbrev pub namedBy : Context → Text → Option Text
@@ -76,39 +71,15 @@ calendarName s r = nameMeaning (wantedName (elementAt s (r .at))) (r .name)
 
 -- ---- a table of all calendars
 
-abbrev pub howMany : Element → ℕ
-howMany root = length (inOrder root)
-
--- where there is room for it, and 32 bits hold each position in the tree
-abbrev pub madeIn : Text → Element → ℕ → ℕ → Made
-madeIn s root len at =
-    if ltb (length s) (2 ^ 32) && leb (howMany root) mostElements then tableOf (len - suc (howMany root)) at (howMany root) else made.NoRoom
-
--- the calendar of a row: the last one first
-abbrev pub ofRow : Element → ℕ → Element
-ofRow root r = getD (inOrder root) (howMany root - suc r) noElement
-
--- the words outside from and to stay
-pub record Stays (from to : ℕ) (w w′ : List ℕ) : Type 0 where
-  pub long : length w′ ≡ length w
-  pub outside : (j : ℕ) → (from ≤ j → j < to → ⊥) → getD w′ j 0 ≡ getD w j 0
-
--- each UID by its hash, where its element stands, and its name's word
+-- with a word for each name
 pub record Calendars (d : List ℕ) (c : Place) (s : Text) (root : Element) (t : Table) (w : List ℕ) : Type 0 where
-  pub rows : t .rows ≡ howMany root
-  pub indexed : Indexed t (λ r. hashOf (uidOf (ofRow root r))) (placeOf w t) (t .rows) w
-  pub stands : (r : ℕ) → r < t .rows → elementAt s (placeOf w t r) ≡ ofRow root r
-  pub names : (r : ℕ) → r < t .rows → getD w (nameAt t r) 0 ≡ nameWord (contextAt d c root .main .name) (wantedName (ofRow root r)) (starsIn d c root (howMany root - suc r) (ofRow root r))
+  pub uids : Uids s root t w
+  pub names : (r : ℕ) → r < howMany root → getD w (nameAt t r) 0 ≡ nameWord (contextAt d c root .main .name) (wantedName (ofRow root r)) (starsIn d c root (howMany root - suc r) (ofRow root r))
   pub elapsed : getD w (nameAt t (t .rows)) 0 ≡ nameWord (contextAt d c root .main .name) elapsedName 0
 
 abbrev pub CalendarsIn : List ℕ → Place → Text → Element → Made → List ℕ → List ℕ → Type 0
 CalendarsIn d c s root made.NoRoom w w′ = w′ ≡ w
 CalendarsIn d c s root (made.Ready t) w w′ = Calendars d c s root t w′ × Stays (t .at) (namesEnd t) w w′
-
--- where the words behind a table begin, from a place on
-abbrev pub endFrom : ℕ → Made → ℕ
-endFrom at made.NoRoom = at
-endFrom at (made.Ready t) = namesEnd t
 
 pub record Makes (d : List ℕ) (c : Place) (s : Text) (root : Element) (at : ℕ) (w w′ : List ℕ) (r : CalendarTable) : Type 0 where
   pub made : r .table ≡ madeIn s root (length w) at
@@ -116,23 +87,6 @@ pub record Makes (d : List ℕ) (c : Place) (s : Text) (root : Element) (at : �
   pub words : CalendarsIn d c s root (r .table) w w′
 
 -- ---- while it is made
-
--- what a table needs that is to be filled
-pub record Ripe (s : Text) (root : Element) (t : Table) (len : ℕ) : Type 0 where
-  pub short : length s < 2 ^ 32
-  pub rows : t .rows ≡ howMany root
-  pub some : 0 < t .rows
-  pub room : namesEnd t ≤ len
-
--- each row from `left` on stands in its place
-pub record Stand (s : Text) (root : Element) (t : Table) (left : ℕ) (w : List ℕ) : Type 0 where
-  pub stands : (r : ℕ) → left ≤ r → r < t .rows → elementAt s (placeOf w t r) ≡ ofRow root r
-
--- the first n rows are in their chains, the others in their places as before
-pub record Chained (s : Text) (t : Table) (n : ℕ) (w w′ : List ℕ) : Type 0 where
-  pub indexed : Indexed t (λ r. hashOf (uidOf (elementAt s (placeOf w t r)))) (placeOf w t) n w′
-  pub ahead : (r : ℕ) → n ≤ r → r < t .rows → placeOf w′ t r ≡ placeOf w t r
-  pub stays : Stays (t .at) (endOf t) w w′
 
 pub record MainOf (d : List ℕ) (c : Place) (s : Text) (root : Element) (m : Main) : Type 0 where
   pub there : mainIn root ≡ some (m .row, elementAt s (m .at))

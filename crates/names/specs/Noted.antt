@@ -195,6 +195,10 @@ module _ {kind : Kind} {d : List ℕ} {p : Place} {w : List ℕ} {i : Ids} {n : 
       let k = starsFrom d w i n u in
       ap (λ (m : ℕ). starredBy u (tries (m - k) (takenIn d w i u) k)) (sym l) ∙ tries-free names u (takenIn d w i u) (taken-is u) k (taken-from u)
 
+  -- where a row stands
+  pub noted-place : (r : ℕ) → r < n → record { byte = placeOf w (i .ids) r; bit = 0 } ≡ placeOfRow kind d p r
+  noted-place r h = byte-place (placeOfRow kind d p r) (x .by-id .places r h) (x .whole r h)
+
 -- ---- a row was noted; others were written behind the list
 
 module _ {kind : Kind} {d : List ℕ} {p : Place} {w : List ℕ} {i : Ids} {n : ℕ} (x : Noted kind d p w i n) where

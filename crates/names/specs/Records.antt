@@ -319,11 +319,11 @@ unfolding recordOf textBy expenseParts
 plain-expenses = record { good = good-whole (good-expense-parts good-raw); like = like-passed plainExpenses }
 
 -- the bits are those of the definition
-same-calendars : (n : ℕ) (c : Calendar) → whole calendar .put n c ≡ plainCalendars .put n (calendarFields c)
+pub same-calendars : (n : ℕ) (c : Calendar) → whole calendar .put n c ≡ plainCalendars .put n (calendarFields c)
 unfolding whole calendar calendarParts via _⊗_ text raw
 same-calendars n c = refl
 
-same-activities : (n : ℕ) (a : Activity) → whole activity .put n a ≡ plainActivities .put n (activityFields a)
+pub same-activities : (n : ℕ) (a : Activity) → whole activity .put n a ≡ plainActivities .put n (activityFields a)
 unfolding whole activity activityRest via _⊗_ text raw optional depending
 same-activities n a = by-name (a .calendar)
   where
@@ -355,7 +355,7 @@ same-activities n a = by-name (a .calendar)
     by-name none = refl
     by-name (some s) = refl
 
-same-resources : (n : ℕ) (r : Resource) → whole resource .put n r ≡ plainResources .put n (resourceFields r)
+pub same-resources : (n : ℕ) (r : Resource) → whole resource .put n r ≡ plainResources .put n (resourceFields r)
 unfolding whole resource via _⊗_ text raw optional depending
 same-resources n r = by-name (r .calendar)
   where

@@ -1,27 +1,25 @@
-// The name of a calendar by its UID, from a table in lent words. The rows are the calendars in the order in which they are built, from the last to the
-// first, so that the first one with a UID is found: its UID by its hash, and where its element stands in the tree. Behind the table each row has a word for
-// its name in the buffer: 0 where it is the main calendar's, else how many `*` it has behind the wanted name, plus 1. A last word is for the elapsed
-// calendar's name.
+// The name of a calendar by its UID, from a table in lent words: behind that of the UIDs each row has a word for its name in the buffer, 0 where it is
+// the main calendar's, else how many `*` it has behind the wanted name, plus 1. A last word is for the elapsed calendar's name.
 ghost use mathlib.Core.Path.{_≡_};
 ghost use Prim.Native.Nat.{_+_, _^_, _≤_, _<_};
 ghost use lib.ListN.{length};
 ghost use Rattle.definition.specs.Answer.{rowMeaning};
-ghost use Rattle.definition.specs.Base.{if_then_else_};
 ghost use Rattle.definition.specs.Calendar.{elapsedName};
 ghost use Rattle.definition.specs.Text.{Text};
-ghost use Rattle.index.specs.Law.{Fits};
-ghost use Rattle.rows.specs.Rows.{inOrder};
+ghost use Rattle.index.specs.Chains.{endOf};
 ghost use Rattle.tree.specs.Root.{rootAt};
 ghost use Rattle.pack.specs.Value.{nameMeaning};
 ghost use Rattle.names.specs.Context.{contextAt};
-ghost use Rattle.names.specs.Named.{nameWord, nameBy, calendarName, nameOfRow, namedBy, namedIn, elapsedIn, madeIn, namesEnd, Stays, Stand, Chained, MainOf, mainText, NotesName, NamesNoted, Ripe, Calendars, Makes};
-use crate::calendars::count_calendars;
+ghost use Rattle.names.specs.Named.{nameWord, nameBy, calendarName, nameOfRow, namedBy, namedIn, elapsedIn, mainText, NotesName, NamesNoted, Calendars, Makes};
+ghost use Rattle.names.specs.Uids.{namesEnd, Stays, Uids};
 use crate::calendars::elapsed_named;
 use crate::calendars::stars_at;
 use crate::calendars::stars_of;
 use crate::calendars::unless_main;
 use crate::calendars::wanted_name;
 use crate::stars::same_starred;
+use crate::uids::CalendarTable;
+use crate::uids::index_uids;
 use bits::Place;
 use definition::RowAnswer;
 use index::Made;
@@ -30,64 +28,7 @@ use model::records::Kind;
 use model::records::skip_record;
 use pack::NameAnswer;
 use rows::CalendarAnswer;
-use tree::Found;
 use tree::Root;
-
-// ---- the table is made
-
-// Room for a table of all calendars, 4 words for each and one more, where 32 bits hold each position in the tree.
-fn room_for(s: &[u8], root: Root, len: usize, at: usize) -> Made
-    ensures { λ r. ⌜ r ≡ madeIn (now (s .entry)) (rootAt (now (s .entry)) root) len at ⌝ }
-{
-    if 4294967295 < s.len() {
-        return Made::NoRoom;
-    }
-    let n = count_calendars(s, root);
-    if 5000000 < n {
-        return Made::NoRoom;
-    }
-    if len <= n {
-        return Made::NoRoom;
-    }
-    index::table_at(len - n - 1, at, n as u32)
-}
-
-// Where each calendar stands.
-fn note_places(s: &[u8], root: Root, words: &mut [u32], t: Table)
-    requires { ⌜ Ripe (now s) (rootAt (now s) root) t (length (now words)) ⌝ }
-    ensures { λ _. ⌜ Stand (now (s .entry)) (rootAt (now (s .entry)) root) t 0 (now (words .exit)) × Stays (t .at) (namesEnd t) (now (words .entry)) (now (words .exit)) ⌝ }
-{
-    let mut left = t.rows;
-    let mut e = rows::first_calendar(s, root);
-    loop {
-        let Found::At(at) = e else {
-            return;
-        };
-        left -= 1;
-        index::set_word(
-            words,
-            t.at,
-            2 * (t.rows as usize) + left as usize,
-            at as u32,
-        );
-        e = rows::next_calendar(s, root, at);
-    }
-}
-
-// All rows into the chains of their UIDs.
-fn chain_rows(s: &[u8], words: &mut [u32], t: Table)
-    requires { ⌜ Fits t (length (now words)) ⌝ }
-    ensures { λ _. ⌜ Chained (now (s .entry)) t (t .rows) (now (words .entry)) (now (words .exit)) ⌝ }
-{
-    index::clear(words, t);
-    let mut row: u32 = 0;
-    while row < t.rows {
-        let at = index::place(words, t, row);
-        let hash = index::hash_of(tree::text_of(s, at as usize, b"UID"));
-        index::put(words, t, row, hash, at);
-        row += 1;
-    }
-}
 
 // ---- the words of the names
 
@@ -96,23 +37,6 @@ pub(crate) struct Main {
     pub row: usize,
     pub at: usize,
     pub stars: u32,
-}
-
-fn main_of(out: &[u8], c: Place, s: &[u8], root: Root) -> Main
-    requires { ⌜ 0 < length (inOrder (rootAt (now s) root)) ⌝ }
-    ensures { λ r. ⌜ MainOf (now (out .entry)) c (now (s .entry)) (rootAt (now (s .entry)) root) r ⌝ }
-{
-    match rows::main_calendar(s, root) {
-        CalendarAnswer::Is(row, at) => {
-            let stars = stars_of(out, c, s, root, row, at);
-            Main { row, at, stars }
-        }
-        CalendarAnswer::Absent => Main {
-            row: 0,
-            at: 0,
-            stars: 0,
-        },
-    }
 }
 
 fn word_of(s: &[u8], text: &[u8], stars: u32, main: Main) -> u32
@@ -170,22 +94,20 @@ fn note_names(out: &[u8], c: Place, s: &[u8], words: &mut [u32], t: Table, main:
     }
 }
 
-fn fill(out: &[u8], c: Place, s: &[u8], root: Root, words: &mut [u32], t: Table)
-    requires { ⌜ Ripe (now s) (rootAt (now s) root) t (length (now words)) ⌝ }
-    ensures { λ _. ⌜ Calendars (now (out .entry)) c (now (s .entry)) (rootAt (now (s .entry)) root) t (now (words .exit)) × Stays (t .at) (namesEnd t) (now (words .entry)) (now (words .exit)) ⌝ }
+// All of them; where there is no calendar, the main one is the default one.
+fn note_all(out: &[u8], c: Place, s: &[u8], root: Root, words: &mut [u32], t: Table)
+    requires { ⌜ Uids (now s) (rootAt (now s) root) t (now words) ⌝ }
+    ensures { λ _. ⌜ Calendars (now (out .entry)) c (now (s .entry)) (rootAt (now (s .entry)) root) t (now (words .exit)) × Stays (endOf t) (namesEnd t) (now (words .entry)) (now (words .exit)) ⌝ }
 {
-    note_places(s, root, words, t);
-    chain_rows(s, words, t);
-    let main = main_of(out, c, s, root);
+    let CalendarAnswer::Is(row, at) = rows::main_calendar(s, root) else {
+        index::set_word(words, t.at, 4 * (t.rows as usize), 1);
+        return;
+    };
+    let stars = stars_of(out, c, s, root, row, at);
+    let main = Main { row, at, stars };
     note_names(out, c, s, words, t, main);
     let elapsed = word_of(s, b"Elapsed (24 hours)", 0, main);
     index::set_word(words, t.at, 4 * (t.rows as usize), elapsed);
-}
-
-// A table, and where the words behind it begin.
-pub struct CalendarTable {
-    pub table: Made,
-    pub end: usize,
 }
 
 // A table of the calendars, which stand at c, in the words from a place on, where there is room for it.
@@ -199,18 +121,13 @@ pub fn index_calendars(
 ) -> CalendarTable
     ensures { λ r. ⌜ Makes (now (out .entry)) c (now (s .entry)) (rootAt (now (s .entry)) root) at (now (words .entry)) (now (words .exit)) r ⌝ }
 {
-    let table = room_for(s, root, words.len(), at);
+    let made = index_uids(s, root, words, at);
+    let table = made.table;
     let Made::Ready(t) = table else {
-        return CalendarTable {
-            table: Made::NoRoom,
-            end: at,
-        };
+        return made;
     };
-    fill(out, c, s, root, words, t);
-    CalendarTable {
-        table: Made::Ready(t),
-        end: t.at + 4 * (t.rows as usize) + 1,
-    }
+    note_all(out, c, s, root, words, t);
+    made
 }
 
 // ---- names by it

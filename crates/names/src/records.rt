@@ -2,7 +2,7 @@
 ghost use mathlib.Core.Path.{_≡_};
 ghost use mathlib.Core.Bool.{false};
 ghost use mathlib.Core.List.{[]};
-ghost use Rattle.definition.specs.Base.{_or_, some?, same};
+ghost use Rattle.definition.specs.Base.{some?, same};
 ghost use Rattle.definition.specs.Calendar.{free};
 ghost use Rattle.definition.specs.Format.{times};
 ghost use Rattle.model.specs.Answers.{readAt};
@@ -70,7 +70,7 @@ fn taken(out: &[u8], p: Place, kind: Kind, count: u32, wanted: &[u8], stars: u32
 }
 
 // How many `*` a text needs so that none of so many records at a place has it at its front.
-pub fn free_stars(out: &[u8], p: Place, kind: Kind, count: u32, wanted: &[u8]) -> u32
+pub(crate) fn free_stars(out: &[u8], p: Place, kind: Kind, count: u32, wanted: &[u8]) -> u32
     ensures { λ r. ⌜ starredBy (now (wanted .entry)) r ≡ free (textsAt kind (now (out .entry)) p count) (now (wanted .entry)) ⌝ }
 {
     let mut stars: u32 = 0;

@@ -1,8 +1,14 @@
--- `activities::own::own_for` meets its contract. Assumes nothing.
-use Rattle.activities.proofs.Ids.{own-begun}
+use native.Mathlib.Omega.{arith}
+use Rattle.activities.proofs.Ids.{end-small, own-begun}
 use borrow.Author.Needs.{needs}
 use Rattle.activities.proofs.own.own_for.Statement.{statement}
 use Rattle.activities.proofs.own.own_for.Tie as tie
+use Rattle.activities.proofs.own.own_for.Reads as reads
+use Rattle.activities.proofs.own.own_for.Lts as lts
+use Rattle.activities.proofs.parents.columns_for.Reads as columns-for-reads
+use Rattle.index.proofs.end_of.Reads as end-of-reads
+use Rattle.names.proofs.ids_for.Reads as ids-for-reads
+use Rattle.names.proofs.index_calendars.Reads as index-calendars-reads
 
 end-of-requires : tie.Need-end-of-requires
 end-of-requires c κs = search needs
@@ -13,6 +19,15 @@ index-calendars-requires c κs = search needs
 columns-for-requires : tie.Need-columns-for-requires
 columns-for-requires c κs = search needs
 
+cast-behind : tie.Need-cast-behind
+cast-behind c = search needs
+
+mul-behind : tie.Need-mul-behind
+mul-behind c = search needs
+
+add-behind : tie.Need-add-behind
+add-behind c = let z = end-small (c .before .columns-for .ensures .0) (omega arith) (omega arith) in omega (arith, z)
+
 ids-for-requires : tie.Need-ids-for-requires
 ids-for-requires c κs = search needs
 
@@ -20,12 +35,7 @@ same-length : tie.Need-same-length
 same-length c = search needs
 
 returns : tie.Need-returns
-returns c =
-    let if = c .before .before in
-    let cf = if .before .before in
-    let ic = cf .before .before .before in
-    let eo = ic .before .before in
-    own-begun (eo .end-of .ensures) (ic .index-calendars .ensures) (cf .columns-for .ensures) (if .ids-for .ensures)
+returns c = own-begun (c .before .before .before .before .before .before .before .before .before .before .end-of .ensures) (c .before .before .before .before .before .before .before .before .index-calendars .ensures) (c .before .before .before .before .before .columns-for .ensures) (c .before .before .ids-for .ensures)
 
 pub own-for-spec : {M : Type 1} → statement M
 own-for-spec =
@@ -34,6 +44,9 @@ own-for-spec =
     end-of-requires
     index-calendars-requires
     columns-for-requires
+    cast-behind
+    mul-behind
+    add-behind
     ids-for-requires
     same-length
     returns)

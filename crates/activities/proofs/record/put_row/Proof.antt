@@ -10,7 +10,7 @@ use Rattle.names.specs.Context.{contextAt}
 use Rattle.names.specs.Texts.{textsAt}
 use Rattle.tree.specs.Place.{elementAt}
 use Rattle.tree.specs.Root.{rootAt}
-use Rattle.activities.proofs.Ids.{ids-moved, row-noted}
+use Rattle.activities.proofs.Ids.{stars-moved, row-noted}
 use Rattle.activities.proofs.Values.{calendar-found, row-puts}
 use borrow.Author.Needs.{needs}
 use Rattle.activities.proofs.record.put_row.Statement.{statement}
@@ -29,10 +29,7 @@ wanted-id-requires : tie.Need-wanted-id-requires
 wanted-id-requires c κs = search needs
 
 stars-for-requires : tie.Need-stars-for-requires
-stars-for-requires c κs =
-    let po = c .before .before .before .before .before in
-    let start = po .before .before .before .before .before .before .before .before .before .before in
-    λ h. ids-moved (start .pre .3) (start .pre .4 h) (start .args .at) _ (po .parent-of .ensures .1)
+stars-for-requires c κs = search needs
 
 note-stars-requires : tie.Need-note-stars-requires
 note-stars-requires c κs = search needs
@@ -70,10 +67,11 @@ returns c =
     let start = ie .before .before .before .before .before in
     let a = start .args in
     let root = rootAt (now (a .s)) (a .root) in
-    let t = elementAt (now (a .s)) (a .at) in (
+    let t = elementAt (now (a .s)) (a .at) in
+    let free = stars-moved (start .pre .3) (a .p) (start .pre .4) (a .at) _ (po .parent-of .ensures .1) (now (wi .wanted-id .result)) (sf .stars-for .result) (sf .stars-for .ensures) in (
       row-puts (contextAt (now (a .out)) (a .c) root) (textsAt Activities (now (a .out)) (a .start) (a .row)) (map levelOf (take (a .row) (keptTasks root))) _ t (plan .plan-of .result) (now (wi .wanted-id .result)) (sf .stars-for .result)
-          (ie .is-elapsed .ensures) (cf .calendar-for .ensures ∙ calendar-found (start .pre .2) (ie .is-elapsed .result) t) (wi .wanted-id .ensures) (sf .stars-for .ensures) (day .day-of .ensures) (start .pre .1) (po .parent-of .ensures .0) (plan .plan-of .ensures) (pt .put-task .ensures),
-      row-noted (a .own) (a .row) (a .at) (po .parent-of .ensures .0) (wi .wanted-id .ensures) (sf .stars-for .result) (a .p .byte % 2 ^ 32) (now (a .words)) (po .parent-of .ensures .1) (ns .note-stars .ensures) (sf .stars-for .ensures),
+          (ie .is-elapsed .ensures) (cf .calendar-for .ensures ∙ calendar-found (start .pre .2) (ie .is-elapsed .result) t) (wi .wanted-id .ensures) free (day .day-of .ensures) (start .pre .1) (po .parent-of .ensures .0) (plan .plan-of .ensures) (pt .put-task .ensures),
+      row-noted (a .own) (a .row) (a .at) (po .parent-of .ensures .0) (wi .wanted-id .ensures) (sf .stars-for .result) (a .p .byte % 2 ^ 32) (now (a .words)) (po .parent-of .ensures .1) (ns .note-stars .ensures) free,
     )
 
 pub put-row-spec : {M : Type 1} → statement M

@@ -7,13 +7,23 @@ use Rattle.assignments.proofs.Work.{adds-said, adds-other}
 use borrow.Author.Needs.{needs}
 use Rattle.assignments.proofs.resource.put_one.Statement.{statement}
 use Rattle.assignments.proofs.resource.put_one.Tie as tie
+use Rattle.assignments.proofs.resource.put_one.Reads as reads
+use Rattle.assignments.proofs.resource.put_one.Lts as lts
+use Rattle.assignments.proofs.resource.calendar_of.Reads as calendar-of-reads
+use Rattle.assignments.proofs.resource.is_work.Reads as is-work-reads
+use Rattle.assignments.proofs.resource.put_said.Reads as put-said-reads
+use Rattle.assignments.proofs.resource.wanted_id.Reads as wanted-id-reads
+use Rattle.assignments.proofs.section.more.Reads as more-reads
+use Rattle.names.proofs.wanted_name.Reads as wanted-name-reads
+use Rattle.names.proofs.note_stars.Reads as note-stars-reads
+use Rattle.names.proofs.stars_for.Reads as stars-for-reads
 
 is-work-requires : tie.Need-is-work-requires
 is-work-requires c κs = search needs
 
 returns : tie.Need-returns
 returns c =
-    let a = c .before .before .before .before .before .args in
+    let a = (c .before .before .before .before .before .args) in
     adds-other (a .c) (a .s .now) (rootAt (a .s .now) (a .root)) (a .calendars) (a .ids) (elementAt (a .s .now) (a .at)) (sym (c .before .is-work .ensures) ∙ not-true _ (c .if1 .taken))
 
 wanted-id-requires : tie.Need-wanted-id-requires
@@ -37,8 +47,8 @@ wanted-name-requires c κs = search needs
 put-said-requires : tie.Need-put-said-requires
 put-said-requires c κs = search needs
 
-note-requires : tie.Need-note-requires
-note-requires c κs = search needs
+note-stars-requires : tie.Need-note-stars-requires
+note-stars-requires c κs = search needs
 
 more-requires : tie.Need-more-requires
 more-requires c κs = search needs
@@ -51,19 +61,10 @@ same-length-2 c = search needs
 
 returns-2 : tie.Need-returns-2
 returns-2 c =
-    let n = c .before .before .before in
-    let ps = n .before .before .before .before in
-    let wn = ps .before .before .before in
-    let co = wn .before .before in
-    let sf = co .before .before .before in
-    let wi = sf .before .before .before .before in
-    let i = wi .before in
-    let iw = i .before in
-    let start = iw .before .before .before .before in
-    let a = start .args in
+    let a = (c .before .before .before .before .before .before .before .before .before .before .before .before .before .before .before .before .before .before .before .before .before .before .before .before .before .args) in
     let root = rootAt (a .s .now) (a .root) in
     let e = elementAt (a .s .now) (a .at) in
-    adds-said (a .c) (a .s .now) root (a .calendars) e (sym (iw .is-work .ensures) ∙ not-false _ (i .if1 .left)) (a .ids) (a .words .now) (sf .stars-for .result) (wi .wanted-id .ensures) (sf .stars-for .ensures) (co .calendar-of .result) (co .calendar-of .ensures) (wn .wanted-name .ensures) (ps .put-said .ensures) (n .note .ensures) (c .more .ensures)
+    adds-said (a .c) (a .s .now) root (a .calendars) e (sym (c .before .before .before .before .before .before .before .before .before .before .before .before .before .before .before .before .before .before .before .before .before .is-work .ensures) ∙ not-false _ (c .before .before .before .before .before .before .before .before .before .before .before .before .before .before .before .before .before .before .before .before .if1 .left)) (a .ids) (a .words .now) (c .before .before .before .before .before .before .before .before .before .before .before .before .before .before .stars-for .result) (c .before .before .before .before .before .before .before .before .before .before .before .before .before .before .before .before .before .before .before .wanted-id .ensures) (c .before .before .before .before .before .before .before .before .before .before .before .before .before .before .stars-for .ensures) (c .before .before .before .before .before .before .before .before .before .before .before .calendar-of .result) (c .before .before .before .before .before .before .before .before .before .before .before .calendar-of .ensures) (c .before .before .before .before .before .before .before .before .before .wanted-name .ensures) (c .before .before .before .before .before .before .before .put-said .ensures) (c .before .before .before .note-stars .ensures) (c .more .ensures)
 
 pub put-one-spec : {M : Type 1} → statement M
 put-one-spec =
@@ -78,7 +79,7 @@ put-one-spec =
     slice-aggregate-wanted-name
     wanted-name-requires
     put-said-requires
-    note-requires
+    note-stars-requires
     more-requires
     same-length
     same-length-2

@@ -3,18 +3,26 @@ use Rattle.calendars.proofs.Builts.{row-none, row-at}
 use borrow.Author.Needs.{needs}
 use Rattle.calendars.proofs.built.base_at.Statement.{statement}
 use Rattle.calendars.proofs.built.base_at.Tie as tie
+use Rattle.calendars.proofs.built.base_at.Reads as reads
+use Rattle.calendars.proofs.built.base_at.Lts as lts
+use Rattle.model.proofs.parts.calendar_places.Reads as calendar-places-reads
+use Rattle.names.proofs.place_in.Reads as place-in-reads
 
 returns : tie.Need-returns
-returns c = row-none {row = c .before .before .args .row} (omega (arith, c .if1 .taken))
+returns c = row-none {row = (c .before .before .before .args .row)} (omega (arith, (c .if1 .taken)))
 
-place-of-row-requires : tie.Need-place-of-row-requires
-place-of-row-requires c κs = search needs
+cast-place-in : tie.Need-cast-place-in
+cast-place-in c = search needs
+
+place-in-requires : tie.Need-place-in-requires
+place-in-requires c κs = search needs
 
 calendar-places-requires : tie.Need-calendar-places-requires
 calendar-places-requires c κs = search needs
 
 returns-2 : tie.Need-returns-2
-returns-2 c = row-at {row = c .before .before .before .before .args .row} (omega (arith, c .before .before .if1 .left)) (c .before .place-of-row .ensures) (c .calendar-places .ensures)
+returns-2 c = row-at {row = (c .before .before .before .before .before .args .row)} (omega (arith, (c .before .before .if1 .left))) (c .before .place-in .ensures) (c .calendar-places .ensures)
 
 pub base-at-spec : {M : Type 1} → statement M
-base-at-spec = tie.close (tie.spec returns place-of-row-requires calendar-places-requires returns-2)
+base-at-spec =
+    tie.close (tie.spec returns cast-place-in place-in-requires calendar-places-requires returns-2)

@@ -3,6 +3,9 @@ use borrow.Author.Needs.{needs}
 use Rattle.calendars.proofs.built.put_built.Statement.{statement}
 use Rattle.calendars.proofs.built.put_built.Tie as tie
 
+tables-for-requires : tie.Need-tables-for-requires
+tables-for-requires c κs = search needs
+
 put-each-requires : tie.Need-put-each-requires
 put-each-requires c κs = search needs
 
@@ -16,9 +19,7 @@ same-length-2 : tie.Need-same-length-2
 same-length-2 c = search needs
 
 returns : tie.Need-returns
-returns c =
-    let k = c .before .before .before .before .before .before .before .before in
-    (built-put (k .put-each .ensures .0) (c .before .before .or-default .ensures), k .put-each .ensures .1)
+returns c = built-put (c .before .before .before .before .before .before .before .before .before .before .before .before .before .tables-for .ensures) (c .before .before .before .before .before .before .before .before .put-each .ensures) (c .before .before .or-default .ensures)
 
 pub put-built-spec : {M : Type 1} → statement M
-put-built-spec = tie.close (tie.spec put-each-requires or-default-requires same-length same-length-2 returns)
+put-built-spec = tie.close (tie.spec tables-for-requires put-each-requires or-default-requires same-length same-length-2 returns)

@@ -1,10 +1,14 @@
 use borrow.Author.Tests.{not-true, not-false}
 use native.Mathlib.Omega.{arith}
 use mathlib.Core.Path.{refl, _∙_}
+use Prim.Native.Nat.{_%_}
+use lib.Dec.{eqb}
+use lib.ListN.{drop}
+use Rattle.laws.specs.Each.{each-drop}
+use Rattle.laws.specs.FitTrees.{small-element}
 use Rattle.names.specs.Seen.{bytes-of}
 use Rattle.tree.specs.Root.{rootAt}
-use Rattle.rows.specs.Small.{small-root}
-use Rattle.calendars.proofs.Builts.{calendars-if, calendars-not}
+use Rattle.calendars.proofs.Builts.{calendars-if, calendars-not, few-counted}
 use borrow.Author.Needs.{needs}
 use Rattle.calendars.proofs.built.put_calendars.Statement.{statement}
 use Rattle.calendars.proofs.built.put_calendars.Tie as tie
@@ -20,9 +24,11 @@ same-length c = search needs
 
 returns : tie.Need-returns
 returns c =
-    let k = c .before .before .before .before in
-    let a = c .before .before .before .before .before .before .before .before .before .before .args in
-    (calendars-not (a .s .now) (rootAt (a .s .now) (a .root)) {p = a .p} (k .before .before .count-calendars .ensures) (not-true _ (k .if1 .taken)) refl, c .before .before .clear-words-from .ensures)
+    let a = (c .before .before .before .before .before .before .before .before .before .before .args) in
+    (calendars-not (a .s .now) (rootAt (a .s .now) (a .root)) {p = a .p} (c .before .before .before .before .before .before .count-calendars .ensures) (not-true _ (c .before .before .before .before .if1 .taken)) refl, (c .before .before .clear-words-from .ensures))
+
+cast-put-built : tie.Need-cast-put-built
+cast-put-built c = omega (arith, few-counted (c .before .before .before .before .count-calendars .result) (eqb ((c .before .before .before .before .before .before .before .before .args .p .bit) % 8) 0) (c .before .before .if1 .left))
 
 put-built-requires : tie.Need-put-built-requires
 put-built-requires c κs = search needs
@@ -47,16 +53,12 @@ same-length-3 c = search needs
 
 returns-2 : tie.Need-returns-2
 returns-2 c =
-    let t = c .before .before .before .before .before .before in
-    let w = c .before .before .before .before .before .before .before .before .before .before .before in
-    let b = c .before .before .before .before .before .before .before .before .before .before .before .before .before .before .before .before .before in
-    let k = c .before .before .before .before .before .before .before .before .before .before .before .before .before .before .before .before .before .before .before .before in
-    let n = k .before .before in
-    let a = n .before .before .before .before .args in
-    let bytes = bytes-of (a .s .now) (λ i. omega (arith, n .before .before .shared-slice-known .given i)) in (
-      calendars-if (a .s .now) (rootAt (a .s .now) (a .root)) {p = a .p} (n .count-calendars .ensures) (small-root (a .s .now) (a .root) bytes) (not-false _ (k .if1 .left)) _ (t .before .main-calendar .ensures) (b .put-built .ensures .0) (t .turn-main .ensures) (c .before .before .put-elapsed .ensures),
-      w .clear-words-from2 .ensures ∙ b .put-built .ensures .1,
+    let a = (c .before .before .before .before .before .before .before .before .before .before .before .before .before .before .before .before .before .before .before .before .before .before .before .before .before .before .args) in
+    let n = (c .before .before .before .before .before .before .before .before .before .before .before .before .before .before .before .before .before .before .before .before .before .before) in
+    let bytes = bytes-of (a .s .now) (λ i. omega (arith, (c .before .before .before .before .before .before .before .before .before .before .before .before .before .before .before .before .before .before .before .before .before .before .before .before .shared-slice-known .given) i)) in (
+      calendars-if (a .s .now) (rootAt (a .s .now) (a .root)) {p = a .p} (n .count-calendars .ensures) (small-element (drop (a .root) (a .s .now)) (each-drop (a .root) bytes)) (not-false _ (c .before .before .before .before .before .before .before .before .before .before .before .before .before .before .before .before .before .before .before .before .if1 .left)) _ (c .before .before .before .before .before .before .before .main-calendar .ensures) (c .before .before .before .before .before .before .before .before .before .before .before .before .before .before .before .before .before .put-built .ensures .0) (c .before .before .before .before .before .before .turn-main .ensures) (c .before .before .put-elapsed .ensures),
+      (c .before .before .before .before .before .before .before .before .before .before .before .clear-words-from2 .ensures) ∙ (c .before .before .before .before .before .before .before .before .before .before .before .before .before .before .before .before .before .put-built .ensures .1),
     )
 
 pub put-calendars-spec : {M : Type 1} → statement M
-put-calendars-spec = tie.close (tie.spec count-calendars-requires clear-words-from-requires same-length returns put-built-requires clear-words-from-requires-2 main-calendar-requires turn-main-requires put-elapsed-requires same-length-2 same-length-3 returns-2)
+put-calendars-spec = tie.close (tie.spec count-calendars-requires clear-words-from-requires same-length returns cast-put-built put-built-requires clear-words-from-requires-2 main-calendar-requires turn-main-requires put-elapsed-requires same-length-2 same-length-3 returns-2)

@@ -1,7 +1,10 @@
-use Rattle.activities.proofs.Ids.{id-noted}
+use Rattle.names.proofs.Chained.{noted-by-made}
 use borrow.Author.Needs.{needs}
-use Rattle.activities.proofs.own.note_stars.Statement.{statement}
-use Rattle.activities.proofs.own.note_stars.Tie as tie
+use Rattle.names.proofs.ids.note_stars.Statement.{statement}
+use Rattle.names.proofs.ids.note_stars.Tie as tie
+use Rattle.names.proofs.ids.note_stars.Reads as reads
+use Rattle.names.proofs.ids.note_stars.Lts as lts
+use Rattle.names.proofs.ids.note_id.Reads as note-id-reads
 
 enum-known-ids : tie.Need-enum-known-ids
 enum-known-ids c = search needs
@@ -22,9 +25,7 @@ same-length : tie.Need-same-length
 same-length c = search needs
 
 returns-2 : tie.Need-returns-2
-returns-2 c =
-    let n = c .before .before in
-    id-noted (n .before .before .before .before .ids .given .1) _ _ _ _ _ (n .note-id .ensures)
+returns-2 c = noted-by-made _ _ _ _ _ _ (c .before .before .before .before .before .before .ids .given .1) (c .before .before .note-id .ensures)
 
 pub note-stars-spec : {M : Type 1} → statement M
 note-stars-spec =

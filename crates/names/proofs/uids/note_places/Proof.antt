@@ -1,12 +1,12 @@
--- `names::named::note_places` meets its contract. Assumes nothing.
+-- `names::uids::note_places` meets its contract. Assumes nothing.
 use native.Mathlib.Omega.{arith}
 use Rattle.tree.specs.Root.{rootAt}
 use Rattle.rows.specs.Turns.{order-less}
 use Rattle.rows.specs.Walks.{orderRoom}
 use Rattle.names.proofs.Placing.{Placing, placing-begin, placing-end, placing-more, placing-at, placing-turn}
 use borrow.Author.Needs.{needs}
-use Rattle.names.proofs.named.note_places.Statement.{statement}
-use Rattle.names.proofs.named.note_places.Tie as tie
+use Rattle.names.proofs.uids.note_places.Statement.{statement}
+use Rattle.names.proofs.uids.note_places.Tie as tie
 
 abbrev Inv-loop : tie.InvT-loop
 Inv-loop s root words₀ t left₀ e₀ words left e = Placing s (rootAt s root) t left e words₀ words
@@ -26,11 +26,14 @@ enum-known-e c = search needs
 enum-told : tie.Need-enum-told Inv-loop μ-loop
 enum-told c = search needs
 
+sub-result : tie.Need-sub-result Inv-loop μ-loop
+sub-result c = (c .before .before .before .loop .inv .few)
+
 same-length : tie.Need-same-length Inv-loop μ-loop
-same-length c = c .before .before .loop .inv .stays .long
+same-length c = (c .before .before .before .loop .inv .stays .long)
 
 returns : tie.Need-returns Inv-loop μ-loop
-returns c = placing-end (c .before .before .before .before .before .before .pre) (c .before .before .loop .inv) (c .enum-told .given .1)
+returns c = placing-end (c .before .before .before .before .before .before .before .pre) (c .before .before .before .loop .inv) (c .before .enum-told .given .1)
 
 sub-left : tie.Need-sub-left Inv-loop μ-loop
 sub-left c = omega (arith, placing-more (c .before .before .before .before .before .before .before .pre) (c .before .before .before .loop .inv) (c .before .e .given .1))
@@ -81,6 +84,7 @@ note-places-spec =
     loop-holds
     enum-known-e
     enum-told
+    sub-result
     same-length
     returns
     sub-left

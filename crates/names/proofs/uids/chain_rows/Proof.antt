@@ -1,24 +1,24 @@
--- `names::named::chain_rows` meets its contract. Assumes nothing.
+-- `names::uids::chain_rows` meets its contract. Assumes nothing.
 use native.Mathlib.Omega.{arith}
 use Prim.Native.Nat.{_-_, _≤_}
 use mathlib.Core.Path.{_≡_, _∙_}
-use Rattle.names.specs.Named.{Chained}
+use Rattle.names.specs.Uids.{Chained}
 use Rattle.names.proofs.Placing.{chained-none, chained-all, chained-more}
 use borrow.Author.Needs.{needs}
-use Rattle.names.proofs.named.chain_rows.Statement.{statement}
-use Rattle.names.proofs.named.chain_rows.Tie as tie
+use Rattle.names.proofs.uids.chain_rows.Statement.{statement}
+use Rattle.names.proofs.uids.chain_rows.Tie as tie
 
 abbrev Inv-loop : tie.InvT-loop
-Inv-loop s words₀ t row₀ t7 words row = (row ≤ t .rows) × Chained s t row words₀ words
+Inv-loop s words₀ t count row₀ t7 words row = (row ≤ count) × Chained s t row words₀ words
 
 abbrev μ-loop : tie.MeasureT-loop
-μ-loop s words₀ t row₀ t7 words row = t .rows - row
+μ-loop s words₀ t count row₀ t7 words row = count - row
 
 clear-requires : tie.Need-clear-requires Inv-loop μ-loop
 clear-requires c κs = search needs
 
 loop-holds : tie.Need-loop-holds Inv-loop μ-loop
-loop-holds c = (omega arith, chained-none _ _ (c .before .before .before .before .before .before .pre) (c .before .before .clear .ensures))
+loop-holds c = (omega arith, chained-none _ _ (c .before .before .before .before .before .before .pre .0) (c .before .before .clear .ensures))
 
 place-requires : tie.Need-place-requires Inv-loop μ-loop
 place-requires c κs = search needs
@@ -46,24 +46,18 @@ loop-less c = omega arith
 
 loop-again : tie.Need-loop-again Inv-loop μ-loop
 loop-again c =
-    let p = c .before .before in
-    let ho = p .before .before in
-    let to = ho .before in
-    let p2 = to .before .before in
-    let i = p2 .before .before in
-    let l = i .before .before in
-    (omega arith, chained-more (l .loop .inv .1) (i .if1 .taken) (p2 .place .ensures) (to .text-of .ensures) (ho .hash-of .ensures) (p .put .ensures))
+    let l = (c .before .before .before .before .before .before .before .before .before .before) in
+    (omega arith, chained-more (l .loop .inv .1) (omega (arith, (c .before .before .before .before .before .before .before .before .before .loop-test .taken), (c .before .before .before .before .before .before .before .before .before .before .before .before .before .before .before .before .before .pre .1))) (c .before .before .before .before .before .before .before .place .ensures) (c .before .before .before .before .before .text-of .ensures) (c .before .before .before .before .hash-of .ensures) (c .before .before .put .ensures))
 
 same-length : tie.Need-same-length Inv-loop μ-loop
-same-length c = c .before .before .loop .inv .1 .stays .long ∙ c .before .before .before .before .before .clear .kept .0
+same-length c = (c .before .loop .inv .1 .stays .long) ∙ (c .before .before .before .before .clear .kept .0)
 
 returns : tie.Need-returns Inv-loop μ-loop
 returns c =
-    let l = c .before .before in
-    let c2 = l .before .before .before in
-    let start = c2 .before .before .before .before in
-    let e : l .loop .row ≡ start .args .t .rows = omega arith in
-    chained-all _ _ (start .pre) (c2 .clear .ensures) (rw e at (l .loop .inv .1))
+    let l = (c .before) in
+    let start = (c .before .before .before .before .before .before .before .before) in
+    let e : l .loop .row ≡ start .args .count = omega (arith, l .loop .inv .0) in
+    chained-all _ _ (start .pre .0) (c .before .before .before .before .clear .ensures) (rw e at (l .loop .inv .1))
 
 pub chain-rows-spec : {M : Type 1} → statement M
 chain-rows-spec =
