@@ -6,7 +6,7 @@ ghost use Prim.Native.Nat.{suc, min};
 ghost use lib.Dec.{leb};
 ghost use lib.ListN.{length};
 ghost use Rattle.definition.specs.Ascii.{bytes};
-ghost use Rattle.definition.specs.Base.{_>>=_ as bind, keep};
+ghost use Rattle.definition.specs.Base.{if_then_else_, _>>=_ as bind, _or_, keep};
 ghost use Rattle.definition.specs.Field.{textIn};
 ghost use Rattle.definition.specs.Format.{whole};
 ghost use Rattle.definition.specs.Pack.{resource};

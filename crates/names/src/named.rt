@@ -4,6 +4,7 @@ ghost use mathlib.Core.Path.{_≡_};
 ghost use Prim.Native.Nat.{_+_, _^_, _≤_, _<_};
 ghost use lib.ListN.{length};
 ghost use Rattle.definition.specs.Answer.{rowMeaning};
+ghost use Rattle.definition.specs.Base.{if_then_else_};
 ghost use Rattle.definition.specs.Calendar.{elapsedName};
 ghost use Rattle.definition.specs.Text.{Text};
 ghost use Rattle.index.specs.Chains.{endOf};

@@ -2,7 +2,7 @@
 ghost use mathlib.Core.Path.{_≡_};
 ghost use mathlib.Core.Bool.{false};
 ghost use mathlib.Core.List.{[]};
-ghost use Rattle.definition.specs.Base.{some?, same};
+ghost use Rattle.definition.specs.Base.{_or_, some?, same};
 ghost use Rattle.definition.specs.Calendar.{free};
 ghost use Rattle.definition.specs.Format.{times};
 ghost use Rattle.model.specs.Answers.{readAt};
