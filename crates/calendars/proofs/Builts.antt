@@ -37,7 +37,7 @@ use Rattle.model.specs.declared.records.Kind.the-variants.{Calendars}
 use Rattle.pack.specs.Value.{starredBy}
 use Rattle.pack.specs.Writes.{Writes, WritesIf, noRecords, put-any, writes-if, writes-not}
 use Rattle.pack.specs.declared.record.Records.{Records}
-use Rattle.rows.specs.Rows.{inOrder, mainIn, calendarMeaning, withUidIn}
+use Rattle.rows.specs.Rows.{inOrder, mainIn, calendarMeaning}
 use Rattle.rows.specs.declared.CalendarAnswer.{CalendarAnswer}
 use Rattle.rows.specs.declared.CalendarAnswer.the-variants.{Is, Absent}
 use Rattle.names.specs.Context.{wantedName}

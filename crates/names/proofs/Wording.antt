@@ -1,5 +1,5 @@
 -- The words of the calendars' names while they are noted, and the whole table. Assumes nothing.
-use Prim.Native.Nat.{ℕ, zero, suc, _+_, _-_, _*_, _^_, _≤_, _<_, max}
+use Prim.Native.Nat.{ℕ, suc, _+_, _-_, _*_, _^_, _≤_, _<_, max}
 use native.Mathlib.Omega.{arith}
 use mathlib.Core.Path.{_≡_, refl, sym, ap, _∙_}
 use mathlib.Core.Bool.{Bool, true, false}
@@ -48,7 +48,7 @@ use Rattle.names.specs.Turned.{order-length}
 use Rattle.names.specs.Context.{mainRow, sectionRow, wantedName, starsBy, starsIn, contextAt}
 use Rattle.names.specs.ByUid.{main-there, main-absent}
 use Rattle.names.specs.Named.{nameWord, nameAt, Calendars, MainOf, mainText, nthIn, wordBy, NotesName, NamesNoted, Makes}
-use Rattle.names.specs.Uids.{namesEnd, howMany, rowsFor, madeIn, ofRow, Stays, Uids, UidsIn, MakesUids, orderRow, rowFound, calendarBy, Ripe, Stand, Chained}
+use Rattle.names.specs.Uids.{namesEnd, howMany, madeIn, ofRow, Stays, Uids, MakesUids, orderRow, rowFound, calendarBy, Ripe, Stand, Chained}
 use Rattle.names.proofs.Placing.{stays-refl, stays-then, stays-wider, stays-set}
 
 -- ---- the word of a name
@@ -294,9 +294,6 @@ module _ {s : Text} {root : Element} {t : Table} {w w₁ : List ℕ} {count : �
       )
 
 -- ---- room for it
-
-pub rows-none : {n : ℕ} → n ≡ 0 → 1 ≡ max 1 n
-rows-none e = omega arith
 
 module _ (s : Text) (root : Element) (len at : ℕ) where
   pub room-long : 2 ^ 32 ≤ length s → NoRoom ≡ madeIn s root len at

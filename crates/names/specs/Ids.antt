@@ -3,7 +3,7 @@
 use mathlib.Core.Bool.{Bool, _&&_}
 use mathlib.Core.List.{List, []}
 use mathlib.Core.Option.{some}
-use Prim.Native.Nat.{ℕ, suc, _+_, _-_, _*_, _^_, min}
+use Prim.Native.Nat.{ℕ, suc, _+_, _-_, _*_, min}
 use lib.Dec.{ltb, leb, eqb}
 use lib.ListN.{length}
 use Rattle.definition.specs.Base.{if_then_else_, _>>=_, _or_, given, find, same}

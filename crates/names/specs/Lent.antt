@@ -3,20 +3,19 @@
 use mathlib.Core.Path.{_≡_, refl, sym, ap, _∙_}
 use mathlib.Core.Bool.{Bool, true, false, _&&_}
 use mathlib.Core.List.{List, [], _∷_, _++_, map, map-append}
-use Prim.Native.Nat.{ℕ, _+_, _%_, _^_, _≤_, _<_, min}
+use Prim.Native.Nat.{ℕ, _+_, _%_, _^_, _≤_, _<_}
 use native.Mathlib.Nat.{mod-eq-of-lt}
 use native.Mathlib.Omega.{arith}
 use lib.Dec.{ltb, leb, eqb}
 use lib.ListN.{length, length-map, length-append}
-use borrow.Author.Tests.{ltb-false, leb-true, eqb-true, le-ltb}
+use borrow.Author.Tests.{ltb-false, leb-true, eqb-true}
 use Rattle.definition.specs.Base.{if_then_else_}
 use Rattle.definition.specs.Text.{Text}
 use Rattle.definition.specs.Format.{Format, times}
 use Rattle.definition.specs.Calendar.{free}
 use Rattle.laws.specs.Each.{Each, each-front}
 use Rattle.laws.specs.Formats.{Fills, fills-times}
-use Rattle.bits.specs.Clear.{cleared}
-use Rattle.bits.specs.Places.{inside, fits-room, room-fits}
+use Rattle.bits.specs.Places.{inside, fits-room}
 use Rattle.bits.specs.Round.{put-stood}
 use Rattle.bits.specs.Steps.{Puts, before-in, put-more}
 use Rattle.bits.specs.declared.Place.{Place}
@@ -28,7 +27,7 @@ use Rattle.pack.specs.Value.{starredBy}
 use Rattle.names.specs.Texts.{placeOfRow, textsAt}
 use Rattle.names.specs.Kept.{step-kept, put-ends}
 use Rattle.names.specs.Records.{Plain, Fronts, Lies, put-lies}
-use Rattle.names.specs.Ids.{idsOf, noIds, noted, freeIn, idsFor, begun, endIds, notedBy, freeBy, starredIn, placeIn}
+use Rattle.names.specs.Ids.{idsOf, noted, freeIn, idsFor, begun, endIds, notedBy, freeBy, starredIn, placeIn}
 use Rattle.names.specs.Noted.{Noted, ids-placed, noted-none, noted-free, noted-place, noted-put}
 use Rattle.names.specs.declared.ids.Ids.{Ids}
 use Rattle.names.specs.declared.ids.IdsMade.{IdsMade}

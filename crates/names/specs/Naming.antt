@@ -1,28 +1,24 @@
 -- What a table of the calendars says: the name of each UID, as the definition says it. Assumes nothing.
-use Prim.Native.Nat.{ℕ, suc, _+_, _-_, _^_, _≤_, _<_}
+use Prim.Native.Nat.{ℕ, suc, _+_, _-_, _≤_, _<_}
 use native.Mathlib.Omega.{arith}
 use mathlib.Core.Path.{_≡_, refl, sym, ap, _∙_}
-use mathlib.Core.Bool.{Bool, true, false, _&&_, not}
-use mathlib.Core.List.{List, [], _∷_}
+use mathlib.Core.Bool.{Bool, true, false, not}
+use mathlib.Core.List.{List}
 use mathlib.Core.Option.{Option, some, none}
-use lib.Dec.{leb, ltb}
-use lib.ListN.{length, getD}
-use borrow.Author.Tests.{ltb-true}
-use Rattle.definition.specs.Base.{if_then_else_, _>>=_, when, keep, first, find, numbered, same}
+use lib.ListN.{getD}
+use Rattle.definition.specs.Base.{if_then_else_, _>>=_, when, same}
 use Rattle.definition.specs.Calendar.{elapsedName}
-use Rattle.definition.specs.Refusal.{mostElements}
 use Rattle.definition.specs.Task.{Context, unlessMain}
 use Rattle.definition.specs.Text.{Text}
 use Rattle.definition.specs.Tree.{Element}
 use Rattle.index.specs.declared.Table.{Table}
 use Rattle.index.specs.declared.Made.{Made}
 use Rattle.index.specs.declared.Made.the-variants.{Ready, NoRoom}
-use Rattle.index.specs.Below.{SameBelow, below-refl, below-in}
-use Rattle.index.specs.Hash.{hashOf, same-hash}
-use Rattle.index.specs.Last.{lastBelow, last-none, last-yes, last-no, last-same, last-in}
-use Rattle.index.specs.Law.{Placed, table-placed, find-by-place}
+use Rattle.index.specs.Below.{SameBelow, below-in}
+use Rattle.index.specs.Hash.{hashOf}
+use Rattle.index.specs.Last.{lastBelow, last-in}
 use Rattle.index.specs.Frame.{SameIn, find-same, place-same}
-use Rattle.index.specs.Chains.{tableOf, placeOf}
+use Rattle.index.specs.Chains.{placeOf}
 use Rattle.bits.specs.declared.Place.{Place}
 use Rattle.pack.specs.Value.{starredBy}
 use Rattle.rows.specs.Rows.{inOrder, hasUid, withUidIn}

@@ -26,7 +26,7 @@ use Rattle.rows.specs.Tables.{uidOf, soughtIn, noElement}
 use Rattle.rows.specs.Tabled.{chain-row}
 use Rattle.tree.specs.Place.{elementAt}
 use Rattle.names.specs.declared.uids.CalendarTable.{CalendarTable}
-use Rattle.names.specs.Uids.{namesEnd, howMany, rowsFor, madeIn, ofRow, Uids, UidsIn, endFrom, MakesUids, rowFound, calendarBy, Ripe}
+use Rattle.names.specs.Uids.{howMany, rowsFor, madeIn, ofRow, Uids, UidsIn, endFrom, MakesUids, rowFound, calendarBy, Ripe}
 
 -- ---- the first of a list is the last of the list turned round
 
