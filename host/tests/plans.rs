@@ -174,29 +174,33 @@ fn what_no_tree_can_hold_is_an_error() {
 
 #[test]
 fn exceptions_of_the_old_form_have_words() {
-    /// A calendar with so many elements of a section that may have days.
-    fn tree(section: &str, name: &str, fields: &[(&str, &str)], count: usize) -> Vec<u8> {
+    /// Calendars, each with so many elements of a section that may have days.
+    fn tree(calendars: usize, section: &str, name: &str, fields: &[(&str, &str)], count: usize) -> Vec<u8> {
         let mut tree = TreeBuilder::new();
-        ["Project", "Calendars", "Calendar", section].iter().for_each(|name| tree.start(name).unwrap());
-        for _ in 0..count {
-            tree.start(name).unwrap();
-            for (name, text) in fields {
+        ["Project", "Calendars"].iter().for_each(|name| tree.start(name).unwrap());
+        for _ in 0..calendars {
+            ["Calendar", section].iter().for_each(|name| tree.start(name).unwrap());
+            for _ in 0..count {
                 tree.start(name).unwrap();
-                tree.text(text).unwrap();
-                tree.end().unwrap();
+                for (name, text) in fields {
+                    tree.start(name).unwrap();
+                    tree.text(text).unwrap();
+                    tree.end().unwrap();
+                }
+                tree.start("TimePeriod").unwrap();
+                (0..2).for_each(|_| tree.end().unwrap());
             }
-            tree.start("TimePeriod").unwrap();
             (0..2).for_each(|_| tree.end().unwrap());
         }
-        (0..4).for_each(|_| tree.end().unwrap());
+        (0..2).for_each(|_| tree.end().unwrap());
         tree.finish().unwrap()
     }
-    for (count, days) in [(1, 73_044), (32, 73_044), (33, 7_304_484)] {
-        let words = 3 + days;
-        assert_eq!(work_words(&tree("Exceptions", "Exception", &[("Type", "1")], count)), words);
-        assert_eq!(work_words(&tree("WeekDays", "WeekDay", &[("DayType", "0"), ("DayWorking", "0")], count)), words);
+    for (calendars, count, days) in [(1, 1, 73_044), (1, 32, 73_044), (1, 33, 7_304_484), (33, 1, 73_044)] {
+        let words = 3 + 10 * calendars + 1 + days;
+        assert_eq!(work_words(&tree(calendars, "Exceptions", "Exception", &[("Type", "1")], count)), words);
+        assert_eq!(work_words(&tree(calendars, "WeekDays", "WeekDay", &[("DayType", "0"), ("DayWorking", "0")], count)), words);
     }
-    assert!(work_words(&tree("WeekDays", "WeekDay", &[], 0)) < 100);
+    assert!(work_words(&tree(1, "WeekDays", "WeekDay", &[], 0)) < 100);
 }
 
 #[test]

@@ -295,9 +295,6 @@ module _ {s : Text} {root : Element} {t : Table} {w w₁ : List ℕ} {count : �
 
 -- ---- room for it
 
-pub rows-none : {n : ℕ} → n ≡ 0 → 1 ≡ max 1 n
-rows-none e = omega arith
-
 module _ (s : Text) (root : Element) (len at : ℕ) where
   pub room-long : 2 ^ 32 ≤ length s → NoRoom ≡ madeIn s root len at
   room-long h = rw (le-ltb (length s) (2 ^ 32) h)

@@ -23,9 +23,9 @@ use Rattle.index.specs.Hash.{hashOf}
 use Rattle.index.specs.Chains.{zeros, added, placeOf, chainOf, endOf}
 use Rattle.index.specs.Steps.{length-zeros}
 use Rattle.index.specs.Last.{lastBelow, last-yes, last-no, last-in}
-use Rattle.index.specs.Law.{Fits, Indexed, length-added, indexed-none, indexed-by, indexed-same, find-like}
+use Rattle.index.specs.Law.{Fits, Indexed, indexed-none, indexed-by, indexed-same, find-like}
 use Rattle.index.specs.With.{with, with-here, with-before, one-more}
-use Rattle.index.specs.Frame.{before, zeros-outside, added-outside, apart-before, apart-behind, same-added, same-zeros, indexed-kept}
+use Rattle.index.specs.Frame.{apart-before, apart-behind, same-added, same-zeros, indexed-kept}
 use Rattle.model.specs.Answers.{readAt}
 use Rattle.model.specs.Parts.{raw}
 use Rattle.model.specs.declared.records.Kind.{Kind}
@@ -278,16 +278,3 @@ cleared-same from w w′ l h =
     ext-getD 0 (take from w′) (take from w) (length-take from w′ ∙ ap (min from) l ∙ sym (length-take from w))
     (λ j k. let m : j < from = omega (arith, length-take from w′) in getD-take from w′ j 0 m ∙ h j m ∙ sym (getD-take from w j 0 m)) in
     rw (t, l)
-
-module _ (from : ℕ) (w : List ℕ) (i : Ids) (a : from ≤ i .ids .at) (b : from ≤ i .wanted .at) where
-  pub cleared-none : cleared from (noIds w i) ≡ cleared from w
-  cleared-none =
-      let v = zeros w (i .ids .at) (i .ids .rows) in
-      cleared-same from w (noIds w i) (length-zeros v (i .wanted .at) (i .wanted .rows) ∙ length-zeros w (i .ids .at) (i .ids .rows))
-      (λ j h. zeros-outside v (i .wanted) j (before (i .wanted) (omega arith)) ∙ zeros-outside w (i .ids) j (before (i .ids) (omega arith)))
-
-  pub cleared-noted : (row : ℕ) (u : Text) (k byte : ℕ) → cleared from (noted w i row u k byte) ≡ cleared from w
-  cleared-noted row u k byte =
-      let v = added w (i .ids) row (hashOf (starredBy u k)) byte in
-      cleared-same from w (noted w i row u k byte) (length-added v (i .wanted) row (hashOf u) k ∙ length-added w (i .ids) row (hashOf (starredBy u k)) byte)
-      (λ j h. added-outside v (i .wanted) row (hashOf u) k j (before (i .wanted) (omega arith)) ∙ added-outside w (i .ids) row (hashOf (starredBy u k)) byte j (before (i .ids) (omega arith)))

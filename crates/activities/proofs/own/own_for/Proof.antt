@@ -3,12 +3,6 @@ use Rattle.activities.proofs.Ids.{end-small, own-begun}
 use borrow.Author.Needs.{needs}
 use Rattle.activities.proofs.own.own_for.Statement.{statement}
 use Rattle.activities.proofs.own.own_for.Tie as tie
-use Rattle.activities.proofs.own.own_for.Reads as reads
-use Rattle.activities.proofs.own.own_for.Lts as lts
-use Rattle.activities.proofs.parents.columns_for.Reads as columns-for-reads
-use Rattle.index.proofs.end_of.Reads as end-of-reads
-use Rattle.names.proofs.ids_for.Reads as ids-for-reads
-use Rattle.names.proofs.index_calendars.Reads as index-calendars-reads
 
 end-of-requires : tie.Need-end-of-requires
 end-of-requires c κs = search needs

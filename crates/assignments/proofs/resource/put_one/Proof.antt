@@ -7,16 +7,6 @@ use Rattle.assignments.proofs.Work.{adds-said, adds-other}
 use borrow.Author.Needs.{needs}
 use Rattle.assignments.proofs.resource.put_one.Statement.{statement}
 use Rattle.assignments.proofs.resource.put_one.Tie as tie
-use Rattle.assignments.proofs.resource.put_one.Reads as reads
-use Rattle.assignments.proofs.resource.put_one.Lts as lts
-use Rattle.assignments.proofs.resource.calendar_of.Reads as calendar-of-reads
-use Rattle.assignments.proofs.resource.is_work.Reads as is-work-reads
-use Rattle.assignments.proofs.resource.put_said.Reads as put-said-reads
-use Rattle.assignments.proofs.resource.wanted_id.Reads as wanted-id-reads
-use Rattle.assignments.proofs.section.more.Reads as more-reads
-use Rattle.names.proofs.wanted_name.Reads as wanted-name-reads
-use Rattle.names.proofs.note_stars.Reads as note-stars-reads
-use Rattle.names.proofs.stars_for.Reads as stars-for-reads
 
 is-work-requires : tie.Need-is-work-requires
 is-work-requires c κs = search needs

@@ -3,10 +3,6 @@ use Rattle.calendars.proofs.Builts.{row-none, row-at}
 use borrow.Author.Needs.{needs}
 use Rattle.calendars.proofs.built.base_at.Statement.{statement}
 use Rattle.calendars.proofs.built.base_at.Tie as tie
-use Rattle.calendars.proofs.built.base_at.Reads as reads
-use Rattle.calendars.proofs.built.base_at.Lts as lts
-use Rattle.model.proofs.parts.calendar_places.Reads as calendar-places-reads
-use Rattle.names.proofs.place_in.Reads as place-in-reads
 
 returns : tie.Need-returns
 returns c = row-none {row = (c .before .before .before .args .row)} (omega (arith, (c .if1 .taken)))

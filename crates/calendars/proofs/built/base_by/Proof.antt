@@ -2,9 +2,6 @@ use Rattle.calendars.proofs.Builts.{base-absent}
 use borrow.Author.Needs.{needs}
 use Rattle.calendars.proofs.built.base_by.Statement.{statement}
 use Rattle.calendars.proofs.built.base_by.Tie as tie
-use Rattle.calendars.proofs.built.base_by.Reads as reads
-use Rattle.calendars.proofs.built.base_by.Lts as lts
-use Rattle.calendars.proofs.built.base_at.Reads as base-at-reads
 
 enum-known-found : tie.Need-enum-known-found
 enum-known-found c = search needs

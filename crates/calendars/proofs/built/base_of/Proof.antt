@@ -6,12 +6,6 @@ use Rattle.calendars.proofs.Builts.{base-none, base-found}
 use borrow.Author.Needs.{needs}
 use Rattle.calendars.proofs.built.base_of.Statement.{statement}
 use Rattle.calendars.proofs.built.base_of.Tie as tie
-use Rattle.calendars.proofs.built.base_of.Reads as reads
-use Rattle.calendars.proofs.built.base_of.Lts as lts
-use Rattle.calendar.proofs.has_base.Reads as has-base-reads
-use Rattle.calendars.proofs.built.base_by.Reads as base-by-reads
-use Rattle.names.proofs.calendar_by.Reads as calendar-by-reads
-use Rattle.tree.proofs.text_of.Reads as text-of-reads
 
 has-base-requires : tie.Need-has-base-requires
 has-base-requires c κs = search needs

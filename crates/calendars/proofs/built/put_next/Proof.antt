@@ -3,14 +3,6 @@ use Rattle.calendars.proofs.Builts.{adds-said}
 use borrow.Author.Needs.{needs}
 use Rattle.calendars.proofs.built.put_next.Statement.{statement}
 use Rattle.calendars.proofs.built.put_next.Tie as tie
-use Rattle.calendars.proofs.built.put_next.Reads as reads
-use Rattle.calendars.proofs.built.put_next.Lts as lts
-use Rattle.calendars.proofs.built.base_of.Reads as base-of-reads
-use Rattle.calendars.proofs.record.put_calendar.Reads as put-calendar-reads
-use Rattle.names.proofs.wanted_name.Reads as wanted-name-reads
-use Rattle.names.proofs.note_stars.Reads as note-stars-reads
-use Rattle.names.proofs.stars_for.Reads as stars-for-reads
-use Rattle.std.proofs.num.wrapping_add_u32.Reads as wrapping-add-u32-reads
 
 slice-aggregate-wanted-name : tie.Need-slice-aggregate-wanted-name
 slice-aggregate-wanted-name c = search needs

@@ -2,11 +2,6 @@ use Rattle.calendars.proofs.Builts.{tables-begin}
 use borrow.Author.Needs.{needs}
 use Rattle.calendars.proofs.built.tables_for.Statement.{statement}
 use Rattle.calendars.proofs.built.tables_for.Tie as tie
-use Rattle.calendars.proofs.built.tables_for.Reads as reads
-use Rattle.calendars.proofs.built.tables_for.Lts as lts
-use Rattle.names.proofs.end_of_ids.Reads as end-of-ids-reads
-use Rattle.names.proofs.ids_for.Reads as ids-for-reads
-use Rattle.names.proofs.index_uids.Reads as index-uids-reads
 
 index-uids-requires : tie.Need-index-uids-requires
 index-uids-requires c κs = search needs

@@ -2,9 +2,6 @@ use Rattle.names.proofs.Chained.{ends-ready}
 use borrow.Author.Needs.{needs}
 use Rattle.names.proofs.ids.end_of_ids.Statement.{statement}
 use Rattle.names.proofs.ids.end_of_ids.Tie as tie
-use Rattle.names.proofs.ids.end_of_ids.Reads as reads
-use Rattle.names.proofs.ids.end_of_ids.Lts as lts
-use Rattle.index.proofs.end_of.Reads as end-of-reads
 
 enum-known-ids : tie.Need-enum-known-ids
 enum-known-ids c = search needs

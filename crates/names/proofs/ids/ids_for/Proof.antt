@@ -2,10 +2,6 @@ use Rattle.names.proofs.Chained.{tables-none, tables-refused, tables-re
 use borrow.Author.Needs.{needs}
 use Rattle.names.proofs.ids.ids_for.Statement.{statement}
 use Rattle.names.proofs.ids.ids_for.Tie as tie
-use Rattle.names.proofs.ids.ids_for.Reads as reads
-use Rattle.names.proofs.ids.ids_for.Lts as lts
-use Rattle.names.proofs.ids.clear_ids.Reads as clear-ids-reads
-use Rattle.names.proofs.ids.ids_at.Reads as ids-at-reads
 
 returns : tie.Need-returns
 returns c = tables-none _ _ _ _ _ (c .if1 .taken)

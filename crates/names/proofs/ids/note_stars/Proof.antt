@@ -2,9 +2,6 @@ use Rattle.names.proofs.Chained.{noted-by-made}
 use borrow.Author.Needs.{needs}
 use Rattle.names.proofs.ids.note_stars.Statement.{statement}
 use Rattle.names.proofs.ids.note_stars.Tie as tie
-use Rattle.names.proofs.ids.note_stars.Reads as reads
-use Rattle.names.proofs.ids.note_stars.Lts as lts
-use Rattle.names.proofs.ids.note_id.Reads as note-id-reads
 
 enum-known-ids : tie.Need-enum-known-ids
 enum-known-ids c = search needs

@@ -2,10 +2,6 @@ use Rattle.names.proofs.Chained.{place-scan, place-few, place-by}
 use borrow.Author.Needs.{needs}
 use Rattle.names.proofs.ids.place_in.Statement.{statement}
 use Rattle.names.proofs.ids.place_in.Tie as tie
-use Rattle.names.proofs.ids.place_in.Reads as reads
-use Rattle.names.proofs.ids.place_in.Lts as lts
-use Rattle.index.proofs.place.Reads as place-reads
-use Rattle.names.proofs.records.place_of_row.Reads as place-of-row-reads
 
 enum-known-ids : tie.Need-enum-known-ids
 enum-known-ids c = search needs

@@ -4,11 +4,6 @@ use Rattle.names.proofs.Chained.{starred-past, starred-scan, starred-fe
 use borrow.Author.Needs.{needs}
 use Rattle.names.proofs.ids.stars_for.Statement.{statement}
 use Rattle.names.proofs.ids.stars_for.Tie as tie
-use Rattle.names.proofs.ids.stars_for.Reads as reads
-use Rattle.names.proofs.ids.stars_for.Lts as lts
-use Rattle.bits.proofs.inside.Reads as inside-reads
-use Rattle.names.proofs.ids.free_in.Reads as free-in-reads
-use Rattle.names.proofs.records.free_stars.Reads as free-stars-reads
 
 inside-requires : tie.Need-inside-requires
 inside-requires c κs = search needs

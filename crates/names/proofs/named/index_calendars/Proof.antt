@@ -2,10 +2,6 @@ use Rattle.names.proofs.Wording.{makes-none, makes-ready, makes-uids}
 use borrow.Author.Needs.{needs}
 use Rattle.names.proofs.named.index_calendars.Statement.{statement}
 use Rattle.names.proofs.named.index_calendars.Tie as tie
-use Rattle.names.proofs.named.index_calendars.Reads as reads
-use Rattle.names.proofs.named.index_calendars.Lts as lts
-use Rattle.names.proofs.named.note_all.Reads as note-all-reads
-use Rattle.names.proofs.uids.index_uids.Reads as index-uids-reads
 
 index-uids-requires : tie.Need-index-uids-requires
 index-uids-requires c κs = search needs

@@ -2,13 +2,6 @@ use Rattle.names.proofs.Wording.{main-missing, main-given, filled-none,
 use borrow.Author.Needs.{needs}
 use Rattle.names.proofs.named.note_all.Statement.{statement}
 use Rattle.names.proofs.named.note_all.Tie as tie
-use Rattle.names.proofs.named.note_all.Reads as reads
-use Rattle.names.proofs.named.note_all.Lts as lts
-use Rattle.index.proofs.set_word.Reads as set-word-reads
-use Rattle.names.proofs.calendars.stars_of.Reads as stars-of-reads
-use Rattle.names.proofs.named.note_names.Reads as note-names-reads
-use Rattle.names.proofs.named.word_of.Reads as word-of-reads
-use Rattle.rows.proofs.main_calendar.Reads as main-calendar-reads
 
 main-calendar-requires : tie.Need-main-calendar-requires
 main-calendar-requires c κs = search needs

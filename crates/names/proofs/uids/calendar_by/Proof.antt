@@ -3,11 +3,6 @@ use Rattle.names.proofs.Wording.{by-table, by-scan}
 use borrow.Author.Needs.{needs}
 use Rattle.names.proofs.uids.calendar_by.Statement.{statement}
 use Rattle.names.proofs.uids.calendar_by.Tie as tie
-use Rattle.names.proofs.uids.calendar_by.Reads as reads
-use Rattle.names.proofs.uids.calendar_by.Lts as lts
-use Rattle.names.proofs.uids.in_order.Reads as in-order-reads
-use Rattle.rows.proofs.calendar_with.Reads as calendar-with-reads
-use Rattle.rows.proofs.seek.Reads as seek-reads
 
 enum-known-table : tie.Need-enum-known-table
 enum-known-table c = search needs

@@ -2,10 +2,6 @@ use Rattle.names.proofs.Wording.{row-there, row-absent}
 use borrow.Author.Needs.{needs}
 use Rattle.names.proofs.uids.in_order.Statement.{statement}
 use Rattle.names.proofs.uids.in_order.Tie as tie
-use Rattle.names.proofs.uids.in_order.Reads as reads
-use Rattle.names.proofs.uids.in_order.Lts as lts
-use Rattle.index.proofs.place.Reads as place-reads
-use Rattle.names.proofs.uids.order_row.Reads as order-row-reads
 
 enum-known-row : tie.Need-enum-known-row
 enum-known-row c = search needs

@@ -6,11 +6,6 @@ use Rattle.names.proofs.Wording.{chain-fits, uids-made, uids-none, uids
 use borrow.Author.Needs.{needs}
 use Rattle.names.proofs.uids.index_uids.Statement.{statement}
 use Rattle.names.proofs.uids.index_uids.Tie as tie
-use Rattle.names.proofs.uids.index_uids.Reads as reads
-use Rattle.names.proofs.uids.index_uids.Lts as lts
-use Rattle.names.proofs.uids.chain_rows.Reads as chain-rows-reads
-use Rattle.names.proofs.uids.note_places.Reads as note-places-reads
-use Rattle.names.proofs.uids.room_for.Reads as room-for-reads
 
 room-for-requires : tie.Need-room-for-requires
 room-for-requires c κs = search needs

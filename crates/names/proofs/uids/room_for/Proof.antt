@@ -4,11 +4,6 @@ use Rattle.names.proofs.Wording.{room-long, room-many, room-short, room
 use borrow.Author.Needs.{needs}
 use Rattle.names.proofs.uids.room_for.Statement.{statement}
 use Rattle.names.proofs.uids.room_for.Tie as tie
-use Rattle.names.proofs.uids.room_for.Reads as reads
-use Rattle.names.proofs.uids.room_for.Lts as lts
-use Rattle.index.proofs.table_at.Reads as table-at-reads
-use Rattle.names.proofs.calendars.count_calendars.Reads as count-calendars-reads
-use Rattle.names.proofs.uids.rows_for.Reads as rows-for-reads
 
 returns : tie.Need-returns
 returns c = let a = (c .before .before .args) in room-long (a .s .now) (rootAt (a .s .now) (a .root)) (a .len) (a .at) (omega arith)
