@@ -4,7 +4,7 @@
 use std::hint::black_box;
 use std::time::Duration;
 
-use oracle::bench::{big_tree, calendars_tree, hours_tree, interleaved_tree, one_id_tree};
+use oracle::bench::{big_tree, calendars_tree, far_days_tree, hours_tree, interleaved_tree, one_id_tree, sparse_tree};
 use oracle::read::rust_read;
 
 use crate::bench::timed;
@@ -20,7 +20,10 @@ pub fn table() {
     line("1,000 tasks that all want one id", &one_id_tree(1_000), None, 1 << 22);
     line("a calendar of 1,000 exceptions, days interleaved", &interleaved_tree(), None, 1 << 26);
     line("2,000 calendars over one base", &calendars_tree(2_000), None, 1 << 22);
+    line("8,000 calendars over one base", &calendars_tree(8_000), None, 1 << 24);
     line("5,000 days with hours over 5,000 of the base", &hours_tree(), None, 1 << 22);
+    line("5,000 exceptions of a day with hours, far apart", &sparse_tree(), None, 1 << 22);
+    line("500 calendars over a base with far days", &far_days_tree(500), None, 1 << 24);
     // 100,000 tasks of 60 fields would be more than 5,000,000 elements.
     let mut last = Duration::ZERO;
     for (tasks, fields) in [(100, 60), (1_000, 60), (10_000, 60), (1_000, 40), (10_000, 40), (100_000, 40)] {
