@@ -33,7 +33,7 @@ uint32_t mspdi_outline(const uint8_t *model, size_t model_len, uint32_t *rows, s
 uint32_t mspdi_day_sheet(const uint8_t *model, size_t model_len, uint32_t calendar, int32_t date, uint8_t *sheet, size_t sheet_len, uint64_t *written);
 
 /* The model of a packed tree; *written bytes of it are the result. work may have any length, none too, and never changes the answer; it ends as
-   zeros. Fastest with 3 words a task and, behind them, the largest of: 10 a calendar and 5 and, where calendars have exceptions, a word for each day
+   zeros. Fastest with 3 words a task, 3 at least, and, behind them, the largest of: 10 a calendar and 5 and, where calendars have exceptions, a word for each day
    from the first to the last day of a calendar's; 8 a task, 4 a calendar and 5; 6 a resource, 4 a calendar and 5; 3 for each resource and assignment
    and 6 (host's work_words counts what is there, with 73,044 words for the days of a calendar's up to 32 exceptions and 7,304,484, all years, for more).
    1: the tree breaks the layout. 2: a name or text is not UTF-8. 3: more than 5,000,000 elements. 4: the root is no Project. 5: a number is too

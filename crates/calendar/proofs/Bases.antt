@@ -1,4 +1,4 @@
--- A base, and whether it has a UID, by the tests that the code makes. Assumes nothing.
+-- A base, by the tests that the code makes. Assumes nothing.
 use mathlib.Core.Path.{_≡_, refl}
 use mathlib.Core.Bool.{Bool, true, false, _&&_, not}
 use mathlib.Core.List.{[]}
@@ -11,13 +11,5 @@ base-given none x = refl
 base-given (some u) x = by (same u x)
   where
     by : (b : Bool) → (true && not b) ≡ given (when (not b) u)
-    by true = refl
-    by false = refl
-
-pub base-same : (o : Option Text) (x v : Text) → (given (o >>= λ u. when (not (same u x)) u) && same (o or []) v) ≡ ((o >>= λ u. when (not (same u x)) u) >>= λ u. some (same u v)) or false
-base-same none x v = refl
-base-same (some u) x v = by (same u x)
-  where
-    by : (b : Bool) → (given (when (not b) u) && same u v) ≡ (when (not b) u >>= λ u. some (same u v)) or false
     by true = refl
     by false = refl

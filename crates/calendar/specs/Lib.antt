@@ -1,4 +1,3 @@
 pub mod Hours
 pub mod Week
-pub mod Base
 pub mod Skipped

@@ -4,7 +4,6 @@ mod exception;
 mod hours;
 mod week;
 
-pub use base::base_is;
 pub use base::has_base;
 pub use exception::skipped;
 pub use hours::WorkingTime;

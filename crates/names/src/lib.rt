@@ -22,7 +22,6 @@ pub use named::elapsed_in;
 pub use named::index_calendars;
 pub use records::place_of_row;
 pub use records::raw_text;
-pub use stars::same_starred;
 pub use uids::CalendarTable;
 pub use uids::calendar_by;
 pub use uids::index_uids;

@@ -15,7 +15,7 @@ fn byte_of(s: &[u8], i: usize) -> u8
 }
 
 // Whether two texts are the same, each with so many `*` behind it.
-pub fn same_starred(a: &[u8], m: u32, b: &[u8], n: u32) -> bool
+pub(crate) fn same_starred(a: &[u8], m: u32, b: &[u8], n: u32) -> bool
     ensures { λ r. ⌜ r ≡ same (starredBy (now (a .entry)) m) (starredBy (now (b .entry)) n) ⌝ }
 {
     let len = a.len() + m as usize;

@@ -3,10 +3,8 @@ use native.Mathlib.Omega.{arith}
 use mathlib.Core.Path.{refl, _∙_}
 use Prim.Native.Nat.{_%_}
 use lib.Dec.{eqb}
-use lib.ListN.{drop}
-use Rattle.laws.specs.Each.{each-drop}
-use Rattle.laws.specs.FitTrees.{small-element}
 use Rattle.names.specs.Seen.{bytes-of}
+use Rattle.rows.specs.Small.{small-root}
 use Rattle.tree.specs.Root.{rootAt}
 use Rattle.calendars.proofs.Builts.{calendars-if, calendars-not, few-counted}
 use borrow.Author.Needs.{needs}
@@ -56,7 +54,7 @@ returns-2 c =
     let a = (c .before .before .before .before .before .before .before .before .before .before .before .before .before .before .before .before .before .before .before .before .before .before .before .before .before .before .args) in
     let n = (c .before .before .before .before .before .before .before .before .before .before .before .before .before .before .before .before .before .before .before .before .before .before) in
     let bytes = bytes-of (a .s .now) (λ i. omega (arith, (c .before .before .before .before .before .before .before .before .before .before .before .before .before .before .before .before .before .before .before .before .before .before .before .before .shared-slice-known .given) i)) in (
-      calendars-if (a .s .now) (rootAt (a .s .now) (a .root)) {p = a .p} (n .count-calendars .ensures) (small-element (drop (a .root) (a .s .now)) (each-drop (a .root) bytes)) (not-false _ (c .before .before .before .before .before .before .before .before .before .before .before .before .before .before .before .before .before .before .before .before .if1 .left)) _ (c .before .before .before .before .before .before .before .main-calendar .ensures) (c .before .before .before .before .before .before .before .before .before .before .before .before .before .before .before .before .before .put-built .ensures .0) (c .before .before .before .before .before .before .turn-main .ensures) (c .before .before .put-elapsed .ensures),
+      calendars-if (a .s .now) (rootAt (a .s .now) (a .root)) {p = a .p} (n .count-calendars .ensures) (small-root (a .s .now) (a .root) bytes) (not-false _ (c .before .before .before .before .before .before .before .before .before .before .before .before .before .before .before .before .before .before .before .before .if1 .left)) _ (c .before .before .before .before .before .before .before .main-calendar .ensures) (c .before .before .before .before .before .before .before .before .before .before .before .before .before .before .before .before .before .put-built .ensures .0) (c .before .before .before .before .before .before .turn-main .ensures) (c .before .before .put-elapsed .ensures),
       (c .before .before .before .before .before .before .before .before .before .before .before .clear-words-from2 .ensures) ∙ (c .before .before .before .before .before .before .before .before .before .before .before .before .before .before .before .before .before .put-built .ensures .1),
     )
 
