@@ -6,7 +6,6 @@ use mathlib.Core.Option.{Option, some, none}
 use borrow.Author.Tests.{not-true, not-false}
 use Rattle.definition.specs.Base.{_>>=_, _or_, _orElse_, given}
 use Rattle.definition.specs.Text.{Text}
-use Rattle.laws.specs.Options.{bind-assoc}
 
 module _ {B : Type 0} (o : Option Text) {g : Bool} (e : g ≡ given o) where
   pub look-not : (f : Text → Option B) → not g ≡ true → none ≡ (o >>= f)
@@ -25,14 +24,6 @@ module _ {B : Type 0} (o : Option Text) {g : Bool} (e : g ≡ given o) where
 
   pub look-up : (f : Text → Option B) {t : Text} {m : Option B} → not g ≡ false → t ≡ (o or []) → m ≡ f t → m ≡ (o >>= f)
   look-up f h z u = u ∙ ap f z ∙ look-is f h
-
--- and then another
-module _ {B C : Type 0} (o : Option Text) {g : Bool} (e : g ≡ given o) (f : Text → Option B) (k : B → Option C) where
-  pub then-not : not g ≡ true → none ≡ (o >>= f >>= k)
-  then-not h = look-not o e (λ t. f t >>= k) h ∙ sym (bind-assoc o f k)
-
-  pub then-look : {t : Text} {m : Option C} → not g ≡ false → t ≡ (o or []) → m ≡ (f t >>= k) → m ≡ (o >>= f >>= k)
-  then-look h z u = look-up o e (λ t. f t >>= k) h z u ∙ sym (bind-assoc o f k)
 
 -- the first of two
 pub first-given : (o p : Option Text) {g : Bool} → g ≡ given o → g ≡ true → (o or []) ≡ ((o orElse p) or [])

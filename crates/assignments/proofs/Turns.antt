@@ -68,9 +68,6 @@ module _ {A : Type 0} {f : Format A} {d : List ℕ} {p : Place} where
 pub writes-none : {A : Type 0} {f : Format A} {xs : List A} {d : List ℕ} {p : Place} → xs ≡ [] → Writes f xs d p d (record { count = 0; next = p })
 writes-none {f = f} {d = d} {p = p} e = rw e (record { puts = put-no 0 f d p; counts = refl })
 
-pub writes-in-none : {A : Type 0} {f : Format A} {xs : List A} {d : List ℕ} {p : Place} → xs ≡ [] → WritesIn f xs d p d (record { count = 0; next = p })
-writes-in-none {f = f} {d = d} {p = p} e = rw e (record { puts = put-no 0 f d p; counts = λ h. refl })
-
 -- the same records, said otherwise
 pub wrote-as : {A : Type 0} {f : Format A} {sure : Bool} {xs ys : List A} {d : List ℕ} {p : Place} {d' : List ℕ} {r : Done} → xs ≡ ys → Wrote f sure xs d p d' r → Wrote f sure ys d p d' r
 wrote-as {f = f} {sure} {d = d} {p = p} {d' = d'} {r = r} e w = subst (λ zs. Wrote f sure zs d p d' r) e w

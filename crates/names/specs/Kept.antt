@@ -134,9 +134,6 @@ module _ {A : Type 0} {f : Format A} {F : A → Type 0} (g : Good f F) where
   pub reads-kept : {a : A} {n : ℕ} {d d' : List ℕ} {p r : Place} → Reads f d p a r → inside (length d) r ≡ true → at r ≤ n → Kept n d d' → Reads f d' p a r
   reads-kept h i le k = let (fits, s) = reads-there h i in there-reads fits (kept-there k s le)
 
-  pub reads-fit : {a : A} {d : List ℕ} {p r : Place} → Reads f d p a r → inside (length d) r ≡ true → F a
-  reads-fit h i = reads-there h i .0
-
 -- bits that were put stand there
 pub put-there : {A : Type 0} {f : Format A} {a : A} {d : List ℕ} {p : Place} {d' : List ℕ} {q : Place} → Puts f a d p d' q → inside (length d') q ≡ true → There d' p (f .put (at p) a) q
 put-there {f = f} {a = a} {p = p} x h =

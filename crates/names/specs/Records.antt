@@ -6,7 +6,7 @@ use mathlib.Core.Option.{Option, some, none}
 use Prim.Native.Nat.{ℕ, zero, suc, _+_, _≤_, _<_}
 use native.Mathlib.Omega.{arith}
 use lib.IntN.{ℤ}
-use lib.ListN.{length, take, drop, getElem?, length-append, length-map}
+use lib.ListN.{length, getElem?, length-append, length-map}
 use Rattle.definition.specs.Base.{_>>=_, _or_, count}
 use Rattle.definition.specs.Bits.{Bits}
 use Rattle.definition.specs.Text.{Text}
@@ -16,25 +16,23 @@ use Rattle.definition.specs.Model.{Calendar, Activity, Resource, Expense}
 use Rattle.definition.specs.Pack.{calendar, activity, resource, expense}
 use Rattle.laws.specs.Options.{never, some-is}
 use Rattle.laws.specs.Each.{Each, empty, next, each-front, each-back}
-use Rattle.laws.specs.Bits.{Bytes}
 use Rattle.laws.specs.Formats.{Good, _&_, Both, IfGiven, good-times, good-whole, good-count, all-append}
 use Rattle.laws.specs.Fields.{good-code, good-number, good-optional}
 use Rattle.laws.specs.Bools.{Within, differ as never-both}
 use Rattle.laws.specs.FitRecords.{Short, IsCount, IsNumber, anyText, good-any, CalendarParts, ActivityRest, ExpenseParts, FitsCalendarBy, FitsActivityBy, FitsResourceBy, FitsExpenseBy, good-calendar-parts, good-activity-rest, good-expense-parts}
 use Rattle.bits.specs.Places.{at, place, past, inside, at-place, room-fits}
-use Rattle.bits.specs.Reads.{rest, rest-in, spot, spanAt, Reads}
+use Rattle.bits.specs.Reads.{rest, rest-in, spot, Reads}
 use Rattle.bits.specs.Steps.{Puts, past-out}
 use Rattle.bits.specs.declared.Place.{Place}
-use Rattle.bits.specs.declared.Span.{Span}
 use Rattle.model.specs.Answers.{seen, readAt}
-use Rattle.model.specs.Lax.{Like, Lax, left, lax-like, lax-same, like-then, like-times, like-back, like-whole, like-passed, regroup-like}
+use Rattle.model.specs.Lax.{Like, left, like-then, like-times, like-back, like-whole, like-passed, regroup-like}
 use Rattle.model.specs.Parts.{raw, textBy, recordOf, calendarParts, activityParts, activityRest, ActivityRest as ActivityTail, resourceParts, expenseParts, regroup-five}
 use Rattle.model.specs.Passes.{Passes, pass-read, pass-like}
 use Rattle.model.specs.Splits.{Stands, read-stands, stands-read, stands-whole, stands-first, stands-pass}
 use Rattle.model.specs.declared.records.Kind.{Kind}
 use Rattle.model.specs.declared.records.Kind.the-variants.{Calendars, Activities, Resources, Expenses}
 use Rattle.names.specs.Texts.{placeOfRow, textAt, textsAt}
-use Rattle.names.specs.Seen.{passed-to, raw-spanned}
+use Rattle.names.specs.Seen.{passed-to}
 use Rattle.names.specs.Kept.{Kept, There, there-at, there-inside, there-split, there-reads, gets-there, kept-there, put-there}
 
 -- ---- lists of records
@@ -81,9 +79,6 @@ split-at {A} (y ∷ xs) (suc i) h = let (us, x, vs, z, n) = split-at xs i (omega
 pub record Plain (kind : Kind) {B : Type 0} (g : Format B) (G : B → Type 0) : Type 0 where
   pub good : Good g G
   pub like : Like (recordOf false kind) g
-
-pub plain-lax : {kind : Kind} {B : Type 0} {g : Format B} {G : B → Type 0} → Plain kind g G → Lax (recordOf false kind) g
-plain-lax {g = g} k = lax-like (k .like) (lax-same g)
 
 -- each begins with a text
 pub record Fronts {B : Type 0} (g : Format B) (front : B → Text) : Type 0 where
@@ -391,12 +386,6 @@ module _ (k : ℕ) {xs : List Calendar} {d₀ : List ℕ} {p : Place} {d : List 
   pub calendars-lie : Lies plainCalendars (CalendarParts Short) d p (map calendarFields xs) q
   calendars-lie = put-lies (whole calendar) plainCalendars calendarFields same-calendars k x i h
 
-  pub run-calendars : Reads (times (length xs) plainCalendars) d p (map calendarFields xs) q
-  run-calendars = rw (length-map xs calendarFields) at (lies-read plain-calendars calendars-lie)
-
-  pub last-calendars : placeOfRow Calendars d p (length xs) ≡ q
-  last-calendars = ap (placeOfRow Calendars d p) (sym (length-map xs calendarFields)) ∙ place-last plain-calendars calendars-lie
-
   pub texts-calendars : textsAt Calendars d p (length xs) ≡ map (λ (c : Calendar). c .name) xs
   texts-calendars = ap (textsAt Calendars d p) (sym (length-map xs calendarFields)) ∙ texts-front plain-calendars front-calendars calendars-lie ∙ map-two calendarFields (λ t. t .0) xs
 
@@ -404,24 +393,12 @@ module _ (k : ℕ) {xs : List Activity} {d₀ : List ℕ} {p : Place} {d : List 
   pub activities-lie : Lies plainActivities FitsActivityFields d p (map activityFields xs) q
   activities-lie = put-lies (whole activity) plainActivities activityFields same-activities k x i h
 
-  pub run-activities : Reads (times (length xs) plainActivities) d p (map activityFields xs) q
-  run-activities = rw (length-map xs activityFields) at (lies-read plain-activities activities-lie)
-
-  pub last-activities : placeOfRow Activities d p (length xs) ≡ q
-  last-activities = ap (placeOfRow Activities d p) (sym (length-map xs activityFields)) ∙ place-last plain-activities activities-lie
-
   pub texts-activities : textsAt Activities d p (length xs) ≡ map (λ (a : Activity). a .id) xs
   texts-activities = ap (textsAt Activities d p) (sym (length-map xs activityFields)) ∙ texts-front plain-activities front-activities activities-lie ∙ map-two activityFields (λ t. t .0) xs
 
 module _ (k : ℕ) {xs : List Resource} {d₀ : List ℕ} {p : Place} {d : List ℕ} {q : Place} (x : Puts (times k (whole resource)) xs d₀ p d q) (i : inside (length d) q ≡ true) (h : Each (FitsResourceBy Short) xs) where
   pub resources-lie : Lies plainResources FitsResourceFields d p (map resourceFields xs) q
   resources-lie = put-lies (whole resource) plainResources resourceFields same-resources k x i h
-
-  pub run-resources : Reads (times (length xs) plainResources) d p (map resourceFields xs) q
-  run-resources = rw (length-map xs resourceFields) at (lies-read plain-resources resources-lie)
-
-  pub last-resources : placeOfRow Resources d p (length xs) ≡ q
-  last-resources = ap (placeOfRow Resources d p) (sym (length-map xs resourceFields)) ∙ place-last plain-resources resources-lie
 
   pub texts-resources : textsAt Resources d p (length xs) ≡ map (λ (r : Resource). r .id) xs
   texts-resources = ap (textsAt Resources d p) (sym (length-map xs resourceFields)) ∙ texts-front plain-resources front-resources resources-lie ∙ map-two resourceFields (λ t. t .0) xs
@@ -433,16 +410,10 @@ module _ (k : ℕ) {xs : List Expense} {d₀ : List ℕ} {p : Place} {d : List �
   pub run-expenses : Reads (times (length xs) plainExpenses) d p (map expenseFields xs) q
   run-expenses = rw (length-map xs expenseFields) at (lies-read plain-expenses expenses-lie)
 
-  pub last-expenses : placeOfRow Expenses d p (length xs) ≡ q
-  last-expenses = ap (placeOfRow Expenses d p) (sym (length-map xs expenseFields)) ∙ place-last plain-expenses expenses-lie
-
 -- a text that stands there, as it is answered, and by its bytes
 module _ {s : List ℕ} {p : Place} {t : Text} (h : Stands raw s p t) where
   pub raw-stands : (readAt raw s p .0 or []) ≡ t
   raw-stands = ap (λ (o : Option Text). o or []) (stands-read h)
-
-  pub raw-span : Bytes s → {x : Span} → x ≡ spanAt s p → t ≡ take (x .len) (drop (x .start) s)
-  raw-span b e = sym (raw-spanned s p b e ∙ raw-stands)
 
 -- an expense's row, and its name behind it
 pub expense-key : {s : List ℕ} {p : Place} {t : ExpenseFields} → Stands plainExpenses s p t → Stands row s p (t .0) × ((q : Place) → Passes row s p q → Stands raw s q (t .1 .0))

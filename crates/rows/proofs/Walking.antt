@@ -15,6 +15,7 @@ use Rattle.definition.specs.Tree.{Element, child, all, allIn}
 use Rattle.definition.specs.Task.{isKept, mostTasks, keptTasks}
 use Rattle.definition.specs.Resource.{isResource, isCost}
 use Rattle.definition.specs.Calendar.{baseOf, calendarElements}
+use Rattle.laws.specs.Keep.{keep-yes, keep-no}
 use Rattle.tree.specs.Place.{elementAt, laterAt, listOf, Past, Starts}
 use Rattle.tree.specs.declared.Found.{Found}
 use Rattle.tree.specs.declared.Found.the-variants.{At, Nothing}
@@ -40,14 +41,6 @@ unfolding Past
 before-next s m p h = omega (arith, h)
 
 -- ---- the kept tasks
-
-keep-yes : {A : Type 0} (q : A → Bool) (x : A) (l : List A) → q x ≡ true → keep q (x ∷ l) ≡ x ∷ keep q l
-unfolding keep
-keep-yes q x l h = rw h
-
-keep-no : {A : Type 0} (q : A → Bool) (x : A) (l : List A) → q x ≡ false → keep q (x ∷ l) ≡ keep q l
-unfolding keep
-keep-no q x l h = rw h
 
 take-more : {A : Type 0} (n : ℕ) (x : A) (l : List A) → 0 < n → take n (x ∷ l) ≡ x ∷ take (n - 1) l
 take-more zero x l h = absurd (omega arith)
