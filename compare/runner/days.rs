@@ -6,7 +6,7 @@ use std::time::{Duration, Instant};
 use mkperth_mspxml::exposed::Tree;
 use oracle::generate::{packed_rule, rule};
 use oracle::rng::Rng;
-use oracle::{exception, hex};
+use oracle::{exception, hex, tree};
 
 use crate::{ours, shrink};
 
@@ -37,9 +37,10 @@ fn made(seed: u64, k: u64) -> (Vec<u8>, Vec<u8>) {
 
 /// How many differ; each is printed with its smallest input.
 pub fn compare(seed: u64, count: u64) -> u64 {
-    let (mut differ, mut skipped, mut days) = (0, 0, 0);
+    let (mut differ, mut skipped, mut days, mut by_true) = (0, 0, 0, 0);
     for k in 0..count {
         let (tree, day_off) = made(seed, k);
+        by_true += u64::from(*tree::for_the_rust(&tree) != *tree);
         match rust(&tree) {
             Some(Some(list)) => days += list.len(),
             _ => skipped += 1,
@@ -53,7 +54,7 @@ pub fn compare(seed: u64, count: u64) -> u64 {
             }
         }
     }
-    println!("rules: {count} with {days} days, {skipped} of them skipped, {differ} differ");
+    println!("rules: {count} with {days} days, {skipped} of them skipped, {by_true} by occurrences with `true`, {differ} differ");
     differ
 }
 
@@ -66,7 +67,7 @@ fn show(tree: &[u8], wrong: fn(&[u8]) -> bool) {
 /// Prints a line: a rule's days, the element built before and outside the time.
 pub fn bench(seed: u64) {
     let trees: Vec<Vec<u8>> = (0..2000).map(|k| packed_rule(&mut Rng::new(seed.wrapping_add(k << 32)))).filter(|t| rust(t).is_some()).collect();
-    let built: Vec<Tree> = trees.iter().filter_map(|t| quick_xml::with_tree(t, Tree::build).ok()).collect();
+    let built: Vec<Tree> = trees.iter().filter_map(|t| quick_xml::with_tree(&tree::for_the_rust(t), Tree::build).ok()).collect();
     let rust = best(|| built.iter().for_each(|root| drop(black_box(root.recurrence_days()))));
     let ours = best(|| trees.iter().for_each(|tree| drop(black_box(ours::rule_days(black_box(tree))))));
     let us = |time: Duration| time.as_secs_f64() * 1e6 / trees.len() as f64;

@@ -2,7 +2,7 @@
 
 use oracle::generate::{LIMITS, damaged, limit_tree, packed_tree};
 use oracle::rng::Rng;
-use oracle::{hex, read};
+use oracle::{hex, read, tree};
 
 use crate::trees::samples;
 use crate::words::work_words;
@@ -74,6 +74,8 @@ fn differs(tree: &[u8], answer: &Answer, room: Room, work: usize) -> Option<(Lef
 #[derive(Default)]
 struct Tally {
     trees: u64,
+    /// Those read of which the Rust is asked with `1` for `true`.
+    by_true: u64,
     calls: u64,
     numbers: [u64; 10],
     differ: u64,
@@ -84,6 +86,7 @@ impl Tally {
     fn run(&mut self, tree: &[u8], rooms: &[Room], work: usize) {
         let answer = read::read_model(tree);
         self.trees += 1;
+        self.by_true += u64::from(answer.is_ok() && *tree::for_the_rust(tree) != *tree);
         for &room in rooms {
             self.calls += 1;
             let length = room.of(answer.as_ref().map_or(9, Vec::len));
@@ -123,7 +126,14 @@ pub fn compare(seed: u64, count: u64) -> u64 {
         tally.run(&tree, &[room], (k as usize).wrapping_mul(7) % most);
     }
     let numbers: Vec<String> = (0..10).filter(|n| tally.numbers[*n] > 0).map(|n| format!("{n}: {}", tally.numbers[n])).collect();
-    println!("reads: {} trees in {} calls ({}), {} differ", tally.trees, tally.calls, numbers.join(", "), tally.differ);
+    println!(
+        "reads: {} trees, {} of them with `true` for a yes, in {} calls ({}), {} differ",
+        tally.trees,
+        tally.by_true,
+        tally.calls,
+        numbers.join(", "),
+        tally.differ
+    );
     tally.differ
 }
 

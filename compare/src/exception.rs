@@ -11,7 +11,7 @@ use crate::tree;
 pub fn days(tree: &[u8]) -> Result<Option<Vec<i32>>, Refusal> {
     tree::refusal(tree, &["Exception", "WeekDay"])?;
     let weekday = tree::records(tree)?.first().is_some_and(|root| root.name == b"WeekDay");
-    let root = quick_xml::with_tree(tree, Tree::build).map_err(|_| 4u32)?;
+    let root = quick_xml::with_tree(&tree::for_the_rust(tree), Tree::build).map_err(|_| 4u32)?;
     let days = if weekday { Some(root.days_of()) } else { root.recurrence_days() };
     Ok(days.map(|days| days.into_iter().map(Date::days).collect()))
 }

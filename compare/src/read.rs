@@ -16,7 +16,7 @@ pub fn read_model(tree: &[u8]) -> Result<Vec<u8>, Refusal> {
 
 pub fn model_of_tree(tree: &[u8]) -> Result<Model, Refusal> {
     tree::refusal(tree, &["Project"])?;
-    Ok(model_of(&rust_read(tree)))
+    Ok(model_of(&rust_read(&tree::for_the_rust(tree))))
 }
 
 /// The Rust's own `read` of a tree that is not refused.

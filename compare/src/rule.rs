@@ -24,7 +24,7 @@ pub fn days(x: &Node) -> Option<Vec<i32>> {
     let int = |name: &str, default: i64| text_of(x, name).and_then(|t| t.parse().ok()).unwrap_or(default);
     let from = date(child(x, "TimePeriod")?, "FromDate")?;
     let to = child(x, "TimePeriod").and_then(|p| date(p, "ToDate")).unwrap_or(from);
-    let by_occurrences = text_of(x, "EnteredByOccurrences") == Some("1");
+    let by_occurrences = matches!(text_of(x, "EnteredByOccurrences"), Some("1" | "true"));
     let last = if by_occurrences { Date::from_days(from + CENTURY as i32).map_or(to, Date::days) } else { to };
     let so_many = if by_occurrences { int("Occurrences", 1).clamp(0, 5_000) as usize } else { 5_000 };
     let rule = Rule {

@@ -9,7 +9,7 @@ use crate::leaf::{self, Kind};
 use crate::model::{self, Activity, FIRST_DAY, LAST_DAY, Model};
 use crate::number::{self, Number};
 use crate::rng::Rng;
-use crate::tree::Node;
+use crate::tree::{self, Node};
 use crate::{check, exception, generate, hex, outline, read, rule, sheet};
 
 #[derive(Default)]
@@ -41,6 +41,7 @@ pub fn run(count: u64) -> bool {
     links(t);
     recurrence(t);
     ruled_out(t);
+    yeses(t);
     limits(t);
     random_numbers(t, count);
     random_rules(t, count);
@@ -190,6 +191,37 @@ fn ruled_out(t: &mut Tests) {
     t.equal("ToTime 00:00", model.calendars.first().map(|c| c.periods[0].clone()), Some(vec![(1200, 1440)]));
 }
 
+/// Each field of a yes, by its text: whether it counts as one. And what is no such field stays as it is.
+fn yeses(t: &mut Tests) {
+    let saturday = |text: &str| {
+        let day = Node::new("WeekDay", "").field("DayType", "7").field("DayWorking", text);
+        model_of(vec![Node::with("Calendars", vec![Node::with("Calendar", vec![Node::with("WeekDays", vec![day])])])]).calendars[0].week[5]
+    };
+    let one_day = |text: &str| {
+        let x = exception(&[("EnteredByOccurrences", text)], "9999-12-29", "9999-12-31");
+        exception::days(&x.packed()).ok().flatten().is_some_and(|days| days.len() == 1)
+    };
+    let milestone = |text: &str| model_of(vec![Node::with("Tasks", vec![task("1").field("Milestone", text)])]).activities[0].kind == 1;
+    let across = |text: &str| {
+        let link = Node::new("PredecessorLink", "").field("PredecessorUID", "1").field("CrossProject", text);
+        model_of(vec![Node::with("Tasks", vec![task("1").child(link)])]).project.across == 1
+    };
+    let each = |text: &str| [saturday(text), one_day(text), milestone(text), across(text)];
+    for text in ["1", "true", " true\n"] {
+        t.equal(text, each(text), [true; 4]);
+    }
+    for text in ["0", "false", "TRUE", "True", "truer", "tru", "yes", "01", "1 1", ""] {
+        t.equal(text, each(text), [false; 4]);
+    }
+    let asked = |title: &str, yes: &str| project(vec![Node::new("Title", title), Node::new("Milestone", yes), Node::new("DayWorking", "truer")]);
+    t.equal("`1` for `true` in a yes alone", tree::for_the_rust(&asked("true", " true ")).to_vec(), asked("true", " 1 "));
+    t.equal("a tree without it stays", tree::for_the_rust(&asked("true", "1")).to_vec(), asked("true", "1"));
+    // The tree of docs/DIFFERENCES.md.
+    let smallest = b"\x02\x07\0\0Project\x04\x05\0\0Tasks\x06\x04\0\0Task\x08\x03\0\x01UID1\x08\x09\0\x04Milestonetrue";
+    t.equal("the Rust reads no yes in `true`", read::rust_read(smallest).project.activities[0].kind as u8, 0);
+    t.equal("a milestone by `true`", read::model_of_tree(smallest).map(|m| m.activities[0].kind), Ok(1));
+}
+
 fn limits(t: &mut Tests) {
     let wanted = |name| match name {
         "one-element-more" | "elements-behind-root" => Err(3),
@@ -264,7 +296,7 @@ fn random_trees(t: &mut Tests, count: u64) {
 }
 
 fn same_as_rust(t: &mut Tests, what: &str, tree: &[u8], packed: &[u8]) {
-    let project = read::rust_read(tree).project;
+    let project = read::rust_read(&tree::for_the_rust(tree)).project;
     t.equal(what, outline::outline(packed), Ok(rust_outline(&project)));
     let calendars: Vec<_> = std::iter::once(&project.calendar).chain(&project.calendars).collect();
     let Ok(model) = model::decode(packed) else { return };

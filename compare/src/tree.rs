@@ -1,5 +1,7 @@
 //! The packed tree, from document 01, "The tree", and its refusals 1 to 5.
 
+use std::borrow::Cow;
+
 use crate::Refusal;
 use crate::number;
 
@@ -55,8 +57,8 @@ impl<'a> Iterator for Records<'a> {
 /// The records of a tree that keeps the layout, is UTF-8 and has no more elements than allowed.
 pub fn records(tree: &[u8]) -> Result<Vec<Record<'_>>, Refusal> {
     let records: Vec<Record> = Records::new(tree).collect::<Result<_, _>>()?;
-    let utf8 = |bytes| std::str::from_utf8(bytes).is_ok();
-    if !records.iter().all(|r| utf8(r.name) && utf8(r.text)) {
+    let is_utf8 = |bytes| std::str::from_utf8(bytes).is_ok();
+    if !records.iter().all(|r| is_utf8(r.name) && is_utf8(r.text)) {
         return Err(2);
     }
     if records.len() > MAX_ELEMENTS {
@@ -85,8 +87,31 @@ const DURATIONS: [&str; 5] = ["Duration", "RemainingDuration", "Work", "ActualWo
 /// Whether the element holds a number that is too long (refusal 5).
 fn too_long(record: &Record) -> bool {
     let named = |names: &[&str]| names.iter().any(|n| n.as_bytes() == record.name);
-    let text = std::str::from_utf8(record.text).unwrap_or_default();
+    let text = utf8(record.text);
     if named(&NUMBERS) { number::is_long(text.trim()) } else { named(&DURATIONS) && number::has_long_piece(text) }
+}
+
+/// The fields that are read as a yes.
+const YES_FIELDS: [&str; 4] = ["DayWorking", "EnteredByOccurrences", "Milestone", "CrossProject"];
+
+/// The tree that the Rust is asked about in place of this one. A yes is `1` or `true` (document 02, E1), and the Rust knows `1` alone: `1` stands for
+/// `true` in the fields of a yes, and nowhere else. A tree with no such field is given as it is.
+pub fn for_the_rust(tree: &[u8]) -> Cow<'_, [u8]> {
+    let is_true = |r: &Record| YES_FIELDS.iter().any(|n| n.as_bytes() == r.name) && utf8(r.text).trim() == "true";
+    let records = records(tree).unwrap_or_default();
+    if !records.iter().any(is_true) {
+        return Cow::Borrowed(tree);
+    }
+    let mut out = Vec::new();
+    for r in &records {
+        let text = utf8(r.text);
+        put_record(&mut out, r.depth, utf8(r.name), &if is_true(r) { text.replace("true", "1") } else { text.into() });
+    }
+    Cow::Owned(out)
+}
+
+fn utf8(bytes: &[u8]) -> &str {
+    std::str::from_utf8(bytes).unwrap_or_default()
 }
 
 /// An element with its children, to make packed trees from.

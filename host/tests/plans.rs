@@ -2,7 +2,10 @@
 
 use std::thread;
 
-use mspdi::{ActivityKind, Constraint, Date, LagKind, Plan, Refusal, TreeBuilder, TreeError, check, outline, read, read_into, work_words};
+use mspdi::{
+    ActivityKind, Constraint, Date, DaySheet, LagKind, Period, Plan, Refusal, TreeBuilder, TreeError, Weekday, check, day_sheet, outline, read,
+    read_into, work_words,
+};
 
 /// The bodies of the gate's cases of a kind.
 fn bodies(kind: u8) -> Vec<&'static [u8]> {
@@ -136,6 +139,39 @@ fn the_plan_of_the_repository() {
     assert_eq!(plan.expenses[0].name, "Terminology check");
 }
 
+/// An element with a text.
+fn field(tree: &mut TreeBuilder, name: &str, text: &str) {
+    tree.start(name).unwrap();
+    tree.text(text).unwrap();
+    tree.end().unwrap();
+}
+
+#[test]
+fn a_saturday_worked_by_true() {
+    /// The sheet of Saturday, 7 March 2026, where the calendar's WeekDay has this DayWorking, and whether Saturdays are worked.
+    fn saturday(working: &str) -> (DaySheet, bool) {
+        let mut tree = TreeBuilder::new();
+        ["Project", "Calendars", "Calendar", "WeekDays", "WeekDay"].iter().for_each(|name| tree.start(name).unwrap());
+        field(&mut tree, "DayType", "7");
+        field(&mut tree, "DayWorking", working);
+        ["WorkingTimes", "WorkingTime"].iter().for_each(|name| tree.start(name).unwrap());
+        field(&mut tree, "FromTime", "06:00:00");
+        field(&mut tree, "ToTime", "14:00:00");
+        (0..7).for_each(|_| tree.end().unwrap());
+        let model = read(&tree.finish().unwrap()).expect("a plan");
+        (day_sheet(&model, 0, 20_519).expect("a sheet"), Plan::decode(&model).expect("a model").calendars[0].week[5])
+    }
+    let sheet = |periods| DaySheet { weekday: Weekday::Saturday, holiday: false, extra: false, periods };
+    for yes in ["true", "1", " true\n"] {
+        assert_eq!(saturday(yes), (sheet(vec![Period { from: 360, to: 840 }]), true));
+    }
+    // The usual hours, should the day be worked after all.
+    let usual = vec![Period { from: 480, to: 720 }, Period { from: 780, to: 1020 }];
+    for no in ["TRUE", "truer", "0", ""] {
+        assert_eq!(saturday(no), (sheet(usual.clone()), false));
+    }
+}
+
 #[test]
 fn events_become_a_tree() {
     let mut tree = TreeBuilder::new();
@@ -182,11 +218,7 @@ fn exceptions_of_the_old_form_have_words() {
             ["Calendar", section].iter().for_each(|name| tree.start(name).unwrap());
             for _ in 0..count {
                 tree.start(name).unwrap();
-                for (name, text) in fields {
-                    tree.start(name).unwrap();
-                    tree.text(text).unwrap();
-                    tree.end().unwrap();
-                }
+                fields.iter().for_each(|(name, text)| field(&mut tree, name, text));
                 tree.start("TimePeriod").unwrap();
                 (0..2).for_each(|_| tree.end().unwrap());
             }

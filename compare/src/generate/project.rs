@@ -32,7 +32,8 @@ struct Trees {
 
 /// UIDs: few, so that they meet.
 const UIDS: [&str; 10] = ["1", "2", "3", "4", "5", "6", "01", "0", "-1", "\u{e9}"];
-const NAMES: [&str; 9] = ["Concrete", "Formwork", "Standard", "Standard*", "Elapsed (24 hours)", "Gr\u{fc}ndung", "\u{1f3d7} Bau", "x", "Calendar"];
+const NAMES: [&str; 10] =
+    ["Concrete", "Formwork", "Standard", "Standard*", "Elapsed (24 hours)", "Gr\u{fc}ndung", "\u{1f3d7} Bau", "x", "Calendar", "true"];
 
 impl Trees {
     fn project(&mut self) -> Node {
@@ -228,7 +229,7 @@ impl Trees {
             "StartDate" | "StatusDate" | "ConstraintDate" | "Deadline" | "ActualStart" | "ActualFinish" => texts::date(rng),
             "FromTime" | "ToTime" => texts::time(rng),
             "Duration" | "RemainingDuration" | "Work" | "ActualWork" | "RemainingWork" => texts::duration(rng, long),
-            "DayWorking" | "Milestone" | "CrossProject" => rng.pick(&["1", "1", "1", "0", "0", "true", "01", "+1"]).into(),
+            "DayWorking" | "Milestone" | "CrossProject" => texts::yes(rng),
             "MinutesPerDay" => small_or(rng, long, &["480", "480", "450", "1440", "1440.5", "1", "0.5", "0.99", "60.5", "1440.4"]),
             "PhysicalPercentComplete" | "StandardRate" | "MaxUnits" | "Units" => {
                 small_or(rng, long, &["1", "1.0", "0.5", "100", "50", "0", "33.335"])

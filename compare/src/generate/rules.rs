@@ -37,7 +37,7 @@ fn rule_value(rng: &mut Rng, name: &str) -> String {
         return texts::whole(rng);
     }
     let value = match name {
-        "EnteredByOccurrences" => rng.range(0, 1),
+        "EnteredByOccurrences" => return texts::yes(rng),
         "Period" => spread(rng, &[(1, 3), (1, 3), (1, 12), (1, 1_002), (-1, 2)]),
         "Occurrences" if rng.one_in(15) => rng.range(4_990, 5_010),
         "Occurrences" => spread(rng, &[(1, 4), (1, 60), (-1, 2)]),

@@ -205,6 +205,16 @@ fn utf8_bytes(rng: &mut Rng) -> Vec<u8> {
     bytes
 }
 
+/// The text of a field of a yes: half of them are one, one in six of these as `true`; the others look like one at most.
+pub fn yes(rng: &mut Rng) -> String {
+    let text = match rng.below(12) {
+        0 => "true",
+        1..=5 => "1",
+        _ => rng.pick(&["0", "0", "0", "0", "false", "TRUE", "True", "truer", "tru", "yes", "01", "+1", "1 1", "11"]),
+    };
+    if rng.one_in(20) { format!("{}{text}{}", blanks(rng), blanks(rng)) } else { text.into() }
+}
+
 /// A date's text; most are read.
 pub fn date(rng: &mut Rng) -> String {
     if rng.one_in(12) {

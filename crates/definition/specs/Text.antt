@@ -1,6 +1,6 @@
 -- Texts, as bytes. The Unicode Standard, table 3-7: which byte sequences are well-formed UTF-8. Its property White_Space: what `trim` takes
 -- away at both ends. Whole numbers as Rust's `parse` reads them: a sign or none (`-` for signed types only), digits, one at least, and
--- nothing else; out of the type's range is absent. Document 01: a yes is the text `1`. Assumes nothing.
+-- nothing else; out of the type's range is absent. Document 02, E1: a yes is the text `1` or `true`, as xsd:boolean writes it. Assumes nothing.
 use Prim.Native.Nat.{ℕ, zero, suc, _+_, _-_, _*_, _^_}
 use mathlib.Core.Bool.{Bool, true, false, _&&_, _||_}
 use mathlib.Core.List.{List, [], _∷_, reverse}
@@ -136,4 +136,4 @@ signedOf w s = signedBy (signOf s) w s
 
 -- a yes
 unfoldable pub isYes : Text → Bool
-isYes s = same s (bytes "1")
+isYes s = same s (bytes "1") || same s (bytes "true")

@@ -4,3 +4,4 @@ pub mod Hand
 pub mod Open
 pub mod Plan
 pub mod Rules
+pub mod Yes

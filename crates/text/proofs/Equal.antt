@@ -1,13 +1,14 @@
 -- When two texts have the same bytes. Assumes nothing.
 use mathlib.Core.Path.{_≡_, refl, ap}
 use mathlib.Core.List.{[], _∷_}
-use mathlib.Core.Bool.{true, false, and-false, and-true}
+use mathlib.Core.Bool.{true, false, _&&_, and-false, and-true, or-false}
 use Prim.Native.Nat.{ℕ, suc, _+_, _≤_, _<_}
 use native.Mathlib.Omega.{arith}
 use lib.Dec.{eqb}
 use lib.ListN.{length, drop, getD}
 use borrow.Author.Tests.{eq-eqb, ne-eqb}
 use Rattle.definition.specs.Base.{same}
+use Rattle.definition.specs.Ascii.{bytes}
 use Rattle.definition.specs.Text.{Text, isYes}
 use Rattle.text.specs.Parts.{at-cons, at-end}
 
@@ -37,9 +38,18 @@ module _ (a b : Text) (i : ℕ) where
 pub yes-one : (s : Text) → length s ≡ 1 → isYes s ≡ eqb (getD s 0 0) 49
 unfolding isYes same
 yes-one [] h = absurd (omega arith)
-yes-one (b ∷ []) h = and-true (eqb b 49)
+yes-one (b ∷ []) h = rw (and-true (eqb b 49), and-false (eqb b 116)) (or-false (eqb b 49))
 yes-one (b ∷ c ∷ s) h = absurd (omega arith)
 
-pub yes-else : (s : Text) → (length s ≡ 1 → ⊥) → isYes s ≡ false
+pub yes-four : (s : Text) → length s ≡ 4 → isYes s ≡ (eqb (getD s 0 0) 116 && (eqb (getD s 1 0) 114 && (eqb (getD s 2 0) 117 && eqb (getD s 3 0) 101)))
+unfolding isYes same
+yes-four [] h = absurd (omega arith)
+yes-four (a ∷ []) h = absurd (omega arith)
+yes-four (a ∷ b ∷ []) h = absurd (omega arith)
+yes-four (a ∷ b ∷ c ∷ []) h = absurd (omega arith)
+yes-four (a ∷ b ∷ c ∷ d ∷ []) h = rw (and-false (eqb a 49), and-true (eqb d 101))
+yes-four (a ∷ b ∷ c ∷ d ∷ e ∷ s) h = absurd (omega arith)
+
+pub yes-else : (s : Text) → (length s ≡ 1 → ⊥) → (length s ≡ 4 → ⊥) → isYes s ≡ false
 unfolding isYes
-yes-else s h = same-lengths s (49 ∷ []) h
+yes-else s h k = rw (same-lengths s (bytes "1") h) (same-lengths s (bytes "true") k)

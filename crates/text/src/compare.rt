@@ -20,12 +20,15 @@ pub fn same(a: &[u8], b: &[u8]) -> bool
     true
 }
 
-// A yes: the text `1`.
+// A yes: the text `1` or `true`.
 pub fn is_yes(s: &[u8]) -> bool
     ensures { λ r. ⌜ r ≡ isYes (now (s .entry)) ⌝ }
 {
     if s.len() == 1 {
-        return s[0] == 49;
+        return s[0] == b'1';
+    }
+    if s.len() == 4 {
+        return (s[0] == b't') & ((s[1] == b'r') & ((s[2] == b'u') & (s[3] == b'e')));
     }
     false
 }
