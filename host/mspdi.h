@@ -1,6 +1,7 @@
 /* The library's boundary. Each call returns 0, or the number of a refusal; on a refusal every lent output is zeros. On success the part
    behind the result is zeros. Nothing need be tested beforehand. A length counts places, and no pointer is null: where a length is 0, any
-   other address will do. */
+   other address will do. Every model is taken for one whose project record has four counts (document 02, E2); one that was stored before is
+   refused or means something else: read its tree again. */
 #ifndef MSPDI_H
 #define MSPDI_H
 

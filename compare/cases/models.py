@@ -1,6 +1,6 @@
-"""Small models with the answers of the check, the outline and five day sheets, by compare/src: document 01's model and damaged forms of it, each oddity
-and each shape of `oracle genodd`, those that the Rust reads from random trees, and made-up ones, damaged ones among them. The form of a body stands in
-crates/samples/src/models.rt."""
+"""Small models with the answers of the check, the outline and five day sheets, by compare/src: document 01's model and damaged forms of it, two in the
+form before E2 (document 02), each oddity and each shape of `oracle genodd`, those that the Rust reads from random trees, and made-up ones, damaged ones
+among them. The form of a body stands in crates/samples/src/models.rt."""
 import random
 import struct
 
@@ -12,9 +12,16 @@ ENDS = [FIRST_DAY - 1, FIRST_DAY, LAST_DAY, LAST_DAY + 1, -(2**31), 2**31 - 1, -
 ASKED = 5
 
 
+# In the form before E2, which had no fourth count: document 01's model, which does not decode, and a project alone with an even data date, which does.
+OLD_WHOLE = b"\0\0\0\1" + bytes(45) + b"\0\0\0\x08Standard\xf8" + bytes(40)
+OLD_PROJECT = bytes(48) + ((2**32 + 20514) << 7).to_bytes(5, "big")
+
+
 def models():
     whole = oracle("readlines", stdin=[hexed(element(1, "Project"))])
-    cut = [whole[0][: 2 * n] for n in (1, 24, 101)] + ["-", whole[0] + "00"]
+    old = [hexed(OLD_WHOLE), hexed(OLD_PROJECT)]
+    assert len(unhex(whole[0])) == 106 and oracle("check", stdin=old) == ["6", "0"]
+    cut = [whole[0][: 2 * n] for n in (1, 24, 105)] + ["-", whole[0] + "00"] + old
     read = [word for word in oracle("readlines", stdin=oracle("gen", SEED, "400")) if not refusal(word)]
     made = oracle("genmodel", SEED, "400")
     return whole + cut + short(oracle("genodd", SEED, "132"), LONGEST) + short(read, LONGEST)[:60] + short(made, LONGEST)[:110]

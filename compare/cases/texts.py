@@ -1,5 +1,5 @@
 """Texts of each kind with what the Rust reads from them: its fixed texts (the odd ones of READING.md, document 01's examples, every limit), then random
-ones. The form of a body stands in crates/samples/src/texts.rt."""
+ones. The value of a duration is its minutes, and 2^32 more where its sum was not whole. The form of a body stands in crates/samples/src/texts.rt."""
 import struct
 
 from .oracle import SEED, oracle, unhex
@@ -20,6 +20,9 @@ def tag_and_value(kind, text, answer):
         return 1, text.index(part) << 16 | len(part)
     if kind == "utf8":
         return 1, int(answer == "yes")
+    if kind == "duration":
+        minutes, *part = answer.split()
+        return 1, int(minutes) + (2**32 if part else 0)
     number = int(answer)
     return (1, number) if number >= 0 else (2, -1 - number)
 

@@ -1,7 +1,7 @@
 //! Models through our check, outline and day sheet, and through those that `compare/src` has from the paper. A case is one model through the check and
 //! the outline, with three day sheets.
 
-use oracle::generate::{packed_model, packed_odd, read_one, shaped};
+use oracle::generate::{packed_model, packed_odd, packed_old, read_one, shaped};
 use oracle::model::{self, FIRST_DAY, LAST_DAY, Model};
 use oracle::rng::Rng;
 use oracle::{check, hex, outline, sheet};
@@ -237,12 +237,18 @@ fn random_bytes(rng: &mut Rng) -> Vec<u8> {
     head.into_iter().chain((0..long).map(|_| if rng.one_in(3) { rng.next() as u8 & rng.next() as u8 } else { 0 })).collect()
 }
 
-/// The kth model: one that the Rust reads, a made-up one, an odd one, or random bytes.
+/// Whether the kth model is one in the form before E2 (document 02).
+fn is_old(k: u64) -> bool {
+    k % 20 == 19
+}
+
+/// The kth model: one that the Rust reads, a made-up one, an odd one, one in the form before E2, or random bytes.
 pub fn random_model(rng: &mut Rng, k: u64) -> Vec<u8> {
     match k % 10 {
         0 | 1 => read_one(rng),
         2..=4 => packed_model(rng),
         5..=8 => packed_odd(rng, (k / 10 * 4 + k % 10 - 5) as usize),
+        _ if is_old(k) => packed_old(rng),
         _ => random_bytes(rng),
     }
 }
@@ -253,6 +259,7 @@ fn small(rng: &mut Rng, k: u64) -> Vec<u8> {
         let count = 1 + rng.below(4) as u32;
         let bytes = match k % 4 {
             0 => packed_model(rng),
+            1 if k % 8 == 5 => packed_old(rng),
             1 => read_one(rng),
             _ => shaped(rng, (k / 4) as usize, count).encode(),
         };
@@ -291,9 +298,14 @@ fn run_large(tally: &mut Tally) {
 pub fn compare(seed: u64, count: u64) -> u64 {
     let tally = &mut Tally::default();
     run_large(tally);
+    let (mut old, mut old_decode) = (0, 0);
     for k in 0..count / 2 {
         let rng = &mut Rng::new(seed.wrapping_add(k << 32));
         let bytes = random_model(rng, k);
+        if is_old(k) {
+            old += 1;
+            old_decode += u64::from(model::decode(&bytes).is_ok());
+        }
         tally.run(&bytes, rng);
     }
     let mut k = 0;
@@ -305,7 +317,7 @@ pub fn compare(seed: u64, count: u64) -> u64 {
     }
     let [check, outline, sheet] = [&tally.check, &tally.outline, &tally.sheet];
     println!(
-        "models: {} cases ({k} small models with each bit flipped, cut and lengthened at each byte); check 0: {}, 6: {}, 7: {}; outline 0: {}, 6: {}, 9: {}; day sheet 0: {}, 6: {}, 8: {}, 9: {}; {} differ",
+        "models: {} cases ({k} small models with each bit flipped, cut and lengthened at each byte; {old} in the form before E2, {old_decode} of which decode); check 0: {}, 6: {}, 7: {}; outline 0: {}, 6: {}, 9: {}; day sheet 0: {}, 6: {}, 8: {}, 9: {}; {} differ",
         tally.cases, check[0], check[6], check[7], outline[0], outline[6], outline[9], sheet[0], sheet[6], sheet[8], sheet[9], tally.differ
     );
     tally.differ

@@ -6,7 +6,7 @@ use oracle::leaf::Kind;
 unsafe extern "C" {
     fn probe_date(s: *const u8, len: usize, out: *mut i32) -> u32;
     fn probe_time(s: *const u8, len: usize, out: *mut u16) -> u32;
-    fn probe_duration(s: *const u8, len: usize, out: *mut u32) -> u32;
+    fn probe_duration(s: *const u8, len: usize, minutes: *mut u32, whole: *mut u32) -> u32;
     fn probe_number(s: *const u8, len: usize, out: *mut f64) -> u32;
     fn probe_i64(s: *const u8, len: usize, out: *mut i64) -> u32;
     fn probe_u64(s: *const u8, len: usize, out: *mut u64) -> u32;
@@ -50,13 +50,20 @@ macro_rules! leaf {
 
 leaf!(date, probe_date, i32);
 leaf!(time, probe_time, u16);
-leaf!(duration, probe_duration, u32);
 leaf!(number, probe_number, f64);
 leaf!(whole_i64, probe_i64, i64);
 leaf!(whole_u64, probe_u64, u64);
 leaf!(whole_u32, probe_u32, u32);
 leaf!(whole_u16, probe_u16, u16);
 leaf!(whole_i32, probe_i32, i32);
+
+/// The number that the call returns, the minutes, and 1 where the sum was whole.
+pub fn duration(s: &[u8]) -> (u32, u32, u32) {
+    let (mut minutes, mut whole) = (u32::MAX, u32::MAX);
+    // Sound: as above.
+    let number = unsafe { probe_duration(s.as_ptr(), s.len(), &mut minutes, &mut whole) };
+    (number, minutes, whole)
+}
 
 /// How long the trimmed text is.
 pub fn trim(s: &[u8]) -> usize {
@@ -138,12 +145,23 @@ fn worded<T: ToString>(answer: Answer<T>) -> String {
     }
 }
 
+/// Without minutes both places are 0; what is left otherwise is shown as it is.
+fn duration_worded(said: (u32, u32, u32)) -> String {
+    match said {
+        (0, minutes, 1) => minutes.to_string(),
+        (0, minutes, 0) => format!("{minutes} part"),
+        (1, 0, 0) => "none".into(),
+        (2, 0, 0) => "long".into(),
+        _ => format!("{said:?}"),
+    }
+}
+
 /// The answer in the words of `oracle::leaf::answer`.
 pub fn answer(kind: Kind, s: &[u8]) -> String {
     match kind {
         Kind::Date => worded(date(s)),
         Kind::Time => worded(time(s)),
-        Kind::Duration => worded(duration(s)),
+        Kind::Duration => duration_worded(duration(s)),
         Kind::Number => worded(match number(s) {
             Answer::Value(x) => Answer::Value(format!("{:016x}", x.to_bits())),
             Answer::Absent => Answer::Absent,

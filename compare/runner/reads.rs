@@ -2,7 +2,7 @@
 
 use oracle::generate::{LIMITS, damaged, limit_tree, packed_tree};
 use oracle::rng::Rng;
-use oracle::{hex, read, tree};
+use oracle::{hex, read, tasks, tree};
 
 use crate::trees::samples;
 use crate::words::work_words;
@@ -76,17 +76,24 @@ struct Tally {
     trees: u64,
     /// Those read of which the Rust is asked with `1` for `true`.
     by_true: u64,
+    /// Those read in which durations are not whole minutes.
+    fractional: u64,
     calls: u64,
     numbers: [u64; 10],
     differ: u64,
 }
 
 impl Tally {
+    fn count(&mut self, tree: &[u8], answer: &Answer) {
+        self.trees += 1;
+        self.by_true += u64::from(answer.is_ok() && *tree::for_the_rust(tree) != *tree);
+        self.fractional += u64::from(answer.is_ok() && tasks::fractional(tree) > 0);
+    }
+
     /// One tree in these rooms.
     fn run(&mut self, tree: &[u8], rooms: &[Room], work: usize) {
         let answer = read::read_model(tree);
-        self.trees += 1;
-        self.by_true += u64::from(answer.is_ok() && *tree::for_the_rust(tree) != *tree);
+        self.count(tree, &answer);
         for &room in rooms {
             self.calls += 1;
             let length = room.of(answer.as_ref().map_or(9, Vec::len));
@@ -127,9 +134,10 @@ pub fn compare(seed: u64, count: u64) -> u64 {
     }
     let numbers: Vec<String> = (0..10).filter(|n| tally.numbers[*n] > 0).map(|n| format!("{n}: {}", tally.numbers[n])).collect();
     println!(
-        "reads: {} trees, {} of them with `true` for a yes, in {} calls ({}), {} differ",
+        "reads: {} trees, {} of them with `true` for a yes, {} with durations that are not whole minutes, in {} calls ({}), {} differ",
         tally.trees,
         tally.by_true,
+        tally.fractional,
         tally.calls,
         numbers.join(", "),
         tally.differ
@@ -156,6 +164,6 @@ fn on_small_stack(tally: &mut Tally) {
                 show(&tree, room, work);
             }
         }
-        tally.trees += 1;
+        tally.count(&tree, &answer);
     }
 }

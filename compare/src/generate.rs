@@ -12,7 +12,7 @@ mod texts;
 pub use damage::damaged;
 pub use large::large_model;
 pub use limits::{LIMITS, limit_tree};
-pub use models::{made_up, packed_model, read_one};
+pub use models::{made_up, old_form, packed_model, packed_old, read_one};
 pub use odd::{packed_odd, shaped};
 pub use project::packed_tree;
 pub use rules::{packed_rule, rule};

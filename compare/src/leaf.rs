@@ -2,6 +2,7 @@
 
 use mkperth_mspxml::exposed;
 
+use crate::duration::{self, Duration};
 use crate::hex;
 use crate::number::{self, Number};
 
@@ -40,8 +41,8 @@ impl Kind {
     }
 }
 
-/// The answer for the bytes as they are, with nothing trimmed before: a number, `none`, `long` (refusal 5), the
-/// bits of an f64, hex for `trim`, `yes` or `no` for `utf8`; `not-utf8` where the Rust cannot be asked.
+/// The answer for the bytes as they are, with nothing trimmed before: a number, with `part` behind it where a duration's sum was not whole, `none`,
+/// `long` (refusal 5), the bits of an f64, hex for `trim`, `yes` or `no` for `utf8`; `not-utf8` where the Rust cannot be asked.
 pub fn answer(kind: Kind, bytes: &[u8]) -> String {
     let text = match std::str::from_utf8(bytes) {
         _ if kind == Kind::Utf8 => return yes_no(std::str::from_utf8(bytes).is_ok()),
@@ -51,8 +52,7 @@ pub fn answer(kind: Kind, bytes: &[u8]) -> String {
     match kind {
         Kind::Date => or_none(exposed::date_of(text).map(|d| d.days())),
         Kind::Time => or_none(exposed::time_of(text)),
-        Kind::Duration if number::has_long_piece(text) => "long".into(),
-        Kind::Duration => or_none(exposed::duration_of(text)),
+        Kind::Duration => duration_answer(text),
         Kind::Number => number_answer(text),
         Kind::I64 => or_none(text.parse::<i64>().ok()),
         Kind::U64 => or_none(text.parse::<u64>().ok()),
@@ -70,6 +70,15 @@ fn or_none(value: Option<impl std::fmt::Display>) -> String {
 
 fn yes_no(value: bool) -> String {
     if value { "yes" } else { "no" }.into()
+}
+
+/// The minutes are the Rust's; whether the sum was whole is from the paper.
+fn duration_answer(text: &str) -> String {
+    match (duration::duration(text), exposed::duration_of(text)) {
+        (Duration::Long, _) => "long".into(),
+        (told, Some(minutes)) if told.is_fractional() => format!("{minutes} part"),
+        (_, minutes) => or_none(minutes),
+    }
 }
 
 fn number_answer(text: &str) -> String {

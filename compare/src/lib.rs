@@ -4,6 +4,7 @@
 pub mod bench;
 pub mod bits;
 pub mod check;
+pub mod duration;
 pub mod exception;
 pub mod generate;
 pub mod hex;
@@ -16,6 +17,7 @@ pub mod rng;
 pub mod rule;
 pub mod selftest;
 pub mod sheet;
+pub mod tasks;
 pub mod tree;
 
 /// A refusal's number in document 01's table.

@@ -1,4 +1,4 @@
-//! The model and its packed form, from document 01, "The model", with every reason of refusal 6.
+//! The model and its packed form, from document 01, "The model", with the fourth count of document 02, E2, and with every reason of refusal 6.
 
 use crate::bits::{BitReader, BitWriter};
 
@@ -22,6 +22,7 @@ pub struct Project {
     pub skipped: u32,
     pub dangling: u32,
     pub across: u32,
+    pub fractional: u32,
     pub data_date: Option<i32>,
 }
 
@@ -211,6 +212,7 @@ fn put_project(w: &mut BitWriter, p: &Project) {
     w.count(p.skipped);
     w.count(p.dangling);
     w.count(p.across);
+    w.count(p.fractional);
     w.optional(p.data_date, BitWriter::date);
 }
 
@@ -425,6 +427,7 @@ fn take_project(r: &mut BitReader) -> Decoded<Project> {
         skipped: r.count()?,
         dangling: r.count()?,
         across: r.count()?,
+        fractional: r.count()?,
         data_date: r.optional(BitReader::date)?,
     })
 }

@@ -39,20 +39,3 @@ fn whole(text: &str) -> i64 {
     let magnitude = if magnitude.len() > 15 { 1_000_000_000_000_000 } else { magnitude.parse().unwrap_or(0) };
     if text.starts_with('-') { -magnitude } else { magnitude }
 }
-
-/// Whether reading the duration comes to a piece that is too long: pieces go from left to right, and an
-/// ill-formed one ends the reading.
-pub fn has_long_piece(text: &str) -> bool {
-    let Some(rest) = text.trim().strip_prefix('P') else { return false };
-    let (days, time) = rest.split_once('T').unwrap_or((rest, ""));
-    let days = if days.is_empty() { None } else { Some(days.strip_suffix('D')) };
-    let time = time.split_inclusive(['H', 'M', 'S']).map(|piece| piece.strip_suffix(['H', 'M', 'S']));
-    for piece in days.into_iter().chain(time) {
-        match piece.map_or(Number::Absent, number) {
-            Number::Long => return true,
-            Number::Short(x) if x >= 0.0 => {}
-            _ => return false,
-        }
-    }
-    false
-}

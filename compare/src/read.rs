@@ -1,4 +1,5 @@
-//! What the Rust reads from a packed tree, as the model of document 01.
+//! What the Rust reads from a packed tree, as the model of document 01. The Rust does not have the fourth count of the project record (document 02,
+//! E2): it is worked out beside it.
 
 use std::collections::HashMap;
 
@@ -7,7 +8,7 @@ use mkperth_mspxml::Read;
 
 use crate::Refusal;
 use crate::model::{Activity, Assignment, Calendar, Constraint, Expense, LagKind, Link, Model, Project, Resource};
-use crate::tree;
+use crate::{tasks, tree};
 
 /// The packed model of a packed tree, or the refusal's number.
 pub fn read_model(tree: &[u8]) -> Result<Vec<u8>, Refusal> {
@@ -16,7 +17,7 @@ pub fn read_model(tree: &[u8]) -> Result<Vec<u8>, Refusal> {
 
 pub fn model_of_tree(tree: &[u8]) -> Result<Model, Refusal> {
     tree::refusal(tree, &["Project"])?;
-    Ok(model_of(&rust_read(&tree::for_the_rust(tree))))
+    Ok(model_of(&rust_read(&tree::for_the_rust(tree)), tasks::fractional(tree)))
 }
 
 /// The Rust's own `read` of a tree that is not refused.
@@ -24,13 +25,13 @@ pub fn rust_read(tree: &[u8]) -> Read {
     quick_xml::with_tree(tree, || mkperth_mspxml::read("")).expect("the Rust refuses a tree that document 01 accepts")
 }
 
-fn model_of(read: &Read) -> Model {
+fn model_of(read: &Read, fractional: u32) -> Model {
     let p = &read.project;
     let activity_rows = rows(p.activities.iter().map(|a| &a.id));
     let resource_rows = rows(p.resources.iter().map(|r| &r.id));
     let activity = |id: &String| activity_rows[id];
     Model {
-        project: project_of(read),
+        project: project_of(read, fractional),
         calendars: std::iter::once(&p.calendar).chain(&p.calendars).map(calendar_of).collect(),
         activities: p.activities.iter().map(|a| activity_of(a, a.parent.as_ref().map(activity))).collect(),
         links: p.relationships.iter().map(|l| link_of(l, activity(&l.predecessor), activity(&l.successor))).collect(),
@@ -45,7 +46,7 @@ fn rows<'a>(ids: impl Iterator<Item = &'a String>) -> HashMap<&'a String, u32> {
     ids.zip(0..).collect()
 }
 
-fn project_of(read: &Read) -> Project {
+fn project_of(read: &Read, fractional: u32) -> Project {
     let p = &read.project;
     Project {
         name: p.name.clone(),
@@ -54,6 +55,7 @@ fn project_of(read: &Read) -> Project {
         skipped: counted(read, "warn-msp-recurring"),
         dangling: counted(read, "warn-msp-dangling"),
         across: counted(read, "warn-msp-cross"),
+        fractional,
         data_date: p.data_date.map(core::Date::days),
     }
 }

@@ -5,12 +5,13 @@ use std::collections::HashSet;
 use mkperth_core as core;
 use mkperth_mspxml::exposed;
 
+use crate::duration::{self, Duration};
 use crate::leaf::{self, Kind};
-use crate::model::{self, Activity, FIRST_DAY, LAST_DAY, Model};
+use crate::model::{self, Activity, FIRST_DAY, Fault, LAST_DAY, Model, Project};
 use crate::number::{self, Number};
 use crate::rng::Rng;
-use crate::tree::{self, Node};
-use crate::{check, exception, generate, hex, outline, read, rule, sheet};
+use crate::tree::{self, Element, Node};
+use crate::{check, exception, generate, hex, outline, read, rule, sheet, tasks};
 
 #[derive(Default)]
 struct Tests {
@@ -42,8 +43,12 @@ pub fn run(count: u64) -> bool {
     recurrence(t);
     ruled_out(t);
     yeses(t);
+    fractional(t);
+    old_forms(t);
     limits(t);
+    fixed_durations(t);
     random_numbers(t, count);
+    random_durations(t, count);
     random_rules(t, count);
     random_trees(t, count);
     random_models(t, count);
@@ -56,8 +61,8 @@ pub fn run(count: u64) -> bool {
 const WHOLE: [u8; 11] = *b"\x02\x07\x00\x00Project";
 
 fn whole_case(t: &mut Tests) {
-    let wanted = [&[0, 0, 0, 1], &[0; 45][..], &[0, 0, 0, 8], b"Standard", &[0xF8], &[0; 40]].concat();
-    t.equal("the whole case's length", wanted.len(), 102);
+    let wanted = [&[0, 0, 0, 1], &[0; 49][..], &[0, 0, 0, 8], b"Standard", &[0xF8], &[0; 40]].concat();
+    t.equal("the whole case's length", wanted.len(), 106);
     t.equal("the whole case", read::read_model(&WHOLE), Ok(wanted));
 }
 
@@ -78,8 +83,9 @@ fn refusals(t: &mut Tests) {
 
 fn texts(t: &mut Tests) {
     let cases = [
-        (Kind::Duration, "PT30S", "1"),
-        (Kind::Duration, "PT29S", "0"),
+        (Kind::Duration, "PT30S", "1 part"),
+        (Kind::Duration, "PT29S", "0 part"),
+        (Kind::Duration, "PT60S", "1"),
         (Kind::Duration, "PT1H2H", "120"),
         (Kind::Duration, "PT16666666H40M", "1000000000"),
         (Kind::Duration, "PT16666666H41M", "none"),
@@ -222,6 +228,53 @@ fn yeses(t: &mut Tests) {
     t.equal("a milestone by `true`", read::model_of_tree(smallest).map(|m| m.activities[0].kind), Ok(1));
 }
 
+/// How many kept tasks have a duration that gives minutes and was not whole.
+fn fractional(t: &mut Tests) {
+    let count = |tasks: Vec<Node>| model_of(vec![Node::with("Tasks", tasks)]).project.fractional;
+    let one = |text: &str| count(vec![task("1").field("Duration", text)]);
+    for text in ["PT30S", "PT29S", "PT90S", "PT0.5M", "PT1.5S", "P0.0001D", "PT0.1M", " PT30S\n", "PT60S30S", "PT1M1e-14S", "PT999999999.5M"] {
+        t.equal(text, one(text), 1);
+    }
+    // Whole in decimals, and not in f64: 122.99999999999999 and 0.9999999999999999.
+    for text in ["PT2.05H", "PT0.01H0.3M6S"] {
+        t.equal(text, one(text), 1);
+    }
+    for text in ["PT60S", "PT8H0M0S", "PT0.1H54M", "PT0.1M54S", "PT1M1e-20S", "P", "PT-0S", "PT30S60S", "", " ", "PT30", "PT-30S", "30"] {
+        t.equal(text, one(text), 0);
+    }
+    for text in ["PT1000000000.5M", "PT1000000000M30S", "P694445DT30S"] {
+        t.equal(text, one(text), 0);
+    }
+    let part = || task("1").field("Duration", "PT30S");
+    t.equal("each kept task counts", count(vec![part(), part(), task("2")]), 2);
+    t.equal("a milestone, and elapsed time", count(vec![part().field("Milestone", "1"), part().field("DurationFormat", "8")]), 2);
+    t.equal("a task of UID 0", count(vec![task("0").field("Duration", "PT30S")]), 0);
+    t.equal("a task without a UID", count(vec![Node::new("Task", "").field("Duration", "PT30S")]), 0);
+    t.equal("OutlineLevel 0", count(vec![part().field("OutlineLevel", "0")]), 0);
+    t.equal("an OutlineLevel that is not read", count(vec![part().field("OutlineLevel", "x")]), 1);
+    t.equal("the first Duration counts", count(vec![part().field("Duration", "PT60S")]), 1);
+    t.equal("the second does not", count(vec![task("1").field("Duration", "PT60S").field("Duration", "PT30S")]), 0);
+    t.equal("a blank first Duration", count(vec![task("1").field("Duration", " ").field("Duration", "PT30S")]), 0);
+    t.equal("a Duration further down", count(vec![task("1").child(Node::new("x", "").field("Duration", "PT30S"))]), 0);
+    t.equal("other durations", count(vec![task("1").field("RemainingDuration", "PT30S").field("Work", "PT30S")]), 0);
+    let second = model_of(vec![Node::with("Tasks", vec![]), Node::with("Tasks", vec![part()])]);
+    t.equal("a second Tasks", second.project.fractional, 0);
+}
+
+/// A model in the form before E2 is judged as any bytes are.
+fn old_forms(t: &mut Tests) {
+    let old = generate::old_form(&read::model_of_tree(&WHOLE).unwrap_or_default());
+    t.equal("the whole case before", &old, &[&[0, 0, 0, 1], &[0; 45][..], &[0, 0, 0, 8], b"Standard", &[0xF8], &[0; 40]].concat());
+    t.equal("the whole case before, decoded", model::decode(&old), Err(Fault::PadBit));
+    // Of a data date the flag and all but the last bit are taken for the count, and the last bit for the flag. The rest stands where it should.
+    let dated = |date: &str| model_of(vec![Node::new("StatusDate", date), Node::with("Tasks", vec![task("1"), task("2")])]);
+    let even = dated("2026-03-02");
+    t.equal("a data date", even.project.data_date, Some(20_514));
+    let project = Project { fractional: 0x8000_0000 + 10_257, data_date: None, ..even.project.clone() };
+    t.equal("an even data date before", model::decode(&generate::old_form(&even)), Ok(Model { project, ..even }));
+    t.equal("an odd data date before", check::check(&generate::old_form(&dated("2026-03-03"))), Err(6));
+}
+
 fn limits(t: &mut Tests) {
     let wanted = |name| match name {
         "one-element-more" | "elements-behind-root" => Err(3),
@@ -231,8 +284,11 @@ fn limits(t: &mut Tests) {
     for name in generate::LIMITS {
         let model = generate::limit_tree(name).ok_or(0).and_then(|tree| read::model_of_tree(&tree));
         t.equal(name, model.as_ref().map(|_| ()).map_err(|n| *n), wanted(name));
-        if name == "tasks" {
-            t.equal("the task behind the limit", model.map(|m| m.activities.len()), Ok(1));
+        let counted = |model: Model| (model.activities.len(), model.project.fractional);
+        match name {
+            "tasks" => t.equal("the task behind the limit", model.map(counted), Ok((1, 1))),
+            "tasks-all" => t.equal("tasks with seconds", model.map(counted), Ok((1_500, 1_125))),
+            _ => (),
         }
     }
 }
@@ -264,6 +320,43 @@ fn one_operation(text: &str) -> f64 {
     if power < 0 { signed / ten } else { signed * ten }
 }
 
+/// The minutes from the paper are the Rust's, of every text but those that are too long.
+fn same_minutes(t: &mut Tests, bytes: &[u8]) {
+    let Ok(text) = std::str::from_utf8(bytes) else { return };
+    let minutes = match duration::duration(text) {
+        Duration::Is { minutes, .. } => Some(minutes.into()),
+        Duration::Absent => None,
+        Duration::Long => return,
+    };
+    t.equal(text, minutes, exposed::duration_of(text));
+}
+
+fn fixed_durations(t: &mut Tests) {
+    generate::fixed_texts(Kind::Duration).iter().for_each(|text| same_minutes(t, text));
+    // Texts of minutes, which are whole.
+    for minutes in [0, 1, 59, 60, 1440, 99_999, leaf::MAX_MINUTES] {
+        let text = leaf::duration_text(minutes).unwrap_or_default();
+        t.equal(&text, duration::duration(&text), Duration::Is { minutes: minutes as u32, whole: true });
+    }
+    // So many seconds are whole minutes where 60 divides them.
+    for seconds in 0..=600u32 {
+        let text = format!("PT{seconds}S");
+        t.equal(&text, duration::duration(&text), Duration::Is { minutes: (seconds + 30) / 60, whole: seconds % 60 == 0 });
+    }
+}
+
+/// Random texts; and figures that are whole numbers, whose sum is had in seconds.
+fn random_durations(t: &mut Tests, count: u64) {
+    (0..4 * count).for_each(|seed| same_minutes(t, &generate::leaf_text(Kind::Duration, &mut Rng::new(seed))));
+    for seed in 0..count {
+        let rng = &mut Rng::new(seed);
+        let [d, h, m, s] = std::array::from_fn(|_| rng.below(3000) as u32);
+        let text = format!("P{d}DT{h}H{m}M{s}S");
+        let seconds = 86_400 * d + 3600 * h + 60 * m + s;
+        t.equal(&text, duration::duration(&text), Duration::Is { minutes: (seconds + 30) / 60, whole: seconds % 60 == 0 });
+    }
+}
+
 /// The rules of document 01 and those of the Rust give the same days.
 fn random_rules(t: &mut Tests, count: u64) {
     for seed in 0..count {
@@ -290,8 +383,22 @@ fn random_trees(t: &mut Tests, count: u64) {
         let Ok(model) = read::model_of_tree(&tree) else { continue };
         let packed = model.encode();
         t.equal(&what, check::check(&packed), Ok(()));
+        same_tasks(t, &what, &tree, &model);
         t.equal(&what, model::decode(&packed), Ok(model));
         same_as_rust(t, &what, &tree, &packed);
+    }
+}
+
+/// The kept tasks from the paper are the Rust's activities, by their UIDs, and have their minutes where these are not whole days.
+fn same_tasks(t: &mut Tests, what: &str, tree: &[u8], model: &Model) {
+    let records = tree::records(tree).unwrap_or_default();
+    let kept: Vec<Element> = Element::root(&records).into_iter().flat_map(tasks::kept).collect();
+    let uids: Vec<&str> = kept.iter().filter_map(|task| task.text_of("UID")).collect();
+    t.equal(what, uids, model.activities.iter().map(|a| a.uid.as_str()).collect());
+    for (task, activity) in kept.iter().zip(&model.activities).filter(|(_, activity)| activity.minutes.is_some()) {
+        let told = task.text_of("Duration").map(duration::duration);
+        let minutes = if let Some(Duration::Is { minutes, .. }) = told { Some(minutes.into()) } else { None };
+        t.equal(what, minutes, activity.minutes);
     }
 }
 

@@ -3,6 +3,7 @@
 use std::borrow::Cow;
 
 use crate::Refusal;
+use crate::duration::{self, Duration};
 use crate::number;
 
 pub const MAX_DEPTH: u32 = 65;
@@ -88,7 +89,7 @@ const DURATIONS: [&str; 5] = ["Duration", "RemainingDuration", "Work", "ActualWo
 fn too_long(record: &Record) -> bool {
     let named = |names: &[&str]| names.iter().any(|n| n.as_bytes() == record.name);
     let text = utf8(record.text);
-    if named(&NUMBERS) { number::is_long(text.trim()) } else { named(&DURATIONS) && number::has_long_piece(text) }
+    if named(&NUMBERS) { number::is_long(text.trim()) } else { named(&DURATIONS) && duration::duration(text) == Duration::Long }
 }
 
 /// The fields that are read as a yes.
@@ -112,6 +113,47 @@ pub fn for_the_rust(tree: &[u8]) -> Cow<'_, [u8]> {
 
 fn utf8(bytes: &[u8]) -> &str {
     std::str::from_utf8(bytes).unwrap_or_default()
+}
+
+/// An element of a packed tree: its record, and those of all below it.
+#[derive(Clone, Copy)]
+pub struct Element<'a> {
+    record: &'a Record<'a>,
+    below: &'a [Record<'a>],
+}
+
+impl<'a> Element<'a> {
+    /// The root, if there is one: what stands behind it is unread.
+    pub fn root(records: &'a [Record<'a>]) -> Option<Element<'a>> {
+        Element::first(records).map(|(root, _)| root)
+    }
+
+    /// The first record with all below it, and what is left.
+    fn first(records: &'a [Record<'a>]) -> Option<(Element<'a>, &'a [Record<'a>])> {
+        let (record, rest) = records.split_first()?;
+        let end = rest.iter().position(|r| r.depth <= record.depth).unwrap_or(rest.len());
+        Some((Element { record, below: &rest[..end] }, &rest[end..]))
+    }
+
+    /// Its direct children of that name.
+    pub fn all(self, name: &str) -> impl Iterator<Item = Element<'a>> {
+        let mut left = self.below;
+        let children = std::iter::from_fn(move || {
+            let (child, rest) = Element::first(left)?;
+            left = rest;
+            Some(child)
+        });
+        children.filter(move |child| child.record.name == name.as_bytes())
+    }
+
+    pub fn child(self, name: &str) -> Option<Element<'a>> {
+        self.all(name).next()
+    }
+
+    /// The text of the first child of that name, trimmed; empty counts as absent.
+    pub fn text_of(self, name: &str) -> Option<&'a str> {
+        self.child(name).map(|child| utf8(child.record.text).trim()).filter(|text| !text.is_empty())
+    }
 }
 
 /// An element with its children, to make packed trees from.

@@ -1,4 +1,4 @@
-//! A plan's outline, with each activity's dates, deadline and predecessors, and a month of a calendar:
+//! A plan's outline, with each activity's dates, deadline and predecessors, how many durations were not whole minutes, and a month of a calendar:
 //! `cargo run --offline --example show_plan FILE [MONTH [CALENDAR]]`. FILE: a packed tree or a model, `-` for standard input; MONTH: as 2026-03, by default that of
 //! the project's start; CALENDAR: its name, by default the main one.
 
@@ -13,6 +13,15 @@ fn day(date: Date) -> String {
 }
 
 // ---- the outline
+
+/// The line on durations that lost seconds, where there are some.
+fn fractional(count: u32) -> Option<String> {
+    match count {
+        0 => None,
+        1 => Some("1 duration was not whole minutes".into()),
+        n => Some(format!("{n} durations were not whole minutes")),
+    }
+}
 
 fn length(a: &Activity) -> String {
     match (a.kind, a.minutes) {
@@ -138,6 +147,9 @@ fn show(words: &[String]) -> Result<(), String> {
     let model = if Plan::decode(&given).is_ok() { given } else { read(&given).map_err(|why| why.to_string())? };
     let plan = Plan::decode(&model).map_err(|why| why.to_string())?;
     println!("{} from {}", plan.project.name, day(plan.project.start));
+    if let Some(line) = fractional(plan.project.fractional) {
+        println!("{line}");
+    }
     print!("{}", show_outline(&model, &plan)?);
     let (year, month) = match words.get(1) {
         Some(text) => month(text).ok_or(format!("no month: {text}"))?,

@@ -48,6 +48,8 @@ pub struct Project {
     pub dangling: u32,
     /// How many links go to another project.
     pub across: u32,
+    /// How many tasks have a duration that was not whole minutes.
+    pub fractional: u32,
     /// The day of its status.
     pub data_date: Option<Date>,
 }
@@ -286,7 +288,8 @@ const FIRST_DAY: i32 = -4_371_587;
 const LAST_DAY: i32 = 2_932_896;
 
 impl Plan {
-    /// The plan of a model's bytes: of exactly those that [`check`](crate::check) does not refuse with [`Refusal::NotModel`].
+    /// The plan of a model's bytes: of exactly those that [`check`](crate::check) does not refuse with [`Refusal::NotModel`]. Each is taken for one
+    /// whose project record has four counts (document 02, E2); one that was stored before is refused or means something else: read its tree again.
     ///
     /// # Errors
     ///
@@ -413,6 +416,7 @@ fn project(r: &mut Reader) -> Option<Project> {
         skipped: r.count()?,
         dangling: r.count()?,
         across: r.count()?,
+        fractional: r.count()?,
         data_date: r.optional(Reader::date)?,
     })
 }

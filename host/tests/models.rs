@@ -1,6 +1,6 @@
 //! The check, the outline and the sheet of a day, on models that are packed here.
 
-use mspdi::{DaySheet, Period, Refusal, Row, Weekday, check, day_sheet, outline};
+use mspdi::{DaySheet, Period, Plan, Refusal, Row, Weekday, check, day_sheet, outline};
 
 /// 1 January of -9999 and 31 December of 9999.
 const FIRST_DAY: i32 = -4_371_587;
@@ -35,7 +35,15 @@ impl Packer {
     fn head(calendars: u64, activities: u64) -> Packer {
         let mut p = Packer::default();
         p.put(32, calendars).put(32, activities).put(64, 0).put(64, 0);
-        p.text("").put(32, 0).text("").put(64, 0).put(32, 0).put(1, 0).align();
+        p.text("").put(32, 0).text("").put(64, 0).put(64, 0).put(1, 0).align();
+        p
+    }
+
+    /// The head of a model of one calendar in the form before E2 (document 02), which has three counts and no fourth, with a data date.
+    fn old_head(date: u64) -> Packer {
+        let mut p = Packer::default();
+        p.put(32, 1).put(32, 0).put(64, 0).put(64, 0);
+        p.text("").put(32, 0).text("").put(64, 0).put(32, 0).put(1, 1).put(32, date).align();
         p
     }
 
@@ -67,6 +75,11 @@ impl Packer {
 
 /// The model of a plan with nothing in it.
 fn whole() -> Vec<u8> {
+    [&[0, 0, 0, 1], &[0; 49][..], &[0, 0, 0, 8], b"Standard", &[0xF8], &[0; 40]].concat()
+}
+
+/// The same in the form before E2.
+fn old_whole() -> Vec<u8> {
     [&[0, 0, 0, 1], &[0; 45][..], &[0, 0, 0, 8], b"Standard", &[0xF8], &[0; 40]].concat()
 }
 
@@ -85,7 +98,7 @@ fn levels(parents: &[Option<u32>]) -> Vec<(u32, u32)> {
 #[test]
 fn a_plan_with_nothing_in_it() {
     let model = whole();
-    assert_eq!(model.len(), 102);
+    assert_eq!(model.len(), 106);
     assert_eq!(check(&model), Ok(()));
     assert_eq!(outline(&model), Ok(vec![]));
     let periods = vec![Period { from: 480, to: 720 }, Period { from: 780, to: 1020 }];
@@ -101,11 +114,27 @@ fn a_plan_with_nothing_in_it() {
 fn bytes_that_are_no_model_are_refused() {
     let model = whole();
     let lengthened = [&model[..], &[0]].concat();
-    for bytes in [&[][..], &model[..101], &model[1..], &lengthened, b"Project"] {
+    for bytes in [&[][..], &model[..105], &model[1..], &lengthened, &old_whole(), b"Project"] {
         assert_eq!(check(bytes), Err(Refusal::NotModel));
         assert_eq!(outline(bytes), Err(Refusal::NotModel));
         assert_eq!(day_sheet(bytes, 0, 0), Err(Refusal::NotModel));
     }
+}
+
+#[test]
+fn the_form_without_the_fourth_count_has_no_entry() {
+    // The flag's byte and three of the length of the calendar's name are taken for the count, and the fourth, 8, has a set pad bit.
+    assert_eq!(old_whole().len(), 102);
+    assert_eq!(check(&old_whole()), Err(Refusal::NotModel));
+    assert_eq!(Plan::decode(&old_whole()), Err(Refusal::NotModel));
+    // Of a data date the flag and all but the last bit are taken for the count, and the last bit for the flag. The rest stands where it should.
+    let old = |date| Packer::old_head(date).calendar("Standard", 4, 5, 6, 1).bytes();
+    assert_eq!(check(&old(20_514)), Ok(()));
+    let plan = Plan::decode(&old(20_514)).expect("a model");
+    assert_eq!((plan.project.fractional, plan.project.data_date), (0x8000_0000 + 10_257, None));
+    assert_eq!(plan.calendars[0].name, "Standard");
+    assert_eq!(check(&old(20_515)), Err(Refusal::NotModel));
+    assert_eq!(Plan::decode(&old(20_515)), Err(Refusal::NotModel));
 }
 
 #[test]

@@ -119,7 +119,7 @@ fn the_plan_of_the_repository() {
     let plan = Plan::decode(&model).expect("a model");
     assert_eq!(Plan::read(MANUAL).as_ref(), Ok(&plan));
     assert_eq!(plan.project.name, "Press line 4: manuals");
-    assert_eq!((plan.project.skipped, plan.project.dangling, plan.project.across), (0, 1, 0));
+    assert_eq!((plan.project.skipped, plan.project.dangling, plan.project.across, plan.project.fractional), (0, 1, 0, 0));
     let names: Vec<&str> = plan.calendars.iter().map(|c| c.name.as_str()).collect();
     assert_eq!(names, ["Standard", "Standard*"]);
     let ids: Vec<&str> = plan.activities.iter().map(|a| a.id.as_str()).collect();
@@ -170,6 +170,79 @@ fn a_saturday_worked_by_true() {
     for no in ["TRUE", "truer", "0", ""] {
         assert_eq!(saturday(no), (sheet(usual.clone()), false));
     }
+}
+
+/// A plan of tasks with these fields, in elements of these names from the root on.
+fn plan_of(path: &[&str], tasks: &[&[(&str, &str)]]) -> Result<Plan, Refusal> {
+    let mut tree = TreeBuilder::new();
+    path.iter().for_each(|name| tree.start(name).unwrap());
+    for fields in tasks {
+        tree.start("Task").unwrap();
+        fields.iter().for_each(|(name, text)| field(&mut tree, name, text));
+        tree.end().unwrap();
+    }
+    path.iter().for_each(|_| tree.end().unwrap());
+    Plan::read(&tree.finish().unwrap())
+}
+
+/// How many durations were not whole minutes.
+fn fractional(tasks: &[&[(&str, &str)]]) -> u32 {
+    plan_of(&["Project", "Tasks"], tasks).expect("a plan").project.fractional
+}
+
+#[test]
+fn durations_that_were_not_whole_minutes_are_counted() {
+    let one = |text: &str| fractional(&[&[("UID", "1"), ("Duration", text)]]);
+    for text in ["PT30S", "PT29S", "PT0.5M", "PT1.5S", "P0.0001D", "PT90S", "PT0.01H", " PT30S\n", "PT1H2H30S", "PT999999999.5M"] {
+        assert_eq!(one(text), 1, "{text}");
+    }
+    // Whole in decimals, and 122.99999999999999 in f64.
+    assert_eq!(one("PT2.05H"), 1);
+    // Whole minutes, by the f64 sum; no minutes; above 1,000,000,000 of them.
+    for text in ["PT60S", "PT8H0M0S", "PT0.5H", "PT0.1M54S", "PT1M1e-20S", "P", "PT-0S", "", "PT30", "PT-30S", "1.5", "PT1000000000M30S"] {
+        assert_eq!(one(text), 0, "{text}");
+    }
+}
+
+#[test]
+fn durations_of_kept_tasks_alone_are_counted() {
+    let part = ("Duration", "PT30S");
+    let tasks: &[&[(&str, &str)]] = &[
+        &[("UID", "1"), part],
+        &[("UID", "2"), ("Duration", "PT60S")],
+        &[("UID", "3")],
+        // Used or not: a milestone, and elapsed time.
+        &[("UID", "4"), ("Milestone", "1"), ("Duration", "PT0.5M")],
+        &[("UID", "5"), ("DurationFormat", "8"), part],
+        &[("UID", "5"), part],
+        // Not kept.
+        &[("UID", "0"), part],
+        &[part],
+        &[("UID", "6"), ("OutlineLevel", "0"), part],
+        // The first child of the name counts, a blank one too.
+        &[("UID", "7"), part, ("Duration", "PT60S")],
+        &[("UID", "8"), ("Duration", "PT60S"), part],
+        &[("UID", "9"), ("Duration", " "), part],
+        &[("UID", "10"), ("RemainingDuration", "PT30S"), ("Work", "PT30S")],
+    ];
+    let plan = plan_of(&["Project", "Tasks"], tasks).expect("a plan");
+    assert_eq!((plan.activities.len(), plan.project.fractional), (10, 5));
+    assert_eq!(plan_of(&["Project", "x", "Tasks"], tasks).expect("a plan").project.fractional, 0);
+    assert_eq!(fractional(&vec![&[("UID", "1"), part][..]; 300]), 300);
+    // A number that is too long is refused in a task that is not kept, too.
+    assert_eq!(plan_of(&["Project", "Tasks"], &[&[("Duration", "PT0.1234567890123456S")]]), Err(Refusal::NumberTooLong));
+}
+
+#[test]
+fn the_smallest_plan_has_106_bytes() {
+    let tree = b"\x02\x07\0\0Project";
+    let model = [&[0, 0, 0, 1], &[0; 49][..], &[0, 0, 0, 8], b"Standard", &[0xF8], &[0; 40]].concat();
+    assert_eq!(read(tree), Ok(model.clone()));
+    let mut room = [0xAA; 106];
+    assert_eq!(read_into(tree, &mut room[..105]), Err(Refusal::NoRoom));
+    assert_eq!(room[..105], [0; 105]);
+    assert_eq!(read_into(tree, &mut room), Ok(106));
+    assert_eq!(room[..], model);
 }
 
 #[test]

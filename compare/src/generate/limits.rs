@@ -53,20 +53,23 @@ fn elements(count: usize, depth: u32) -> Vec<u8> {
     out
 }
 
-/// 100,001 tasks: the last one kept, and one behind the limit. The others have UID 0, so that the Rust is quick.
+/// 100,001 tasks, each with a duration that is not whole minutes: the last one kept, and one behind the limit. The others have UID 0, so that the
+/// Rust is quick.
 fn tasks() -> Vec<u8> {
-    let task = |uid: &str| Node::new("Task", "").field("UID", uid);
+    let task = |uid: &str| Node::new("Task", "").field("UID", uid).field("Duration", "PT30S");
     let mut tasks = vec![task("0"); 99_999];
     tasks.push(task("kept"));
     tasks.push(task("unread"));
     Node::with("Project", vec![Node::with("Tasks", tasks)]).packed()
 }
 
-/// 1,500 tasks that are all kept, on many levels, each with a link to the one before and to one that there is not.
+/// 1,500 tasks that are all kept, on many levels, each with a link to the one before and to one that there is not, and with seconds, which are whole
+/// minutes in one of four.
 fn tasks_all() -> Vec<u8> {
     let link = |uid: usize| Node::new("PredecessorLink", "").field("PredecessorUID", &uid.to_string()).field("LinkLag", "-15");
     let task = |row: usize| {
         let task = Node::new("Task", "").field("UID", &row.to_string()).field("OutlineLevel", &(1 + row % 7).to_string());
+        let task = task.field("Duration", ["PT60S", "PT29S", "PT30S", "PT90S"][row % 4]);
         task.child(link(row - 1)).child(link(row + 5_000))
     };
     Node::with("Project", vec![Node::with("Tasks", (1..=1_500).map(task).collect())]).packed()

@@ -12,6 +12,7 @@ use crate::rng::Rng;
 pub fn packed_model(rng: &mut Rng) -> Vec<u8> {
     let bytes = match rng.below(20) {
         0..=5 => read_one(rng),
+        18 => packed_old(rng),
         19 => (0..rng.below(140)).map(|_| rng.next() as u8 & rng.next() as u8 & rng.next() as u8).collect(),
         6..=9 => made_up(rng).encode(),
         _ => decoding(rng),
@@ -36,6 +37,26 @@ pub fn read_one(rng: &mut Rng) -> Vec<u8> {
             return model;
         }
     }
+}
+
+/// A model in the form before E2 (document 02), which had no fourth count: one that the Rust reads, a made-up one, or a project alone. It is decoded
+/// as any bytes are.
+pub fn packed_old(rng: &mut Rng) -> Vec<u8> {
+    let model = match rng.below(3) {
+        0 => model::decode(&read_one(rng)).unwrap_or_default(),
+        1 => made_up(rng),
+        _ => Model { project: project_record(rng), ..Model::default() },
+    };
+    old_form(&model)
+}
+
+/// The model without the four bytes of its fourth count. They stand behind the six counts of the head, the name and the currency, each behind its
+/// length, the start, and three counts.
+pub fn old_form(model: &Model) -> Vec<u8> {
+    let mut bytes = model.encode();
+    let at = 24 + 4 + model.project.name.len() + 4 + 4 + model.project.currency.len() + 12;
+    bytes.drain(at..at + 4);
+    bytes
 }
 
 /// A model whose parts are mostly in order.
@@ -103,6 +124,7 @@ fn project_record(rng: &mut Rng) -> Project {
         skipped: rng.below(3) as u32,
         dangling: rng.next() as u32,
         across: rng.below(3) as u32,
+        fractional: if rng.one_in(3) { rng.next() as u32 } else { rng.below(3) as u32 },
         data_date: optional(rng, date),
     }
 }

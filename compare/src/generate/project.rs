@@ -137,6 +137,7 @@ impl Trees {
         for name in ["PhysicalPercentComplete", "Notes", "Work", "Cost"] {
             self.maybe(&mut t, name, 2);
         }
+        self.more_durations(&mut t);
         for _ in 0..self.rng.below(4) {
             t.children.push(self.link());
         }
@@ -144,6 +145,17 @@ impl Trees {
             t.children.push(Node::with("ExtendedAttribute", vec![Node::new("FieldID", "188743731"), Node::new("Value", "x")]));
         }
         self.shuffled(t)
+    }
+
+    /// One task in eight has a Duration more, and the first counts: a blank one or another in front, or another behind.
+    fn more_durations(&mut self, task: &mut Node) {
+        let another = self.value("Duration");
+        match self.rng.below(24) {
+            0 => task.children.insert(0, Node::new("Duration", &texts::blanks(&mut self.rng))),
+            1 => task.children.insert(0, Node::new("Duration", &another)),
+            2 => task.children.push(Node::new("Duration", &another)),
+            _ => (),
+        }
     }
 
     fn link(&mut self) -> Node {

@@ -2,6 +2,7 @@
 
 use mkperth_core::Date;
 
+use crate::duration::{self, Duration};
 use crate::leaf::Kind;
 use crate::number;
 use crate::rng::Rng;
@@ -54,7 +55,10 @@ const DURATIONS: &[&str] = &[
     "PT0e99999999999999999999H", "PT1e99999999999999999999H", "PT0.0000000000000000000001H", "PT0.00000000000000000000001H", "PT1H2M3S", "PT3S2M1H",
     "PT1S1M1H1S", "", " ", "T", "PP", "PPT1H", "P1DT2H3M4S5", "P1DT2H3M4S", "PT1H\u{e9}", "PT\u{e9}H", "PT1\u{a0}H", "P\u{a0}T1H", "PT0.1H",
     "PT0.7S", "PT59.9S", "PT99999999H", "PT0.3H0.7M", "PT100000H", "P1D T1H", "PT1H P", "PTHM", "PT1HM", "P0D", "P00D", "P00DT00H00M00S", "PT1_0H",
-    "PT0x1H",
+    "PT0x1H", "PT60S", "PT59S", "PT120S", "PT0.1M", "PT1.5S", "P0.0001D", "P0.1D", "PT0.1H54M", "PT0.1M54S", "PT0.7M18S", "PT0.35H", "PT2.05H",
+    "PT8.3H", "PT4.15H", "P37.45D", "PT0.01H0.3M6S", "PT1M1e-20S", "PT1M1e-14S", "PT999999999M1e-6S", "PT999999999M1e-5S", "PT999999999.5M",
+    "PT1000000000M1e-6S", "PT1000000000M1e-5S", "PT-0S", "P-0DT-0H-0M-0S", "PT30S60S", "PT60S30S", "PT0.5M1M", "PT6e1S", "PT3e1S", "PT1e-22S",
+    "P0.5DT0.5H0.5M0.5S", "\u{a0}PT30S\n",
 ];
 
 const NUMBERS: &[&str] = &[
@@ -288,7 +292,7 @@ fn digits(rng: &mut Rng, most: usize) -> String {
 pub fn duration(rng: &mut Rng, long: bool) -> String {
     loop {
         let text = any_duration(rng, long);
-        if long || !number::has_long_piece(&text) {
+        if long || duration::duration(&text) != Duration::Long {
             return text;
         }
     }
@@ -298,8 +302,10 @@ fn any_duration(rng: &mut Rng, long: bool) -> String {
     if rng.one_in(12) {
         return rng.pick(DURATIONS).into();
     }
-    if rng.one_in(2) {
-        return format!("PT{}H{}M0S", rng.range(0, 400), rng.pick(&["0", "0", "30", "15", "59", "61"]));
+    match rng.below(5) {
+        0 | 1 => return format!("PT{}H{}M0S", rng.range(0, 400), rng.pick(&["0", "0", "30", "15", "59", "61"])),
+        2 => return parts(rng),
+        _ => (),
     }
     let mut text = String::from("P");
     if rng.one_in(3) {
@@ -310,6 +316,27 @@ fn any_duration(rng: &mut Rng, long: bool) -> String {
         if rng.one_in(2) {
             text.push_str(&format!("{}{unit}", decimal(rng, long)));
         }
+    }
+    text
+}
+
+/// Figures whose sum is at times whole and at times not, some of them only in f64.
+const DAYS: &[&str] = &["1", "0.5", "0.1", "0.0001", "0.01", "1e-4", "-0", "694444", "0.00069444444444", "1.00001"];
+const HOURS: &[&str] = &["8", "0.1", "0.01", "0.5", "0.05", "1e-2", "-0", "2.7", "0.3333333333333", "2.05", "8.3", "16666666"];
+const MINUTES: &[&str] = &["54", "0.1", "0.5", "1.5", "0.9", "0.7", "1e-1", "5e-1", "-0", "40", "59.4", "0.3", "999999999.5", "2e-22"];
+const SECONDS: &[&str] =
+    &["29", "30", "59", "60", "90", "0", "-0", "1.5", "6", "18", "36", "54", "0.6", "1e-20", "0.000001", "3e1", "600e-1", "119.99"];
+
+/// A duration of such figures, in any order and with units repeated at times.
+fn parts(rng: &mut Rng) -> String {
+    let mut text = String::from("P");
+    if rng.one_in(4) {
+        text.push_str(&format!("{}D", rng.pick(DAYS)));
+    }
+    text.push('T');
+    for _ in 0..1 + rng.below(3) {
+        let (figures, unit) = [(HOURS, 'H'), (MINUTES, 'M'), (SECONDS, 'S')][rng.below(3)];
+        text.push_str(&format!("{}{unit}", rng.pick(figures)));
     }
     text
 }

@@ -12,6 +12,7 @@ use Rattle.definition.specs.Tree.{Element}
 use Rattle.definition.specs.Recurrence as D
 use Rattle.definition.specs.Recurrence.{recurrenceDays, ruleOf, daysOfRule}
 use Rattle.definition.specs.Calendar.{recurring, calendarElements, skipped}
+use Rattle.laws.specs.Keep.{keep-more}
 use Rattle.recurrence.specs.Element.{ruleBy}
 use Rattle.recurrence.specs.declared.Rule.{Rule}
 use Rattle.recurrence.specs.declared.RuleAnswer.{RuleAnswer}
@@ -63,15 +64,8 @@ module _ (m : ℕ) (f : List Element → ℕ) (one : Element → ℕ) (law : (e 
         ∙ sym (h ∙ ap (λ (x : ℕ). x % m) a ∙ sym (mod-add-mod (one e) m n) ∙ ap (λ (x : ℕ). (x + n) % m) (sym i) ∙ mod-add-mod u m n ∙ ap (λ (x : ℕ). x % m) b)
 
 pub without-more : (x : Element) (l : List Element) → withoutRule (x ∷ l) ≡ oneIf x + withoutRule l
-unfolding withoutRule keep
-without-more x l = by (not (given (recurrenceDays x)))
-  where
-    rest : List Element
-    rest = keep (λ x. not (given (recurrenceDays x))) l
-
-    by : (b : Bool) → length (if b then x ∷ rest else rest) ≡ (if b then 1 else 0) + length rest
-    by true = omega arith
-    by false = omega arith
+unfolding withoutRule
+without-more x l = keep-more (λ x. not (given (recurrenceDays x))) x l
 
 pub without-none : withoutRule [] ≡ 0
 unfolding withoutRule keep

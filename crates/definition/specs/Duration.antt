@@ -1,7 +1,8 @@
 -- Durations. ISO 8601 and MSPDI: `P`, days before `T`, then hours, minutes and seconds; days are 24 hours. Document 01, `duration_of`: the
 -- four figures of a text are held together until days × 1440 + hours × 60 + minutes + seconds / 60 is summed in f64, left to right;
 -- above 1e9 is none, else rounded, halves away from zero. A repeated unit overwrites. `P` and `PT` are 0; `P1Y`, `PT5`, a piece below 0 are
--- none. Pieces go left to right; an ill-formed one ends the reading with none, and a piece too long is refused. Assumes nothing.
+-- none. Pieces go left to right; an ill-formed one ends the reading with none, and a piece too long is refused. Document 02, E2: the reading answers
+-- two things, the minutes, and whether that f64 sum was a whole number before it was rounded. Assumes nothing.
 use Prim.Native.Nat.{ℕ, zero, suc, _+_, _/_, _%_}
 use mathlib.Core.Bool.{Bool, _||_}
 use mathlib.Core.List.{List, [], _∷_, _++_}
@@ -10,7 +11,7 @@ use lib.Ieee.{Float, binary64, add, mul, div, le}
 use Rattle.definition.specs.Base.{if_then_else_, _or_, same}
 use Rattle.definition.specs.Ascii.{bytes}
 use Rattle.definition.specs.Text.{Text, trim, before, after}
-use Rattle.definition.specs.Number.{Reading, absent, long, value, numberOf, halfAway, float, zeroFloat}
+use Rattle.definition.specs.Number.{Reading, absent, long, value, numberOf, halfAway, isWhole, float, zeroFloat}
 use Rattle.definition.specs.declared.Figures.{Figures}
 
 -- ---- the figures
@@ -87,11 +88,19 @@ totalOf f =
 abbrev pub mostMinutes : ℕ
 mostMinutes = 1000000000
 
-unfoldable pub minutesOf : Figures → Reading ℕ
-minutesOf f = if le (totalOf f) (float mostMinutes) then value (halfAway (totalOf f)) else absent
+-- a sum rounded to minutes, and whether it was whole
+pub record Duration : Type 0 where
+  pub minutes : ℕ
+  pub whole : Bool
 
-unfoldable pub durationOf : Text → Reading ℕ
-durationOf s = figuresOf (trim s) then minutesOf
+abbrev pub durationAt : Float → Duration
+durationAt x = record { minutes = halfAway x; whole = isWhole x }
+
+unfoldable pub durationFrom : Figures → Reading Duration
+durationFrom f = if le (totalOf f) (float mostMinutes) then value (durationAt (totalOf f)) else absent
+
+unfoldable pub durationOf : Text → Reading Duration
+durationOf s = figuresOf (trim s) then durationFrom
 
 -- ---- the text of minutes
 

@@ -1,5 +1,5 @@
--- The model's records, as document 01 lists them. A kind is its code, from 0 in the order of the Rust's enum. Rows count from 0.
--- Assumes nothing.
+-- The model's records, as document 01 lists them; the fourth count of a project is document 02's (E2). A kind is its code, from 0 in the order of the
+-- Rust's enum. Rows count from 0. Assumes nothing.
 use Prim.Native.Nat.{ℕ}
 use mathlib.Core.Bool.{Bool, true, false}
 use mathlib.Core.List.{List, [], _∷_}
@@ -9,6 +9,7 @@ use Rattle.definition.specs.Text.{Text}
 use Rattle.definition.specs.Date.{Date}
 use Rattle.definition.specs.Format.{Period}
 
+-- fractional: how many kept tasks have a Duration that gives minutes and was not whole
 pub record Project : Type 0 where
   pub name : Text
   pub start : Date
@@ -16,6 +17,7 @@ pub record Project : Type 0 where
   pub skipped : ℕ
   pub dangling : ℕ
   pub across : ℕ
+  pub fractional : ℕ
   pub dataDate : Option Date
 
 -- week and hours: seven each, Monday first

@@ -2,8 +2,8 @@
 -- none, and digits; (`inf`, `infinity` and `nan` are read too and give none, so they are left out here.) Document 01: a text is short if it
 -- has at most 15 digits after leading zeros are dropped and its power of ten, fraction digits taken off, lies in -22 to 22, or if all
 -- digits are 0. Its value is the f64 nearest to the decimal, ties to even, as IEEE 754 has it. Amounts are rounded to whole numbers, a half
--- away from zero. Assumes nothing.
-use Prim.Native.Nat.{ℕ, _+_, _*_, _/_, _^_}
+-- away from zero; and which f64 are whole. Assumes nothing.
+use Prim.Native.Nat.{ℕ, _+_, _*_, _/_, _%_, _^_}
 use mathlib.Core.Bool.{Bool, true, false, _&&_, _||_}
 use mathlib.Core.List.{List, [], _∷_, _++_}
 use mathlib.Core.Option.{Option, some, none}
@@ -107,6 +107,12 @@ unfoldable pub halfAway : Float → ℕ
 halfAway nan = 0
 halfAway (inf s) = 0
 halfAway (fin s m e) = (m * up e * 2 + down e) / (down e * 2)
+
+-- x is a whole number; -0 is one, and there is no bound
+unfoldable pub isWhole : Float → Bool
+isWhole nan = false
+isWhole (inf s) = false
+isWhole (fin s m e) = eqb (m * up e % down e) 0
 
 abbrev pub withSign : Bool → ℕ → ℤ
 withSign true n = negℤ (pos n)

@@ -1,5 +1,6 @@
 -- A model as bytes. Document 01: six counts (calendars, main first; activities; links; resources; assignments; expenses), then a project record,
--- then the rest in that order, each record from a whole byte. What does not decode is refused with 6. Assumes nothing.
+-- then the rest in that order, each record from a whole byte. What does not decode is refused with 6. Document 02, E2: a project has a fourth count, and
+-- every model is decoded as one with it, whatever wrote it. Assumes nothing.
 use Prim.Native.Nat.{ℕ}
 use mathlib.Core.Bool.{Bool, not}
 use mathlib.Core.List.{List, [], _∷_, _++_}
@@ -38,14 +39,14 @@ use Rattle.definition.specs.Calendar.{byDate}
 abbrev pub named : {A B : Type 0} → (A → B) → (B → A) → Format A → Format B
 named to from f = via (λ a. some (to a)) from f
 
--- name, start, currency, counts skipped, dangling, across, optional data date
+-- name, start, currency, counts skipped, dangling, across, fractional, optional data date
 unfoldable pub project : Format Project
 project =
     named
-    (λ p. let (n, (s, (c, (k, (d, (a, t)))))) = p in
-    record { name = n; start = s; currency = c; skipped = k; dangling = d; across = a; dataDate = t })
-    (λ p. (p .name, (p .start, (p .currency, (p .skipped, (p .dangling, (p .across, p .dataDate)))))))
-    (text ⊗ date ⊗ text ⊗ count ⊗ count ⊗ count ⊗ optional date)
+    (λ p. let (n, (s, (c, (k, (d, (a, (f, t))))))) = p in
+    record { name = n; start = s; currency = c; skipped = k; dangling = d; across = a; fractional = f; dataDate = t })
+    (λ p. (p .name, (p .start, (p .currency, (p .skipped, (p .dangling, (p .across, (p .fractional, p .dataDate))))))))
+    (text ⊗ date ⊗ text ⊗ count ⊗ count ⊗ count ⊗ count ⊗ optional date)
 
 -- name, seven flags from Monday, seven period lists, holidays, extra days, exceptions (date, period list; dates strictly rising)
 unfoldable pub calendar : Format Calendar

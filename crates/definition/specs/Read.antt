@@ -1,6 +1,7 @@
 -- The model of a tree, whose root is a Project. Document 01 and the Rust: the main calendar, then the others whose name is not the main one's, in the
 -- order in which they were built, then the elapsed one where a kept task is elapsed; activities, links, resources, assignments,
--- expenses; the project's own fields, with the counts of skipped exceptions and of links dangling and across. Assumes nothing.
+-- expenses; the project's own fields, with the counts of skipped exceptions and of links dangling and across. Document 02, E2: a fourth count, of
+-- the kept tasks whose Duration, used or not, gives minutes and was not whole. Assumes nothing.
 use Prim.Native.Nat.{ℕ}
 use mathlib.Core.Bool.{Bool, not}
 use mathlib.Core.List.{List, [], _∷_, _++_, map}
@@ -12,7 +13,7 @@ use Rattle.definition.specs.Tree.{Element}
 use Rattle.definition.specs.Field.{textIn, dateIn}
 use Rattle.definition.specs.Model.{Project, Calendar, Model}
 use Rattle.definition.specs.Calendar.{Named, elapsedCalendar, skipped}
-use Rattle.definition.specs.Task.{Context, contextOf, activities, isElapsed}
+use Rattle.definition.specs.Task.{Context, contextOf, activities, isElapsed, isFractional}
 use Rattle.definition.specs.Link.{fates, links, entered, isDangling, isAcross}
 use Rattle.definition.specs.Resource.{resources, assignments, expenses}
 
@@ -24,6 +25,7 @@ projectOf x root = record {
   skipped = skipped root;
   dangling = length (keep isDangling (fates x));
   across = length (keep isAcross (fates x));
+  fractional = length (keep isFractional (x .tasks));
   dataDate = dateIn root "StatusDate";
 }
 

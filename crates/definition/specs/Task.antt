@@ -1,7 +1,8 @@
 -- Tasks. Document 01 and the Rust: a kept task is one of the first 100,000 `Task` elements in `Tasks`, has a UID other than `0`, and an OutlineLevel (1 where
 -- none is read) of at least 1. Activity row 0 is made from the first of them, and so on. Its id is WBS, else ID, else UID, and gains `*`
 -- until no earlier activity has it. Its parent is the nearest earlier one of a lower level. MSPDI: DurationFormat 4, 6, 8, 10, 12 (and 20)
--- are elapsed time, where a day has 1440 minutes and not MinutesPerDay; 32 more means estimated. Assumes nothing.
+-- are elapsed time, where a day has 1440 minutes and not MinutesPerDay; 32 more means estimated. Document 02, E2: which tasks have a duration that was
+-- not whole minutes. Assumes nothing.
 use Prim.Native.Nat.{ℕ, _+_, _-_, _/_, _%_}
 use mathlib.Core.Bool.{Bool, true, false, _&&_, _||_, not}
 use mathlib.Core.List.{List, [], _∷_, _++_, map}
@@ -17,7 +18,7 @@ use Rattle.definition.specs.Text.{Text}
 use Rattle.definition.specs.Date.{Date}
 use Rattle.definition.specs.Number.{halfAway, hundredths, between, float, zeroFloat}
 use Rattle.definition.specs.Tree.{Element, child, allIn}
-use Rattle.definition.specs.Field.{textIn, yesIn, intIn, numberIn, dateIn, minutesIn}
+use Rattle.definition.specs.Field.{textIn, yesIn, intIn, numberIn, dateIn, durationIn, minutesIn, notWhole}
 use Rattle.definition.specs.Model.{Calendar, Activity}
 use Rattle.definition.specs.Calendar.{Named, builtCalendars, mainCalendar, nameOf, free, elapsedName}
 
@@ -92,6 +93,12 @@ elapsedFormat f = eqb (f % 2) 0 && (within 4 12 f || eqb f 20)
 
 unfoldable pub isElapsed : Element → Bool
 isElapsed t = elapsedFormat (formatOf t "DurationFormat")
+
+-- ---- durations that were not whole minutes
+
+-- by its Duration, whatever else the task says: a milestone's and an elapsed task's too
+unfoldable pub isFractional : Element → Bool
+isFractional t = notWhole (durationIn t "Duration")
 
 -- ---- an activity
 

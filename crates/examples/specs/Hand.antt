@@ -2,6 +2,7 @@
 use Prim.Native.Nat.{ℕ}
 use Prim.Native.String.{String}
 use mathlib.Core.Path.{_≡_, refl}
+use mathlib.Core.Bool.{true, false}
 use mathlib.Core.List.{List, [], _∷_, map, flatMap}
 use mathlib.Core.Option.{Option, some, none}
 use lib.IntN.{ℤ, pos, negsuc}
@@ -9,7 +10,7 @@ use Rattle.definition.specs.Base.{present}
 use Rattle.definition.specs.Ascii.{bytes}
 use Rattle.definition.specs.Date.{dateOf}
 use Rattle.definition.specs.Number.{Reading, absent, value}
-use Rattle.definition.specs.Duration.{durationOf}
+use Rattle.definition.specs.Duration.{Duration, durationOf}
 use Rattle.definition.specs.Time.{timeOf}
 use Rattle.definition.specs.Tree.{Rec, element}
 use Rattle.definition.specs.Recurrence.{recurrenceDays}
@@ -47,11 +48,18 @@ exceptionOn type from to fields =
 
 -- what is given, and what is to come out. levels: parents and outline levels. lag: lag and minutes. days: the days of an Exception
 pub data Row : Type 0 where
-  duration : String → Reading ℕ → Row
+  duration : String → Reading Duration → Row
   time : String → Option ℕ → Row
   levels : List String → List (Option ℕ) → List ℕ → Row
   lag : String → ℤ → Option ℤ → Row
   days : List Rec → List String → Row
+
+-- minutes that were whole, and minutes that were not (document 02, E2)
+abbrev pub whole : ℕ → Reading Duration
+whole n = value (record { minutes = n; whole = true })
+
+abbrev pub part : ℕ → Reading Duration
+part n = value (record { minutes = n; whole = false })
 
 abbrev parentsOf : List Activity → List (Option ℕ)
 parentsOf = map (λ (a : Activity). a .parent)
@@ -78,10 +86,10 @@ AllHold (r ∷ rs) = Holds r × AllHold rs
 
 abbrev pub table : List Row
 table =
-    duration "PT30S" (value 1) ∷
-    duration "PT29S" (value 0) ∷
-    duration "PT1H2H" (value 120) ∷
-    duration "PT16666666H40M" (value 1000000000) ∷
+    duration "PT30S" (part 1) ∷
+    duration "PT29S" (part 0) ∷
+    duration "PT1H2H" (whole 120) ∷
+    duration "PT16666666H40M" (whole 1000000000) ∷
     duration "PT16666666H41M" absent ∷
     time "24:00" (some 1440) ∷
     time "24:01" none ∷

@@ -1,5 +1,6 @@
 pub mod Cases
 pub mod Dates
+pub mod Fractions
 pub mod Hand
 pub mod Open
 pub mod Plan

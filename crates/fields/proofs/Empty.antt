@@ -13,7 +13,7 @@ use Rattle.definition.specs.Base.{_>>=_, _or_, given}
 use Rattle.definition.specs.Text.{Text, signedOf, signOf, digits, trim, trimFront, trimBack, strip, before, after}
 use Rattle.definition.specs.Date.{dateOf, dateParts, firstTen}
 use Rattle.definition.specs.Number.{Reading, numberOf, found, decimalOf}
-use Rattle.definition.specs.Duration.{durationOf, figuresOf}
+use Rattle.definition.specs.Duration.{Duration, durationOf, figuresOf}
 use Rattle.definition.specs.Tree.{Element, child, textOf, nonEmpty}
 use Rattle.laws.specs.Options.{bind-or}
 
@@ -31,9 +31,9 @@ no-number : found (numberOf []) ≡ none
 unfolding numberOf signOf decimalOf before after digits
 no-number = refl
 
-no-minutes : found (durationOf []) ≡ none
+no-duration : found (durationOf []) ≡ none
 unfolding durationOf figuresOf trim trimFront trimBack strip
-no-minutes = refl
+no-duration = refl
 
 read-or : {A : Type 0} (f : Text → Reading A) → found (f []) ≡ none → (o : Option Text) {t : Text} → t ≡ (o or []) → {a : Reading A} → a ≡ f t → found a ≡ (o >>= λ t. found (f t))
 read-or {A} f z o e h =
@@ -50,8 +50,9 @@ module _ (o : Option Text) (t : Text) (e : t ≡ (o or [])) where
   pub number-or : {r : Option Float} {a : Reading Float} → r ≡ found a → a ≡ numberOf t → r ≡ (o >>= λ t. found (numberOf t))
   number-or g h = g ∙ read-or numberOf no-number o e h
 
-  pub minutes-or : {r : Option ℕ} {a : Reading ℕ} → r ≡ found a → a ≡ durationOf t → r ≡ (o >>= λ t. found (durationOf t))
-  minutes-or g h = g ∙ read-or durationOf no-minutes o e h
+  -- what is asked of a duration
+  pub duration-or : {A : Type 0} (f : Option Duration → A) {r : A} {a : Reading Duration} → r ≡ f (found a) → a ≡ durationOf t → r ≡ f (o >>= λ t. found (durationOf t))
+  duration-or f g h = g ∙ ap f (read-or durationOf no-duration o e h)
 
 -- ---- given
 

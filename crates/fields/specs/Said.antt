@@ -12,9 +12,9 @@ use Rattle.definition.specs.Ascii.{bytes}
 use Rattle.definition.specs.Text.{Text, signedOf, isYes}
 use Rattle.definition.specs.Date.{Date, dateOf}
 use Rattle.definition.specs.Number.{numberOf, found}
-use Rattle.definition.specs.Duration.{durationOf}
+use Rattle.definition.specs.Duration.{Duration, durationOf}
 use Rattle.definition.specs.Tree.{Element, textOf}
-use Rattle.definition.specs.Field.{yesIn, intIn, dateIn, numberIn, minutesIn}
+use Rattle.definition.specs.Field.{yesIn, intIn, dateIn, numberIn, minutesAlone, minutesIn}
 
 abbrev pub yesSaid : Element → Text → Bool
 yesSaid e name = isYes (textOf e name or [])
@@ -29,8 +29,11 @@ dateSaid e name = textOf e name >>= dateOf
 abbrev pub numberSaid : Element → Text → Option Float
 numberSaid e name = textOf e name >>= λ s. found (numberOf s)
 
+abbrev pub durationSaid : Element → Text → Option Duration
+durationSaid e name = textOf e name >>= λ s. found (durationOf s)
+
 abbrev pub minutesSaid : Element → Text → Option ℕ
-minutesSaid e name = textOf e name >>= λ s. found (durationOf s)
+minutesSaid e name = minutesAlone (durationSaid e name)
 
 -- ---- for a name that is written out
 

@@ -7,15 +7,17 @@ ghost use Rattle.definition.specs.Date.{dateOf};
 ghost use Rattle.definition.specs.Number.{numberOf, found};
 ghost use Rattle.definition.specs.Answer.{dateMeaning, dayNumberOf};
 ghost use Rattle.definition.specs.Task.{ownUid};
+ghost use Rattle.definition.specs.Field.{notWhole};
 ghost use Rattle.text.specs.Answers.{signedMeans};
 ghost use Rattle.tree.specs.Place.{elementAt};
 ghost use Rattle.tree.specs.Root.{ownText};
 ghost use Rattle.fields.specs.Answers.{floatMeans, minutesMeans, unsignedOr};
-ghost use Rattle.fields.specs.Said.{yesSaid, wholeSaid, dateSaid, numberSaid, minutesSaid};
+ghost use Rattle.fields.specs.Said.{yesSaid, wholeSaid, dateSaid, numberSaid, durationSaid, minutesSaid};
 use crate::value::FloatAnswer;
 use crate::value::MinutesAnswer;
 use crate::value::float_of;
 use crate::value::minutes_of;
+use crate::value::not_whole;
 use crate::value::unsigned_or;
 use definition::DateAnswer;
 use text::Signed;
@@ -78,6 +80,13 @@ pub fn minutes_in(s: &[u8], at: usize, name: &[u8]) -> MinutesAnswer
     ensures { λ r. ⌜ minutesMeans r ≡ minutesSaid (elementAt (now (s .entry)) at) (now (name .entry)) ⌝ }
 {
     minutes_of(number::duration_of(tree::text_of(s, at, name)))
+}
+
+// Whether there is a duration that gives minutes and whose sum was not whole.
+pub fn fraction_in(s: &[u8], at: usize, name: &[u8]) -> bool
+    ensures { λ r. ⌜ r ≡ notWhole (durationSaid (elementAt (now (s .entry)) at) (now (name .entry))) ⌝ }
+{
+    not_whole(number::duration_of(tree::text_of(s, at, name)))
 }
 
 // What the element at `at` says itself.

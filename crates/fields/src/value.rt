@@ -3,6 +3,7 @@ ghost use mathlib.Core.Path.{_≡_};
 ghost use lib.Ieee.{binary64, mul};
 ghost use Rattle.definition.specs.Base.{when};
 ghost use Rattle.definition.specs.Number.{float, found};
+ghost use Rattle.definition.specs.Field.{minutesAlone, notWhole};
 ghost use Rattle.text.specs.Answers.{signedMeans, i64Of};
 ghost use Rattle.number.specs.Number.{meaning as numberMeans};
 ghost use Rattle.number.specs.Duration.{meaning as durationMeans};
@@ -37,12 +38,22 @@ pub(crate) fn float_of(a: NumberAnswer) -> FloatAnswer
 }
 
 pub(crate) fn minutes_of(a: DurationAnswer) -> MinutesAnswer
-    ensures { λ r. ⌜ minutesMeans r ≡ found (durationMeans a) ⌝ }
+    ensures { λ r. ⌜ minutesMeans r ≡ minutesAlone (found (durationMeans a)) ⌝ }
 {
     match a {
-        DurationAnswer::Minutes(n) => MinutesAnswer::Is(n),
+        DurationAnswer::Minutes(n, _) => MinutesAnswer::Is(n),
         DurationAnswer::Long => MinutesAnswer::Absent,
         DurationAnswer::Absent => MinutesAnswer::Absent,
+    }
+}
+
+pub(crate) fn not_whole(a: DurationAnswer) -> bool
+    ensures { λ r. ⌜ r ≡ notWhole (found (durationMeans a)) ⌝ }
+{
+    match a {
+        DurationAnswer::Minutes(_, whole) => !whole,
+        DurationAnswer::Long => false,
+        DurationAnswer::Absent => false,
     }
 }
 

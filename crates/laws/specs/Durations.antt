@@ -10,13 +10,13 @@ use lib.Ieee.{Float, fin, binary64, add, mul, div, le, lt, eq}
 use lib.Ieee.Fits.{and-i, and-l, and-r}
 use Rattle.definition.specs.Base.{if_then_else_, _or_, same}
 use Rattle.definition.specs.Text.{Text, before, after, trim}
-use Rattle.definition.specs.Number.{Reading, absent, long, value, float, zeroFloat, numberOf, halfAway, found}
-use Rattle.definition.specs.Duration.{isUnit, isD, isT, setUnit, notBelowZero, pieceOf, _then_, timeFigures, daysOf, dayFigures, figuresOf, totalOf, mostMinutes, minutesOf, durationOf}
+use Rattle.definition.specs.Number.{Reading, absent, long, value, float, zeroFloat, numberOf, found}
+use Rattle.definition.specs.Duration.{isUnit, isD, isT, setUnit, notBelowZero, pieceOf, _then_, timeFigures, daysOf, dayFigures, figuresOf, totalOf, mostMinutes, Duration, durationAt, durationFrom, durationOf}
 use Rattle.definition.specs.Tree.{Element}
 use Rattle.definition.specs.Field.{textIn, minutesIn}
 use Rattle.definition.specs.declared.Figures.{Figures}
 use Rattle.laws.specs.Floats.{bound, float-60, float-1440, float-10⁹, add-sound, mul-sound, div-sound, of-le, to-le}
-use Rattle.laws.specs.FitLists.{Perhaps, missing, there, perhaps-any}
+use Rattle.laws.specs.FitLists.{Perhaps, missing, there, perhaps-bind, perhaps-any}
 
 -- figures none of which is below 0
 abbrev pub notBelow : Figures → Bool
@@ -141,19 +141,19 @@ total-least f t =
 -- ---- up to 10 ^ 9
 
 found-most : (f : Figures) → T (notBelow f) → (t : Bool) → le (totalOf f) (float mostMinutes) ≡ t
-    → Perhaps (λ n. n ≤ mostMinutes) (found (if t then value (halfAway (totalOf f)) else absent))
+    → Perhaps (λ (d : Duration). d .minutes ≤ mostMinutes) (found (if t then value (durationAt (totalOf f)) else absent))
 found-most f h true e = there (bound 1953125 9 (totalOf f) (total-least f h) (subst (λ (x : Float). T (le (totalOf f) x)) float-10⁹ (subst T (sym e) tt)))
 found-most f h false e = missing
 
-pub duration-most : (s : Text) → Perhaps (λ n. n ≤ mostMinutes) (found (durationOf s))
-unfolding durationOf minutesOf
+pub duration-most : (s : Text) → Perhaps (λ (d : Duration). d .minutes ≤ mostMinutes) (found (durationOf s))
+unfolding durationOf durationFrom
 duration-most s = by (figuresOf (trim s)) (figures-least (trim s))
   where
-    by : (r : Reading Figures) → T (noneBelow r) → Perhaps (λ n. n ≤ mostMinutes) (found (r then minutesOf))
+    by : (r : Reading Figures) → T (noneBelow r) → Perhaps (λ (d : Duration). d .minutes ≤ mostMinutes) (found (r then durationFrom))
     by absent h = missing
     by long h = missing
     by (value f) h = found-most f h (le (totalOf f) (float mostMinutes)) refl
 
 pub minutes-most : (e : Element) (n : String) → Perhaps (λ m. m ≤ mostMinutes) (minutesIn e n)
 unfolding minutesIn
-minutes-most e n = perhaps-any (textIn e n) duration-most
+minutes-most e n = perhaps-bind (perhaps-any (textIn e n) duration-most) (λ d h. there h)

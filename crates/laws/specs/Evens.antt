@@ -116,7 +116,7 @@ even-dates = even-list _ even-date
 
 even-project : Even project
 unfolding project
-even-project = even-via _ _ (even-text & even-date & even-text & even-field 32 & even-field 32 & even-field 32 & even-optional even-date)
+even-project = even-via _ _ (even-text & even-date & even-text & even-field 32 & even-field 32 & even-field 32 & even-field 32 & even-optional even-date)
 
 pub even-calendar : Even calendar
 unfolding calendar

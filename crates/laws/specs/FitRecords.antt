@@ -132,8 +132,8 @@ good-lag-kind = good-depending (eqb 2) (good-code 0 2 (omega arith)) good-number
 -- ---- records by their parts
 
 module _ (T : Text → Type 0) where
-  abbrev pub ProjectParts : Text × (Date × (Text × (ℕ × (ℕ × (ℕ × Option Date))))) → Type 0
-  ProjectParts = Both T (Both InYears (Both T (Both IsCount (Both IsCount (Both IsCount (IfGiven InYears))))))
+  abbrev pub ProjectParts : Text × (Date × (Text × (ℕ × (ℕ × (ℕ × (ℕ × Option Date)))))) → Type 0
+  ProjectParts = Both T (Both InYears (Both T (Both IsCount (Both IsCount (Both IsCount (Both IsCount (IfGiven InYears)))))))
 
   abbrev pub CalendarParts : Text × (List Bool × (List (List Period) × (List Date × (List Date × List (Date × List Period))))) → Type 0
   CalendarParts = Both T (Both IsWeek (Both (Times ArePeriods 7) (Both (Rising ltb InYears) (Both (Rising ltb InYears) (Rising byDate IsDay)))))
@@ -154,8 +154,8 @@ abbrev pub AssignmentParts : ℕ × (ℕ × (ℤ × (ℤ × (Option ℤ × Optio
 AssignmentParts = Both IsCount (Both IsCount (Both IsNumber (Both IsNumber (Both (IfGiven IsNumber) (IfGiven IsNumber)))))
 
 module _ {t : Format Text} {T : Text → Type 0} (g : Good t T) where
-  pub good-project-parts : Good (t ⊗ date ⊗ t ⊗ count ⊗ count ⊗ count ⊗ optional date) (ProjectParts T)
-  good-project-parts = g & good-date & g & good-count & good-count & good-count & good-optional good-date
+  pub good-project-parts : Good (t ⊗ date ⊗ t ⊗ count ⊗ count ⊗ count ⊗ count ⊗ optional date) (ProjectParts T)
+  good-project-parts = g & good-date & g & good-count & good-count & good-count & good-count & good-optional good-date
 
   pub good-calendar-parts : Good (t ⊗ times 7 flag ⊗ times 7 periods ⊗ dates ⊗ dates ⊗ listOf byDate (date ⊗ periods)) (CalendarParts T)
   good-calendar-parts = g & good-week & good-times 7 good-periods & good-dates & good-dates & good-list byDate (good-date & good-periods)
@@ -179,7 +179,7 @@ good-assignment-parts = good-count & good-count & good-number & good-number & go
 
 module _ (T : Text → Type 0) where
   abbrev pub FitsProjectBy : Project → Type 0
-  FitsProjectBy p = ProjectParts T (p .name, (p .start, (p .currency, (p .skipped, (p .dangling, (p .across, p .dataDate))))))
+  FitsProjectBy p = ProjectParts T (p .name, (p .start, (p .currency, (p .skipped, (p .dangling, (p .across, (p .fractional, p .dataDate)))))))
 
   abbrev pub FitsCalendarBy : Calendar → Type 0
   FitsCalendarBy c = CalendarParts T (c .name, (c .week, (c .hours, (c .holidays, (c .extraDays, c .exceptions)))))

@@ -24,3 +24,4 @@ pub mod Rows
 pub mod Same
 pub mod Stars
 pub mod Tests
+pub mod Wholes

@@ -29,7 +29,8 @@ pub(crate) fn skip_project(s: &[u8], p: Place) -> Place
     let d = skip(s, c, 32);
     let e = skip(s, d, 32);
     let f = skip(s, e, 32);
-    bits::take_pad(s, skip_optional_date(s, f))
+    let g = skip(s, f, 32);
+    bits::take_pad(s, skip_optional_date(s, g))
 }
 
 fn skip_calendar(s: &[u8], p: Place, check: bool) -> Place

@@ -1,17 +1,18 @@
-// Duration texts, as minutes.
+// Duration texts, as minutes, and whether the sum was whole before it was rounded.
 ghost use mathlib.Core.Path.{_≡_};
 ghost use mathlib.Core.List.{[]};
 ghost use lib.Dec.{T};
-ghost use Rattle.definition.specs.Duration.{setUnit, notBelowZero, pieceOf, _then_, timeFigures, daysOf, dayFigures, figuresOf, totalOf, minutesOf, durationOf};
+ghost use Rattle.definition.specs.Duration.{setUnit, notBelowZero, pieceOf, _then_, timeFigures, daysOf, dayFigures, figuresOf, totalOf, durationFrom, durationOf};
 ghost use Rattle.number.specs.Number.{meaning as numberMeaning};
 ghost use Rattle.number.specs.Duration.{meaning, figuresMeaning, notBelow, noneBelow};
 use crate::decimal::NumberAnswer;
 use definition::Figures;
 
+// Minutes, and whether the sum was whole before it was rounded.
 pub enum DurationAnswer {
     Absent,
     Long,
-    Minutes(u32),
+    Minutes(u32, bool),
 }
 
 enum FiguresAnswer {
@@ -146,38 +147,40 @@ fn total_of(f: Figures) -> f64
     f.days * 1440.0 + f.hours * 60.0 + f.minutes + f.seconds / 60.0
 }
 
-fn minutes_of(f: Figures) -> DurationAnswer
+fn duration_from(f: Figures) -> DurationAnswer
     requires { ⌜ T (notBelow f) ⌝ }
-    ensures { λ r. ⌜ meaning r ≡ minutesOf f ⌝ }
+    ensures { λ r. ⌜ meaning r ≡ durationFrom f ⌝ }
 {
     let total = total_of(f);
     if total <= 1e9 {
-        return DurationAnswer::Minutes(crate::whole::half_away(total) as u32);
+        let minutes = crate::whole::half_away(total) as u32;
+        let rounded = minutes as f64;
+        return DurationAnswer::Minutes(minutes, total == rounded);
     }
     DurationAnswer::Absent
 }
 
-fn minutes_read(f: FiguresAnswer) -> DurationAnswer
+fn duration_read(f: FiguresAnswer) -> DurationAnswer
     requires { ⌜ T (noneBelow (figuresMeaning f)) ⌝ }
-    ensures { λ r. ⌜ meaning r ≡ (figuresMeaning f then minutesOf) ⌝ }
+    ensures { λ r. ⌜ meaning r ≡ (figuresMeaning f then durationFrom) ⌝ }
 {
     match f {
-        FiguresAnswer::Are(g) => minutes_of(g),
+        FiguresAnswer::Are(g) => duration_from(g),
         FiguresAnswer::Long => DurationAnswer::Long,
         FiguresAnswer::Absent => DurationAnswer::Absent,
     }
 }
 
-// The minutes of a text that is trimmed.
-fn minutes_in(s: &[u8]) -> DurationAnswer
-    ensures { λ r. ⌜ meaning r ≡ (figuresOf (now (s .entry)) then minutesOf) ⌝ }
+// The duration of a text that is trimmed.
+fn duration_in(s: &[u8]) -> DurationAnswer
+    ensures { λ r. ⌜ meaning r ≡ (figuresOf (now (s .entry)) then durationFrom) ⌝ }
 {
-    minutes_read(figures_of(s))
+    duration_read(figures_of(s))
 }
 
-// The minutes that s is as a duration.
+// The minutes that s is as a duration, and whether the sum was whole.
 pub fn duration_of(s: &[u8]) -> DurationAnswer
     ensures { λ r. ⌜ meaning r ≡ durationOf (now (s .entry)) ⌝ }
 {
-    minutes_in(text::trim(s))
+    duration_in(text::trim(s))
 }

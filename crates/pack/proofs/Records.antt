@@ -9,7 +9,7 @@ use Rattle.bits.specs.declared.Place.{Place}
 use Rattle.pack.specs.Record.{scheduleFields, scheduleOf}
 
 module _ {d : List ℕ} {p : Place} {d' : List ℕ} {q : Place} where
-  pub put-project : (x : Project) → Puts (text ⊗ date ⊗ text ⊗ count ⊗ count ⊗ count ⊗ optional date) (x .name, (x .start, (x .currency, (x .skipped, (x .dangling, (x .across, x .dataDate)))))) d p d' q
+  pub put-project : (x : Project) → Puts (text ⊗ date ⊗ text ⊗ count ⊗ count ⊗ count ⊗ count ⊗ optional date) (x .name, (x .start, (x .currency, (x .skipped, (x .dangling, (x .across, (x .fractional, x .dataDate))))))) d p d' q
       → Puts project x d p d' q
   unfolding project
   put-project x h = put-via _ _ h

@@ -55,6 +55,7 @@ projectBy name start currency skips dataDate = record {
   skipped = skips .skipped;
   dangling = skips .dangling;
   across = skips .across;
+  fractional = skips .fractional;
   dataDate = dateGiven dataDate;
 }
 

@@ -27,11 +27,13 @@ use tasks::Lag;
 use tasks::Parts;
 use text::I64Answer;
 
-// How many exceptions were skipped, and how many links dangle or go across.
+// How many exceptions were skipped, how many links dangle or go across, and how many kept tasks have a duration
+// that was not whole minutes.
 pub struct Skips {
     pub skipped: u32,
     pub dangling: u32,
     pub across: u32,
+    pub fractional: u32,
 }
 
 // What an activity is: its kind, its duration in days, with the minutes where they are not whole days, and its parent's row.
@@ -148,8 +150,9 @@ pub fn put_project(
     let d = put_count(out, c, skips.skipped);
     let e = put_count(out, d, skips.dangling);
     let f = put_count(out, e, skips.across);
-    let g = put_optional_date(out, f, status);
-    bits::pad(out, g)
+    let g = put_count(out, f, skips.fractional);
+    let h = put_optional_date(out, g, status);
+    bits::pad(out, h)
 }
 
 pub fn put_counts(out: &mut [u8], p: Place, n: Counts) -> Place

@@ -10,6 +10,7 @@ use mir.Val.{toZ, ofZ, SFits}
 use mir.ValLaws.{toZ-ofZ}
 use Rattle.definition.specs.Number as number
 use Rattle.definition.specs.Number.{Reading, zeroFloat}
+use Rattle.definition.specs.Duration.{Duration}
 
 -- 0: there is a value
 abbrev pub code : {A : Type 0} → Option A → ℕ
@@ -40,18 +41,23 @@ valueRead d (number.value a) = a
 valueRead d number.absent = d
 valueRead d number.long = d
 
-pub record Minutes (o : Reading ℕ) (r v : ℕ) : Type 0 where
-  pub said : r ≡ codeRead o
-  pub held : v ≡ valueRead 0 o
-
-pub record Number (o : Reading Float) (r : ℕ) (v : Float) : Type 0 where
-  pub said : r ≡ codeRead o
-  pub held : v ≡ valueRead zeroFloat o
-
 -- 1 for true
 abbrev pub one : Bool → ℕ
 one true = 1
 one false = 0
+
+abbrev nothing : Duration
+nothing = record { minutes = 0; whole = false }
+
+-- v: the minutes; w: 1 where the sum was whole
+pub record Minutes (o : Reading Duration) (r v w : ℕ) : Type 0 where
+  pub said : r ≡ codeRead o
+  pub held : v ≡ valueRead nothing o .minutes
+  pub whole : w ≡ one (valueRead nothing o .whole)
+
+pub record Number (o : Reading Float) (r : ℕ) (v : Float) : Type 0 where
+  pub said : r ≡ codeRead o
+  pub held : v ≡ valueRead zeroFloat o
 
 module _ (o : Option ℤ) where
   pub signed-is : (w : Width) {z : ℤ} → o ≡ some z → SFits w z → Signed o 0 (toZ w (ofZ w z))

@@ -1,5 +1,6 @@
 // Leaves that the boundary does not export, exported for compare/ alone: each beside the Rust, on the same texts. The answer of a leaf is 0 where
-// there is a value, which `out` then holds, 1 where there is none and 2 where document 01 refuses a number as too long, with 0 in `out`.
+// there is a value, which `out` then holds, 1 where there is none and 2 where document 01 refuses a number as too long, with 0 in `out`. A duration has two
+// values, its minutes and 1 where the sum was whole.
 mod days; // rules and their days
 
 pub use days::probe_next;
@@ -219,20 +220,23 @@ fn put_time(a: TimeAnswer, out: &mut u16) -> u32
     }
 }
 
-fn put_duration(a: DurationAnswer, out: &mut u32) -> u32
-    ensures { λ r. ⌜ Minutes (durationMeaning a) r (now (out .exit)) ⌝ }
+fn put_duration(a: DurationAnswer, minutes: &mut u32, whole: &mut u32) -> u32
+    ensures { λ r. ⌜ Minutes (durationMeaning a) r (now (minutes .exit)) (now (whole .exit)) ⌝ }
 {
     match a {
-        DurationAnswer::Minutes(n) => {
-            *out = n;
+        DurationAnswer::Minutes(n, w) => {
+            *minutes = n;
+            *whole = as_number(w);
             0
         }
         DurationAnswer::Absent => {
-            *out = 0;
+            *minutes = 0;
+            *whole = 0;
             1
         }
         DurationAnswer::Long => {
-            *out = 0;
+            *minutes = 0;
+            *whole = 0;
             2
         }
     }
@@ -265,10 +269,10 @@ pub extern "C" fn probe_time(s: &[u8], out: &mut u16) -> u32
 }
 
 #[no_mangle]
-pub extern "C" fn probe_duration(s: &[u8], out: &mut u32) -> u32
-    ensures { λ r. ⌜ Minutes (durationOf (now (s .entry))) r (now (out .exit)) ⌝ }
+pub extern "C" fn probe_duration(s: &[u8], minutes: &mut u32, whole: &mut u32) -> u32
+    ensures { λ r. ⌜ Minutes (durationOf (now (s .entry))) r (now (minutes .exit)) (now (whole .exit)) ⌝ }
 {
-    put_duration(number::duration_of(s), out)
+    put_duration(number::duration_of(s), minutes, whole)
 }
 
 #[no_mangle]

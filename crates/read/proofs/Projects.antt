@@ -73,6 +73,7 @@ lowered p = record {
   skipped = p .skipped % 2 ^ 32;
   dangling = p .dangling % 2 ^ 32;
   across = p .across % 2 ^ 32;
+  fractional = p .fractional;
   dataDate = p .dataDate;
 }
 
@@ -101,6 +102,7 @@ project-put e name currency start skips status en es ec k et x =
       skipped = k .exceptions i;
       dangling = k .dangling-is i;
       across = k .across-is i;
+      fractional = k .fractional-is i;
       dataDate = et i;
     } in
     put-bits (lowered p) p (λ n. whole-bits n p) (put-same same x)

@@ -16,7 +16,7 @@ use Rattle.definition.specs.Format.{_⊗_}
 use Rattle.definition.specs.Model.{Model, Assignment, Expense}
 use Rattle.definition.specs.Pack.{counts, countsOf, body, bodyOf}
 use Rattle.definition.specs.Calendar.{calendarElements, builtCalendars, mainCalendar, skipped}
-use Rattle.definition.specs.Task.{mostTasks, isKept, keptTasks, rowOf, Context, perDayFrom, perDayOf, contextOf, activities}
+use Rattle.definition.specs.Task.{mostTasks, isKept, keptTasks, rowOf, Context, perDayFrom, perDayOf, contextOf, activities, isFractional}
 use Rattle.definition.specs.Link.{fates, links, entered, isDangling, isAcross}
 use Rattle.definition.specs.Resource.{isResource, isCost, resourcesAfter, resources, assignmentElements, taskRow, assignmentFrom, assignmentOf, assignments, expenseFrom, expenseOf, firsts, expenses}
 use Rattle.definition.specs.Read.{projectOf, calendarsOf, modelOf}
@@ -91,6 +91,7 @@ module _ {a b : Element} (h : Same a b) where
     skipped = skips i;
     dangling = length (keep isDangling (fates (context i)));
     across = length (keep isAcross (fates (context i)));
+    fractional = length (keep isFractional (context i .tasks));
     dataDate = h .status i >>= dateOf;
   }
 

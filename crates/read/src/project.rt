@@ -1,4 +1,5 @@
-// The project's own record: what its element says, and how many exceptions and links were left out.
+// The project's own record: what its element says, how many exceptions and links were left out, and how many kept tasks have a duration that was
+// not whole minutes.
 ghost use mathlib.Core.Path.{_≡_};
 ghost use mathlib.Core.List.{[]};
 ghost use Rattle.definition.specs.Base.{_or_, _orElse_};
@@ -50,6 +51,7 @@ fn skips_of(s: &[u8], root: Root, words: &[u32], tasks: Made) -> Skips
         skipped: calendar::skipped(s, root),
         dangling: fates.dangling,
         across: fates.across,
+        fractional: rows::count_fractional(s, root),
     }
 }
 

@@ -13,6 +13,7 @@ use Rattle.definition.specs.Tree.{Element, child, allIn, nonEmpty}
 use Rattle.definition.specs.Task.{isKept}
 use Rattle.definition.specs.Calendar.{baseOf}
 use Rattle.definition.specs.Resource.{isResource, isCost, workResources, costResources}
+use Rattle.laws.specs.Keep.{oneIf, keep-more}
 use Rattle.tree.specs.Place.{elementAt, laterAt, listOf, Past, Starts}
 use Rattle.tree.specs.Root.{ownText}
 use Rattle.tree.specs.declared.Found.{Found}
@@ -149,6 +150,29 @@ module _ {A : Type 0} {p : A → Bool} {t : Bool} {l : List A} (h : AnyIn p t l)
     pub any-on : p x ≡ false → {k' : List A} → k ≡ k' → AnyIn p t k'
     unfolding some?
     any-on j z = record { is = h .is ∙ rw (i, j, z) }
+
+-- ---- how many of a list pass: n before those that are left
+
+pub record ManyIn {A : Type 0} (p : A → Bool) (t n : ℕ) (l : List A) : Type 0 where
+  pub is : t ≡ n + length (keep p l)
+
+pub many-begin : {A : Type 0} (p : A → Bool) (l : List A) → ManyIn p (length (keep p l)) 0 l
+many-begin p l = record { is = omega arith }
+
+module _ {A : Type 0} {p : A → Bool} {t n : ℕ} {l : List A} (h : ManyIn p t n l) where
+  pub many-end : l ≡ [] → n ≡ t
+  unfolding keep
+  many-end i = omega (arith, h .is ∙ ap (λ l. n + length (keep p l)) i)
+
+  module _ {x : A} {k : List A} (i : l ≡ x ∷ k) {m : ℕ} (j : m ≡ oneIf (p x)) where
+    many-next : t ≡ n + m + length (keep p k)
+    many-next = omega (arith, h .is ∙ ap (λ l. n + length (keep p l)) i, j, keep-more p x k)
+
+    pub many-room : n + m ≤ t
+    many-room = omega (arith, many-next)
+
+    pub many-on : {k' : List A} → k ≡ k' → ManyIn p t (n + m) k'
+    many-on z = record { is = many-next ∙ ap (λ l. n + m + length (keep p l)) z }
 
 -- ---- a text that may be missing
 

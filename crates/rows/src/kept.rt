@@ -1,11 +1,12 @@
 // The kept tasks: those among the first 100,000 that have a UID other than `0` and a level of at least 1.
 ghost use mathlib.Core.Path.{_≡_};
 ghost use mathlib.Core.List.{map};
-ghost use lib.ListN.{take};
+ghost use lib.ListN.{length, take};
 ghost use Rattle.definition.specs.Base.{_orElse_, when, keep, some?};
 ghost use Rattle.definition.specs.Ascii.{bytes};
 ghost use Rattle.definition.specs.Answer.{rowMeaning};
-ghost use Rattle.definition.specs.Task.{levelOf, mostTasks, isKept, keptTasks, parentOf, isElapsed};
+ghost use Rattle.definition.specs.Task.{levelOf, mostTasks, isKept, keptTasks, parentOf, isElapsed, isFractional};
+ghost use Rattle.laws.specs.Keep.{oneIf};
 ghost use Rattle.tree.specs.Place.{laterAt, listOf};
 ghost use Rattle.tree.specs.Root.{rootAt};
 ghost use Rattle.rows.specs.Walks.{Kept};
@@ -105,6 +106,27 @@ pub fn any_elapsed(s: &[u8], root: Root) -> bool
         if tasks::is_elapsed(s, at) {
             return true;
         }
+        task = next_kept(s, at, left);
+    }
+}
+
+fn one_if(test: bool) -> u32
+    ensures { λ r. ⌜ r ≡ oneIf «test» ⌝ }
+{
+    if test { 1 } else { 0 }
+}
+
+// How many kept tasks have a Duration that gives minutes and was not whole.
+pub fn count_fractional(s: &[u8], root: Root) -> u32
+    ensures { λ r. ⌜ r ≡ length (keep isFractional (keptTasks (rootAt (now (s .entry)) root))) ⌝ }
+{
+    let mut count = 0;
+    let mut task = first_kept(s, root);
+    loop {
+        let KeptAnswer::Is(at, left) = task else {
+            return count;
+        };
+        count += one_if(tasks::is_fractional(s, at));
         task = next_kept(s, at, left);
     }
 }

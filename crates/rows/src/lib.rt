@@ -12,6 +12,7 @@ pub use built::main_calendar;
 pub use built::next_calendar;
 pub use kept::KeptAnswer;
 pub use kept::any_elapsed;
+pub use kept::count_fractional;
 pub use kept::first_kept;
 pub use kept::next_kept;
 pub use kept::parent_row;

@@ -1,5 +1,6 @@
 // A text and what its reading gives: a tag (one byte), a value (eight bytes), the text. Tags: 0 absent, 1 the value, 2 the number -1 - value, 3
-// a number that is too long. A float's value is its bits; a trimmed text begins at value / 65536 and is value % 65536 bytes long.
+// a number that is too long. A duration's value is its minutes, with 2^32 added where the sum was not whole. A float's value is its bits; a trimmed
+// text begins at value / 65536 and is value % 65536 bytes long.
 use crate::floats;
 use crate::parts;
 use definition::DateAnswer;
@@ -91,9 +92,16 @@ fn time_agrees(s: &[u8], tag: u8, value: u64) -> bool {
     }
 }
 
+fn duration_value(minutes: u32, whole: bool) -> u64 {
+    if whole {
+        return minutes as u64;
+    }
+    minutes as u64 + 4294967296
+}
+
 fn duration_agrees(s: &[u8], tag: u8, value: u64) -> bool {
     match number::duration_of(s) {
-        DurationAnswer::Minutes(n) => is_u64(n as u64, tag, value),
+        DurationAnswer::Minutes(n, whole) => is_u64(duration_value(n, whole), tag, value),
         DurationAnswer::Absent => tag == 0,
         DurationAnswer::Long => tag == 3,
     }

@@ -15,6 +15,7 @@ pub use task::constraint_of;
 pub use task::duration_parts;
 pub use task::duration_type;
 pub use task::is_elapsed;
+pub use task::is_fractional;
 pub use task::is_kept;
 pub use task::level_of;
 pub use task::milestone;

@@ -5,7 +5,7 @@ ghost use lib.IntN.{pos};
 ghost use Rattle.definition.specs.Base.{_or_, given};
 ghost use Rattle.definition.specs.Field.{yesIn};
 ghost use Rattle.definition.specs.Answer.{dateMeaning};
-ghost use Rattle.definition.specs.Task.{notBelow0, levelOf, isKept, unmarked, percentFormat, elapsedFormat, isElapsed, perDayFrom, perDayOf};
+ghost use Rattle.definition.specs.Task.{notBelow0, levelOf, isKept, unmarked, percentFormat, elapsedFormat, isElapsed, isFractional, perDayFrom, perDayOf};
 ghost use Rattle.definition.specs.Task.{constraintFrom, constraintOf, durationTypeFrom, durationTypeOf, durationDays, durationMinutes};
 ghost use Rattle.definition.specs.Task.{underWay, remainingOf, percentOf};
 ghost use Rattle.text.specs.Answers.{i64Of};
@@ -96,6 +96,13 @@ pub fn is_elapsed(s: &[u8], at: usize) -> bool
     ensures { λ r. ⌜ r ≡ isElapsed (elementAt (now (s .entry)) at) ⌝ }
 {
     elapsed_format(format_of(s, at, b"DurationFormat"))
+}
+
+// A Duration that gives minutes and was not whole.
+pub fn is_fractional(s: &[u8], at: usize) -> bool
+    ensures { λ r. ⌜ r ≡ isFractional (elementAt (now (s .entry)) at) ⌝ }
+{
+    fields::fraction_in(s, at, b"Duration")
 }
 
 // ---- the day

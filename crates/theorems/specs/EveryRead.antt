@@ -12,6 +12,7 @@ use Rattle.definition.specs.Pack.{decode}
 use Rattle.definition.specs.Outline.{outline}
 use Rattle.definition.specs.Refusal.{gives, readAnswer, rowWords, outlineAnswer}
 use Rattle.laws.specs.Bits.{Bytes}
+use Rattle.theorems.specs.Fractions.{fractional-many}
 use Rattle.theorems.specs.Calendars.{skipped-many, main-first, activity-other, resource-other}
 use Rattle.theorems.specs.KeptTasks.{are-kept}
 use Rattle.theorems.specs.Keeping.{keeps-list, read-passes}
@@ -58,6 +59,7 @@ of-every-read tree room l b h =
       dangling = dangling-many root;
       across = across-many root;
       sum = links-sum root;
+      fractional = fractional-many root;
       skipped = skipped-many root;
       main = main-first root;
       activityOther = activity-other root;

@@ -2,6 +2,7 @@ pub mod Accepted
 pub mod Calendars
 pub mod Counts
 pub mod EveryRead
+pub mod Fractions
 pub mod Keeping
 pub mod KeptTasks
 pub mod LastRow

@@ -14,7 +14,7 @@ use Rattle.definition.specs.Tree.{Rec, records, Element, element, all}
 use Rattle.definition.specs.Field.{textIn, yesIn}
 use Rattle.definition.specs.Model.{Calendar, Activity, Link, Resource, Assignment, Expense}
 use Rattle.definition.specs.Calendar.{Named, calendarElements, elapsedCalendar, skipped}
-use Rattle.definition.specs.Task.{Context, contextOf, levelOf, rowOf, activityOf, activitiesAfter, activities, isElapsed}
+use Rattle.definition.specs.Task.{Context, contextOf, levelOf, rowOf, activityOf, activitiesAfter, activities, isElapsed, isFractional}
 use Rattle.definition.specs.Link.{Fate, across, dangling, kept, linkOf, fateBy, fateOf, fates, keptOf, isDangling, isAcross, links, entered}
 use Rattle.definition.specs.Resource.{workResources, costResources, resourceOf, resourcesAfter, resources, assignmentElements, costOf, assignmentFrom, assignmentOf, assignments, expenseFrom, expenseOf, sameExpense, firsts, expenses}
 use Rattle.definition.specs.Read.{projectOf, calendarsOf, modelOf}
@@ -193,9 +193,9 @@ calendars-length x =
     one true = omega arith
     one false = omega arith
 
-project-fits : (x : Context) {root : Element} → Holds Neat root → skipped root < 2 ^ 32 → length (fates x) < 2 ^ 32 → FitsProject (projectOf x root)
+project-fits : (x : Context) {root : Element} → Holds Neat root → skipped root < 2 ^ 32 → length (fates x) < 2 ^ 32 → length (x .tasks) < 2 ^ 32 → FitsProject (projectOf x root)
 unfolding projectOf
-project-fits x {root} h s f = (
+project-fits x {root} h s f t = (
   text-is neat-texts (perhaps-or {P = Neat} [] (perhaps-else (says neat-texts h "Title") (says neat-texts h "Name")) (text-none neat-texts)),
   (
     perhaps-or {P = InYears} epoch (date-in root "StartDate") (omega arith, omega arith),
@@ -205,7 +205,10 @@ project-fits x {root} h s f = (
         s,
         (
           omega (arith, keep-most isDangling (fates x)),
-          (omega (arith, keep-most isAcross (fates x)), is-given (date-in root "StatusDate")),
+          (
+            omega (arith, keep-most isAcross (fates x)),
+            (omega (arith, keep-most isFractional (x .tasks)), is-given (date-in root "StatusDate")),
+          ),
         ),
       ),
     ),
@@ -286,7 +289,7 @@ module _ (rs : List Rec) (few : length rs ≤ 5000000) (h : Holds Neat (element 
   pub model-fits : FitsModel (modelOf root)
   unfolding modelOf
   model-fits = record {
-    project = project-fits context h (omega (arith, skipped-most root, root-most rs)) (omega (arith, fates-few));
+    project = project-fits context h (omega (arith, skipped-most root, root-most rs)) (omega (arith, fates-few)) (omega (arith, tasks-few));
     calendars = (omega (arith, calendars-length context, built-few), fit-calendars neat-texts h calendars-few);
     activities = activities-rows (entered (links context));
     links = links-rows;

@@ -1,6 +1,6 @@
 -- The texts of minutes and of times are read back. Assumes nothing.
 use mathlib.Core.Path.{_≡_, refl, ap, _∙_, subst}
-use mathlib.Core.Bool.{false}
+use mathlib.Core.Bool.{Bool, true, false}
 use mathlib.Core.List.{[], _∷_, _++_, append-assoc}
 use mathlib.Core.Option.{some}
 use Prim.Native.Nat.{ℕ, _+_, _*_, _/_, _%_, _^_, _≤_, _<_}
@@ -9,11 +9,11 @@ use borrow.Author.Tests.{le-leb, lt-ltb, ne-eqb}
 use lib.Ieee.{Float, binary64, round, mul, div}
 use Rattle.definition.specs.Ascii.{bytes}
 use Rattle.definition.specs.Text.{Text, trim, before, after, digits, digitsAfter}
-use Rattle.definition.specs.Number.{value, zeroFloat, float}
-use Rattle.definition.specs.Duration.{isUnit, setUnit, pieceOf, timeFigures, daysOf, figuresOf, totalOf, mostMinutes, minutesOf, durationOf, decimal, durationText}
+use Rattle.definition.specs.Number.{value, zeroFloat, float, halfAway}
+use Rattle.definition.specs.Duration.{isUnit, setUnit, pieceOf, timeFigures, daysOf, figuresOf, totalOf, mostMinutes, durationFrom, durationOf, decimal, durationText}
 use Rattle.definition.specs.Time.{mostTime, isColon, timeParts, timeOf, twoDigits, timeText}
 use Rattle.definition.specs.declared.Figures.{Figures}
-use Rattle.theorems.specs.Whole.{IsWhole, float-whole, le-whole, mul-whole, add-whole, halfAway-whole}
+use Rattle.theorems.specs.Whole.{IsWhole, float-whole, le-whole, mul-whole, add-whole, halfAway-whole, isWhole-whole}
 use Rattle.theorems.specs.Laws.{before-append, after-append, plain-digit, trim-ends, digits-free, digits-two, float-zero, unsigned-digits, digits-decimal, piece-digits, figures-piece}
 
 -- ---- minutes
@@ -40,13 +40,14 @@ total-whole h m l =
     (add-whole (float (0 + h * 60 + m)) zeroFloat (0 + h * 60 + m) 0 (whole (0 + h * 60 + m) (omega arith)) (refl, refl)
     ∙ ap float (omega arith))))
 
-minutes-whole : (h m : ℕ) → h * 60 + m ≤ mostMinutes → minutesOf (figures (float h) (float m)) ≡ value (h * 60 + m)
-unfolding minutesOf
+minutes-whole : (h m : ℕ) → h * 60 + m ≤ mostMinutes → durationFrom (figures (float h) (float m)) ≡ value (record { minutes = h * 60 + m; whole = true })
+unfolding durationFrom
 minutes-whole h m l =
     let n = h * 60 + m in
     let w : IsWhole (float n) n = float-whole n (omega arith) in
     rw (total-whole h m l, le-whole (float n) (float mostMinutes) n mostMinutes w (float-whole mostMinutes (omega arith)) l)
-    (ap value (halfAway-whole (float n) n w))
+    (ap (λ (b : Bool). value (record { minutes = halfAway (float n); whole = b })) (isWhole-whole (float n) n w)
+    ∙ ap (λ (k : ℕ). value (record { minutes = k; whole = true })) (halfAway-whole (float n) n w))
 
 no-unit : (b : ℕ) → 48 ≤ b → b ≤ 57 → isUnit b ≡ false
 no-unit b l u = rw (ne-eqb 72 b (λ e. omega arith), ne-eqb 77 b (λ e. omega arith), ne-eqb 83 b (λ e. omega arith))
@@ -74,8 +75,8 @@ trim-clock x y =
     let e : 80 ∷ (inner ++ bytes "S") ≡ clock x y = simp append-assoc in
     subst (λ (t : Text). trim t ≡ t) e (trim-ends 80 inner 83 (record { ascii = omega arith; black = refl }) (record { ascii = omega arith; black = refl }))
 
--- the text of minutes is read back
-pub duration-back : (n : ℕ) → n ≤ mostMinutes → durationOf (durationText n) ≡ value n
+-- the text of minutes is read back, as whole minutes
+pub duration-back : (n : ℕ) → n ≤ mostMinutes → durationOf (durationText n) ≡ value (record { minutes = n; whole = true })
 unfolding durationOf durationText
 duration-back n l =
     let h = n / 60 in
@@ -83,7 +84,7 @@ duration-back n l =
     let x = digits-decimal h (omega arith) in
     let y = digits-decimal m (omega arith) in
     rw (trim-clock (decimal h) (decimal m), figures-clock (decimal h) (decimal m) h m x y (omega arith) (omega arith))
-    (minutes-whole h m (omega arith) ∙ ap value (omega arith))
+    (minutes-whole h m (omega arith) ∙ ap (λ (k : ℕ). value (record { minutes = k; whole = true })) (omega arith))
 
 -- ---- times
 

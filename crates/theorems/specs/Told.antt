@@ -7,9 +7,12 @@ use mathlib.Core.List.{List, [], _++_, map, flatMap}
 use mathlib.Core.Option.{Option, some, none}
 use Prim.Native.Nat.{ℕ, zero, suc, _+_, _*_, _≤_, _<_}
 use lib.ListN.{length, take}
-use Rattle.definition.specs.Base.{_or_, given, some?, keep, count, numbered, same}
+use lib.Ieee.{Float, le, eq}
+use Rattle.definition.specs.Base.{_>>=_, _or_, given, when, some?, keep, count, numbered, same}
 use Rattle.definition.specs.Ascii.{bytes}
-use Rattle.definition.specs.Text.{Text}
+use Rattle.definition.specs.Text.{Text, trim}
+use Rattle.definition.specs.Number.{float, halfAway, found}
+use Rattle.definition.specs.Duration.{figuresOf, totalOf}
 use Rattle.definition.specs.Tree.{Element, records, element, all, child, allIn}
 use Rattle.definition.specs.Field.{textIn, yesIn, dateIn}
 use Rattle.definition.specs.Recurrence.{ruleOf}
@@ -131,6 +134,17 @@ pub record Joins (root : Element) (x : ℕ × Element) (l : Link) : Type 0 where
   pub successor : l .successor ≡ x .0
   pub whole : l ≡ linkOf (contextOf root) (l .predecessor) (x .0) (x .1)
 
+-- ---- durations
+
+-- the sum of the figures in a task's Duration, where it gives minutes
+abbrev pub sumIn : Element → Option Float
+sumIn t = textIn t "Duration" >>= λ s. found (figuresOf (trim s)) >>= λ f. when (le (totalOf f) (float 1000000000)) (totalOf f)
+
+-- it is not the whole number that it is rounded to
+abbrev pub inPart : Option Float → Bool
+inPart none = false
+inPart (some x) = not (eq x (float (halfAway x)))
+
 -- ---- calendars
 
 -- all Exception elements in Exceptions of a Calendar in Calendars
@@ -177,6 +191,8 @@ pub record OfEveryRead (tree : Text) (l : List ℕ) : Type 0 where
   pub dangling : model .project .dangling ≡ length (keep (dangles (rootOf tree)) (linkElements (rootOf tree)))
   pub across : model .project .across ≡ length (keep goesAcross (linkElements (rootOf tree)))
   pub sum : length (model .links) + (model .project .dangling + model .project .across) ≡ length (linkElements (rootOf tree))
+  -- fractional is how many kept tasks have a duration whose sum in f64 was not whole minutes
+  pub fractional : model .project .fractional ≡ length (keep (λ t. inPart (sumIn t)) (keptTasks (rootOf tree)))
   -- skipped is how many exceptions give no rule
   pub skipped : model .project .skipped ≡ length (keep givesNoRule (exceptionElements (rootOf tree)))
   -- the calendar of row 0 is the main one; no activity and no resource names it, so that no name means the main one

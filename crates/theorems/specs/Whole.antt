@@ -1,9 +1,11 @@
--- Laws of floats that are whole numbers: sums and products are those of the numbers, rounded once; up to 2 ^ 53 they are exact. Assumes nothing.
-use mathlib.Core.Path.{_≡_, refl, ap}
+-- Laws of floats that are whole numbers: sums and products are those of the numbers, rounded once; up to 2 ^ 53 they are exact, and a float is
+-- whole exactly where it equals the whole number that is nearest (eq-whole). Assumes nothing.
+use mathlib.Core.Path.{_≡_, refl, sym, ap, _∙_}
 use mathlib.Core.Bool.{Bool, true, false, true≢false}
-use Prim.Native.Nat.{ℕ, _+_, _*_, _/_, _^_, _≤_, _<_}
-use native.Mathlib.Nat.{mul-pos, div-eq-of-lt-le, zero-lt-suc}
+use Prim.Native.Nat.{ℕ, _+_, _*_, _/_, _%_, _^_, _≤_, _<_}
+use native.Mathlib.Nat.{mul-pos, mul-one, mul-mod-left, zero-lt-suc}
 use native.Mathlib.Omega.{arith}
+use borrow.Author.Tests.{eq-eqb}
 use lib.Dec.{T}
 use lib.Ieee.{Float, nan, inf, fin, binary64, up, down, add, sum, mul, le}
 use lib.Ieee.Fits.{down-pos}
@@ -11,7 +13,9 @@ use lib.Ieee.Exact.{HasValue}
 use lib.Ieee.Back.{round-whole}
 use lib.Ieee.Scale.{round-same}
 use lib.Ieee.Order.{le-of-values}
-use Rattle.definition.specs.Number.{halfAway, float}
+use Rattle.definition.specs.Number.{halfAway, isWhole, float}
+use Rattle.laws.specs.Wholes.{no-rest}
+pub use Rattle.laws.specs.Wholes.{eq-whole}
 
 -- the float is the whole number
 abbrev pub IsWhole : Float → ℕ → Type 0
@@ -57,12 +61,15 @@ add-whole (fin false m e) (fin false n g) a b h k =
     round-same binary64 false (m * up e * down g + n * up g * down e) (down e * down g) (a + b) 1 (mul-pos (down-pos e) (down-pos g)) (zero-lt-suc 0)
     (sums (m * up e) (n * up g) (down e) (down g) a b (h .1) (k .1))
 
--- (n + 1/2 cut) is n, with everything times d
-rounded : (x n d : ℕ) → 0 < d → x * 1 ≡ n * d → (x * 2 + d) / (d * 2) ≡ n
-rounded x n d h e = div-eq-of-lt-le (d * 2) (omega arith) (omega arith)
-
 pub halfAway-whole : (x : Float) (n : ℕ) → IsWhole x n → halfAway x ≡ n
 unfolding halfAway
 halfAway-whole nan n h = absurd h
 halfAway-whole (inf s) n h = absurd h
-halfAway-whole (fin s m e) n h = rounded (m * up e) n (down e) (down-pos e) (h .1)
+halfAway-whole (fin s m e) n h = no-rest (m * up e) n (down e) (down-pos e) (sym (mul-one (m * up e)) ∙ h .1)
+
+pub isWhole-whole : (x : Float) (n : ℕ) → IsWhole x n → isWhole x ≡ true
+unfolding isWhole
+isWhole-whole nan n h = absurd h
+isWhole-whole (inf s) n h = absurd h
+isWhole-whole (fin s m e) n h =
+    eq-eqb (m * up e % down e) 0 (ap (λ (a : ℕ). a % down e) (sym (mul-one (m * up e)) ∙ h .1) ∙ mul-mod-left n (down e))

@@ -166,7 +166,7 @@ duration-long : (a : DurationAnswer) → eqb (durationRefusal a) 5 ≡ long? (mi
 unfolding long?
 duration-long duration.Absent = refl
 duration-long duration.Long = refl
-duration-long (duration.Minutes n) = refl
+duration-long (duration.Minutes n w) = refl
 
 module _ (name text : Text) where
   pub as-number : (a : NumberAnswer) {u : Text} {r : ℕ} → some? (same name) numberNames ≡ true → u ≡ trim text → meaning a ≡ numberOf u → r ≡ numberRefusal a

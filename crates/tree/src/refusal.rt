@@ -76,7 +76,7 @@ fn duration_refusal(a: DurationAnswer) -> u32
     match a {
         DurationAnswer::Absent => 0,
         DurationAnswer::Long => 5,
-        DurationAnswer::Minutes(_) => 0,
+        DurationAnswer::Minutes(_, _) => 0,
     }
 }
 

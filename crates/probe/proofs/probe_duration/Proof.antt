@@ -9,7 +9,7 @@ put-duration-requires : tie.Need-put-duration-requires
 put-duration-requires c κs = search needs
 
 returns : tie.Need-returns
-returns c = rw (c .before .before .duration-of .ensures) at (c .put-duration .ensures)
+returns c = rw (c .before .before .before .duration-of .ensures) at (c .put-duration .ensures)
 
 pub probe-duration-spec : {M : Type 1} → statement M
 probe-duration-spec = tie.close (tie.spec duration-of-requires put-duration-requires returns)

@@ -24,6 +24,9 @@ skip-requires-2 c κs = search needs
 skip-requires-3 : tie.Need-skip-requires-3
 skip-requires-3 c κs = search needs
 
+skip-requires-4 : tie.Need-skip-requires-4
+skip-requires-4 c κs = search needs
+
 skip-optional-date-requires : tie.Need-skip-optional-date-requires
 skip-optional-date-requires c κs = search needs
 
@@ -33,7 +36,7 @@ take-pad-requires c κs = search needs
 returns : tie.Need-returns
 unfolding project textBy
 returns c =
-    let fields = c .before .before .before .before .before .before .before .skip-text .ensures ⨾ c .before .before .before .before .before .before .skip-date .ensures ⨾ c .before .before .before .before .before .skip-text2 .ensures ⨾ c .before .before .before .before .skip .ensures ⨾ c .before .before .before .skip2 .ensures ⨾ c .before .before .skip3 .ensures ⨾ c .before .skip-optional-date .ensures in
+    let fields = c .before .before .before .before .before .before .before .before .skip-text .ensures ⨾ c .before .before .before .before .before .before .before .skip-date .ensures ⨾ c .before .before .before .before .before .before .skip-text2 .ensures ⨾ c .before .before .before .before .before .skip .ensures ⨾ c .before .before .before .before .skip2 .ensures ⨾ c .before .before .before .skip3 .ensures ⨾ c .before .before .skip4 .ensures ⨾ c .before .skip-optional-date .ensures in
     ended (pass-like (like-named _ _ _) fields) (c .take-pad .ensures) .0
 
 pub skip-project-spec : {M : Type 1} → statement M
@@ -46,6 +49,7 @@ skip-project-spec =
     skip-requires
     skip-requires-2
     skip-requires-3
+    skip-requires-4
     skip-optional-date-requires
     take-pad-requires
     returns)

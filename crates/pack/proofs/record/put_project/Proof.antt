@@ -22,6 +22,9 @@ put-count-requires-2 c κs = search needs
 put-count-requires-3 : tie.Need-put-count-requires-3
 put-count-requires-3 c κs = search needs
 
+put-count-requires-4 : tie.Need-put-count-requires-4
+put-count-requires-4 c κs = search needs
+
 put-optional-date-requires : tie.Need-put-optional-date-requires
 put-optional-date-requires c κs = search needs
 
@@ -38,7 +41,8 @@ returns c =
     let p = o .before .before .before .before in
     let q = p .before .before .before .before in
     let r = q .before .before .before .before in
-    put-whole (put-project _ (put-⊗ (r .put-text .ensures) (put-⊗ (q .put-date .ensures) (put-⊗ (p .put-text2 .ensures) (put-⊗ (o .put-count .ensures) (put-⊗ (n .put-count2 .ensures) (put-⊗ (m .put-count3 .ensures) (l .put-optional-date .ensures)))))))) (k .pad .ensures)
+    let s = r .before .before .before .before in
+    put-whole (put-project _ (put-⊗ (s .put-text .ensures) (put-⊗ (r .put-date .ensures) (put-⊗ (q .put-text2 .ensures) (put-⊗ (p .put-count .ensures) (put-⊗ (o .put-count2 .ensures) (put-⊗ (n .put-count3 .ensures) (put-⊗ (m .put-count4 .ensures) (l .put-optional-date .ensures))))))))) (k .pad .ensures)
 
 same-length : tie.Need-same-length
 same-length c = returns c .step .same
@@ -53,6 +57,7 @@ put-project-spec =
     put-count-requires
     put-count-requires-2
     put-count-requires-3
+    put-count-requires-4
     put-optional-date-requires
     pad-requires
     same-length
