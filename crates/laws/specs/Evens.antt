@@ -51,7 +51,7 @@ unfolding put_all
 even_all x n m [] h = refl
 even_all {f = f} x n m (a ∷ l) h =
     let e = x.even n m a h in
-    join (f.put n a) (f.put m a) _ _ e (even_all x _ _ l (along n m e h))
+    join (f.put n a) (f.put m a) _ _ e (even_all x (n + length (f.put n a)) (m + length (f.put m a)) l (along n m e h))
 
 even_times : {A : Type 0} (k : ℕ) {f : Format A} → Even f → Even (times k f)
 unfolding times

@@ -1,5 +1,5 @@
 -- The calendars that the definition makes of a tree fit, by what a text is. Assumes nothing.
-use Rattle.std.specs.Prelude.{◌≡◌, Bool, true, false, ◌&&◌, ℕ, ◌+◌, ◌≤◌, ◌<◌, length, set}
+use Rattle.std.specs.Prelude.{◌++◌, ◌≡◌, Bool, true, false, ◌&&◌, ℕ, ◌+◌, ◌≤◌, ◌<◌, length, set}
 use Rattle.std.proofs.Math.Path.{refl}
 use Rattle.std.proofs.Common.{sym, ◌∙◌, subst, arith, ltb-true, length-set}
 use Rattle.std.proofs.Math.Bool.{not}
@@ -175,9 +175,9 @@ module _ {S T : Text → Type 0} (texts : Texts S T) where
   pub fit_build : {built : List Named} {es : List Element} → Each (FitsNamedBy T) built → Each (Holds S) es → length built + length es ≤ 5000000
       → Each (FitsNamedBy T) (build built es)
   unfolding build
-  fit_build h empty m = h
+  fit_build {built} h empty m = h
   fit_build {built} h (next {x = e} {l = es} k ks) m =
-      fit_build (each_append h (next (fit_added h k (omega arith)) empty)) ks (omega (arith, length-append built (added_to built e ∷ [])))
+      fit_build {built = built ++ (added_to built e ∷ [])} (each_append h (next (fit_added h k (omega arith)) empty)) ks (omega (arith, length-append built (added_to built e ∷ [])))
 
   pub fit_built : {root : Element} → Holds S root → length (calendar_elements root) ≤ 5000000 → Each (FitsNamedBy T) (built_calendars root)
   unfolding built_calendars

@@ -1,5 +1,5 @@
 -- The main calendar stands first, and what has no calendar of its own has that one; how many exceptions give no rule. Assumes nothing.
-use Rattle.std.specs.Prelude.{◌≡◌, Bool, not, List, [], ◌∷◌, map, ℕ, zero, suc}
+use Rattle.std.specs.Prelude.{◌++◌, ◌≡◌, Bool, not, List, [], ◌∷◌, map, ℕ, zero, suc}
 use Rattle.std.proofs.Math.Path.{refl, ap}
 use Rattle.std.proofs.Common.{sym, ◌∙◌, true≢false, arith}
 use Rattle.std.proofs.Math.Option.{Option, some, none}
@@ -37,8 +37,8 @@ each_at (next h hs) (suc i) x e = each_at hs i x e
 resources_each : (x : Context) (P : Resource → Type 0) → ((ids : List Text) (r : Element) → P (resource_of x ids r)) → {done : List Resource} → Each P done → (rs : List Element)
     → Each P (resources_after x done rs)
 unfolding resources_after
-resources_each x P f d [] = d
-resources_each x P f {done} d (r ∷ rs) = resources_each x P f (each_append d (next (f (map (λ (d : Resource). d.id) done) r) empty)) rs
+resources_each x P f {done} d [] = d
+resources_each x P f {done} d (r ∷ rs) = resources_each x P f {done = done ++ (resource_of x (map (λ (d : Resource). d.id) done) r ∷ [])} (each_append d (next (f (map (λ (d : Resource). d.id) done) r) empty)) rs
 
 no_rule : (x : Element) → not (given (recurrence_days x)) ≡ gives_no_rule x
 unfolding recurrence_days

@@ -110,7 +110,7 @@ expense_back e f h =
 firsts_distinct : (done es : List Expense) → distinct same_expense done ≡ true → distinct same_expense (firsts done es) ≡ true
 unfolding firsts
 firsts_distinct done [] d = d
-firsts_distinct done (e ∷ es) d = firsts_distinct _ es (by (some? (same_expense e) done) refl)
+firsts_distinct done (e ∷ es) d = firsts_distinct (if some? (same_expense e) done then done else done ++ (e ∷ [])) es (by (some? (same_expense e) done) refl)
   where
     by : (t : Bool) → some? (same_expense e) done ≡ t → distinct same_expense (if t then done else done ++ (e ∷ [])) ≡ true
     by true k = d
@@ -141,11 +141,11 @@ module _ (root : Element) where
   activities_keep : (enters : ℕ → Bool) {done : List Activity} (levels : List ℕ) {ts : List Element} → length levels ≡ length done → Activities done → Each (OneOf x.tasks) ts
       → Activities (activities_after x enters done levels ts)
   unfolding activities_after activity_of
-  activities_keep enters levels e d empty = d
+  activities_keep enters {done} levels e d empty = d
   activities_keep enters {done} levels e d (next {x = t} s ss) =
       let ids = map (λ (a : Activity). a.id) done in
       let a = activity_of x ids levels (enters (length done)) t in
-      activities_keep enters (levels ++ (level_of t ∷ [])) (omega (arith, length-append levels (level_of t ∷ []), length-append done (a ∷ [])))
+      activities_keep enters {done = done ++ (a ∷ [])} (levels ++ (level_of t ∷ [])) (omega (arith, length-append levels (level_of t ∷ []), length-append done (a ∷ [])))
       (record {
         ids = ids_add (λ (a : Activity). a.id) done a d.ids (free_new ids (wanted_id t));
         right =
@@ -159,11 +159,11 @@ module _ (root : Element) where
 
   resources_keep : {done : List Resource} (rs : List Element) → Resources done → Resources (resources_after x done rs)
   unfolding resources_after resource_of
-  resources_keep [] d = d
+  resources_keep {done} [] d = d
   resources_keep {done} (r ∷ rs) d =
       let ids = map (λ (r : Resource). r.id) done in
       let a = resource_of x ids r in
-      resources_keep rs
+      resources_keep {done = done ++ (a ∷ [])} rs
       (record {
         ids = ids_add (λ (r : Resource). r.id) done a d.ids (free_new ids ((text_in r "ID" or_else text_in r "UID") or []));
         right = each_append d.right (next {x = a} (used_known x (perhaps_any (text_in r "CalendarUID") (λ u. name_of_lem {T = Known x} u (built_known x)))) empty);

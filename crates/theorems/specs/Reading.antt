@@ -55,12 +55,12 @@ module _ (x : Context) (entered : ℕ → Bool) (names : Each (λ (n : Named). I
   activities_fit : {done : List Activity} (levels : List ℕ) {ts : List Element} → Each FitsActivity done → Each (Holds Neat) ts
       → length done + length ts ≤ 5000000 → length levels + length ts ≤ 2 ^ 32 → Each FitsActivity (activities_after x entered done levels ts)
   unfolding activities_after
-  activities_fit levels d empty m n = d
+  activities_fit {done} levels d empty m n = d
   activities_fit {done} levels d (next {x = t} {l = ts} h hs) m n =
       let ids = map (λ (a : Activity). a.id) done in
       let i : length ids ≤ 5000000 = omega (arith, length-map done (λ (a : Activity). a.id)) in
       let a = fit_activity neat_texts x ids levels (entered (length done)) h names i (omega arith) in
-      activities_fit (levels ++ (level_of t ∷ [])) (each_append d (next a empty)) hs
+      activities_fit {done = done ++ (activity_of x ids levels (entered (length done)) t ∷ [])} (levels ++ (level_of t ∷ [])) (each_append d (next a empty)) hs
       (omega (arith, length-append done (activity_of x ids levels (entered (length done)) t ∷ [])))
       (omega (arith, length-append levels (level_of t ∷ [])))
 
@@ -121,11 +121,11 @@ module _ (x : Context) (names : Each (λ (n : Named). IsText n.1.name) x.built) 
   resources_fit : {done : List Resource} {rs : List Element} → Each FitsResource done → Each (Holds Neat) rs → length done + length rs ≤ 5000000
       → Each FitsResource (resources_after x done rs)
   unfolding resources_after
-  resources_fit d empty m = d
+  resources_fit {done} d empty m = d
   resources_fit {done} d (next {x = r} {l = rs} h hs) m =
       let ids = map (λ (d : Resource). d.id) done in
       let i : length ids ≤ 5000000 = omega (arith, length-map done (λ (d : Resource). d.id)) in
-      resources_fit (each_append d (next (fit_resource neat_texts x ids h names i) empty)) hs (omega (arith, length-append done (resource_of x ids r ∷ [])))
+      resources_fit {done = done ++ (resource_of x ids r ∷ [])} (each_append d (next (fit_resource neat_texts x ids h names i) empty)) hs (omega (arith, length-append done (resource_of x ids r ∷ [])))
 
 pub resources_length : (x : Context) (done : List Resource) (rs : List Element) → length (resources_after x done rs) ≡ length done + length rs
 unfolding resources_after
@@ -136,8 +136,8 @@ resources_length x done (r ∷ rs) =
 
 firsts_fit : {P : Expense → Type 0} {done es : List Expense} → Each P done → Each P es → Each P (firsts done es)
 unfolding firsts
-firsts_fit d empty = d
-firsts_fit {P} {done} d (next {x = e} h hs) = firsts_fit (by (some? (same_expense e) done)) hs
+firsts_fit {P} {done} d empty = d
+firsts_fit {P} {done} d (next {x = e} h hs) = firsts_fit {P = P} {done = if some? (same_expense e) done then done else done ++ (e ∷ [])} (by (some? (same_expense e) done)) hs
   where
     by : (t : Bool) → Each P (if t then done else done ++ (e ∷ []))
     by true = d
