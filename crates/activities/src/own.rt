@@ -13,7 +13,7 @@ use index::Made;
 use names::IdsMade;
 use tree::Root;
 
-#[derive(Drop)]
+#[derive(Clone, Copy)]
 pub(crate) struct Own {
     pub calendars: Made,
     pub columns: Columns,

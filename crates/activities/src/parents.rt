@@ -13,7 +13,7 @@ use index::Made;
 use tree::Root;
 
 // Where the words begin, and for how many rows there are some.
-#[derive(Drop)]
+#[derive(Clone, Copy)]
 pub(crate) struct Columns {
     pub at: usize,
     pub rows: u32,

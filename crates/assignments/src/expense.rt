@@ -24,7 +24,7 @@ use pack::Records;
 use tree::{Found, Root};
 
 // What is written, and a table of it by activity and name, with the byte of each record; none once one does not fit there.
-#[derive(Drop)]
+#[derive(Clone, Copy)]
 struct Used {
     done: Done,
     made: Made,

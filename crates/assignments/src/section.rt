@@ -6,14 +6,14 @@ use index::Made;
 use pack::Records;
 
 // The tables of tasks, of work resources and of cost resources, in lent words.
-#[derive(Drop)]
+#[derive(Clone, Copy)]
 pub(crate) struct Tables {
     pub tasks: Made,
     pub work: Made,
     pub cost: Made,
 }
 
-#[derive(Drop)]
+#[derive(Clone, Copy)]
 pub(crate) struct Done {
     pub count: usize,
     pub next: Place,

@@ -20,7 +20,7 @@ pub use writing::{overwrite, pad, put, put_flag};
 pub use zeros::{clear, clear_from, clear_words_from};
 
 // A place in a buffer: so many whole bytes and so many bits stand before it. A bit of 8 or more is past every end.
-#[derive(Drop)]
+#[derive(Clone, Copy)]
 pub struct Place {
     pub byte: usize,
     pub bit: usize,
@@ -30,28 +30,28 @@ pub struct Place {
 pub const PAST: Place = Place { byte: 0, bit: 8 };
 
 // A field that was read, and where the next one stands.
-#[derive(Drop)]
+#[derive(Clone, Copy)]
 pub struct Field {
     pub value: u64,
     pub next: Place,
 }
 
 // A flag that was read, and where the next field stands.
-#[derive(Drop)]
+#[derive(Clone, Copy)]
 pub struct Flag {
     pub value: bool,
     pub next: Place,
 }
 
 // A signed field that was read, and where the next one stands.
-#[derive(Drop)]
+#[derive(Clone, Copy)]
 pub struct Int32 {
     pub value: i32,
     pub next: Place,
 }
 
 // Where the bytes of a text stand, and the place behind them.
-#[derive(Drop)]
+#[derive(Clone, Copy)]
 pub struct Span {
     pub start: usize,
     pub len: usize,

@@ -10,13 +10,13 @@ ghost use Rattle.calendar.specs.Hours.{working_meaning, time_said, time_by};
 use number::TimeAnswer;
 
 // Minutes of a day, from below to.
-#[derive(Drop)]
+#[derive(Clone, Copy)]
 pub struct WorkingTime {
     pub from: u16,
     pub to: u16,
 }
 
-#[derive(Drop)]
+#[derive(Clone, Copy)]
 pub enum WorkingTimeAnswer {
     Is(WorkingTime),
     Absent,

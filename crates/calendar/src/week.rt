@@ -18,7 +18,7 @@ use text::U64Answer;
 use tree::Found;
 
 // A place in the week, Monday 0, or none.
-#[derive(Drop)]
+#[derive(Clone, Copy)]
 pub enum PlaceAnswer {
     Is(u32),
     Absent,

@@ -5,7 +5,7 @@ ghost use Rattle.calendar_days.specs.Lists.{not_behind, lists_at, BaseLists};
 use bits::Place;
 
 // Where its holidays, its extra days and its days with hours stand.
-#[derive(Drop)]
+#[derive(Clone, Copy)]
 pub(crate) struct Lists {
     pub(crate) holidays: Place,
     pub(crate) extra: Place,
@@ -13,7 +13,7 @@ pub(crate) struct Lists {
 }
 
 // They stand in the buffer, or there are none, as of the default calendar.
-#[derive(Drop)]
+#[derive(Clone, Copy)]
 pub(crate) enum Base {
     At(Lists),
     Default,

@@ -114,7 +114,7 @@ pub(crate) fn rule_at(s: &[u8], at: usize, old: bool) -> RuleAnswer
 }
 
 // The next day of a rule, with the cursor behind it.
-#[derive(Drop)]
+#[derive(Clone, Copy)]
 pub(crate) enum DayAnswer {
     Is(Date, Cursor),
     Absent,

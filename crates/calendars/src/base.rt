@@ -2,7 +2,7 @@
 use model::parts::CalendarPlaces;
 
 // Where the parts of its record stand, or the default calendar.
-#[derive(Drop)]
+#[derive(Clone, Copy)]
 pub(crate) enum Base {
     At(CalendarPlaces),
     Default,

@@ -26,7 +26,7 @@ use tree::{Found, Root};
 // ---- the section's words
 
 // The calendars by their UIDs, the names that are taken, and where the words behind them begin.
-#[derive(Drop)]
+#[derive(Clone, Copy)]
 pub(crate) struct Tables {
     pub uids: Made,
     pub names: IdsMade,

@@ -12,28 +12,28 @@ use definition::{Date, DateAnswer, Ymd};
 use text::{I32Answer, U32Answer};
 
 // The day of the calendar of a date.
-#[derive(Drop)]
+#[derive(Clone, Copy)]
 pub enum YmdAnswer {
     Is(Ymd),
     Absent,
 }
 
 // A day of the week, Monday 0.
-#[derive(Drop)]
+#[derive(Clone, Copy)]
 pub enum WeekdayAnswer {
     Is(u32),
     Absent,
 }
 
 // How many days a month has.
-#[derive(Drop)]
+#[derive(Clone, Copy)]
 pub enum LengthAnswer {
     Is(u32),
     Absent,
 }
 
 // A day of the calendar, its year counted from the year -10000.
-#[derive(Drop)]
+#[derive(Clone, Copy)]
 struct Civil {
     year: u32,
     month: u32,
@@ -94,7 +94,7 @@ fn day_at(y: u32, m: u32, d: u32) -> u32
 }
 
 // A year that begins in March, by the January in it, and the day of it, counted from 0.
-#[derive(Drop)]
+#[derive(Clone, Copy)]
 struct March {
     year: u32,
     day: u32,

@@ -27,7 +27,7 @@ use model::parts::{
 use model::records::{Kind, skip_records};
 
 // The bytes of the sheet, or why there is none.
-#[derive(Drop)]
+#[derive(Clone, Copy)]
 pub enum SheetAnswer {
     Written(usize),
     NoModel,
@@ -110,7 +110,7 @@ fn first_given(s: &[u8], p: Place, q: Place) -> Place
 }
 
 // A day in a calendar: where the periods stand that it or its weekday has.
-#[derive(Drop)]
+#[derive(Clone, Copy)]
 struct Day {
     weekday: u32,
     holiday: bool,

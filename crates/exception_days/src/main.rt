@@ -5,8 +5,12 @@ ghost use Rattle.exception_days.specs.Line.{digit_of, iso_of};
 
 use date::{WeekdayAnswer, YmdAnswer};
 use definition::{Date, Ymd};
-use libc::{STDIN_FILENO, STDOUT_FILENO};
 use recurrence::{Cursor, Rule, RuleAnswer, Step};
+
+// The streams' numbers.
+const STDIN_FILENO: i32 = 0;
+
+const STDOUT_FILENO: i32 = 1;
 
 fn digit(n: u32) -> u8
     ensures { result ≡ digit_of n }

@@ -15,14 +15,14 @@ use number::{DurationAnswer, NumberAnswer};
 use text::{I64Answer, Signed};
 
 // A number that may be missing.
-#[derive(Drop)]
+#[derive(Clone, Copy)]
 pub enum FloatAnswer {
     Is(f64),
     Absent,
 }
 
 // Minutes that may be missing.
-#[derive(Drop)]
+#[derive(Clone, Copy)]
 pub enum MinutesAnswer {
     Is(u32),
     Absent,

@@ -8,19 +8,19 @@ ghost use Rattle.laws.specs.Stars.{starred_by};
 ghost use Rattle.index.specs.Chains.{zeros, added, first_of, next_of, place_of, table_of, row_below, end_in};
 
 // Where its words begin, and how many rows there may be.
-#[derive(Drop)]
+#[derive(Clone, Copy)]
 pub struct Table {
     pub at: usize,
     pub rows: u32,
 }
 
-#[derive(Drop)]
+#[derive(Clone, Copy)]
 pub enum Row {
     At(u32),
     None,
 }
 
-#[derive(Drop)]
+#[derive(Clone, Copy)]
 pub enum Made {
     Ready(Table),
     NoRoom,

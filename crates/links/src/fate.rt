@@ -10,7 +10,7 @@ use rows::Listed;
 use tree::{Found, Root};
 
 // A kept one has the row of its predecessor.
-#[derive(Drop)]
+#[derive(Clone, Copy)]
 pub(crate) enum LinkFate {
     Across,
     Dangling,

@@ -9,7 +9,7 @@ pub use fate::is_entered;
 pub use writing::put_links;
 
 // How many link elements dangle, and how many go across.
-#[derive(Drop)]
+#[derive(Clone, Copy)]
 pub struct Fates {
     pub dangling: u32,
     pub across: u32,

@@ -14,14 +14,14 @@ use bits::{PAST, Place};
 use reader::{Reader, reader_of, take};
 
 // A section: how many records it has, and the byte at which the first stands.
-#[derive(Drop)]
+#[derive(Clone, Copy)]
 pub struct Section {
     pub count: u32,
     pub at: usize,
 }
 
 // A model's sections.
-#[derive(Drop)]
+#[derive(Clone, Copy)]
 pub struct Sections {
     pub calendars: Section,
     pub activities: Section,
@@ -32,14 +32,14 @@ pub struct Sections {
 }
 
 // What the decoding of some bytes comes to.
-#[derive(Drop)]
+#[derive(Clone, Copy)]
 pub enum Opened {
     Model(Sections),
     NoModel,
 }
 
 // The six counts, and the place behind them; where they cannot be read, zeros and a place past every end.
-#[derive(Drop)]
+#[derive(Clone, Copy)]
 pub struct Counts {
     pub calendars: u32,
     pub activities: u32,
@@ -109,7 +109,7 @@ pub fn take_counts(s: &[u8]) -> Counts
 }
 
 // Where each section begins, and where the last one ends.
-#[derive(Drop)]
+#[derive(Clone, Copy)]
 pub struct Places {
     pub calendars: Place,
     pub activities: Place,
@@ -121,7 +121,7 @@ pub struct Places {
 }
 
 // Where the first two sections begin.
-#[derive(Drop)]
+#[derive(Clone, Copy)]
 pub struct Head {
     pub calendars: Place,
     pub activities: Place,

@@ -18,7 +18,7 @@ use definition::{Date, DateAnswer, RowAnswer};
 // ---- what stands at a place. Where nothing can be read, a value is missing or 0, and the next place is past every end
 
 // An optional row, and the place behind it.
-#[derive(Drop)]
+#[derive(Clone, Copy)]
 pub struct RowField {
     pub row: RowAnswer,
     pub next: Place,
@@ -50,14 +50,14 @@ pub fn take_row(s: &[u8], p: Place) -> RowField
 }
 
 // Where the bytes of a text stand: the first of them, and how many there are.
-#[derive(Drop)]
+#[derive(Clone, Copy)]
 pub enum NameAnswer {
     At(usize, usize),
     Absent,
 }
 
 // An optional text, and the place behind it. It is not tested for UTF-8.
-#[derive(Drop)]
+#[derive(Clone, Copy)]
 pub struct NameField {
     pub name: NameAnswer,
     pub next: Place,
@@ -89,7 +89,7 @@ pub fn take_name(s: &[u8], p: Place) -> NameField
 }
 
 // The two rows at the start of a link and of an assignment.
-#[derive(Drop)]
+#[derive(Clone, Copy)]
 pub struct Rows {
     pub first: u32,
     pub second: u32,
@@ -124,7 +124,7 @@ fn is_date(n: i32) -> bool
 }
 
 // A date, and the place behind it.
-#[derive(Drop)]
+#[derive(Clone, Copy)]
 pub struct DateField {
     pub date: DateAnswer,
     pub next: Place,
@@ -155,20 +155,20 @@ pub fn take_date(s: &[u8], p: Place) -> DateField
 }
 
 // From a minute of the day to another.
-#[derive(Drop)]
+#[derive(Clone, Copy)]
 pub struct Period {
     pub from: u16,
     pub to: u16,
 }
 
-#[derive(Drop)]
+#[derive(Clone, Copy)]
 pub enum PeriodAnswer {
     Is(Period),
     Absent,
 }
 
 // A period, and the place behind it.
-#[derive(Drop)]
+#[derive(Clone, Copy)]
 pub struct PeriodField {
     pub period: PeriodAnswer,
     pub next: Place,
@@ -239,7 +239,7 @@ pub fn resource_calendar_place(s: &[u8], p: Place) -> Place
 }
 
 // A calendar's parts.
-#[derive(Drop)]
+#[derive(Clone, Copy)]
 pub struct CalendarPlaces {
     pub week: Place,
     pub hours: Place,

@@ -110,7 +110,7 @@ fn skip_expense(s: &[u8], p: Place, check: bool) -> Place
 }
 
 // The six sections of records.
-#[derive(Drop)]
+#[derive(Clone, Copy)]
 pub enum Kind {
     Calendars,
     Activities,

@@ -62,7 +62,7 @@ fn is_below(row: RowAnswer, own: u32) -> bool
 }
 
 // Whether an activity is right, or all of several are, and the place behind.
-#[derive(Drop)]
+#[derive(Clone, Copy)]
 pub(crate) struct Judged {
     pub(crate) right: bool,
     pub(crate) next: Place,

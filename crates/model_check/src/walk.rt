@@ -50,7 +50,7 @@ fn judge_activities(
 }
 
 // The places between the sections, as model::open finds them; the tables of names and of ids; whether all activities are right.
-#[derive(Drop)]
+#[derive(Clone, Copy)]
 pub(crate) struct Walked {
     pub(crate) places: Places,
     pub(crate) names: Made,

@@ -11,13 +11,13 @@ use bits::Place;
 use index::{Made, Row, Table};
 use model::records::Kind;
 
-#[derive(Drop)]
+#[derive(Clone, Copy)]
 pub struct Ids {
     pub ids: Table,
     pub wanted: Table,
 }
 
-#[derive(Drop)]
+#[derive(Clone, Copy)]
 pub enum IdsMade {
     Ready(Ids),
     NoRoom,

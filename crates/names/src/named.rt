@@ -26,7 +26,7 @@ use tree::Root;
 // ---- the words of the names
 
 // The main calendar: its row in the order in which they are built, where it stands, and how many `*` its name has.
-#[derive(Drop)]
+#[derive(Clone, Copy)]
 pub(crate) struct Main {
     pub row: usize,
     pub at: usize,
@@ -137,7 +137,7 @@ fn by_word(word: u32) -> NameAnswer
 }
 
 // Where a calendar stands, and its name beside its wanted name.
-#[derive(Drop)]
+#[derive(Clone, Copy)]
 pub struct CalendarName {
     pub at: usize,
     pub name: NameAnswer,

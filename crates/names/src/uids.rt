@@ -79,7 +79,7 @@ fn chain_rows(s: &[u8], words: &mut [u32], t: Table, count: u32)
 }
 
 // A table, and where the words behind it begin.
-#[derive(Drop)]
+#[derive(Clone, Copy)]
 pub struct CalendarTable {
     pub table: Made,
     pub end: usize,

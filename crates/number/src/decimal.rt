@@ -7,7 +7,7 @@ ghost use Rattle.std.specs.Float.Ieee.Exact.{HasValue};
 ghost use Rattle.definition.specs.Number.{decimal_of, magnitude, negated, number_of};
 ghost use Rattle.number.specs.Number.{meaning, limit, Ran, up_by, down_by, is_wrong, power_of, power_at, decimal, scaled_by, Begins};
 
-#[derive(Drop)]
+#[derive(Clone, Copy)]
 pub enum NumberAnswer {
     Absent,
     Long,
@@ -15,7 +15,7 @@ pub enum NumberAnswer {
 }
 
 // A power of ten.
-#[derive(Drop)]
+#[derive(Clone, Copy)]
 enum Power {
     Up(usize),
     Down(usize),
@@ -23,11 +23,11 @@ enum Power {
 }
 
 // Digits that were passed over: their number, held to a limit, and the place behind them.
-#[derive(Drop)]
+#[derive(Clone, Copy)]
 struct Passed(usize, usize);
 
 // What a number begins with: its digits, how many, how many of them after the dot, and the place behind them.
-#[derive(Drop)]
+#[derive(Clone, Copy)]
 struct Mantissa {
     value: usize,
     count: usize,

@@ -8,14 +8,14 @@ use crate::decimal::NumberAnswer;
 use definition::Figures;
 
 // Minutes, and whether the sum was whole before it was rounded.
-#[derive(Drop)]
+#[derive(Clone, Copy)]
 pub enum DurationAnswer {
     Absent,
     Long,
     Minutes(u32, bool),
 }
 
-#[derive(Drop)]
+#[derive(Clone, Copy)]
 enum FiguresAnswer {
     Absent,
     Long,

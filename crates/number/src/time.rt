@@ -8,7 +8,7 @@ ghost use Rattle.number.specs.Time.{meaning, time_at, joined, minutes_text};
 
 use text::U16Answer;
 
-#[derive(Drop)]
+#[derive(Clone, Copy)]
 pub enum TimeAnswer {
     Absent,
     Time(u16),

@@ -5,7 +5,7 @@ ghost use Rattle.definition.specs.Time.{two_digits, time_text};
 ghost use Rattle.number.specs.Written.{Put, Gives, view, answer_of, minutes_answer};
 ghost use Rattle.definition.specs.Refusal.{time_answer};
 
-#[derive(Drop)]
+#[derive(Clone, Copy)]
 pub enum TextAnswer {
     Written(usize),
     Outside,

@@ -23,7 +23,7 @@ const NEXT: usize = 2;
 const TOP: usize = 3;
 
 // A row that is visited, and how many rows it is below.
-#[derive(Drop)]
+#[derive(Clone, Copy)]
 struct Visit {
     row: u32,
     depth: u32,
@@ -202,7 +202,7 @@ fn outline_rows(n: u32, rows: &mut [u32], work: &mut [u32]) -> u32
 
 // How many rows the outline of a model has; NoModel where the bytes do not decode, and Short where rows has less than 2 words an activity or
 // work less than 4.
-#[derive(Drop)]
+#[derive(Clone, Copy)]
 pub enum OutlineAnswer {
     Rows(u32),
     NoModel,

@@ -22,7 +22,7 @@ fn word_of(parent: RowAnswer) -> u32
 }
 
 // The word for the parent of the activity at a place, and the place of the next activity.
-#[derive(Drop)]
+#[derive(Clone, Copy)]
 struct Parent {
     word: u32,
     next: Place,

@@ -19,7 +19,7 @@ use text::I64Answer;
 
 // How many exceptions were skipped, how many links dangle or go across, and how many kept tasks have a duration
 // that was not whole minutes.
-#[derive(Drop)]
+#[derive(Clone, Copy)]
 pub struct Skips {
     pub skipped: u32,
     pub dangling: u32,
@@ -28,14 +28,14 @@ pub struct Skips {
 }
 
 // What an activity is: its kind, its duration in days, with the minutes where they are not whole days, and its parent's row.
-#[derive(Drop)]
+#[derive(Clone, Copy)]
 pub struct Plan {
     pub kind: u32,
     pub duration: Parts,
     pub parent: RowAnswer,
 }
 
-#[derive(Drop)]
+#[derive(Clone, Copy)]
 pub struct Dates {
     pub constraint: ConstraintAnswer,
     pub deadline: DateAnswer,
@@ -43,7 +43,7 @@ pub struct Dates {
     pub finish: DateAnswer,
 }
 
-#[derive(Drop)]
+#[derive(Clone, Copy)]
 pub struct Progress {
     pub percent: I64Answer,
     pub duration_type: u32,
@@ -51,7 +51,7 @@ pub struct Progress {
 }
 
 // How many records of each kind there are.
-#[derive(Drop)]
+#[derive(Clone, Copy)]
 pub struct Counts {
     pub calendars: u32,
     pub activities: u32,
@@ -62,7 +62,7 @@ pub struct Counts {
 }
 
 // The records of a section: how many there are, and the place behind them.
-#[derive(Drop)]
+#[derive(Clone, Copy)]
 pub struct Records {
     pub count: u32,
     pub next: Place,

@@ -9,7 +9,7 @@ ghost use Rattle.pack.specs.Value.{starred_by, name_meaning};
 use bits::Place;
 
 // The text beside it with so many `*` behind it, or no name.
-#[derive(Drop)]
+#[derive(Clone, Copy)]
 pub enum NameAnswer {
     Starred(u32),
     Absent,

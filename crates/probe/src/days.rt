@@ -64,7 +64,7 @@ fn month_at(n: u32) -> MonthAnswer
 
 // ---- a rule
 
-#[derive(Drop)]
+#[derive(Clone, Copy)]
 struct Fields {
     kind: u32,
     from: u32,
@@ -234,7 +234,7 @@ pub extern "C" fn probe_next(
 
 // ---- days in a row
 
-#[derive(Drop)]
+#[derive(Clone, Copy)]
 struct Run {
     first: u32,
     count: u32,

@@ -12,14 +12,14 @@ use rows::Listed;
 use tree::Root;
 
 // Those of work and of cost resources.
-#[derive(Drop)]
+#[derive(Clone, Copy)]
 pub(crate) struct ResourceTables {
     pub work: Made,
     pub cost: Made,
 }
 
 // The places behind the three sections, and how many records each has.
-#[derive(Drop)]
+#[derive(Clone, Copy)]
 pub(crate) struct Assigned {
     pub resources: Records,
     pub assignments: Records,

@@ -12,7 +12,7 @@ ghost use Rattle.read.specs.Answers.{Leaves, Gives, Fills};
 use crate::sections::{close_counts, put_all};
 
 // How many bytes the model has, or document 01's number.
-#[derive(Drop)]
+#[derive(Clone, Copy)]
 pub enum ReadAnswer {
     Written(usize),
     Refused(u32),

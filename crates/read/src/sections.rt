@@ -12,7 +12,7 @@ use rows::Listed;
 use tree::Root;
 
 // How many records of each kind were put, and the place behind the last.
-#[derive(Drop)]
+#[derive(Clone, Copy)]
 pub(crate) struct Sections {
     pub counts: Counts,
     pub next: Place,

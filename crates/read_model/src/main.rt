@@ -4,8 +4,12 @@ ghost use Rattle.io.specs.Counts.{IsPrefixLen};
 ghost use Rattle.read.specs.Answers.{length_of};
 ghost use Rattle.read_model.specs.Writes.{Writes};
 
-use libc::{STDIN_FILENO, STDOUT_FILENO};
 use read::ReadAnswer;
+
+// The streams' numbers.
+const STDIN_FILENO: i32 = 0;
+
+const STDOUT_FILENO: i32 = 1;
 
 const MOST: usize = 65536;
 

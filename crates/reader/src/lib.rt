@@ -6,14 +6,14 @@ ghost use Rattle.reader.specs.Read.{first, took};
 use bits::Place;
 
 // A lent model, and the place of the next field.
-#[derive(Drop)]
+#[derive(Clone, Copy)]
 pub struct Reader<'a> {
     pub model: &'a [u8],
     pub place: Place,
 }
 
 // A field that was read, and the reader behind it.
-#[derive(Drop)]
+#[derive(Clone, Copy)]
 pub struct Taken<'a> {
     pub value: u64,
     pub rest: Reader<'a>,

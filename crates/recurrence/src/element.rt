@@ -126,7 +126,7 @@ fn rule_in(s: &[u8], at: usize, from: u32, to: u32) -> RuleAnswer
 }
 
 // FromDate and ToDate of a TimePeriod, each 0 where it is missing.
-#[derive(Drop)]
+#[derive(Clone, Copy)]
 struct Period {
     from: u32,
     to: u32,

@@ -111,7 +111,7 @@ fn weekly(r: Scaled, at: u32) -> u32
 }
 
 // The six rules.
-#[derive(Drop)]
+#[derive(Clone, Copy)]
 pub(crate) enum Kind {
     Daily,
     YearlyByDay,
@@ -121,7 +121,7 @@ pub(crate) enum Kind {
     Weekly,
 }
 
-#[derive(Drop)]
+#[derive(Clone, Copy)]
 pub(crate) enum KindAnswer {
     Is(Kind),
     NoRule,

@@ -10,7 +10,7 @@ pub use element::{days_of, rule_of};
 pub use sequence::{next, start};
 
 // A month from 1 to 12; any other number is none.
-#[derive(Drop)]
+#[derive(Clone, Copy)]
 pub enum MonthAnswer {
     Is(u32),
     Absent,
@@ -18,7 +18,7 @@ pub enum MonthAnswer {
 
 // A rule, as definition's Recurrence.antt has it, in whole numbers. The day is held to 32, the item to 10 and the position to 5, at which
 // and past which nothing fits; of the weekdays the seven low bits are held.
-#[derive(Drop)]
+#[derive(Clone, Copy)]
 pub struct Rule {
     pub kind: u32,
     pub from: Date,
@@ -32,21 +32,21 @@ pub struct Rule {
     pub weekdays: u32,
 }
 
-#[derive(Drop)]
+#[derive(Clone, Copy)]
 pub enum RuleAnswer {
     Is(Rule),
     Absent,
 }
 
 // From which day on the days of a rule are still to come, and how many at most.
-#[derive(Drop)]
+#[derive(Clone, Copy)]
 pub struct Cursor {
     pub at: Date,
     pub left: u32,
 }
 
 // The next day, with the cursor behind it; no day; no rule.
-#[derive(Drop)]
+#[derive(Clone, Copy)]
 pub enum Step {
     Day(Date, Cursor),
     Done,
@@ -54,13 +54,13 @@ pub enum Step {
 }
 
 // Days in a row.
-#[derive(Drop)]
+#[derive(Clone, Copy)]
 pub struct Range {
     pub first: Date,
     pub count: u32,
 }
 
-#[derive(Drop)]
+#[derive(Clone, Copy)]
 pub enum RangeAnswer {
     Is(Range),
     Absent,

@@ -13,7 +13,7 @@ use definition::{Date, DateAnswer};
 pub(crate) const LAST: u32 = 7304849;
 
 // A rule whose days are counted so; month 13 is none.
-#[derive(Drop)]
+#[derive(Clone, Copy)]
 pub(crate) struct Scaled {
     pub kind: u32,
     pub from: u32,
@@ -28,7 +28,7 @@ pub(crate) struct Scaled {
 }
 
 // A month of a year.
-#[derive(Drop)]
+#[derive(Clone, Copy)]
 pub(crate) struct Month {
     pub year: u32,
     pub month: u32,

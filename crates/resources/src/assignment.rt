@@ -12,7 +12,7 @@ use fields::{FloatAnswer, MinutesAnswer};
 use text::I64Answer;
 
 // Hundredths: of an hour for an assignment, of the currency for an expense.
-#[derive(Drop)]
+#[derive(Clone, Copy)]
 pub struct Amounts {
     pub planned: i64,
     pub actual: i64,

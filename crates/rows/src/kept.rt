@@ -13,7 +13,7 @@ use definition::RowAnswer;
 use tree::{Found, Root};
 
 // Where a kept task stands, and how many tasks after it may be kept.
-#[derive(Drop)]
+#[derive(Clone, Copy)]
 pub enum KeptAnswer {
     Is(usize, u32),
     Absent,

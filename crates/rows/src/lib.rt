@@ -12,7 +12,7 @@ pub use section::first_in;
 pub use table::{Listed, cost_with, index_rows, row_with, seek};
 
 // A calendar's row in the order in which calendars are built, and where it stands in the tree.
-#[derive(Drop)]
+#[derive(Clone, Copy)]
 pub enum CalendarAnswer {
     Is(usize, usize),
     Absent,

@@ -7,7 +7,7 @@ ghost use Rattle.rows.specs.Walks.{passes as passes_by, Picks, PicksFrom};
 use tree::Found;
 
 // Work and cost resources; calendars without a base and over one.
-#[derive(Drop)]
+#[derive(Clone, Copy)]
 pub(crate) enum Which {
     Work,
     Cost,

@@ -14,7 +14,7 @@ use index::{Made, Row, Table};
 use tree::{Found, Root};
 
 // The kept tasks, the work resources, the cost resources.
-#[derive(Drop)]
+#[derive(Clone, Copy)]
 pub enum Listed {
     Tasks,
     Work,

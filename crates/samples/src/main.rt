@@ -9,7 +9,10 @@ mod rules;
 mod texts;
 mod trees;
 
-use libc::{STDIN_FILENO, STDOUT_FILENO};
+// The streams' numbers.
+const STDIN_FILENO: i32 = 0;
+
+const STDOUT_FILENO: i32 = 1;
 
 // No list has more cases.
 const CASES: u64 = 100000;
@@ -19,7 +22,7 @@ const KINDS: usize = 256;
 // ---- taking a case
 
 // What stands next on standard input: a case with a body of so many bytes, one that is cut or too long, nothing.
-#[derive(Drop)]
+#[derive(Clone, Copy)]
 enum Next {
     Case(u8, usize),
     Cut,

@@ -5,7 +5,7 @@ use definition::Date;
 use recurrence::{Cursor, Rule, RuleAnswer, Step};
 
 // The days so far.
-#[derive(Drop)]
+#[derive(Clone, Copy)]
 struct Sum {
     cursor: Cursor,
     days: u64,

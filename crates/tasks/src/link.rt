@@ -14,7 +14,7 @@ use crate::value::{least, quotient, remainder, signed};
 use text::{I64Answer, Signed};
 
 // Working time, elapsed time, or a share of the predecessor's duration in hundredths of a percent.
-#[derive(Drop)]
+#[derive(Clone, Copy)]
 pub enum LagKind {
     Working,
     Elapsed,
@@ -22,7 +22,7 @@ pub enum LagKind {
 }
 
 // A working lag in days, or in minutes where they are not whole days; an elapsed one in minutes; neither for a share.
-#[derive(Drop)]
+#[derive(Clone, Copy)]
 pub struct Lag {
     pub days: i64,
     pub minutes: I64Answer,
@@ -30,7 +30,7 @@ pub struct Lag {
 }
 
 // A sign and a size.
-#[derive(Drop)]
+#[derive(Clone, Copy)]
 struct Tenths {
     negative: bool,
     size: u64,

@@ -20,7 +20,7 @@ use text::I64Answer;
 use tree::Root;
 
 // MSPDI's codes 1 to 7.
-#[derive(Drop)]
+#[derive(Clone, Copy)]
 pub enum Constraint {
     AsLateAsPossible,
     StartOn(Date),
@@ -32,14 +32,14 @@ pub enum Constraint {
 }
 
 // A constraint that may be missing.
-#[derive(Drop)]
+#[derive(Clone, Copy)]
 pub enum ConstraintAnswer {
     Is(Constraint),
     Absent,
 }
 
 // Minutes as days, rounded up, and the minutes themselves where they are not whole days.
-#[derive(Drop)]
+#[derive(Clone, Copy)]
 pub struct Parts {
     pub days: i64,
     pub minutes: I64Answer,

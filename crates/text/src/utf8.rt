@@ -6,7 +6,7 @@ ghost use Rattle.text.specs.Utf8.{Begun, fits_by, Character, Skips};
 use crate::parts::byte_at;
 
 // What follows a first byte: after a byte in a range so many tail bytes more, 3 where the byte begins nothing; the range's ends.
-#[derive(Drop)]
+#[derive(Clone, Copy)]
 struct First(usize, u8, u8);
 
 // Table 3-7 of the Unicode Standard, for the first bytes from 128 on.

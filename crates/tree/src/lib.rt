@@ -15,7 +15,7 @@ pub use root::{Root, root_of};
 const HEAD: usize = 4;
 
 // Where the parts of a record begin.
-#[derive(Drop)]
+#[derive(Clone, Copy)]
 enum Head {
     Whole {
         depth: usize,
@@ -27,14 +27,14 @@ enum Head {
 }
 
 // Whether the layout is right, and how many records there are.
-#[derive(Drop)]
+#[derive(Clone, Copy)]
 enum Verdict {
     Fine(usize),
     Broken,
 }
 
 // Where an element stands.
-#[derive(Drop)]
+#[derive(Clone, Copy)]
 pub enum Found {
     At(usize),
     Nothing,

@@ -8,7 +8,7 @@ ghost use Rattle.tree.specs.Root.{note_at, Notes, Parts, Stands};
 use crate::Head;
 
 // The children of a project that are read; a position past the end stands for one that is missing.
-#[derive(Drop)]
+#[derive(Clone, Copy)]
 pub struct Root {
     pub calendars: usize,
     pub tasks: usize,
