@@ -1,4 +1,4 @@
-//! Finds the archive `libmspdi.a`: the one that MSPDI_ARCHIVE names, or the one that `rt staticlib mspdi` makes in the repository.
+//! Finds the archive `libmspdi.a`: the one that MSPDI_ARCHIVE names, or the one that `rt lib` makes of crates/mspdi_c.
 
 use std::env;
 use std::path::{Path, PathBuf};
@@ -23,17 +23,16 @@ fn main() {
     println!("cargo:rustc-link-lib=static=mspdi");
 }
 
-/// Runs `rt staticlib mspdi` in the repository above this crate.
+/// Runs `rt lib` in crates/mspdi_c of the repository above this crate.
 fn made_here() -> PathBuf {
     let root = Path::new(env!("CARGO_MANIFEST_DIR")).join("..");
     for source in ["crates", "crates.txt"] {
         println!("cargo:rerun-if-changed={}", root.join(source).display());
     }
-    match Command::new("rt").args(["staticlib", "mspdi"]).current_dir(&root).output() {
-        Ok(run) if run.status.success() => root.join("target/staticlib/libmspdi.a"),
-        Ok(run) => {
-            stop(&format!("`rt staticlib mspdi` failed ({}); run it in the repository, or set MSPDI_ARCHIVE to libmspdi.a", last_line(&run.stdout)))
-        }
+    let exports = root.join("crates/mspdi_c");
+    match Command::new("rt").arg("lib").current_dir(&exports).output() {
+        Ok(run) if run.status.success() => exports.join("out/libmspdi_c.a"),
+        Ok(run) => stop(&format!("`rt lib` failed in crates/mspdi_c ({}); run it there, or set MSPDI_ARCHIVE to libmspdi.a", last_line(&run.stdout))),
         Err(_) => stop("`rt` is not in PATH: install the Rattle kit, or set MSPDI_ARCHIVE to the path of libmspdi.a"),
     }
 }

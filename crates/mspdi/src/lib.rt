@@ -1,4 +1,4 @@
-// The entries that a host calls. Each returns 0, or the number of document 01's refusal; on a refusal all that is lent is zeros.
+// The entries that a host calls; mspdi_c exports them to C. Each returns 0, or the number of the refusal; on a refusal all that is lent is zeros.
 ghost use Rattle.std.specs.Prelude.{◌≡◌, List, ℕ, length, replicate};
 ghost use Rattle.number.specs.Written.{refusal_of, written_of};
 ghost use Rattle.definition.specs.Refusal.{read_answer, check_answer, duration_answer, time_answer, outline_answer, day_sheet_answer};
@@ -46,8 +46,7 @@ fn told(a: TextAnswer, written: &mut u64) -> u32
 }
 
 // The text of minutes from 0 to 1,000,000,000, as `PT8H30M0S`.
-#[unsafe(no_mangle)]
-pub extern "C" fn mspdi_duration(minutes: i64, text: &mut [u8], written: &mut u64) -> u32
+pub fn mspdi_duration(minutes: i64, text: &mut [u8], written: &mut u64) -> u32
     ensures { (result, text.new, written.new) ≡ leaves (length text.old) (duration_answer minutes (length text.old)) }
 {
     let a = number::duration_text(from_zero(minutes), text);
@@ -55,8 +54,7 @@ pub extern "C" fn mspdi_duration(minutes: i64, text: &mut [u8], written: &mut u6
 }
 
 // The text of a time of day from 0 to 1440 minutes, as `08:30:00`.
-#[unsafe(no_mangle)]
-pub extern "C" fn mspdi_time(minutes: u32, text: &mut [u8], written: &mut u64) -> u32
+pub fn mspdi_time(minutes: u32, text: &mut [u8], written: &mut u64) -> u32
     ensures { (result, text.new, written.new) ≡ leaves (length text.old) (time_answer minutes (length text.old)) }
 {
     let a = number::time_text(minutes as u64, text);
@@ -64,8 +62,7 @@ pub extern "C" fn mspdi_time(minutes: u32, text: &mut [u8], written: &mut u64) -
 }
 
 // The check of a model: 0, or 6 or 7. The work slice may have any length; it is zeros at exit.
-#[unsafe(no_mangle)]
-pub extern "C" fn mspdi_check(model: &[u8], work: &mut [u32]) -> u32
+pub fn mspdi_check(model: &[u8], work: &mut [u32]) -> u32
     ensures { ◌≡◌ {A = ℕ × List ℕ} (result, work.new) (check_answer model.now, replicate (length work.old) 0) }
 {
     model_check::check(model, work)
@@ -115,13 +112,7 @@ fn sheet_length(a: SheetAnswer) -> u64
 }
 
 // The outline of a model: rows of (activity, level from 1), two words each, and how many there are. rows needs 2 words an activity, work 4.
-#[unsafe(no_mangle)]
-pub extern "C" fn mspdi_outline(
-    model: &[u8],
-    rows: &mut [u32],
-    work: &mut [u32],
-    count: &mut u64,
-) -> u32
+pub fn mspdi_outline(model: &[u8], rows: &mut [u32], work: &mut [u32], count: &mut u64) -> u32
     ensures { (result, rows.new, work.new, count.new) ≡ outline_leaves (length rows.old) (length work.old) (outline_answer model.now (length rows.old) (length work.old)) }
 {
     let a = outline::outline(model, rows, work);
@@ -129,8 +120,7 @@ pub extern "C" fn mspdi_outline(
 }
 
 // The day sheet of a date, by its day number, in the calendar of a row.
-#[unsafe(no_mangle)]
-pub extern "C" fn mspdi_day_sheet(
+pub fn mspdi_day_sheet(
     model: &[u8],
     calendar: u32,
     date: i32,
@@ -161,13 +151,7 @@ fn read_told(a: ReadAnswer, written: &mut u64) -> u32
 }
 
 // The model of a tree: 0, or 1 to 5 or 9. The work slice may have any length; it is zeros at exit.
-#[unsafe(no_mangle)]
-pub extern "C" fn mspdi_read(
-    tree: &[u8],
-    model: &mut [u8],
-    work: &mut [u32],
-    written: &mut u64,
-) -> u32
+pub fn mspdi_read(tree: &[u8], model: &mut [u8], work: &mut [u32], written: &mut u64) -> u32
     ensures { (result, model.new, work.new, written.new) ≡ read_leaves (length model.old) (length work.old) (read_answer tree.now (length model.old)) }
 {
     let a = read::read(tree, model, work);
