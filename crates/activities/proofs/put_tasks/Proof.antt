@@ -19,45 +19,45 @@ use borrow.Author.Rules.{rules}
 use Rattle.activities.proofs.put_tasks.Statement.{statement}
 use Rattle.activities.proofs.put_tasks.Tie as tie
 
-abbrev invariant_loop : tie.invariant_loop
-invariant_loop out₀ p s root c words₀ tasks own per_day_lem q₀ row₀ task₀ out words q row task =
+abbrev invariant-loop : tie.invariant-loop
+invariant-loop out₀ p s root c words₀ tasks own per_day_lem q₀ row₀ task₀ out words q row task =
     (length out ≡ length out₀) × (row + room task ≤ most_tasks) × Goes (task_in s root words₀ tasks) out₀ c (root_at s root) p out q row (kept_by s task)
     × Stays s (root_at s root) tasks own p words₀ words out q row task
 
-abbrev decreases_loop : tie.decreases_loop
-decreases_loop out₀ p s root c words₀ tasks own per_day_lem q₀ row₀ task₀ out words q row task = room task
+abbrev decreases-loop : tie.decreases-loop
+decreases-loop out₀ p s root c words₀ tasks own per_day_lem q₀ row₀ task₀ out words q row task = room task
 
-per_day_requires : tie.Need-per-day-requires invariant_loop decreases_loop
+per_day_requires : tie.Need-per-day-requires invariant-loop decreases-loop
 per_day_requires c κs = search rules
 
-first_kept_requires : tie.Need-first-kept-requires invariant_loop decreases_loop
+first_kept_requires : tie.Need-first-kept-requires invariant-loop decreases-loop
 first_kept_requires c κs = search rules
 
-loop_holds : tie.Need-loop-init invariant_loop decreases_loop
+loop_holds : tie.Need-loop-init invariant-loop decreases-loop
 unfolding context_at
 loop_holds c =
     let s = c.before.before.before.before.before in
     let a = s.args in
     (refl, omega (arith, c.first-kept.ensures.on), written_none c.first-kept.ensures.is, stays_begin s.requires.1 (first_tasks a.s.now (root_at a.s.now a.root) c.first-kept.ensures).there)
 
-enum_known_task : tie.Need-enum-known-task invariant_loop decreases_loop
+enum_known_task : tie.Need-enum-known-task invariant-loop decreases-loop
 enum_known_task c = search rules
 
-enum_told : tie.Need-enum-told invariant_loop decreases_loop
+enum_told : tie.Need-enum-told invariant-loop decreases-loop
 enum_told c = search rules
 
-same_length : tie.Need-same-length invariant_loop decreases_loop
+same_length : tie.Need-same-length invariant-loop decreases-loop
 same_length c = c.before.before.loop.invariant.0
 
-same_length_2 : tie.Need-same-length-2 invariant_loop decreases_loop
+same_length_2 : tie.Need-same-length-2 invariant-loop decreases-loop
 same_length_2 c = c.before.before.loop.invariant.3.same.long
 
-returns : tie.Need-returns invariant_loop decreases_loop
+returns : tie.Need-returns invariant-loop decreases-loop
 returns c =
     let l = c.before.before in
     (written_all refl refl (omega (arith, l.loop.invariant.1)) (kept_end _ c.enum_told.given.1) l.loop.invariant.2, l.loop.invariant.3.same)
 
-put_row_requires : tie.Need-put-row-requires invariant_loop decreases_loop
+put_row_requires : tie.Need-put-row-requires invariant-loop decreases-loop
 put_row_requires c κs =
     let t = c.before.before.before in
     let l = t.before.before in
@@ -72,22 +72,22 @@ put_row_requires c κs =
     let g = goes_task _ a.c root s.requires.0 small w in
     (stays_ready l.loop.invariant.3 s.requires.1 t.task.given.1 g.1, d.per_day.ensures, goes_finds _ a.c root s.requires.0 small w l.loop.invariant.3.names s.requires.2, rw l.loop.invariant.0 s.requires.1.opened, l.loop.invariant.3.ids)
 
-add_row : tie.Need-overflow-add-row invariant_loop decreases_loop
+add_row : tie.Need-overflow-add-row invariant-loop decreases-loop
 add_row c =
     let t = c.before.before.before.before.before.before.before.before in
     let k = room_at t.task.given.1 in
     record { fits = omega (arith, k, t.before.before.loop.invariant.1) }
 
-next_kept_requires : tie.Need-next-kept-requires invariant_loop decreases_loop
+next_kept_requires : tie.Need-next-kept-requires invariant-loop decreases-loop
 next_kept_requires c κs = search rules
 
-loop_less : tie.Need-loop-smaller invariant_loop decreases_loop
+loop_less : tie.Need-loop-smaller invariant-loop decreases-loop
 loop_less c =
     let t = c.before.before.before.before.before.before.before.before.before in
     let k = room_at t.task.given.1 in
     omega (arith, k, c.next-kept.ensures.on)
 
-loop_again : tie.Need-loop-preserved invariant_loop decreases_loop
+loop_again : tie.Need-loop-preserved invariant-loop decreases-loop
 loop_again c =
     let u = c.before.before.before.before.before in
     let t = u.before.before.before.before in
@@ -124,8 +124,8 @@ pub put_tasks_spec : {M : Type 1} → statement M
 put_tasks_spec =
     tie.close
     (tie.spec
-    invariant_loop
-    decreases_loop
+    invariant-loop
+    decreases-loop
     per_day_requires
     first_kept_requires
     loop_holds

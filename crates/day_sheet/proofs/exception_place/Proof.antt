@@ -7,48 +7,48 @@ use borrow.Author.Rules.{rules}
 use Rattle.day_sheet.proofs.exception_place.Statement.{statement}
 use Rattle.day_sheet.proofs.exception_place.Tie as tie
 
-abbrev invariant_loop : tie.invariant_loop
-invariant_loop s day count q₀ i₀ q i = (i ≤ count) × Unmet (date ⊗ periods) (λ x. x.0) s day.0 q₀ count q i
+abbrev invariant-loop : tie.invariant-loop
+invariant-loop s day count q₀ i₀ q i = (i ≤ count) × Unmet (date ⊗ periods) (λ x. x.0) s day.0 q₀ count q i
 
-abbrev decreases_loop : tie.decreases_loop
-decreases_loop s day count q₀ i₀ q i = count - i
+abbrev decreases-loop : tie.decreases-loop
+decreases-loop s day count q₀ i₀ q i = count - i
 
-take_requires : tie.Need-take-requires invariant_loop decreases_loop
+take_requires : tie.Need-take-requires invariant-loop decreases-loop
 take_requires c κs = search rules
 
-loop_holds : tie.Need-loop-init invariant_loop decreases_loop
+loop_holds : tie.Need-loop-init invariant-loop decreases-loop
 loop_holds c = let a = c.before.before.before.args in (omega arith, unmet (date ⊗ periods) (λ x. x.0) a.s.now a.day.0 c.before.take.result.next c.before.take.result.value)
 
-take_date_requires : tie.Need-take-date-requires invariant_loop decreases_loop
+take_date_requires : tie.Need-take-date-requires invariant-loop decreases-loop
 take_date_requires c κs = search rules
 
-is_on_requires : tie.Need-is-on-requires invariant_loop decreases_loop
+is_on_requires : tie.Need-is-on-requires invariant-loop decreases-loop
 is_on_requires c κs = search rules
 
-returns : tie.Need-returns invariant_loop decreases_loop
+returns : tie.Need-returns invariant-loop decreases-loop
 returns c = let a = c.before.before.before.before.before.before.before.before.before.args in λ d k l h. hours_found (met days_dated c.before.before.before.before.before.loop.invariant.1 c.before.before.before.before.loop-test.true c.before.before.before.take-date.ensures c.before.is-on.ensures c.if1.true d k l (exceptions_ahead a.s.now a.p c.before.before.before.before.before.before.before.take.ensures h)) (date_passed a.s.now _ c.before.before.before.take-date.ensures)
 
-skip_periods_requires : tie.Need-skip-periods-requires invariant_loop decreases_loop
+skip_periods_requires : tie.Need-skip-periods-requires invariant-loop decreases-loop
 skip_periods_requires c κs = search rules
 
-add_i : tie.Need-overflow-add-i invariant_loop decreases_loop
+add_i : tie.Need-overflow-add-i invariant-loop decreases-loop
 add_i c = search rules
 
-loop_less : tie.Need-loop-smaller invariant_loop decreases_loop
+loop_less : tie.Need-loop-smaller invariant-loop decreases-loop
 loop_less c = search rules
 
-loop_again : tie.Need-loop-preserved invariant_loop decreases_loop
+loop_again : tie.Need-loop-preserved invariant-loop decreases-loop
 loop_again c = let a = c.before.before.before.before.before.before.before.before.before.before.args in (omega arith, unmet_more days_dated c.before.before.before.before.before.before.loop.invariant.1 c.before.before.before.before.before.loop-test.true c.before.before.before.before.take-date.ensures c.before.before.is-on.ensures c.before.if1.false (date_passed a.s.now _ c.before.before.before.before.take-date.ensures ⨾ c.skip-periods.ensures))
 
-returns_2 : tie.Need-returns-2 invariant_loop decreases_loop
+returns_2 : tie.Need-returns-2 invariant-loop decreases-loop
 returns_2 c = let a = c.before.before.before.before.before.args in λ d k l h. hours_missing a.s.now d l (unmet_all days_dated c.before.loop.invariant.1 (omega arith) d k l (exceptions_ahead a.s.now a.p c.before.before.before.take.ensures h))
 
 pub exception_place_spec : {M : Type 1} → statement M
 exception_place_spec =
     tie.close
     (tie.spec
-    invariant_loop
-    decreases_loop
+    invariant-loop
+    decreases-loop
     take_requires
     loop_holds
     take_date_requires

@@ -9,45 +9,45 @@ use borrow.Author.Rules.{rules}
 use Rattle.index.proofs.mix_all.Statement.{statement}
 use Rattle.index.proofs.mix_all.Tie as tie
 
-abbrev invariant_loop : tie.invariant_loop
-invariant_loop s stars rounds h₀ k₀ h k = (k ≤ rounds) × (h ≡ hash_after (starred_by s stars) k)
+abbrev invariant-loop : tie.invariant-loop
+invariant-loop s stars rounds h₀ k₀ h k = (k ≤ rounds) × (h ≡ hash_after (starred_by s stars) k)
 
-abbrev decreases_loop : tie.decreases_loop
-decreases_loop s stars rounds h₀ k₀ h k = rounds - k
+abbrev decreases-loop : tie.decreases-loop
+decreases-loop s stars rounds h₀ k₀ h k = rounds - k
 
-add_h : tie.Need-overflow-add-h invariant_loop decreases_loop
+add_h : tie.Need-overflow-add-h invariant-loop decreases-loop
 add_h c = search rules
 
-loop_holds : tie.Need-loop-init invariant_loop decreases_loop
+loop_holds : tie.Need-loop-init invariant-loop decreases-loop
 loop_holds c =
     let a = c.before.args in
     (omega arith, sym (star_length a.s.now a.stars) ∙ hash_none (starred_by a.s.now a.stars))
 
-mul_starred_quad : tie.Need-overflow-mul-starred-quad invariant_loop decreases_loop
+mul_starred_quad : tie.Need-overflow-mul-starred-quad invariant-loop decreases-loop
 mul_starred_quad c = search rules
 
-starred_quad_requires : tie.Need-starred-quad-requires invariant_loop decreases_loop
+starred_quad_requires : tie.Need-starred-quad-requires invariant-loop decreases-loop
 starred_quad_requires c κs = search rules
 
-mul_starred_quad_2 : tie.Need-overflow-mul-starred-quad-2 invariant_loop decreases_loop
+mul_starred_quad_2 : tie.Need-overflow-mul-starred-quad-2 invariant-loop decreases-loop
 mul_starred_quad_2 c = search rules
 
-add_starred_quad : tie.Need-overflow-add-starred-quad invariant_loop decreases_loop
+add_starred_quad : tie.Need-overflow-add-starred-quad invariant-loop decreases-loop
 add_starred_quad c = search rules
 
-starred_quad_requires_2 : tie.Need-starred-quad-requires-2 invariant_loop decreases_loop
+starred_quad_requires_2 : tie.Need-starred-quad-requires-2 invariant-loop decreases-loop
 starred_quad_requires_2 c κs = search rules
 
-mix_requires : tie.Need-mix-requires invariant_loop decreases_loop
+mix_requires : tie.Need-mix-requires invariant-loop decreases-loop
 mix_requires c κs = search rules
 
-add_k : tie.Need-overflow-add-k invariant_loop decreases_loop
+add_k : tie.Need-overflow-add-k invariant-loop decreases-loop
 add_k c = search rules
 
-loop_less : tie.Need-loop-smaller invariant_loop decreases_loop
+loop_less : tie.Need-loop-smaller invariant-loop decreases-loop
 loop_less c = search rules
 
-loop_again : tie.Need-loop-preserved invariant_loop decreases_loop
+loop_again : tie.Need-loop-preserved invariant-loop decreases-loop
 loop_again c =
     let q2 = c.before in
     let q1 = q2.before in
@@ -55,7 +55,7 @@ loop_again c =
     let a = l.before.before.args in
     (omega arith, hash_more (starred_by a.s.now a.stars) l.loop.k l.loop.invariant.1 q1.starred-quad.ensures q2.starred-quad2.ensures c.mix.ensures)
 
-returns : tie.Need-returns invariant_loop decreases_loop
+returns : tie.Need-returns invariant-loop decreases-loop
 returns c =
     let l = c.before in
     let a = l.before.before.args in
@@ -66,8 +66,8 @@ pub mix_all_spec : {M : Type 1} → statement M
 mix_all_spec =
     tie.close
     (tie.spec
-    invariant_loop
-    decreases_loop
+    invariant-loop
+    decreases-loop
     add_h
     loop_holds
     mul_starred_quad

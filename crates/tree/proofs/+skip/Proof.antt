@@ -24,10 +24,10 @@ skip_at t = and 1 skip-kinds.ps (is 1 skip-kinds.ps μ-skip t) skip.Pre
 abbrev skip_below : ℕ → In 1 skip-kinds.ps
 skip_below t = and 1 skip-kinds.ps (falls 1 skip-kinds.ps ◌<◌ μ-skip t) skip.Pre
 
-abbrev skip-Inv-loop : skip-lts.invariant_loop
+abbrev skip-Inv-loop : skip-lts.invariant-loop
 skip-Inv-loop s from d p₀ p = Passed s from d p
 
-abbrev skip-μ-loop : skip-lts.decreases_loop
+abbrev skip-μ-loop : skip-lts.decreases-loop
 skip-μ-loop s from d p₀ p = length (records_at s p)
 
 pub +skip-spec : {M : Type 1} → statement M

@@ -12,36 +12,36 @@ use native.Mathlib.Omega.{arith}
 use Rattle.bits.proofs.copying.copy_all.Statement.{statement}
 use Rattle.bits.proofs.copying.copy_all.Tie as tie
 
-abbrev invariant_loop : tie.invariant_loop
-invariant_loop out₀ to q₀ r₀ n₀ out q r n = (q.bit < 8) × (at q₀ ≤ at q) × (at q + n ≤ at to) × (n ≤ 64) × (n ≡ 0 → at to ≡ at q) × (to.bit < 8) × (at to ≤ at r₀) × (at r₀ ≤ 8 * length out₀) × (r₀.bit < 8) × (length out ≡ length out₀) × Step out₀ r₀ (λ b. b ▷ bits_from (at q₀) (at q) out₀) out r
+abbrev invariant-loop : tie.invariant-loop
+invariant-loop out₀ to q₀ r₀ n₀ out q r n = (q.bit < 8) × (at q₀ ≤ at q) × (at q + n ≤ at to) × (n ≤ 64) × (n ≡ 0 → at to ≡ at q) × (to.bit < 8) × (at to ≤ at r₀) × (at r₀ ≤ 8 * length out₀) × (r₀.bit < 8) × (length out ≡ length out₀) × Step out₀ r₀ (λ b. b ▷ bits_from (at q₀) (at q) out₀) out r
 
-abbrev decreases_loop : tie.decreases_loop
-decreases_loop out₀ to q₀ r₀ n₀ out q r n = at to - at q
+abbrev decreases-loop : tie.decreases-loop
+decreases-loop out₀ to q₀ r₀ n₀ out q r n = at to - at q
 
-run_length_requires : tie.Need-run-length-requires invariant_loop decreases_loop
+run_length_requires : tie.Need-run-length-requires invariant-loop decreases-loop
 run_length_requires c κs = search rules
 
-loop_holds : tie.Need-loop-init invariant_loop decreases_loop
+loop_holds : tie.Need-loop-init invariant-loop decreases-loop
 loop_holds c =
     let a = c.before.before.args in
     (omega arith, omega arith, omega arith, omega arith, c.run_length.ensures.2, omega arith, omega arith, omega arith, omega arith, refl, copy_none a.out.now a.p a.from)
 
-take_requires : tie.Need-take-requires invariant_loop decreases_loop
+take_requires : tie.Need-take-requires invariant-loop decreases-loop
 take_requires c κs = search rules
 
-overwrite_requires : tie.Need-overwrite-requires invariant_loop decreases_loop
+overwrite_requires : tie.Need-overwrite-requires invariant-loop decreases-loop
 overwrite_requires c κs = search rules
 
-place_after_requires : tie.Need-place-after-requires invariant_loop decreases_loop
+place_after_requires : tie.Need-place-after-requires invariant-loop decreases-loop
 place_after_requires c κs = search rules
 
-run_length_requires_2 : tie.Need-run-length-requires-2 invariant_loop decreases_loop
+run_length_requires_2 : tie.Need-run-length-requires-2 invariant-loop decreases-loop
 run_length_requires_2 c κs = search rules
 
-loop_less : tie.Need-loop-smaller invariant_loop decreases_loop
+loop_less : tie.Need-loop-smaller invariant-loop decreases-loop
 loop_less c = search rules
 
-loop_again : tie.Need-loop-preserved invariant_loop decreases_loop
+loop_again : tie.Need-loop-preserved invariant-loop decreases-loop
 loop_again c =
     let w = c.before in
     let k = w.before.before.before in
@@ -61,10 +61,10 @@ loop_again c =
       copy_more a.out.now l.out (at a.from) a.p l.q l.n w.place_after.result l.invariant.10 (omega arith) (omega arith) (omega arith) (omega arith) l.invariant.0 t.take.ensures k.overwrite.ensures w.place_after.ensures.1,
     )
 
-same_length : tie.Need-same-length invariant_loop decreases_loop
+same_length : tie.Need-same-length invariant-loop decreases-loop
 same_length c = search rules
 
-returns : tie.Need-returns invariant_loop decreases_loop
+returns : tie.Need-returns invariant-loop decreases-loop
 returns c =
     let l = c.before.loop in
     let a = c.before.before.before.before.args in
@@ -76,8 +76,8 @@ pub copy_all_spec : {M : Type 1} → statement M
 copy_all_spec =
     tie.close
     (tie.spec
-    invariant_loop
-    decreases_loop
+    invariant-loop
+    decreases-loop
     run_length_requires
     loop_holds
     take_requires

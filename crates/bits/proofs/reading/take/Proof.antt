@@ -14,72 +14,72 @@ use native.Mathlib.Omega.{arith}
 use Rattle.bits.proofs.reading.take.Statement.{statement}
 use Rattle.bits.proofs.reading.take.Tie as tie
 
-abbrev invariant_loop : tie.invariant_loop
-invariant_loop s width q₀ r₀ left₀ acc₀ q r left acc = (8 * q + r + left ≡ 8 * q₀ + r₀ + width) × (r < 8) × (left ≤ width) × (8 * q₀ + r₀ + width ≤ 8 * length s) × (width ≤ 64) × Read s (8 * q₀ + r₀) (width - left) acc
+abbrev invariant-loop : tie.invariant-loop
+invariant-loop s width q₀ r₀ left₀ acc₀ q r left acc = (8 * q + r + left ≡ 8 * q₀ + r₀ + width) × (r < 8) × (left ≤ width) × (8 * q₀ + r₀ + width ≤ 8 * length s) × (width ≤ 64) × Read s (8 * q₀ + r₀) (width - left) acc
 
-abbrev decreases_loop : tie.decreases_loop
-decreases_loop s width q₀ r₀ left₀ acc₀ q r left acc = left
+abbrev decreases-loop : tie.decreases-loop
+decreases-loop s width q₀ r₀ left₀ acc₀ q r left acc = left
 
-room_requires : tie.Need-room-requires invariant_loop decreases_loop
+room_requires : tie.Need-room-requires invariant-loop decreases-loop
 room_requires c κs = search rules
 
-returns : tie.Need-returns invariant_loop decreases_loop
+returns : tie.Need-returns invariant-loop decreases-loop
 returns c =
     let a = c.before.before.before.args in
     sym (take_cut a.s.now a.p a.width (sym c.before.room.ensures ∙ not-true _ c.if1.true))
 
-loop_holds : tie.Need-loop-init invariant_loop decreases_loop
+loop_holds : tie.Need-loop-init invariant-loop decreases-loop
 loop_holds c =
     let a = c.before.before.before.args in
     let f = room_fits (length a.s.now) a.p a.width (sym c.before.room.ensures ∙ not-false _ c.if1.false) in
     let z : a.width - a.width ≡ 0 = omega arith in
     (omega (arith, f.ends), omega (arith, f.bit), omega arith, omega (arith, f.ends), omega arith, rw z (read_none a.s.now _))
 
-sub_smaller : tie.Need-overflow-sub-smaller invariant_loop decreases_loop
+sub_smaller : tie.Need-overflow-sub-smaller invariant-loop decreases-loop
 sub_smaller c = search rules
 
-smaller_requires : tie.Need-smaller-requires invariant_loop decreases_loop
+smaller_requires : tie.Need-smaller-requires invariant-loop decreases-loop
 smaller_requires c κs = search rules
 
-shared_slice_read_wide : tie.Need-shared-slice-read-wide invariant_loop decreases_loop
+shared_slice_read_wide : tie.Need-shared-slice-read-wide invariant-loop decreases-loop
 shared_slice_read_wide c = search rules
 
-wide_requires : tie.Need-wide-requires invariant_loop decreases_loop
+wide_requires : tie.Need-wide-requires invariant-loop decreases-loop
 wide_requires c κs = search rules
 
-sub_part : tie.Need-overflow-sub-part invariant_loop decreases_loop
+sub_part : tie.Need-overflow-sub-part invariant-loop decreases-loop
 sub_part c = search rules
 
-sub_part_2 : tie.Need-overflow-sub-part-2 invariant_loop decreases_loop
+sub_part_2 : tie.Need-overflow-sub-part-2 invariant-loop decreases-loop
 sub_part_2 c = search rules
 
-part_requires : tie.Need-part-requires invariant_loop decreases_loop
+part_requires : tie.Need-part-requires invariant-loop decreases-loop
 part_requires c κs = search rules
 
-joined_requires : tie.Need-joined-requires invariant_loop decreases_loop
+joined_requires : tie.Need-joined-requires invariant-loop decreases-loop
 joined_requires c κs =
     let x = part_lt _ _ c.part.ensures in
     (omega arith, x, join_fits _ _ c.before.before.before.before.before.loop.invariant.5.small x (omega arith))
 
-add_q : tie.Need-overflow-add-q invariant_loop decreases_loop
+add_q : tie.Need-overflow-add-q invariant-loop decreases-loop
 add_q c = search rules
 
-add_q_2 : tie.Need-overflow-add-q-2 invariant_loop decreases_loop
+add_q_2 : tie.Need-overflow-add-q-2 invariant-loop decreases-loop
 add_q_2 c = search rules
 
-add_offset : tie.Need-overflow-add-offset invariant_loop decreases_loop
+add_offset : tie.Need-overflow-add-offset invariant-loop decreases-loop
 add_offset c = search rules
 
-offset_requires : tie.Need-offset-requires invariant_loop decreases_loop
+offset_requires : tie.Need-offset-requires invariant-loop decreases-loop
 offset_requires c κs = search rules
 
-sub_left : tie.Need-overflow-sub-left invariant_loop decreases_loop
+sub_left : tie.Need-overflow-sub-left invariant-loop decreases-loop
 sub_left c = search rules
 
-loop_less : tie.Need-loop-smaller invariant_loop decreases_loop
+loop_less : tie.Need-loop-smaller invariant-loop decreases-loop
 loop_less c = search rules
 
-loop_again : tie.Need-loop-preserved invariant_loop decreases_loop
+loop_again : tie.Need-loop-preserved invariant-loop decreases-loop
 loop_again c =
     let k = c.before.before.before.before.before in
     let l = k.before.before.loop in (
@@ -92,7 +92,7 @@ loop_again c =
           c.before.before.before.wide.ensures c.before.before.part.ensures c.before.joined.ensures,
     )
 
-returns_2 : tie.Need-returns-2 invariant_loop decreases_loop
+returns_2 : tie.Need-returns-2 invariant-loop decreases-loop
 returns_2 c =
     let l = c.before.loop in
     let a = c.before.before.before.before.before.args in
@@ -103,8 +103,8 @@ pub take_spec : {M : Type 1} → statement M
 take_spec =
     tie.close
     (tie.spec
-    invariant_loop
-    decreases_loop
+    invariant-loop
+    decreases-loop
     room_requires
     returns
     loop_holds

@@ -11,39 +11,39 @@ use native.Mathlib.Omega.{arith}
 use Rattle.bits.proofs.rotation.shift_up.Statement.{statement}
 use Rattle.bits.proofs.rotation.shift_up.Tie as tie
 
-abbrev invariant_loop : tie.invariant_loop
-invariant_loop out₀ a k p₀ n₀ out p n = (p.bit < 8) × (at a + n ≤ at p) × (at p ≤ at p₀) × (n ≤ 64) × (n ≡ 0 → at p ≡ at a) × (a.bit < 8) × (k ≤ 64) × (at p₀ + k ≤ 8 * length out₀) × (length out ≡ length out₀) × (bits_of out ≡ moved (at p) (at p + k) (at p₀ - at p) (bits_of out₀))
+abbrev invariant-loop : tie.invariant-loop
+invariant-loop out₀ a k p₀ n₀ out p n = (p.bit < 8) × (at a + n ≤ at p) × (at p ≤ at p₀) × (n ≤ 64) × (n ≡ 0 → at p ≡ at a) × (a.bit < 8) × (k ≤ 64) × (at p₀ + k ≤ 8 * length out₀) × (length out ≡ length out₀) × (bits_of out ≡ moved (at p) (at p + k) (at p₀ - at p) (bits_of out₀))
 
-abbrev decreases_loop : tie.decreases_loop
-decreases_loop out₀ a k p₀ n₀ out p n = at p - at a
+abbrev decreases-loop : tie.decreases-loop
+decreases-loop out₀ a k p₀ n₀ out p n = at p - at a
 
-run_length_requires : tie.Need-run-length-requires invariant_loop decreases_loop
+run_length_requires : tie.Need-run-length-requires invariant-loop decreases-loop
 run_length_requires c κs = search rules
 
-loop_holds : tie.Need-loop-init invariant_loop decreases_loop
+loop_holds : tie.Need-loop-init invariant-loop decreases-loop
 loop_holds c =
     let b = c.before.before in
     (omega arith, omega arith, omega arith, omega arith, c.run_length.ensures.2, omega arith, omega arith, omega arith, refl, move_none (at b.args.e) _ _)
 
-place_before_requires : tie.Need-place-before-requires invariant_loop decreases_loop
+place_before_requires : tie.Need-place-before-requires invariant-loop decreases-loop
 place_before_requires c κs = search rules
 
-take_requires : tie.Need-take-requires invariant_loop decreases_loop
+take_requires : tie.Need-take-requires invariant-loop decreases-loop
 take_requires c κs = search rules
 
-place_after_requires : tie.Need-place-after-requires invariant_loop decreases_loop
+place_after_requires : tie.Need-place-after-requires invariant-loop decreases-loop
 place_after_requires c κs = search rules
 
-overwrite_requires : tie.Need-overwrite-requires invariant_loop decreases_loop
+overwrite_requires : tie.Need-overwrite-requires invariant-loop decreases-loop
 overwrite_requires c κs = search rules
 
-run_length_requires_2 : tie.Need-run-length-requires-2 invariant_loop decreases_loop
+run_length_requires_2 : tie.Need-run-length-requires-2 invariant-loop decreases-loop
 run_length_requires_2 c κs = search rules
 
-loop_less : tie.Need-loop-smaller invariant_loop decreases_loop
+loop_less : tie.Need-loop-smaller invariant-loop decreases-loop
 loop_less c = search rules
 
-loop_again : tie.Need-loop-preserved invariant_loop decreases_loop
+loop_again : tie.Need-loop-preserved invariant-loop decreases-loop
 loop_again c =
     let k = c.before.before.before in
     let t = k.before.before.before in
@@ -63,10 +63,10 @@ loop_again c =
           k.before.place_after.ensures.0 k.before.place_after.ensures.1 k.overwrite.ensures,
     )
 
-same_length : tie.Need-same-length invariant_loop decreases_loop
+same_length : tie.Need-same-length invariant-loop decreases-loop
 same_length c = search rules
 
-returns : tie.Need-returns invariant_loop decreases_loop
+returns : tie.Need-returns invariant-loop decreases-loop
 returns c =
     let l = c.before.loop in
     let a = c.before.before.before.before.args in
@@ -78,8 +78,8 @@ pub shift_up_spec : {M : Type 1} → statement M
 shift_up_spec =
     tie.close
     (tie.spec
-    invariant_loop
-    decreases_loop
+    invariant-loop
+    decreases-loop
     run_length_requires
     loop_holds
     place_before_requires

@@ -10,58 +10,58 @@ use native.Mathlib.Omega.{arith}
 use Rattle.bits.proofs.texts.copy_bytes.Statement.{statement}
 use Rattle.bits.proofs.texts.copy_bytes.Tie as tie
 
-abbrev invariant_loop : tie.invariant_loop
-invariant_loop out₀ s at i₀ out i = (i ≤ length s) × (at + length s ≤ length out₀) × (length out ≡ length out₀) × (out ≡ paste out₀ at s i)
+abbrev invariant-loop : tie.invariant-loop
+invariant-loop out₀ s at i₀ out i = (i ≤ length s) × (at + length s ≤ length out₀) × (length out ≡ length out₀) × (out ≡ paste out₀ at s i)
 
-abbrev decreases_loop : tie.decreases_loop
-decreases_loop out₀ s at i₀ out i = length s - i
+abbrev decreases-loop : tie.decreases-loop
+decreases-loop out₀ s at i₀ out i = length s - i
 
-returns : tie.Need-returns invariant_loop decreases_loop
+returns : tie.Need-returns invariant-loop decreases-loop
 returns c =
     let a = c.before.args in
     copy_short a.out.now a.s.now a.p (λ k. omega arith)
 
-sub_if2 : tie.Need-overflow-sub-if2 invariant_loop decreases_loop
+sub_if2 : tie.Need-overflow-sub-if2 invariant-loop decreases-loop
 sub_if2 c = search rules
 
-returns_2 : tie.Need-returns-2 invariant_loop decreases_loop
+returns_2 : tie.Need-returns-2 invariant-loop decreases-loop
 returns_2 c =
     let a = c.before.before.args in
     copy_short a.out.now a.s.now a.p (λ k. omega arith)
 
-loop_holds : tie.Need-loop-init invariant_loop decreases_loop
+loop_holds : tie.Need-loop-init invariant-loop decreases-loop
 loop_holds c =
     let a = c.before.before.args in
     (omega arith, omega arith, refl, paste-zero a.out.now a.p.byte a.s.now)
 
-shared_slice_read_out : tie.Need-shared-slice-read-out invariant_loop decreases_loop
+shared_slice_read_out : tie.Need-shared-slice-read-out invariant-loop decreases-loop
 shared_slice_read_out c = search rules
 
-add_out : tie.Need-overflow-add-out invariant_loop decreases_loop
+add_out : tie.Need-overflow-add-out invariant-loop decreases-loop
 add_out c = search rules
 
-slice_write_out : tie.Need-slice-write-out invariant_loop decreases_loop
+slice_write_out : tie.Need-slice-write-out invariant-loop decreases-loop
 slice_write_out c = search rules
 
-add_i : tie.Need-overflow-add-i invariant_loop decreases_loop
+add_i : tie.Need-overflow-add-i invariant-loop decreases-loop
 add_i c = search rules
 
-loop_less : tie.Need-loop-smaller invariant_loop decreases_loop
+loop_less : tie.Need-loop-smaller invariant-loop decreases-loop
 loop_less c = search rules
 
-loop_again : tie.Need-loop-preserved invariant_loop decreases_loop
+loop_again : tie.Need-loop-preserved invariant-loop decreases-loop
 loop_again c =
     let l = c.before.before.loop in
     let a = c.before.before.before.before.before.args in
     (omega arith, omega arith, simp length-set l.invariant.2, copy_turn a.out.now l.out a.s.now a.p.byte l.i (omega arith) (omega arith) l.invariant.3)
 
-add_t8 : tie.Need-overflow-add-t8 invariant_loop decreases_loop
+add_t8 : tie.Need-overflow-add-t8 invariant-loop decreases-loop
 add_t8 c = search rules
 
-same_length : tie.Need-same-length invariant_loop decreases_loop
+same_length : tie.Need-same-length invariant-loop decreases-loop
 same_length c = search rules
 
-returns_3 : tie.Need-returns-3 invariant_loop decreases_loop
+returns_3 : tie.Need-returns-3 invariant-loop decreases-loop
 returns_3 c =
     let l = c.before.loop in
     let k = c.before.before.before.before in
@@ -72,8 +72,8 @@ pub copy_bytes_spec : {M : Type 1} → statement M
 copy_bytes_spec =
     tie.close
     (tie.spec
-    invariant_loop
-    decreases_loop
+    invariant-loop
+    decreases-loop
     returns
     sub_if2
     returns_2

@@ -14,70 +14,70 @@ use native.Mathlib.Omega.{arith}
 use Rattle.bits.proofs.writing.overwrite.Statement.{statement}
 use Rattle.bits.proofs.writing.overwrite.Tie as tie
 
-abbrev invariant_loop : tie.invariant_loop
-invariant_loop out₀ width v q₀ r₀ left₀ out q r left = (8 * q + r + left ≡ 8 * q₀ + r₀ + width) × (r < 8) × (left ≤ width) × (8 * q₀ + r₀ + width ≤ 8 * length out₀) × (width ≤ 64) × (length out ≡ length out₀) × (bits_of out ≡ over (8 * q₀ + r₀) (enc (width - left) (v / 2 ^ left)) (bits_of out₀))
+abbrev invariant-loop : tie.invariant-loop
+invariant-loop out₀ width v q₀ r₀ left₀ out q r left = (8 * q + r + left ≡ 8 * q₀ + r₀ + width) × (r < 8) × (left ≤ width) × (8 * q₀ + r₀ + width ≤ 8 * length out₀) × (width ≤ 64) × (length out ≡ length out₀) × (bits_of out ≡ over (8 * q₀ + r₀) (enc (width - left) (v / 2 ^ left)) (bits_of out₀))
 
-abbrev decreases_loop : tie.decreases_loop
-decreases_loop out₀ width v q₀ r₀ left₀ out q r left = left
+abbrev decreases-loop : tie.decreases-loop
+decreases-loop out₀ width v q₀ r₀ left₀ out q r left = left
 
-room_requires : tie.Need-room-requires invariant_loop decreases_loop
+room_requires : tie.Need-room-requires invariant-loop decreases-loop
 room_requires c κs = search rules
 
-returns : tie.Need-returns invariant_loop decreases_loop
+returns : tie.Need-returns invariant-loop decreases-loop
 returns c =
     let a = c.before.before.before.args in
     overwrite_short a.out.now a.p a.width a.v (sym c.before.room.ensures ∙ not-true _ c.if1.true)
 
-loop_holds : tie.Need-loop-init invariant_loop decreases_loop
+loop_holds : tie.Need-loop-init invariant-loop decreases-loop
 loop_holds c =
     let a = c.before.before.before.args in
     let f = room_fits (length a.out.now) a.p a.width (sym c.before.room.ensures ∙ not-false _ c.if1.false) in
     let z : a.width - a.width ≡ 0 = omega arith in
     (omega (arith, f.ends), omega (arith, f.bit), omega arith, omega (arith, f.ends), omega arith, refl, rw (z, enc_zero) (sym (over_none _ _)))
 
-sub_smaller : tie.Need-overflow-sub-smaller invariant_loop decreases_loop
+sub_smaller : tie.Need-overflow-sub-smaller invariant-loop decreases-loop
 sub_smaller c = search rules
 
-smaller_requires : tie.Need-smaller-requires invariant_loop decreases_loop
+smaller_requires : tie.Need-smaller-requires invariant-loop decreases-loop
 smaller_requires c κs = search rules
 
-slice_read_wide : tie.Need-slice-read-wide invariant_loop decreases_loop
+slice_read_wide : tie.Need-slice-read-wide invariant-loop decreases-loop
 slice_read_wide c = search rules
 
-wide_requires : tie.Need-wide-requires invariant_loop decreases_loop
+wide_requires : tie.Need-wide-requires invariant-loop decreases-loop
 wide_requires c κs = search rules
 
-sub_part : tie.Need-overflow-sub-part invariant_loop decreases_loop
+sub_part : tie.Need-overflow-sub-part invariant-loop decreases-loop
 sub_part c = search rules
 
-part_requires : tie.Need-part-requires invariant_loop decreases_loop
+part_requires : tie.Need-part-requires invariant-loop decreases-loop
 part_requires c κs = search rules
 
-mix_requires : tie.Need-mix-requires invariant_loop decreases_loop
+mix_requires : tie.Need-mix-requires invariant-loop decreases-loop
 mix_requires c κs = (omega arith, omega (arith, c.before.before.slice-known2.given c.before.before.before.before.before.loop.q), part_lt _ _ c.part.ensures)
 
-slice_write_out : tie.Need-slice-write-out invariant_loop decreases_loop
+slice_write_out : tie.Need-slice-write-out invariant-loop decreases-loop
 slice_write_out c = search rules
 
-add_q : tie.Need-overflow-add-q invariant_loop decreases_loop
+add_q : tie.Need-overflow-add-q invariant-loop decreases-loop
 add_q c = search rules
 
-add_q_2 : tie.Need-overflow-add-q-2 invariant_loop decreases_loop
+add_q_2 : tie.Need-overflow-add-q-2 invariant-loop decreases-loop
 add_q_2 c = search rules
 
-add_offset : tie.Need-overflow-add-offset invariant_loop decreases_loop
+add_offset : tie.Need-overflow-add-offset invariant-loop decreases-loop
 add_offset c = search rules
 
-offset_requires : tie.Need-offset-requires invariant_loop decreases_loop
+offset_requires : tie.Need-offset-requires invariant-loop decreases-loop
 offset_requires c κs = search rules
 
-sub_left : tie.Need-overflow-sub-left invariant_loop decreases_loop
+sub_left : tie.Need-overflow-sub-left invariant-loop decreases-loop
 sub_left c = search rules
 
-loop_less : tie.Need-loop-smaller invariant_loop decreases_loop
+loop_less : tie.Need-loop-smaller invariant-loop decreases-loop
 loop_less c = search rules
 
-loop_again : tie.Need-loop-preserved invariant_loop decreases_loop
+loop_again : tie.Need-loop-preserved invariant-loop decreases-loop
 loop_again c =
     let k = c.before.before.before.before.before in
     let l = k.before.before.loop in
@@ -92,10 +92,10 @@ loop_again c =
           k.smaller.ensures c.before.before.part.ensures c.before.before.before.wide.ensures c.before.mix.ensures,
     )
 
-same_length : tie.Need-same-length invariant_loop decreases_loop
+same_length : tie.Need-same-length invariant-loop decreases-loop
 same_length c = search rules
 
-returns_2 : tie.Need-returns-2 invariant_loop decreases_loop
+returns_2 : tie.Need-returns-2 invariant-loop decreases-loop
 returns_2 c =
     let l = c.before.loop in
     let a = c.before.before.before.before.before.args in
@@ -107,8 +107,8 @@ pub overwrite_spec : {M : Type 1} → statement M
 overwrite_spec =
     tie.close
     (tie.spec
-    invariant_loop
-    decreases_loop
+    invariant-loop
+    decreases-loop
     room_requires
     returns
     loop_holds

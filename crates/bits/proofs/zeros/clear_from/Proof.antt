@@ -7,36 +7,36 @@ use native.Mathlib.Omega.{arith}
 use Rattle.bits.proofs.zeros.clear_from.Statement.{statement}
 use Rattle.bits.proofs.zeros.clear_from.Tie as tie
 
-abbrev invariant_loop : tie.invariant_loop
-invariant_loop out₀ from i₀ out i = (from ≤ i) × (i - from ≤ length out₀ - from) × (length out ≡ length out₀) × (out ≡ clearing from out₀ i)
+abbrev invariant-loop : tie.invariant-loop
+invariant-loop out₀ from i₀ out i = (from ≤ i) × (i - from ≤ length out₀ - from) × (length out ≡ length out₀) × (out ≡ clearing from out₀ i)
 
-abbrev decreases_loop : tie.decreases_loop
-decreases_loop out₀ from i₀ out i = length out₀ - i
+abbrev decreases-loop : tie.decreases-loop
+decreases-loop out₀ from i₀ out i = length out₀ - i
 
-loop_holds : tie.Need-loop-init invariant_loop decreases_loop
+loop_holds : tie.Need-loop-init invariant-loop decreases-loop
 loop_holds c =
     let a = c.args in
     (omega arith, omega arith, refl, clear_none a.from a.out.now)
 
-slice_write_out : tie.Need-slice-write-out invariant_loop decreases_loop
+slice_write_out : tie.Need-slice-write-out invariant-loop decreases-loop
 slice_write_out c = search rules
 
-add_i : tie.Need-overflow-add-i invariant_loop decreases_loop
+add_i : tie.Need-overflow-add-i invariant-loop decreases-loop
 add_i c = search rules
 
-loop_less : tie.Need-loop-smaller invariant_loop decreases_loop
+loop_less : tie.Need-loop-smaller invariant-loop decreases-loop
 loop_less c = search rules
 
-loop_again : tie.Need-loop-preserved invariant_loop decreases_loop
+loop_again : tie.Need-loop-preserved invariant-loop decreases-loop
 loop_again c =
     let l = c.before.loop in
     let a = c.before.before.args in
     (omega arith, omega arith, simp length-set l.invariant.2, clear_more a.from l.i a.out.now l.out (omega arith) (omega arith) l.invariant.3)
 
-same_length : tie.Need-same-length invariant_loop decreases_loop
+same_length : tie.Need-same-length invariant-loop decreases-loop
 same_length c = search rules
 
-returns : tie.Need-returns invariant_loop decreases_loop
+returns : tie.Need-returns invariant-loop decreases-loop
 returns c =
     let l = c.before.loop in
     let a = c.before.before.args in
@@ -46,8 +46,8 @@ pub clear_from_spec : {M : Type 1} → statement M
 clear_from_spec =
     tie.close
     (tie.spec
-    invariant_loop
-    decreases_loop
+    invariant-loop
+    decreases-loop
     loop_holds
     slice_write_out
     add_i

@@ -7,39 +7,39 @@ use native.Mathlib.Omega.{arith}
 use Rattle.bits.proofs.zeros.clear_words_from.Statement.{statement}
 use Rattle.bits.proofs.zeros.clear_words_from.Tie as tie
 
-abbrev invariant_loop : tie.invariant_loop
-invariant_loop words₀ from i₀ words i = (from ≤ i) × (i - from ≤ length words₀ - from) × (length words ≡ length words₀) × (words ≡ clearing from words₀ i)
+abbrev invariant-loop : tie.invariant-loop
+invariant-loop words₀ from i₀ words i = (from ≤ i) × (i - from ≤ length words₀ - from) × (length words ≡ length words₀) × (words ≡ clearing from words₀ i)
 
-abbrev decreases_loop : tie.decreases_loop
-decreases_loop words₀ from i₀ words i = length words₀ - i
+abbrev decreases-loop : tie.decreases-loop
+decreases-loop words₀ from i₀ words i = length words₀ - i
 
-loop_holds : tie.Need-loop-init invariant_loop decreases_loop
+loop_holds : tie.Need-loop-init invariant-loop decreases-loop
 loop_holds c =
     let a = c.args in
     (omega arith, omega arith, refl, clear_none a.from a.words.now)
 
-mul_words : tie.Need-overflow-mul-words invariant_loop decreases_loop
+mul_words : tie.Need-overflow-mul-words invariant-loop decreases-loop
 mul_words c = search rules
 
-slice_write_words : tie.Need-slice-write-words invariant_loop decreases_loop
+slice_write_words : tie.Need-slice-write-words invariant-loop decreases-loop
 slice_write_words c = search rules
 
-add_i : tie.Need-overflow-add-i invariant_loop decreases_loop
+add_i : tie.Need-overflow-add-i invariant-loop decreases-loop
 add_i c = search rules
 
-loop_less : tie.Need-loop-smaller invariant_loop decreases_loop
+loop_less : tie.Need-loop-smaller invariant-loop decreases-loop
 loop_less c = search rules
 
-loop_again : tie.Need-loop-preserved invariant_loop decreases_loop
+loop_again : tie.Need-loop-preserved invariant-loop decreases-loop
 loop_again c =
     let l = c.before.loop in
     let a = c.before.before.args in
     (omega arith, omega arith, simp length-set l.invariant.2, clear_more a.from l.i a.words.now l.words (omega arith) (omega arith) l.invariant.3)
 
-same_length : tie.Need-same-length invariant_loop decreases_loop
+same_length : tie.Need-same-length invariant-loop decreases-loop
 same_length c = search rules
 
-returns : tie.Need-returns invariant_loop decreases_loop
+returns : tie.Need-returns invariant-loop decreases-loop
 returns c =
     let l = c.before.loop in
     let a = c.before.before.args in
@@ -49,8 +49,8 @@ pub clear_words_from_spec : {M : Type 1} → statement M
 clear_words_from_spec =
     tie.close
     (tie.spec
-    invariant_loop
-    decreases_loop
+    invariant-loop
+    decreases-loop
     loop_holds
     mul_words
     slice_write_words

@@ -7,43 +7,43 @@ use Rattle.calendar.proofs.Counts.{first_sum, next_sum, last_sum, without_more, 
 use Rattle.calendar.proofs.exception.skipped_from.Statement.{statement}
 use Rattle.calendar.proofs.exception.skipped_from.Tie as tie
 
-abbrev invariant_loop : tie.invariant_loop
-invariant_loop s first p₀ n₀ t6 p n = without_rule (element_at s first ∷ later_at s (bytes "Exception") first) % 2 ^ 32 ≡ (n + without_rule (element_at s p ∷ later_at s (bytes "Exception") p)) % 2 ^ 32
+abbrev invariant-loop : tie.invariant-loop
+invariant-loop s first p₀ n₀ t6 p n = without_rule (element_at s first ∷ later_at s (bytes "Exception") first) % 2 ^ 32 ≡ (n + without_rule (element_at s p ∷ later_at s (bytes "Exception") p)) % 2 ^ 32
 
-abbrev decreases_loop : tie.decreases_loop
-decreases_loop s first p₀ n₀ t6 p n = length s - p
+abbrev decreases-loop : tie.decreases-loop
+decreases-loop s first p₀ n₀ t6 p n = length s - p
 
-loop_holds : tie.Need-loop-init invariant_loop decreases_loop
+loop_holds : tie.Need-loop-init invariant-loop decreases-loop
 loop_holds c = first_sum (2 ^ 32) without_rule (λ x. one_if x) without_more _
 
-one_if_requires : tie.Need-one-if-requires invariant_loop decreases_loop
+one_if_requires : tie.Need-one-if-requires invariant-loop decreases-loop
 one_if_requires c κs = search rules
 
-wrapping_add_u32_requires : tie.Need-wrapping-add-u32-requires invariant_loop decreases_loop
+wrapping_add_u32_requires : tie.Need-wrapping-add-u32-requires invariant-loop decreases-loop
 wrapping_add_u32_requires c κs = search rules
 
-slice_aggregate_next_child : tie.Need-slice-aggregate-next-child invariant_loop decreases_loop
+slice_aggregate_next_child : tie.Need-slice-aggregate-next-child invariant-loop decreases-loop
 slice_aggregate_next_child c = search rules
 
-next_child_requires : tie.Need-next-child-requires invariant_loop decreases_loop
+next_child_requires : tie.Need-next-child-requires invariant-loop decreases-loop
 next_child_requires c κs = search rules
 
-enum_known_q : tie.Need-enum-known-q invariant_loop decreases_loop
+enum_known_q : tie.Need-enum-known-q invariant-loop decreases-loop
 enum_known_q c = search rules
 
-enum_told : tie.Need-enum-told invariant_loop decreases_loop
+enum_told : tie.Need-enum-told invariant-loop decreases-loop
 enum_told c = search rules
 
-returns : tie.Need-returns invariant_loop decreases_loop
+returns : tie.Need-returns invariant-loop decreases-loop
 returns c =
     let k = c.before.before in
     let w = k.before.before in
     last_sum (2 ^ 32) without_rule (λ x. one_if x) without_more _ _ _ _ _ _ w.before.before.loop.invariant (ap (λ (u : ℕ). u % 2 ^ 32) w.before.one_if.ensures) w.wrapping-add-u32.ensures without_none (none_list k.next-child.ensures c.enum_told.given.1)
 
-loop_less : tie.Need-loop-smaller invariant_loop decreases_loop
+loop_less : tie.Need-loop-smaller invariant-loop decreases-loop
 loop_less c = omega (arith, found_on c.before.before.before.next-child.ensures c.before.q.given.1)
 
-loop_again : tie.Need-loop-preserved invariant_loop decreases_loop
+loop_again : tie.Need-loop-preserved invariant-loop decreases-loop
 loop_again c =
     let k = c.before.before.before in
     let w = k.before.before in
@@ -53,8 +53,8 @@ pub skipped_from_spec : {M : Type 1} → statement M
 skipped_from_spec =
     tie.close
     (tie.spec
-    invariant_loop
-    decreases_loop
+    invariant-loop
+    decreases-loop
     loop_holds
     one_if_requires
     wrapping_add_u32_requires

@@ -8,40 +8,40 @@ use native.Mathlib.Omega.{arith}
 use Rattle.model.proofs.lists.skip_days.Statement.{statement}
 use Rattle.model.proofs.lists.skip_days.Tie as tie
 
-abbrev invariant_loop : tie.invariant_loop
-invariant_loop s hours count q₀ last₀ i₀ q last i = (i ≤ count) × Rose (day_before hours) (day_of hours) (DayKey hours) s q₀ i last q
+abbrev invariant-loop : tie.invariant-loop
+invariant-loop s hours count q₀ last₀ i₀ q last i = (i ≤ count) × Rose (day_before hours) (day_of hours) (DayKey hours) s q₀ i last q
 
-abbrev decreases_loop : tie.decreases_loop
-decreases_loop s hours count q₀ last₀ i₀ q last i = count - i
+abbrev decreases-loop : tie.decreases-loop
+decreases-loop s hours count q₀ last₀ i₀ q last i = count - i
 
-take_requires : tie.Need-take-requires invariant_loop decreases_loop
+take_requires : tie.Need-take-requires invariant-loop decreases-loop
 take_requires c κs = search rules
 
-loop_holds : tie.Need-loop-init invariant_loop decreases_loop
+loop_holds : tie.Need-loop-init invariant-loop decreases-loop
 loop_holds c =
     let a = c.before.before.before.args in
     (omega arith, rose_none (by_day_lem a.hours) (day_of a.hours) a.s.now c.before.take.result.next)
 
-take_day_requires : tie.Need-take-day-requires invariant_loop decreases_loop
+take_day_requires : tie.Need-take-day-requires invariant-loop decreases-loop
 take_day_requires c κs = search rules
 
-returns : tie.Need-returns invariant_loop decreases_loop
+returns : tie.Need-returns invariant-loop decreases-loop
 returns c =
     let a = c.before.before.before.before.before.before.before.before.args in
     pass_past (rose_stop (by_day_lem a.hours) (day_of a.hours) c.before.before.before.before.loop.invariant.1 c.before.before.take-day.ensures (read_field a.s.now a.p 32 c.before.before.before.before.before.before.take.ensures) c.before.before.before.loop-test.true c.if1.true)
 
-add_i : tie.Need-overflow-add-i invariant_loop decreases_loop
+add_i : tie.Need-overflow-add-i invariant-loop decreases-loop
 add_i c = search rules
 
-loop_less : tie.Need-loop-smaller invariant_loop decreases_loop
+loop_less : tie.Need-loop-smaller invariant-loop decreases-loop
 loop_less c = search rules
 
-loop_again : tie.Need-loop-preserved invariant_loop decreases_loop
+loop_again : tie.Need-loop-preserved invariant-loop decreases-loop
 loop_again c =
     let a = c.before.before.before.before.before.before.before.before.before.args in
     (omega arith, rose_more (by_day_lem a.hours) (day_of a.hours) c.before.before.before.before.before.loop.invariant.1 c.before.before.before.take-day.ensures c.before.if1.false)
 
-returns_2 : tie.Need-returns-2 invariant_loop decreases_loop
+returns_2 : tie.Need-returns-2 invariant-loop decreases-loop
 returns_2 c =
     let a = c.before.before.before.before.before.args in
     let e : c.before.loop.i ≡ c.before.before.before.take.result.value = omega arith in
@@ -51,8 +51,8 @@ pub skip_days_spec : {M : Type 1} → statement M
 skip_days_spec =
     tie.close
     (tie.spec
-    invariant_loop
-    decreases_loop
+    invariant-loop
+    decreases-loop
     take_requires
     loop_holds
     take_day_requires

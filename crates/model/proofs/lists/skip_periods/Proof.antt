@@ -9,37 +9,37 @@ use native.Mathlib.Omega.{arith}
 use Rattle.model.proofs.lists.skip_periods.Statement.{statement}
 use Rattle.model.proofs.lists.skip_periods.Tie as tie
 
-abbrev invariant_loop : tie.invariant_loop
-invariant_loop s count q₀ last₀ i₀ q last i = (i ≤ count) × Rose earlier period PeriodKey s q₀ i last q
+abbrev invariant-loop : tie.invariant-loop
+invariant-loop s count q₀ last₀ i₀ q last i = (i ≤ count) × Rose earlier period PeriodKey s q₀ i last q
 
-abbrev decreases_loop : tie.decreases_loop
-decreases_loop s count q₀ last₀ i₀ q last i = count - i
+abbrev decreases-loop : tie.decreases-loop
+decreases-loop s count q₀ last₀ i₀ q last i = count - i
 
-take_requires : tie.Need-take-requires invariant_loop decreases_loop
+take_requires : tie.Need-take-requires invariant-loop decreases-loop
 take_requires c κs = search rules
 
-loop_holds : tie.Need-loop-init invariant_loop decreases_loop
+loop_holds : tie.Need-loop-init invariant-loop decreases-loop
 loop_holds c = (omega arith, rose_none by_period period c.before.before.before.args.s.now c.before.take.result.next)
 
-take_period_key_requires : tie.Need-take-period-key-requires invariant_loop decreases_loop
+take_period_key_requires : tie.Need-take-period-key-requires invariant-loop decreases-loop
 take_period_key_requires c κs = search rules
 
-returns : tie.Need-returns invariant_loop decreases_loop
+returns : tie.Need-returns invariant-loop decreases-loop
 unfolding periods
 returns c =
     let a = c.before.before.before.before.before.before.before.before.args in
     pass_past (rose_stop by_period period c.before.before.before.before.loop.invariant.1 c.before.before.take-period-key.ensures (read_field a.s.now a.p 32 c.before.before.before.before.before.before.take.ensures) c.before.before.before.loop-test.true c.if1.true)
 
-add_i : tie.Need-overflow-add-i invariant_loop decreases_loop
+add_i : tie.Need-overflow-add-i invariant-loop decreases-loop
 add_i c = search rules
 
-loop_less : tie.Need-loop-smaller invariant_loop decreases_loop
+loop_less : tie.Need-loop-smaller invariant-loop decreases-loop
 loop_less c = search rules
 
-loop_again : tie.Need-loop-preserved invariant_loop decreases_loop
+loop_again : tie.Need-loop-preserved invariant-loop decreases-loop
 loop_again c = (omega arith, rose_more by_period period c.before.before.before.before.before.loop.invariant.1 c.before.before.before.take-period-key.ensures c.before.if1.false)
 
-returns_2 : tie.Need-returns-2 invariant_loop decreases_loop
+returns_2 : tie.Need-returns-2 invariant-loop decreases-loop
 unfolding periods
 returns_2 c =
     let a = c.before.before.before.before.before.args in
@@ -50,8 +50,8 @@ pub skip_periods_spec : {M : Type 1} → statement M
 skip_periods_spec =
     tie.close
     (tie.spec
-    invariant_loop
-    decreases_loop
+    invariant-loop
+    decreases-loop
     take_requires
     loop_holds
     take_period_key_requires

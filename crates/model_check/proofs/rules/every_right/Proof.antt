@@ -15,19 +15,19 @@ use native.Mathlib.Omega.{arith}
 use Rattle.model_check.proofs.rules.every_right.Statement.{statement}
 use Rattle.model_check.proofs.rules.every_right.Tie as tie
 
-abbrev invariant_loop : tie.invariant_loop
-invariant_loop s kind w words names count q₀ i₀ q i = (m : Model) → Decoded s m w → NamesIn s m names words → (xs : List (Item kind)) (end : ℕ) → Run kind s q₀ count xs end → Along kind s count xs end (wrong m kind) true i q
+abbrev invariant-loop : tie.invariant-loop
+invariant-loop s kind w words names count q₀ i₀ q i = (m : Model) → Decoded s m w → NamesIn s m names words → (xs : List (Item kind)) (end : ℕ) → Run kind s q₀ count xs end → Along kind s count xs end (wrong m kind) true i q
 
-abbrev decreases_loop : tie.decreases_loop
-decreases_loop s kind w words names count q₀ i₀ q i = count - i
+abbrev decreases-loop : tie.decreases-loop
+decreases-loop s kind w words names count q₀ i₀ q i = count - i
 
-loop_holds : tie.Need-loop-init invariant_loop decreases_loop
+loop_holds : tie.Need-loop-init invariant-loop decreases-loop
 loop_holds c = λ m d n xs end r. starts _ _ r
 
-is_right_requires : tie.Need-is-right-requires invariant_loop decreases_loop
+is_right_requires : tie.Need-is-right-requires invariant-loop decreases-loop
 is_right_requires c κs = search rules
 
-returns : tie.Need-returns invariant_loop decreases_loop
+returns : tie.Need-returns invariant-loop decreases-loop
 returns c =
     let a = c.before.before.before.before.before.before.args in
     let l = c.before.before.before.loop in
@@ -36,16 +36,16 @@ returns c =
     let t = here _ _ w (omega arith) in
     stops _ _ w t.is (ap not (sym (c.before.is_right.ensures m d n t.item t.stands)) ∙ c.if1.true) ∙ every_scan (right_of m a.kind) 0 xs
 
-skip_record_requires : tie.Need-skip-record-requires invariant_loop decreases_loop
+skip_record_requires : tie.Need-skip-record-requires invariant-loop decreases-loop
 skip_record_requires c κs = search rules
 
-add_i : tie.Need-overflow-add-i invariant_loop decreases_loop
+add_i : tie.Need-overflow-add-i invariant-loop decreases-loop
 add_i c = search rules
 
-loop_less : tie.Need-loop-smaller invariant_loop decreases_loop
+loop_less : tie.Need-loop-smaller invariant-loop decreases-loop
 loop_less c = search rules
 
-loop_again : tie.Need-loop-preserved invariant_loop decreases_loop
+loop_again : tie.Need-loop-preserved invariant-loop decreases-loop
 loop_again c =
     let l = c.before.before.before.before.loop in
     λ m d n xs end r.
@@ -53,7 +53,7 @@ loop_again c =
     let t = on _ _ w (omega arith) c.skip-record.ensures.0 in
     goes _ _ w t (ap not (sym (c.before.before.is_right.ensures m d n t.item t.stands)) ∙ c.before.if1.false)
 
-returns_2 : tie.Need-returns-2 invariant_loop decreases_loop
+returns_2 : tie.Need-returns-2 invariant-loop decreases-loop
 returns_2 c =
     λ m d n xs end h. ended _ _ (c.before.loop.invariant m d n xs end (run _ h)) (omega arith) ∙ every_scan (right_of m c.before.before.before.before.args.kind) 0 xs
 
@@ -61,8 +61,8 @@ pub every_right_spec : {M : Type 1} → statement M
 every_right_spec =
     tie.close
     (tie.spec
-    invariant_loop
-    decreases_loop
+    invariant-loop
+    decreases-loop
     loop_holds
     is_right_requires
     returns

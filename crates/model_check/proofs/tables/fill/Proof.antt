@@ -14,36 +14,36 @@ use borrow.Author.Rules.{rules}
 use Rattle.model_check.proofs.tables.fill.Statement.{statement}
 use Rattle.model_check.proofs.tables.fill.Tie as tie
 
-abbrev invariant_loop : tie.invariant_loop
-invariant_loop s kind words₀ t q₀ i₀ words q i =
+abbrev invariant-loop : tie.invariant-loop
+invariant-loop s kind words₀ t q₀ i₀ words q i =
     (i ≤ t.rows) × (length words ≡ length words₀) × (q.bit % 8 ≡ 0)
     × (length s < 2 ^ 32 → Emptied t words₀ → (key : Item kind → Key) → Keyed kind s key → (xs : List (Item kind)) (end : ℕ) → Run kind s q₀ t.rows xs end → Filling kind s key xs end t words q i)
 
-abbrev decreases_loop : tie.decreases_loop
-decreases_loop s kind words₀ t q₀ i₀ words q i = t.rows - i
+abbrev decreases-loop : tie.decreases-loop
+decreases-loop s kind words₀ t q₀ i₀ words q i = t.rows - i
 
-loop_holds : tie.Need-loop-init invariant_loop decreases_loop
+loop_holds : tie.Need-loop-init invariant-loop decreases-loop
 loop_holds c = (omega arith, refl, refl, λ small e key k xs end r. fill_starts r e)
 
-hash_at_requires : tie.Need-hash-at-requires invariant_loop decreases_loop
+hash_at_requires : tie.Need-hash-at-requires invariant-loop decreases-loop
 hash_at_requires c κs = search rules
 
-cast_put : tie.Need-overflow-cast-put invariant_loop decreases_loop
+cast_put : tie.Need-overflow-cast-put invariant-loop decreases-loop
 cast_put c = search rules
 
-put_requires : tie.Need-put-requires invariant_loop decreases_loop
+put_requires : tie.Need-put-requires invariant-loop decreases-loop
 put_requires c κs = search rules
 
-skip_record_requires : tie.Need-skip-record-requires invariant_loop decreases_loop
+skip_record_requires : tie.Need-skip-record-requires invariant-loop decreases-loop
 skip_record_requires c κs = search rules
 
-add_i : tie.Need-overflow-add-i invariant_loop decreases_loop
+add_i : tie.Need-overflow-add-i invariant-loop decreases-loop
 add_i c = search rules
 
-loop_less : tie.Need-loop-smaller invariant_loop decreases_loop
+loop_less : tie.Need-loop-smaller invariant-loop decreases-loop
 loop_less c = search rules
 
-loop_again : tie.Need-loop-preserved invariant_loop decreases_loop
+loop_again : tie.Need-loop-preserved invariant-loop decreases-loop
 loop_again c =
     let p = c.before.before.before in
     let h = p.before.before.before in
@@ -55,10 +55,10 @@ loop_again c =
       λ small e key k xs end r. fill_goes (v.3 small e key k xs end r) k small v.2 (omega arith) h.hash_at.ensures refl p.put.ensures (on never true (v.3 small e key k xs end r).along (omega arith) c.skip-record.ensures.0),
     )
 
-same_length : tie.Need-same-length invariant_loop decreases_loop
+same_length : tie.Need-same-length invariant-loop decreases-loop
 same_length c = c.before.before.loop.invariant.1
 
-returns : tie.Need-returns invariant_loop decreases_loop
+returns : tie.Need-returns invariant-loop decreases-loop
 returns c =
     let v = c.before.before.loop.invariant in
     λ small z e key k xs end h. filled (v.3 small e key k xs end (rw z (run _ h))) (omega arith)
@@ -67,8 +67,8 @@ pub fill_spec : {M : Type 1} → statement M
 fill_spec =
     tie.close
     (tie.spec
-    invariant_loop
-    decreases_loop
+    invariant-loop
+    decreases-loop
     loop_holds
     hash_at_requires
     cast_put

@@ -8,40 +8,40 @@ use borrow.Author.Rules.{rules}
 use Rattle.model_check.proofs.tables.table_distinct.Statement.{statement}
 use Rattle.model_check.proofs.tables.table_distinct.Tie as tie
 
-abbrev invariant_loop : tie.invariant_loop
-invariant_loop s kind words t i₀ i = (ks : List Key) → KeyTable (lead_of kind) s ks t words → Looked ks i
+abbrev invariant-loop : tie.invariant-loop
+invariant-loop s kind words t i₀ i = (ks : List Key) → KeyTable (lead_of kind) s ks t words → Looked ks i
 
-abbrev decreases_loop : tie.decreases_loop
-decreases_loop s kind words t i₀ i = i
+abbrev decreases-loop : tie.decreases-loop
+decreases-loop s kind words t i₀ i = i
 
-loop_holds : tie.Need-loop-init invariant_loop decreases_loop
+loop_holds : tie.Need-loop-init invariant-loop decreases-loop
 loop_holds c =
     λ ks x. all_left ks x.full
 
-sub_i : tie.Need-overflow-sub-i invariant_loop decreases_loop
+sub_i : tie.Need-overflow-sub-i invariant-loop decreases-loop
 sub_i c = search rules
 
-has_twin_requires : tie.Need-has-twin-requires invariant_loop decreases_loop
+has_twin_requires : tie.Need-has-twin-requires invariant-loop decreases-loop
 has_twin_requires c κs = search rules
 
-returns : tie.Need-returns invariant_loop decreases_loop
+returns : tie.Need-returns invariant-loop decreases-loop
 returns c =
     let h = c.before in
     λ ks x.
     let v = h.before.before.loop.invariant ks x in
     a_twin v (omega arith) (h.has-twin.ensures ks x (omega (arith, v.in_range))) c.if1.true
 
-loop_less : tie.Need-loop-smaller invariant_loop decreases_loop
+loop_less : tie.Need-loop-smaller invariant-loop decreases-loop
 loop_less c = search rules
 
-loop_again : tie.Need-loop-preserved invariant_loop decreases_loop
+loop_again : tie.Need-loop-preserved invariant-loop decreases-loop
 loop_again c =
     let h = c.before in
     λ ks x.
     let v = h.before.before.loop.invariant ks x in
     no_twin v (omega arith) (h.has-twin.ensures ks x (omega (arith, v.in_range))) c.if1.false
 
-returns_2 : tie.Need-returns-2 invariant_loop decreases_loop
+returns_2 : tie.Need-returns-2 invariant-loop decreases-loop
 returns_2 c =
     λ ks x. none_left (c.before.loop.invariant ks x) (omega arith)
 
@@ -49,8 +49,8 @@ pub table_distinct_spec : {M : Type 1} → statement M
 table_distinct_spec =
     tie.close
     (tie.spec
-    invariant_loop
-    decreases_loop
+    invariant-loop
+    decreases-loop
     loop_holds
     sub_i
     has_twin_requires

@@ -24,17 +24,17 @@ use borrow.Author.Rules.{rules}
 use Rattle.model_check.proofs.walk.judge_activities.Statement.{statement}
 use Rattle.model_check.proofs.walk.judge_activities.Tie as tie
 
-abbrev invariant_loop : tie.invariant_loop
-invariant_loop s count calendars words₀ names t q₀ right₀ i₀ words q right i =
+abbrev invariant-loop : tie.invariant-loop
+invariant-loop s count calendars words₀ names t q₀ right₀ i₀ words q right i =
     (i ≤ count) × (length words ≡ length words₀) × Passes (times i (record_of true Activities)) s q₀ q × (q₀.bit % 8 ≡ 0 → q.bit % 8 ≡ 0)
     × (ApartFrom names t → Kept names words₀ words)
     × (ApartFrom names t → (m : Model) (end : ℕ) → Holds calendar s calendars m.calendars end → NamesIn s m names words₀ → (next : ℕ) → Run Activities s q₀ count m.activities next → Judging s count m next right i q)
     × (length s < 2 ^ 32 → q₀.bit % 8 ≡ 0 → t.rows ≡ count → Emptied t words₀ → (xs : List Activity) (next : ℕ) → Run Activities s q₀ count xs next → Filling Activities s id_key xs next t words q i)
 
-abbrev decreases_loop : tie.decreases_loop
-decreases_loop s count calendars words₀ names t q₀ right₀ i₀ words q right i = count - i
+abbrev decreases-loop : tie.decreases-loop
+decreases-loop s count calendars words₀ names t q₀ right₀ i₀ words q right i = count - i
 
-loop_holds : tie.Need-loop-init invariant_loop decreases_loop
+loop_holds : tie.Need-loop-init invariant-loop decreases-loop
 loop_holds c =
     let a = c.before.before.args in (
       omega arith,
@@ -46,24 +46,24 @@ loop_holds c =
       λ small z e em xs next r. fill_starts (rw e r) em,
     )
 
-hash_at_requires : tie.Need-hash-at-requires invariant_loop decreases_loop
+hash_at_requires : tie.Need-hash-at-requires invariant-loop decreases-loop
 hash_at_requires c κs = search rules
 
-cast_put : tie.Need-overflow-cast-put invariant_loop decreases_loop
+cast_put : tie.Need-overflow-cast-put invariant-loop decreases-loop
 cast_put c = search rules
 
-put_requires : tie.Need-put-requires invariant_loop decreases_loop
+put_requires : tie.Need-put-requires invariant-loop decreases-loop
 put_requires c κs = search rules
 
-judge_activity_requires : tie.Need-judge-activity-requires invariant_loop decreases_loop
+judge_activity_requires : tie.Need-judge-activity-requires invariant-loop decreases-loop
 judge_activity_requires c κs = search rules
 
-same_length : tie.Need-same-length invariant_loop decreases_loop
+same_length : tie.Need-same-length invariant-loop decreases-loop
 same_length c =
     let p = c.before.before.before.before.before.before.before.before in
     p.put.auto.0 ∙ p.before.before.before.before.before.loop.invariant.1
 
-returns : tie.Need-returns invariant_loop decreases_loop
+returns : tie.Need-returns invariant-loop decreases-loop
 returns c =
     let j = c.before.before.before.before in
     let p = j.before.before.before.before in
@@ -79,13 +79,13 @@ returns c =
       keys = λ small z e em xs next r. let g = (v.6 small z e em xs next r).along in not_far (goes never true g (tested g (omega arith) y.next) refl) c.if1.true;
     }
 
-add_i : tie.Need-overflow-add-i invariant_loop decreases_loop
+add_i : tie.Need-overflow-add-i invariant-loop decreases-loop
 add_i c = search rules
 
-loop_less : tie.Need-loop-smaller invariant_loop decreases_loop
+loop_less : tie.Need-loop-smaller invariant-loop decreases-loop
 loop_less c = search rules
 
-loop_again : tie.Need-loop-preserved invariant_loop decreases_loop
+loop_again : tie.Need-loop-preserved invariant-loop decreases-loop
 loop_again c =
     let j = c.before.before.before.before in
     let p = j.before.before.before.before in
@@ -109,10 +109,10 @@ loop_again c =
           fill_goes g activity_key small (v.3 z) (omega arith) k.hash_at.ensures refl p.put.ensures (tested g.along (omega arith) y.next),
     )
 
-same_length_2 : tie.Need-same-length-2 invariant_loop decreases_loop
+same_length_2 : tie.Need-same-length-2 invariant-loop decreases-loop
 same_length_2 c = c.before.loop.invariant.1
 
-returns_2 : tie.Need-returns-2 invariant_loop decreases_loop
+returns_2 : tie.Need-returns-2 invariant-loop decreases-loop
 returns_2 c =
     let l = c.before in
     let v = l.loop.invariant in
@@ -128,8 +128,8 @@ pub judge_activities_spec : {M : Type 1} → statement M
 judge_activities_spec =
     tie.close
     (tie.spec
-    invariant_loop
-    decreases_loop
+    invariant-loop
+    decreases-loop
     loop_holds
     hash_at_requires
     cast_put

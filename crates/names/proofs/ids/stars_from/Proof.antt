@@ -11,49 +11,49 @@ use borrow.Author.Rules.{rules}
 use Rattle.names.proofs.ids.stars_from.Statement.{statement}
 use Rattle.names.proofs.ids.stars_from.Tie as tie
 
-abbrev invariant_loop : tie.invariant_loop
-invariant_loop out words ids count wanted row₀ row = Seeks words ids.wanted (wants out words ids wanted) (find (wants out words ids wanted) (chain_of words ids.wanted (hash_of wanted))) row
+abbrev invariant-loop : tie.invariant-loop
+invariant-loop out words ids count wanted row₀ row = Seeks words ids.wanted (wants out words ids wanted) (find (wants out words ids wanted) (chain_of words ids.wanted (hash_of wanted))) row
 
-abbrev decreases_loop : tie.decreases_loop
-decreases_loop out words ids count wanted row₀ row = up_to row
+abbrev decreases-loop : tie.decreases-loop
+decreases-loop out words ids count wanted row₀ row = up_to row
 
-hash_of_requires : tie.Need-hash-of-requires invariant_loop decreases_loop
+hash_of_requires : tie.Need-hash-of-requires invariant-loop decreases-loop
 hash_of_requires c κs = search rules
 
-first_requires : tie.Need-first-requires invariant_loop decreases_loop
+first_requires : tie.Need-first-requires invariant-loop decreases-loop
 first_requires c κs = search rules
 
-loop_holds : tie.Need-loop-init invariant_loop decreases_loop
+loop_holds : tie.Need-loop-init invariant-loop decreases-loop
 loop_holds c =
     let a = c.before.before.before.before.before.args in
     seeks_first (hash_of a.wanted.now) (c.first.ensures ∙ ap (λ (h : ℕ). first_of a.words.now a.ids.wanted h) c.before.hash-of.ensures)
 
-enum_known_row : tie.Need-enum-known-row invariant_loop decreases_loop
+enum_known_row : tie.Need-enum-known-row invariant-loop decreases-loop
 enum_known_row c = search rules
 
-enum_told : tie.Need-enum-told invariant_loop decreases_loop
+enum_told : tie.Need-enum-told invariant-loop decreases-loop
 enum_told c = search rules
 
-returns : tie.Need-returns invariant_loop decreases_loop
+returns : tie.Need-returns invariant-loop decreases-loop
 unfolding stars_from
 returns c =
     let l = c.before.before in
     let a = l.before.before.before.before.before.before.args in
     no_number l.loop.invariant (λ r. behind (place_of a.words.now a.ids.wanted r) a.count) c.enum_told.given.1
 
-place_requires : tie.Need-place-requires invariant_loop decreases_loop
+place_requires : tie.Need-place-requires invariant-loop decreases-loop
 place_requires c κs = search rules
 
-id_of_requires : tie.Need-id-of-requires invariant_loop decreases_loop
+id_of_requires : tie.Need-id-of-requires invariant-loop decreases-loop
 id_of_requires c κs = search rules
 
-same_starred_requires : tie.Need-same-starred-requires invariant_loop decreases_loop
+same_starred_requires : tie.Need-same-starred-requires invariant-loop decreases-loop
 same_starred_requires c κs = search rules
 
-behind_requires : tie.Need-behind-requires invariant_loop decreases_loop
+behind_requires : tie.Need-behind-requires invariant-loop decreases-loop
 behind_requires c κs = search rules
 
-returns_2 : tie.Need-returns-2 invariant_loop decreases_loop
+returns_2 : tie.Need-returns-2 invariant-loop decreases-loop
 unfolding stars_from
 returns_2 c =
     let i = c.before.before.before in
@@ -65,16 +65,16 @@ returns_2 c =
     ∙ its_number l.loop.invariant (λ r. behind (place_of a.words.now a.ids.wanted r) a.count) m.row.given.1
     (seen_own a.wanted.now k.place.ensures c.before.before.same-starred.ensures i.id-of.ensures c.before.if1.true)
 
-next_requires : tie.Need-next-requires invariant_loop decreases_loop
+next_requires : tie.Need-next-requires invariant-loop decreases-loop
 next_requires c κs = search rules
 
-loop_less : tie.Need-loop-smaller invariant_loop decreases_loop
+loop_less : tie.Need-loop-smaller invariant-loop decreases-loop
 loop_less c =
     let m = c.before.before.before.before.before.before in
     let a = m.before.before.before.before.before.before.before.before.args in
     next_less a.words.now a.ids.wanted m.row.given.1 c.next.ensures
 
-loop_again : tie.Need-loop-preserved invariant_loop decreases_loop
+loop_again : tie.Need-loop-preserved invariant-loop decreases-loop
 loop_again c =
     let i = c.before.before.before in
     let k = i.before in
@@ -87,8 +87,8 @@ pub stars_from_spec : {M : Type 1} → statement M
 stars_from_spec =
     tie.close
     (tie.spec
-    invariant_loop
-    decreases_loop
+    invariant-loop
+    decreases-loop
     hash_of_requires
     first_requires
     loop_holds

@@ -12,41 +12,41 @@ use borrow.Author.Rules.{rules}
 use Rattle.names.proofs.ids.taken_in.Statement.{statement}
 use Rattle.names.proofs.ids.taken_in.Tie as tie
 
-abbrev invariant_loop : tie.invariant_loop
-invariant_loop out words ids wanted stars row₀ row =
+abbrev invariant-loop : tie.invariant-loop
+invariant-loop out words ids wanted stars row₀ row =
     Seeks words ids.ids (is_id out words ids wanted stars) (find (is_id out words ids wanted stars) (chain_of words ids.ids (hash_of (starred_by wanted stars)))) row
 
-abbrev decreases_loop : tie.decreases_loop
-decreases_loop out words ids wanted stars row₀ row = up_to row
+abbrev decreases-loop : tie.decreases-loop
+decreases-loop out words ids wanted stars row₀ row = up_to row
 
-hash_starred_requires : tie.Need-hash-starred-requires invariant_loop decreases_loop
+hash_starred_requires : tie.Need-hash-starred-requires invariant-loop decreases-loop
 hash_starred_requires c κs = search rules
 
-first_requires : tie.Need-first-requires invariant_loop decreases_loop
+first_requires : tie.Need-first-requires invariant-loop decreases-loop
 first_requires c κs = search rules
 
-loop_holds : tie.Need-loop-init invariant_loop decreases_loop
+loop_holds : tie.Need-loop-init invariant-loop decreases-loop
 loop_holds c =
     let a = c.before.before.before.before.before.args in
     seeks_first (hash_of (starred_by a.wanted.now a.stars)) (c.first.ensures ∙ ap (λ (h : ℕ). first_of a.words.now a.ids.ids h) c.before.hash-starred.ensures)
 
-enum_known_row : tie.Need-enum-known-row invariant_loop decreases_loop
+enum_known_row : tie.Need-enum-known-row invariant-loop decreases-loop
 enum_known_row c = search rules
 
-enum_told : tie.Need-enum-told invariant_loop decreases_loop
+enum_told : tie.Need-enum-told invariant-loop decreases-loop
 enum_told c = search rules
 
-returns : tie.Need-returns invariant_loop decreases_loop
+returns : tie.Need-returns invariant-loop decreases-loop
 unfolding taken_in
 returns c = not_given c.before.before.loop.invariant c.enum_told.given.1
 
-id_of_requires : tie.Need-id-of-requires invariant_loop decreases_loop
+id_of_requires : tie.Need-id-of-requires invariant-loop decreases-loop
 id_of_requires c κs = search rules
 
-same_starred_requires : tie.Need-same-starred-requires invariant_loop decreases_loop
+same_starred_requires : tie.Need-same-starred-requires invariant-loop decreases-loop
 same_starred_requires c κs = search rules
 
-returns_2 : tie.Need-returns-2 invariant_loop decreases_loop
+returns_2 : tie.Need-returns-2 invariant-loop decreases-loop
 unfolding taken_in
 returns_2 c =
     let k = c.before.before in
@@ -55,16 +55,16 @@ returns_2 c =
     let a = l.before.before.before.before.before.before.args in
     is_given_lem l.loop.invariant m.row.given.1 (seen_id (starred_by a.wanted.now a.stars) c.before.same-starred.ensures k.id-of.ensures c.if1.true)
 
-next_requires : tie.Need-next-requires invariant_loop decreases_loop
+next_requires : tie.Need-next-requires invariant-loop decreases-loop
 next_requires c κs = search rules
 
-loop_less : tie.Need-loop-smaller invariant_loop decreases_loop
+loop_less : tie.Need-loop-smaller invariant-loop decreases-loop
 loop_less c =
     let m = c.before.before.before.before.before in
     let a = m.before.before.before.before.before.before.before.before.args in
     next_less a.words.now a.ids.ids m.row.given.1 c.next.ensures
 
-loop_again : tie.Need-loop-preserved invariant_loop decreases_loop
+loop_again : tie.Need-loop-preserved invariant-loop decreases-loop
 loop_again c =
     let k = c.before.before.before in
     let m = k.before.before in
@@ -76,8 +76,8 @@ pub taken_in_spec : {M : Type 1} → statement M
 taken_in_spec =
     tie.close
     (tie.spec
-    invariant_loop
-    decreases_loop
+    invariant-loop
+    decreases-loop
     hash_starred_requires
     first_requires
     loop_holds

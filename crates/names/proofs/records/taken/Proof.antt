@@ -13,24 +13,24 @@ use borrow.Author.Rules.{rules}
 use Rattle.names.proofs.records.taken.Statement.{statement}
 use Rattle.names.proofs.records.taken.Tie as tie
 
-abbrev invariant_loop : tie.invariant_loop
-invariant_loop out kind count wanted stars q₀ i₀ q i = (i ≤ count) × Passes (times i (record_of false kind)) out q₀ q × Left kind out q₀ count (same (starred_by wanted stars)) i
+abbrev invariant-loop : tie.invariant-loop
+invariant-loop out kind count wanted stars q₀ i₀ q i = (i ≤ count) × Passes (times i (record_of false kind)) out q₀ q × Left kind out q₀ count (same (starred_by wanted stars)) i
 
-abbrev decreases_loop : tie.decreases_loop
-decreases_loop out kind count wanted stars q₀ i₀ q i = count - i
+abbrev decreases-loop : tie.decreases-loop
+decreases-loop out kind count wanted stars q₀ i₀ q i = count - i
 
-loop_holds : tie.Need-loop-init invariant_loop decreases_loop
+loop_holds : tie.Need-loop-init invariant-loop decreases-loop
 loop_holds c =
     let a = c.before.before.args in
     (omega arith, pass_no (record_of false a.kind) a.out.now a.p, left_start a.kind a.out.now a.p a.count (same (starred_by a.wanted.now a.stars)))
 
-raw_text_requires : tie.Need-raw-text-requires invariant_loop decreases_loop
+raw_text_requires : tie.Need-raw-text-requires invariant-loop decreases-loop
 raw_text_requires c κs = search rules
 
-same_starred_requires : tie.Need-same-starred-requires invariant_loop decreases_loop
+same_starred_requires : tie.Need-same-starred-requires invariant-loop decreases-loop
 same_starred_requires c κs = search rules
 
-returns : tie.Need-returns invariant_loop decreases_loop
+returns : tie.Need-returns invariant-loop decreases-loop
 returns c =
     let a = c.before.before.before.before.before.before.before.args in
     let l = c.before.before.before.before.loop in
@@ -38,16 +38,16 @@ returns c =
     left_hit a.kind a.out.now a.p a.count (same t) l.i l.invariant.2 (omega arith)
     (seen_text t c.before.same-starred.ensures c.before.before.raw-text.ensures (text_here a.kind l.i l.invariant.1) c.if1.true)
 
-skip_record_requires : tie.Need-skip-record-requires invariant_loop decreases_loop
+skip_record_requires : tie.Need-skip-record-requires invariant-loop decreases-loop
 skip_record_requires c κs = search rules
 
-add_i : tie.Need-overflow-add-i invariant_loop decreases_loop
+add_i : tie.Need-overflow-add-i invariant-loop decreases-loop
 add_i c = search rules
 
-loop_less : tie.Need-loop-smaller invariant_loop decreases_loop
+loop_less : tie.Need-loop-smaller invariant-loop decreases-loop
 loop_less c = search rules
 
-loop_again : tie.Need-loop-preserved invariant_loop decreases_loop
+loop_again : tie.Need-loop-preserved invariant-loop decreases-loop
 loop_again c =
     let a = c.before.before.before.before.before.before.before.before.args in
     let l = c.before.before.before.before.before.loop in
@@ -58,7 +58,7 @@ loop_again c =
           (seen_text t c.before.before.same-starred.ensures c.before.before.before.raw-text.ensures (text_here a.kind l.i l.invariant.1) c.before.if1.false),
     )
 
-returns_2 : tie.Need-returns-2 invariant_loop decreases_loop
+returns_2 : tie.Need-returns-2 invariant-loop decreases-loop
 returns_2 c =
     let a = c.before.before.before.before.args in
     let l = c.before.loop in
@@ -68,8 +68,8 @@ pub taken_spec : {M : Type 1} → statement M
 taken_spec =
     tie.close
     (tie.spec
-    invariant_loop
-    decreases_loop
+    invariant-loop
+    decreases-loop
     loop_holds
     raw_text_requires
     same_starred_requires

@@ -6,85 +6,85 @@ use Rattle.number.proofs.Figures.{read, unit_within, no_unit, all_read}
 use Rattle.number.proofs.duration.time_figures.Statement.{statement}
 use Rattle.number.proofs.duration.time_figures.Tie as tie
 
-abbrev invariant_loop : tie.invariant_loop
-invariant_loop s f₀ from₀ f from = (from ≤ length s) × (time_figures (drop from s) [] f ≡ time_figures s [] f₀)
+abbrev invariant-loop : tie.invariant-loop
+invariant-loop s f₀ from₀ f from = (from ≤ length s) × (time_figures (drop from s) [] f ≡ time_figures s [] f₀)
 
-abbrev decreases_loop : tie.decreases_loop
-decreases_loop s f₀ from₀ f from = length s - from
+abbrev decreases-loop : tie.decreases-loop
+decreases-loop s f₀ from₀ f from = length s - from
 
-loop_holds : tie.Need-loop-init invariant_loop decreases_loop
+loop_holds : tie.Need-loop-init invariant-loop decreases-loop
 loop_holds c = (omega arith, refl)
 
-sub_first : tie.Need-overflow-sub-first invariant_loop decreases_loop
+sub_first : tie.Need-overflow-sub-first invariant-loop decreases-loop
 sub_first c = search rules
 
-part_first_start : tie.Need-slice-bounds-first-start invariant_loop decreases_loop
+part_first_start : tie.Need-slice-bounds-first-start invariant-loop decreases-loop
 part_first_start c = search rules
 
-part_first_end : tie.Need-slice-bounds-first-end invariant_loop decreases_loop
+part_first_end : tie.Need-slice-bounds-first-end invariant-loop decreases-loop
 part_first_end c = search rules
 
-first_requires : tie.Need-first-requires invariant_loop decreases_loop
+first_requires : tie.Need-first-requires invariant-loop decreases-loop
 first_requires c κs = search rules
 
-add_k : tie.Need-overflow-add-k invariant_loop decreases_loop
+add_k : tie.Need-overflow-add-k invariant-loop decreases-loop
 add_k c =
     let at = c.before.before.before in
     let s = at.before.before.args.s.now in
     omega (arith, unit_within s at.loop.from c.first.result at.loop.f c.first.ensures)
 
-returns : tie.Need-returns invariant_loop decreases_loop
+returns : tie.Need-returns invariant-loop decreases-loop
 returns c =
     let at = c.before.before.before.before in
     let s = at.before.before.args.s.now in
     sym (no_unit s at.loop.from c.before.first.result at.loop.f c.before.first.ensures (search rules) (search rules)) ∙ at.loop.invariant.1
 
-sub_piece_of : tie.Need-overflow-sub-piece-of invariant_loop decreases_loop
+sub_piece_of : tie.Need-overflow-sub-piece-of invariant-loop decreases-loop
 sub_piece_of c = search rules
 
-part_piece_of_start : tie.Need-slice-bounds-piece-of-start invariant_loop decreases_loop
+part_piece_of_start : tie.Need-slice-bounds-piece-of-start invariant-loop decreases-loop
 part_piece_of_start c = search rules
 
-part_piece_of_end : tie.Need-slice-bounds-piece-of-end invariant_loop decreases_loop
+part_piece_of_end : tie.Need-slice-bounds-piece-of-end invariant-loop decreases-loop
 part_piece_of_end c = search rules
 
-piece_of_requires : tie.Need-piece-of-requires invariant_loop decreases_loop
+piece_of_requires : tie.Need-piece-of-requires invariant-loop decreases-loop
 piece_of_requires c κs = search rules
 
-enum_known_x : tie.Need-enum-known-x invariant_loop decreases_loop
+enum_known_x : tie.Need-enum-known-x invariant-loop decreases-loop
 enum_known_x c = search rules
 
-shared_slice_read_set_unit : tie.Need-shared-slice-read-set-unit invariant_loop decreases_loop
+shared_slice_read_set_unit : tie.Need-shared-slice-read-set-unit invariant-loop decreases-loop
 shared_slice_read_set_unit c = search rules
 
-set_unit_requires : tie.Need-set-unit-requires invariant_loop decreases_loop
+set_unit_requires : tie.Need-set-unit-requires invariant-loop decreases-loop
 set_unit_requires c κs = search rules
 
-enum_told : tie.Need-enum-told invariant_loop decreases_loop
+enum_told : tie.Need-enum-told invariant-loop decreases-loop
 enum_told c = search rules
 
-returns_2 : tie.Need-returns-2 invariant_loop decreases_loop
+returns_2 : tie.Need-returns-2 invariant-loop decreases-loop
 returns_2 c =
     let at = c.before.before.before.before.before.before.before.before in
     let s = at.before.before.args.s.now in
     read s at.loop.from c.before.before.before.before.before.first.result at.loop.f c.before.before.before.before.before.first.ensures c.before.before.piece_of.result (search rules) c.before.before.piece_of.ensures c.enum_told.given.1 ∙ at.loop.invariant.1
 
-enum_told_2 : tie.Need-enum-told-2 invariant_loop decreases_loop
+enum_told_2 : tie.Need-enum-told-2 invariant-loop decreases-loop
 enum_told_2 c = search rules
 
-returns_3 : tie.Need-returns-3 invariant_loop decreases_loop
+returns_3 : tie.Need-returns-3 invariant-loop decreases-loop
 returns_3 c =
     let at = c.before.before.before.before.before.before.before.before in
     let s = at.before.before.args.s.now in
     read s at.loop.from c.before.before.before.before.before.first.result at.loop.f c.before.before.before.before.before.first.ensures c.before.before.piece_of.result (search rules) c.before.before.piece_of.ensures c.enum-told2.given.1 ∙ at.loop.invariant.1
 
-add_from : tie.Need-overflow-add-from invariant_loop decreases_loop
+add_from : tie.Need-overflow-add-from invariant-loop decreases-loop
 add_from c = search rules
 
-loop_less : tie.Need-loop-smaller invariant_loop decreases_loop
+loop_less : tie.Need-loop-smaller invariant-loop decreases-loop
 loop_less c = search rules
 
-loop_again : tie.Need-loop-preserved invariant_loop decreases_loop
+loop_again : tie.Need-loop-preserved invariant-loop decreases-loop
 loop_again c =
     let at = c.before.before.before.before.before.before.before.before.before.before.before in
     let s = at.before.before.args.s.now in
@@ -95,7 +95,7 @@ loop_again c =
           ∙ at.loop.invariant.1,
     )
 
-returns_4 : tie.Need-returns-4 invariant_loop decreases_loop
+returns_4 : tie.Need-returns-4 invariant-loop decreases-loop
 returns_4 c =
     let at = c.before in
     let s = at.before.before.args.s.now in
@@ -105,8 +105,8 @@ pub time_figures_spec : {M : Type 1} → statement M
 time_figures_spec =
     tie.close
     (tie.spec
-    invariant_loop
-    decreases_loop
+    invariant-loop
+    decreases-loop
     loop_holds
     sub_first
     part_first_start

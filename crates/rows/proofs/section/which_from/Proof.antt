@@ -5,40 +5,40 @@ use Rattle.rows.proofs.Walking.{Left, left_all, left_later, picks_none, picks_he
 use Rattle.rows.proofs.section.which_from.Statement.{statement}
 use Rattle.rows.proofs.section.which_from.Tie as tie
 
-abbrev invariant_loop : tie.invariant_loop
-invariant_loop s name which e₀ e = Left s name which e₀ e
+abbrev invariant-loop : tie.invariant-loop
+invariant-loop s name which e₀ e = Left s name which e₀ e
 
-abbrev decreases_loop : tie.decreases_loop
-decreases_loop s name which e₀ e = ahead s e
+abbrev decreases-loop : tie.decreases-loop
+decreases-loop s name which e₀ e = ahead s e
 
-loop_holds : tie.Need-loop-init invariant_loop decreases_loop
+loop_holds : tie.Need-loop-init invariant-loop decreases-loop
 loop_holds c = left_all
 
-enum_known_e : tie.Need-enum-known-e invariant_loop decreases_loop
+enum_known_e : tie.Need-enum-known-e invariant-loop decreases-loop
 enum_known_e c = search rules
 
-enum_told : tie.Need-enum-told invariant_loop decreases_loop
+enum_told : tie.Need-enum-told invariant-loop decreases-loop
 enum_told c = search rules
 
-returns : tie.Need-returns invariant_loop decreases_loop
+returns : tie.Need-returns invariant-loop decreases-loop
 returns c = picks_none c.before.before.loop.invariant c.enum_told.given.1
 
-passes_requires : tie.Need-passes-requires invariant_loop decreases_loop
+passes_requires : tie.Need-passes-requires invariant-loop decreases-loop
 passes_requires c κs = search rules
 
-returns_2 : tie.Need-returns-2 invariant_loop decreases_loop
+returns_2 : tie.Need-returns-2 invariant-loop decreases-loop
 returns_2 c =
     let k = c.before in
     let t = k.before.before in
     picks_here t.before.before.loop.invariant t.e.given.1 (sym k.passes.ensures ∙ c.if1.true)
 
-next_child_requires : tie.Need-next-child-requires invariant_loop decreases_loop
+next_child_requires : tie.Need-next-child-requires invariant-loop decreases-loop
 next_child_requires c κs = search rules
 
-loop_less : tie.Need-loop-smaller invariant_loop decreases_loop
+loop_less : tie.Need-loop-smaller invariant-loop decreases-loop
 loop_less c = ahead_less _ c.before.before.before.before.e.given.1 _ c.next-child.ensures.on
 
-loop_again : tie.Need-loop-preserved invariant_loop decreases_loop
+loop_again : tie.Need-loop-preserved invariant-loop decreases-loop
 loop_again c =
     let i = c.before in
     let k = i.before in
@@ -49,8 +49,8 @@ pub which_from_spec : {M : Type 1} → statement M
 which_from_spec =
     tie.close
     (tie.spec
-    invariant_loop
-    decreases_loop
+    invariant-loop
+    decreases-loop
     loop_holds
     enum_known_e
     enum_told

@@ -7,47 +7,47 @@ use Rattle.rows.proofs.Filling.{Filling, fill_begin, fill_end, fill_place, fill_
 use Rattle.rows.proofs.table.fill.Statement.{statement}
 use Rattle.rows.proofs.table.fill.Tie as tie
 
-abbrev invariant_loop : tie.invariant_loop
-invariant_loop s list words₀ t row₀ e₀ t12 words row e =
+abbrev invariant-loop : tie.invariant-loop
+invariant-loop s list words₀ t row₀ e₀ t12 words row e =
     (root : Element) (w : List ℕ) → Ripe s root list t w → Filling s root list t words₀ 0 e₀ words₀ → Filling s root list t words₀ row e words
 
-abbrev decreases_loop : tie.decreases_loop
-decreases_loop s list words₀ t row₀ e₀ t12 words row e = room_in s list e
+abbrev decreases-loop : tie.decreases-loop
+decreases-loop s list words₀ t row₀ e₀ t12 words row e = room_in s list e
 
-clear_requires : tie.Need-clear-requires invariant_loop decreases_loop
+clear_requires : tie.Need-clear-requires invariant-loop decreases-loop
 clear_requires c κs = search rules
 
-loop_holds : tie.Need-loop-init invariant_loop decreases_loop
+loop_holds : tie.Need-loop-init invariant-loop decreases-loop
 loop_holds c = λ root w r h. h
 
-enum_known_e : tie.Need-enum-known-e invariant_loop decreases_loop
+enum_known_e : tie.Need-enum-known-e invariant-loop decreases-loop
 enum_known_e c = search rules
 
-enum_told : tie.Need-enum-told invariant_loop decreases_loop
+enum_told : tie.Need-enum-told invariant-loop decreases-loop
 enum_told c = search rules
 
-same_length : tie.Need-same-length invariant_loop decreases_loop
+same_length : tie.Need-same-length invariant-loop decreases-loop
 same_length c =
     let k = c.before.before.before.before.before in
     let p = k.before.before.before.before.requires in
     (c.before.before.loop.invariant _ _ p.0 (fill_begin p.0 k.clear.ensures p.1)).length_same ∙ k.clear.auto.0
 
-returns : tie.Need-returns invariant_loop decreases_loop
+returns : tie.Need-returns invariant-loop decreases-loop
 returns c =
     let k = c.before.before.before.before.before in
     let p = k.before.before.before.before.requires in
     fill_end p.0 (c.before.before.loop.invariant _ _ p.0 (fill_begin p.0 k.clear.ensures p.1)) k.clear.ensures c.enum_told.given.1
 
-slice_aggregate_text_of : tie.Need-slice-aggregate-text-of invariant_loop decreases_loop
+slice_aggregate_text_of : tie.Need-slice-aggregate-text-of invariant-loop decreases-loop
 slice_aggregate_text_of c = search rules
 
-text_of_requires : tie.Need-text-of-requires invariant_loop decreases_loop
+text_of_requires : tie.Need-text-of-requires invariant-loop decreases-loop
 text_of_requires c κs = search rules
 
-hash_of_requires : tie.Need-hash-of-requires invariant_loop decreases_loop
+hash_of_requires : tie.Need-hash-of-requires invariant-loop decreases-loop
 hash_of_requires c κs = search rules
 
-cast_put : tie.Need-overflow-cast-put invariant_loop decreases_loop
+cast_put : tie.Need-overflow-cast-put invariant-loop decreases-loop
 cast_put c =
     let t = c.before.before.before.before.before in
     let l = t.before.before in
@@ -55,10 +55,10 @@ cast_put c =
     let p = k.before.before.before.before.requires in
     omega (arith, fill_place p.0 (l.loop.invariant _ _ p.0 (fill_begin p.0 k.clear.ensures p.1)) t.e.given.1)
 
-put_requires : tie.Need-put-requires invariant_loop decreases_loop
+put_requires : tie.Need-put-requires invariant-loop decreases-loop
 put_requires c κs = search rules
 
-add_row : tie.Need-overflow-add-row invariant_loop decreases_loop
+add_row : tie.Need-overflow-add-row invariant-loop decreases-loop
 add_row c =
     let t = c.before.before.before.before.before.before.before.before in
     let l = t.before.before in
@@ -66,13 +66,13 @@ add_row c =
     let p = k.before.before.before.before.requires in
     omega (arith, fill_row p.0 (l.loop.invariant _ _ p.0 (fill_begin p.0 k.clear.ensures p.1)) t.e.given.1)
 
-next_listed_requires : tie.Need-next-listed-requires invariant_loop decreases_loop
+next_listed_requires : tie.Need-next-listed-requires invariant-loop decreases-loop
 next_listed_requires c κs = search rules
 
-loop_less : tie.Need-loop-smaller invariant_loop decreases_loop
+loop_less : tie.Need-loop-smaller invariant-loop decreases-loop
 loop_less c = lists_less c.before.before.before.before.before.before.before.before.before.e.given.1 c.next-listed.ensures refl
 
-loop_again : tie.Need-loop-preserved invariant_loop decreases_loop
+loop_again : tie.Need-loop-preserved invariant-loop decreases-loop
 loop_again c =
     let p = c.before.before.before in
     let h = p.before.before in
@@ -85,8 +85,8 @@ pub fill_spec : {M : Type 1} → statement M
 fill_spec =
     tie.close
     (tie.spec
-    invariant_loop
-    decreases_loop
+    invariant-loop
+    decreases-loop
     clear_requires
     loop_holds
     enum_known_e

@@ -3,26 +3,26 @@ use native.Mathlib.Omega.{arith}
 use Rattle.samples.proofs.floats.scaled.Statement.{statement}
 use Rattle.samples.proofs.floats.scaled.Tie as tie
 
-abbrev invariant_loop : tie.invariant_loop
-invariant_loop x factor n y₀ left₀ y left = Unit {0}
+abbrev invariant-loop : tie.invariant-loop
+invariant-loop x factor n y₀ left₀ y left = Unit {0}
 
-abbrev decreases_loop : tie.decreases_loop
-decreases_loop x factor n y₀ left₀ y left = left
+abbrev decreases-loop : tie.decreases-loop
+decreases-loop x factor n y₀ left₀ y left = left
 
-loop_holds : tie.Need-loop-init invariant_loop decreases_loop
+loop_holds : tie.Need-loop-init invariant-loop decreases-loop
 loop_holds c = tt
 
-sub_left : tie.Need-overflow-sub-left invariant_loop decreases_loop
+sub_left : tie.Need-overflow-sub-left invariant-loop decreases-loop
 sub_left c = omega arith
 
-loop_less : tie.Need-loop-smaller invariant_loop decreases_loop
+loop_less : tie.Need-loop-smaller invariant-loop decreases-loop
 loop_less c = omega arith
 
-loop_again : tie.Need-loop-preserved invariant_loop decreases_loop
+loop_again : tie.Need-loop-preserved invariant-loop decreases-loop
 loop_again c = tt
 
-returns : tie.Need-returns invariant_loop decreases_loop
+returns : tie.Need-returns invariant-loop decreases-loop
 returns c = tt
 
 pub scaled_spec : {M : Type 1} → statement M
-scaled_spec = tie.close (tie.spec invariant_loop decreases_loop loop_holds sub_left loop_less loop_again returns)
+scaled_spec = tie.close (tie.spec invariant-loop decreases-loop loop_holds sub_left loop_less loop_again returns)

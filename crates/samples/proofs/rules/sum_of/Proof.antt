@@ -5,42 +5,42 @@ use native.Mathlib.Omega.{arith}
 use Rattle.samples.proofs.rules.sum_of.Statement.{statement}
 use Rattle.samples.proofs.rules.sum_of.Tie as tie
 
-abbrev invariant_loop : tie.invariant_loop
-invariant_loop r t₀ turns₀ t turns = turns ≤ 5001
+abbrev invariant-loop : tie.invariant-loop
+invariant-loop r t₀ turns₀ t turns = turns ≤ 5001
 
-abbrev decreases_loop : tie.decreases_loop
-decreases_loop r t₀ turns₀ t turns = 5001 - turns
+abbrev decreases-loop : tie.decreases-loop
+decreases-loop r t₀ turns₀ t turns = 5001 - turns
 
-start_requires : tie.Need-start-requires invariant_loop decreases_loop
+start_requires : tie.Need-start-requires invariant-loop decreases-loop
 start_requires c κs = search rules
 
-loop_holds : tie.Need-loop-init invariant_loop decreases_loop
+loop_holds : tie.Need-loop-init invariant-loop decreases-loop
 loop_holds c = search rules
 
-returns : tie.Need-returns invariant_loop decreases_loop
+returns : tie.Need-returns invariant-loop decreases-loop
 returns c = search rules
 
-next_sum_requires : tie.Need-next-sum-requires invariant_loop decreases_loop
+next_sum_requires : tie.Need-next-sum-requires invariant-loop decreases-loop
 next_sum_requires c κs = search rules
 
-add_turns : tie.Need-overflow-add-turns invariant_loop decreases_loop
+add_turns : tie.Need-overflow-add-turns invariant-loop decreases-loop
 add_turns c = search rules
 
-loop_less : tie.Need-loop-smaller invariant_loop decreases_loop
+loop_less : tie.Need-loop-smaller invariant-loop decreases-loop
 loop_less c = search rules
 
-loop_again : tie.Need-loop-preserved invariant_loop decreases_loop
+loop_again : tie.Need-loop-preserved invariant-loop decreases-loop
 loop_again c = search rules
 
-returns_2 : tie.Need-returns-2 invariant_loop decreases_loop
+returns_2 : tie.Need-returns-2 invariant-loop decreases-loop
 returns_2 c = search rules
 
 pub sum_of_spec : {M : Type 1} → statement M
 sum_of_spec =
     tie.close
     (tie.spec
-    invariant_loop
-    decreases_loop
+    invariant-loop
+    decreases-loop
     start_requires
     loop_holds
     returns

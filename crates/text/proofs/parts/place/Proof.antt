@@ -10,19 +10,19 @@ use native.Mathlib.Omega.{arith}
 use Rattle.text.proofs.parts.place.Statement.{statement}
 use Rattle.text.proofs.parts.place.Tie as tie
 
-abbrev invariant_loop : tie.invariant_loop
-invariant_loop s b i₀ i = (i ≤ length s) × (place_of (eqb b) s ≡ i + place_of (eqb b) (drop i s))
+abbrev invariant-loop : tie.invariant-loop
+invariant-loop s b i₀ i = (i ≤ length s) × (place_of (eqb b) s ≡ i + place_of (eqb b) (drop i s))
 
-abbrev decreases_loop : tie.decreases_loop
-decreases_loop s b i₀ i = length s - i
+abbrev decreases-loop : tie.decreases-loop
+decreases-loop s b i₀ i = length s - i
 
-loop_holds : tie.Need-loop-init invariant_loop decreases_loop
+loop_holds : tie.Need-loop-init invariant-loop decreases-loop
 loop_holds c = (search rules, omega arith)
 
-shared_slice_read_if1 : tie.Need-shared-slice-read-if1 invariant_loop decreases_loop
+shared_slice_read_if1 : tie.Need-shared-slice-read-if1 invariant-loop decreases-loop
 shared_slice_read_if1 c = search rules
 
-returns : tie.Need-returns invariant_loop decreases_loop
+returns : tie.Need-returns invariant-loop decreases-loop
 returns c =
     let at = c.before.before.before in
     let b = at.before.args.b in
@@ -30,13 +30,13 @@ returns c =
     let z = place_here (eqb b) s at.loop.i (search rules) (eq-eqb b (get_or s at.loop.i 0) c.if1.true) in
     omega arith
 
-add_i : tie.Need-overflow-add-i invariant_loop decreases_loop
+add_i : tie.Need-overflow-add-i invariant-loop decreases-loop
 add_i c = search rules
 
-loop_less : tie.Need-loop-smaller invariant_loop decreases_loop
+loop_less : tie.Need-loop-smaller invariant-loop decreases-loop
 loop_less c = search rules
 
-loop_again : tie.Need-loop-preserved invariant_loop decreases_loop
+loop_again : tie.Need-loop-preserved invariant-loop decreases-loop
 loop_again c =
     let at = c.before.before.before in
     let b = at.before.args.b in
@@ -44,7 +44,7 @@ loop_again c =
     let z = place_on (eqb b) s at.loop.i (search rules) (ne_eqb b (get_or s at.loop.i 0) c.if1.false) in
     (omega arith, omega arith)
 
-returns_2 : tie.Need-returns-2 invariant_loop decreases_loop
+returns_2 : tie.Need-returns-2 invariant-loop decreases-loop
 returns_2 c =
     let at = c.before in
     let z = place_end (eqb at.before.args.b) at.before.args.s.now at.loop.i (search rules) in
@@ -54,8 +54,8 @@ pub place_spec : {M : Type 1} → statement M
 place_spec =
     tie.close
     (tie.spec
-    invariant_loop
-    decreases_loop
+    invariant-loop
+    decreases-loop
     loop_holds
     shared_slice_read_if1
     returns

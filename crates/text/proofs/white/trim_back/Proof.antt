@@ -10,53 +10,53 @@ use native.Mathlib.Omega.{arith}
 use Rattle.text.proofs.white.trim_back.Statement.{statement}
 use Rattle.text.proofs.white.trim_back.Tie as tie
 
-abbrev invariant_loop : tie.invariant_loop
-invariant_loop s e₀ e = (e ≤ length s) × (trim_back s ≡ trim_back (take e s))
+abbrev invariant-loop : tie.invariant-loop
+invariant-loop s e₀ e = (e ≤ length s) × (trim_back s ≡ trim_back (take e s))
 
-abbrev decreases_loop : tie.decreases_loop
-decreases_loop s e₀ e = e
+abbrev decreases-loop : tie.decreases-loop
+decreases-loop s e₀ e = e
 
-loop_holds : tie.Need-loop-init invariant_loop decreases_loop
+loop_holds : tie.Need-loop-init invariant-loop decreases-loop
 loop_holds c = (search rules, ap trim_back (sym (take-length _)))
 
-back_at_requires : tie.Need-back-at-requires invariant_loop decreases_loop
+back_at_requires : tie.Need-back-at-requires invariant-loop decreases-loop
 back_at_requires c κs = search rules
 
-slice_aggregate_result : tie.Need-slice-aggregate-result invariant_loop decreases_loop
+slice_aggregate_result : tie.Need-slice-aggregate-result invariant-loop decreases-loop
 slice_aggregate_result c =
     let at = c.before.before.before.before in
     sym (length-take-le at.loop.e at.before.before.args.s.now at.loop.invariant.0)
 
-returns : tie.Need-returns invariant_loop decreases_loop
+returns : tie.Need-returns invariant-loop decreases-loop
 returns c =
     let at = c.before.before.before.before in
     let s = at.before.before.args.s.now in
     sym (at.loop.invariant.1 ∙ back_stop (take at.loop.e s) (sym c.before.before.back_at.ensures ∙ c.before.if1.true))
 
-sub_e : tie.Need-overflow-sub-e invariant_loop decreases_loop
+sub_e : tie.Need-overflow-sub-e invariant-loop decreases-loop
 sub_e c =
     let at = c.before.before.before in
     let h = back_within at.before.before.args.s.now at.loop.e at.loop.invariant.0 c.before.back_at.ensures in
     omega arith
 
-loop_less : tie.Need-loop-smaller invariant_loop decreases_loop
+loop_less : tie.Need-loop-smaller invariant-loop decreases-loop
 loop_less c =
     let at = c.before.before.before in
     let h = back_within at.before.before.args.s.now at.loop.e at.loop.invariant.0 c.before.back_at.ensures in
     omega arith
 
-loop_again : tie.Need-loop-preserved invariant_loop decreases_loop
+loop_again : tie.Need-loop-preserved invariant-loop decreases-loop
 loop_again c =
     let at = c.before.before.before in
     let s = at.before.before.args.s.now in
     (search rules, back_turn s at.loop.e at.loop.invariant.0 c.before.back_at.ensures at.loop.invariant.1)
 
-slice_aggregate_result_2 : tie.Need-slice-aggregate-result-2 invariant_loop decreases_loop
+slice_aggregate_result_2 : tie.Need-slice-aggregate-result-2 invariant-loop decreases-loop
 slice_aggregate_result_2 c =
     let at = c.before.before in
     sym (length-take-le at.loop.e at.before.before.args.s.now at.loop.invariant.0)
 
-returns_2 : tie.Need-returns-2 invariant_loop decreases_loop
+returns_2 : tie.Need-returns-2 invariant-loop decreases-loop
 returns_2 c =
     let at = c.before.before in
     let s = at.before.before.args.s.now in
@@ -66,8 +66,8 @@ pub trim_back_spec : {M : Type 1} → statement M
 trim_back_spec =
     tie.close
     (tie.spec
-    invariant_loop
-    decreases_loop
+    invariant-loop
+    decreases-loop
     loop_holds
     back_at_requires
     slice_aggregate_result

@@ -9,52 +9,52 @@ use native.Mathlib.Omega.{arith}
 use Rattle.text.proofs.whole.few_digits.Statement.{statement}
 use Rattle.text.proofs.whole.few_digits.Tie as tie
 
-abbrev invariant_loop : tie.invariant_loop
-invariant_loop s n₀ i₀ n i = (i ≤ length s) × (n < 10 ^ i) × (digits_after 0 s ≡ digits_after n (drop i s))
+abbrev invariant-loop : tie.invariant-loop
+invariant-loop s n₀ i₀ n i = (i ≤ length s) × (n < 10 ^ i) × (digits_after 0 s ≡ digits_after n (drop i s))
 
-abbrev decreases_loop : tie.decreases_loop
-decreases_loop s n₀ i₀ n i = length s - i
+abbrev decreases-loop : tie.decreases-loop
+decreases-loop s n₀ i₀ n i = length s - i
 
-loop_holds : tie.Need-loop-init invariant_loop decreases_loop
+loop_holds : tie.Need-loop-init invariant-loop decreases-loop
 loop_holds c = (search rules, search rules, refl)
 
-shared_slice_read_b : tie.Need-shared-slice-read-b invariant_loop decreases_loop
+shared_slice_read_b : tie.Need-shared-slice-read-b invariant-loop decreases-loop
 shared_slice_read_b c = search rules
 
-returns : tie.Need-returns invariant_loop decreases_loop
+returns : tie.Need-returns invariant-loop decreases-loop
 returns c =
     let at = c.before.before.before in
     let s = at.before.before.args.s.now in
     let b = get_or s at.loop.i 0 in
     sym (at.loop.invariant.2 ∙ stops s at.loop.i at.loop.n (search rules) (not-true (is_digit b) c.if1.true))
 
-mul_n : tie.Need-overflow-mul-n invariant_loop decreases_loop
+mul_n : tie.Need-overflow-mul-n invariant-loop decreases-loop
 mul_n c =
     let at = c.before.before.before in
     omega (arith, small at.loop.n at.loop.i at.loop.invariant.1 (search rules))
 
-sub_wide : tie.Need-overflow-sub-wide invariant_loop decreases_loop
+sub_wide : tie.Need-overflow-sub-wide invariant-loop decreases-loop
 sub_wide c =
     let at = c.before.before.before in
     let b = get_or at.before.before.args.s.now at.loop.i 0 in
     digit_low b (not-false (is_digit b) c.if1.false)
 
-wide_requires : tie.Need-wide-requires invariant_loop decreases_loop
+wide_requires : tie.Need-wide-requires invariant-loop decreases-loop
 wide_requires c κs = search rules
 
-add_n : tie.Need-overflow-add-n invariant_loop decreases_loop
+add_n : tie.Need-overflow-add-n invariant-loop decreases-loop
 add_n c =
     let at = c.before.before.before.before in
     let b = get_or at.before.before.args.s.now at.loop.i 0 in
     omega (arith, small at.loop.n at.loop.i at.loop.invariant.1 (search rules), digit_high b (not-false (is_digit b) c.before.if1.false), c.wide.ensures)
 
-add_i : tie.Need-overflow-add-i invariant_loop decreases_loop
+add_i : tie.Need-overflow-add-i invariant-loop decreases-loop
 add_i c = search rules
 
-loop_less : tie.Need-loop-smaller invariant_loop decreases_loop
+loop_less : tie.Need-loop-smaller invariant-loop decreases-loop
 loop_less c = search rules
 
-loop_again : tie.Need-loop-preserved invariant_loop decreases_loop
+loop_again : tie.Need-loop-preserved invariant-loop decreases-loop
 loop_again c =
     let at = c.before.before.before.before in
     let s = at.before.before.args.s.now in
@@ -68,7 +68,7 @@ loop_again c =
       at.loop.invariant.2 ∙ goes_on s i n (search rules) d ∙ ap (λ (k : ℕ). digits_after (n * 10 + k) (drop (i + 1) s)) (sym e),
     )
 
-returns_2 : tie.Need-returns-2 invariant_loop decreases_loop
+returns_2 : tie.Need-returns-2 invariant-loop decreases-loop
 returns_2 c =
     let at = c.before in
     sym (at.loop.invariant.2 ∙ ends at.before.before.args.s.now at.loop.i at.loop.n (search rules))
@@ -77,8 +77,8 @@ pub few_digits_spec : {M : Type 1} → statement M
 few_digits_spec =
     tie.close
     (tie.spec
-    invariant_loop
-    decreases_loop
+    invariant-loop
+    decreases-loop
     loop_holds
     shared_slice_read_b
     returns

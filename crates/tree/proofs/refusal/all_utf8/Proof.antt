@@ -9,69 +9,69 @@ use native.Mathlib.Omega.{arith}
 use Rattle.tree.proofs.refusal.all_utf8.Statement.{statement}
 use Rattle.tree.proofs.refusal.all_utf8.Tie as tie
 
-abbrev invariant_loop : tie.invariant_loop
-invariant_loop s at₀ at = utf8_from s 0 ≡ utf8_from s at
+abbrev invariant-loop : tie.invariant-loop
+invariant-loop s at₀ at = utf8_from s 0 ≡ utf8_from s at
 
-abbrev decreases_loop : tie.decreases_loop
-decreases_loop s at₀ at = length s - at
+abbrev decreases-loop : tie.decreases-loop
+decreases-loop s at₀ at = length s - at
 
-loop_holds : tie.Need-loop-init invariant_loop decreases_loop
+loop_holds : tie.Need-loop-init invariant-loop decreases-loop
 loop_holds c = refl
 
-read_head_requires : tie.Need-read-head-requires invariant_loop decreases_loop
+read_head_requires : tie.Need-read-head-requires invariant-loop decreases-loop
 read_head_requires c κs = search rules
 
-enum_told : tie.Need-enum-told invariant_loop decreases_loop
+enum_told : tie.Need-enum-told invariant-loop decreases-loop
 enum_told c = search rules
 
-returns : tie.Need-returns invariant_loop decreases_loop
+returns : tie.Need-returns invariant-loop decreases-loop
 returns c = sym (c.before.before.before.loop.invariant ∙ utf8_cut _ _ (sym c.before.before.read_head.ensures ∙ c.enum_told.given.1))
 
-enum_known_name_at : tie.Need-enum-known-name-at invariant_loop decreases_loop
+enum_known_name_at : tie.Need-enum-known-name-at invariant-loop decreases-loop
 enum_known_name_at c = search rules
 
-sub_is_utf8 : tie.Need-overflow-sub-is-utf8 invariant_loop decreases_loop
+sub_is_utf8 : tie.Need-overflow-sub-is-utf8 invariant-loop decreases-loop
 sub_is_utf8 c = (bounds _ _ (sym c.before.before.before.read_head.ensures ∙ c.before.name_at.given.1)).name
 
-part_is_utf8_start : tie.Need-slice-bounds-is-utf8-start invariant_loop decreases_loop
+part_is_utf8_start : tie.Need-slice-bounds-is-utf8-start invariant-loop decreases-loop
 part_is_utf8_start c = (bounds _ _ (sym c.before.before.before.read_head.ensures ∙ c.before.name_at.given.1)).name
 
-part_is_utf8_end : tie.Need-slice-bounds-is-utf8-end invariant_loop decreases_loop
+part_is_utf8_end : tie.Need-slice-bounds-is-utf8-end invariant-loop decreases-loop
 part_is_utf8_end c = omega (arith, bounds _ _ (sym c.before.before.before.read_head.ensures ∙ c.before.name_at.given.1))
 
-is_utf8_requires : tie.Need-is-utf8-requires invariant_loop decreases_loop
+is_utf8_requires : tie.Need-is-utf8-requires invariant-loop decreases-loop
 is_utf8_requires c κs = search rules
 
-returns_2 : tie.Need-returns-2 invariant_loop decreases_loop
+returns_2 : tie.Need-returns-2 invariant-loop decreases-loop
 returns_2 c = sym (c.before.before.before.before.before.before.before.loop.invariant ∙ utf8_name _ _ (sym c.before.before.before.before.before.before.read_head.ensures ∙ c.before.before.before.before.name_at.given.1) (sym c.before.is-utf8.ensures ∙ not-true _ c.if1.true))
 
-sub_is_utf8_2 : tie.Need-overflow-sub-is-utf8-2 invariant_loop decreases_loop
+sub_is_utf8_2 : tie.Need-overflow-sub-is-utf8-2 invariant-loop decreases-loop
 sub_is_utf8_2 c = (bounds _ _ (sym c.before.before.before.before.before.before.read_head.ensures ∙ c.before.before.before.before.name_at.given.1)).text
 
-part_is_utf8_start_2 : tie.Need-slice-bounds-is-utf8-start-2 invariant_loop decreases_loop
+part_is_utf8_start_2 : tie.Need-slice-bounds-is-utf8-start-2 invariant-loop decreases-loop
 part_is_utf8_start_2 c = (bounds _ _ (sym c.before.before.before.before.before.before.read_head.ensures ∙ c.before.before.before.before.name_at.given.1)).text
 
-part_is_utf8_end_2 : tie.Need-slice-bounds-is-utf8-end-2 invariant_loop decreases_loop
+part_is_utf8_end_2 : tie.Need-slice-bounds-is-utf8-end-2 invariant-loop decreases-loop
 part_is_utf8_end_2 c = (bounds _ _ (sym c.before.before.before.before.before.before.read_head.ensures ∙ c.before.before.before.before.name_at.given.1)).end
 
-is_utf8_requires_2 : tie.Need-is-utf8-requires-2 invariant_loop decreases_loop
+is_utf8_requires_2 : tie.Need-is-utf8-requires-2 invariant-loop decreases-loop
 is_utf8_requires_2 c κs = search rules
 
-returns_3 : tie.Need-returns-3 invariant_loop decreases_loop
+returns_3 : tie.Need-returns-3 invariant-loop decreases-loop
 returns_3 c = sym (c.before.before.before.before.before.before.before.before.before.before.loop.invariant ∙ utf8_text _ _ (sym c.before.before.before.before.before.before.before.before.before.read_head.ensures ∙ c.before.before.before.before.before.before.before.name_at.given.1) (sym c.before.before.before.before.is-utf8.ensures ∙ not-false _ c.before.before.before.if1.false) (sym c.before.is-utf82.ensures ∙ not-true _ c.if2.true))
 
-loop_less : tie.Need-loop-smaller invariant_loop decreases_loop
+loop_less : tie.Need-loop-smaller invariant-loop decreases-loop
 loop_less c = omega (arith, bounds _ _ (sym c.before.before.before.before.before.before.before.before.before.read_head.ensures ∙ c.before.before.before.before.before.before.before.name_at.given.1))
 
-loop_again : tie.Need-loop-preserved invariant_loop decreases_loop
+loop_again : tie.Need-loop-preserved invariant-loop decreases-loop
 loop_again c = c.before.before.before.before.before.before.before.before.before.before.loop.invariant ∙ utf8_step _ _ (sym c.before.before.before.before.before.before.before.before.before.read_head.ensures ∙ c.before.before.before.before.before.before.before.name_at.given.1) (sym c.before.before.before.before.is-utf8.ensures ∙ not-false _ c.before.before.before.if1.false) (sym c.before.is-utf82.ensures ∙ not-false _ c.if2.false)
 
 pub all_utf8_spec : {M : Type 1} → statement M
 all_utf8_spec =
     tie.close
     (tie.spec
-    invariant_loop
-    decreases_loop
+    invariant-loop
+    decreases-loop
     loop_holds
     read_head_requires
     enum_told
