@@ -1,0 +1,9 @@
+use mathlib.Core.Path.{ap, ◌∙◌}
+use mir.Facts.{to_z-of_z}
+use Rattle.definition.specs.Bits.{twos}
+use Rattle.bits.specs.Steps.{put_same}
+use Rattle.bits.proofs.signs.put_i64.Goals as goal
+
+pub returns : goal.returns
+returns c =
+    put_same (c.twos64.ensures ∙ ap (twos 64) (to_z-of_z c.ranges.v)) c.put.ensures

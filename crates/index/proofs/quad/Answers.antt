@@ -1,0 +1,7 @@
+-- `index::quad` meets its contract. Assumes nothing.
+use Rattle.index.specs.Hash.{quad_at}
+use Rattle.index.proofs.quad.Goals as goal
+
+pub returns : goal.returns
+unfolding quad_at
+returns c = c.joined.ensures
