@@ -2,7 +2,7 @@
 use Rattle.std.specs.Prelude.{ℕ, zero, suc, ◌+◌, ◌-◌, ◌<◌, ◌≡◌, refl, Bool, true, false, cond, ltb, ℤ, pos, negsuc, ◌+ℤ◌, ◌-ℤ◌}
 use Rattle.std.proofs.Common.{arith, sym, ap, ◌∙◌}
 use Rattle.std.proofs.Math.Decide.{dec_lt}
-use Rattle.std.proofs.Math.IntN.{-ℤ-+ℤ_cancel}
+use Rattle.std.proofs.Math.IntN
 use Rattle.definition.specs.Date.{Date, epoch, day_number}
 use Rattle.date.specs.Answer.{upward, days_between}
 
@@ -12,4 +12,4 @@ day_count z = days_between (negsuc 4371952) z
 
 pub count_of_number : (d : Date) → day_count (day_number d) ≡ d
 unfolding day_count days_between day_number
-count_of_number d = ap upward (-ℤ-+ℤ_cancel (pos d) (pos epoch))
+count_of_number d = ap upward (IntN.-ℤ-+ℤ_cancel (pos d) (pos epoch))

@@ -1,0 +1,7 @@
+use mathlib.Core.Path.{refl}
+use Rattle.definition.specs.Date.{weekday}
+use Rattle.date.proofs.weekday_of.Goals as goal
+
+pub returns : goal.returns
+unfolding weekday
+returns c = refl
