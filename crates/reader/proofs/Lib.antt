@@ -1,4 +1,0 @@
-pub mod Held
-pub mod Moves
-pub mod Through
-pub mod Walk
