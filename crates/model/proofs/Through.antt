@@ -1,42 +1,93 @@
--- The calls of `past_project` and `past_records`, as steps of a walk over one lent slice, and what the places that they answer make together.
---     passes-project, passes-records     the goal goes on at a reader over the same bytes, at each place behind the record or the records
--- They take `Logic`. The rest assumes nothing.
-use mathlib.Core.Path.{refl}
-use Prim.Native.Nat.{ℕ}
-use mathlib.Core.List.{List, [], ◌∷◌}
-use lib.Dec.{T as Holds}
-use seplogic.Ra.Ura.{Ura}
-use mir.Syntax.{Name, Place as Dest, Opd as Operand, Body, seq, call, w32}
-use mir.Val.{WT, has_ty, vint}
-use base.Fml.{Lft, Share}
-use prog.Wp.{Env, Calls, Loops}
-use types.Logic.{Logic}
-use sound.WpLaws.{FmC}
-use types.Kit.{Item, ‵, raw, Post, runs, lands, Seq}
-use types.Run.{Opds}
-use denote.Laws.{Is}
-use denote.Plain.{uint_Makes}
-use denote.Builtin.{u32}
-use denote.Enum.Laws as EL
-use denote.Ref.{Bor}
-use denote.Signature.{Slot, plain}
-use denote.Triple.Statement.{Contract, Triple}
-use denote.Triple.Clauses.{Ended}
-use denote.Exit.{yes}
+-- What the places make together that the readers of `past_project` and `past_records` answer, and the fields that a reader takes. Assumes nothing.
+use Rattle.std.specs.Prelude.{◌≡◌, ℕ, List, ◌^◌, ◌<◌}
+use Rattle.std.proofs.Common.{◌∙◌, ap, refl, subst}
+use Rattle.bits.specs.declared.Field.{Field}
 use Rattle.bits.specs.declared.Place.{Place}
-use Rattle.reader.proofs.Held.{mach, Placed}
-use Rattle.reader.proofs.Through.{at, Typed, Passing, passing, passing_says, passes}
-use Rattle.reader.proofs.Walk.{Bytes, plainly, nothing_more, ◌and-also◌, none, Promise, tokens, Pre}
+use Rattle.bits.specs.Reads.{field_lt, taken_at}
+use Rattle.reader.specs.declared.Reader.{Reader}
+use Rattle.reader.specs.declared.Taken.{Taken}
+use Rattle.reader.specs.Read.{took, moved, moved_by}
 use Rattle.model.specs.Lax.{like_times}
 use Rattle.model.specs.Passes.{pass_like}
 use Rattle.model.specs.Parts.{strict_calendars, strict_links, strict_resources, strict_assignments, strict_expenses}
-use Rattle.model.specs.Sections.{PassesProject, PassesRecords, Heads, Behind}
+use Rattle.model.specs.Sections.{start, counts_by, PassesProject, PassesRecords, Heads, Behind}
+use Rattle.model.specs.Answers.{counts_at}
+use Rattle.model.proofs.Single.{counts_are}
 use Rattle.model.specs.declared.Counts.{Counts}
 use Rattle.model.specs.declared.Head.{Head}
-use Rattle.model.specs.declared.records.Kind.{Kind}
 use Rattle.model.specs.declared.records.Kind.TheVariants.{Calendars, Activities, Links, Resources, Assignments, Expenses}
-use Rattle.model.specs.contracts.records.Kind as K
-use Rattle.model.proofs.records.Kind.TheLaws as K'
+
+-- ---- a reader further on
+
+module _ (φ : List ℕ → Place → Place → Type 0) (s : List ℕ) (r q : Reader) (h : moved_by φ r q) (e : r.model.now ≡ s) where
+  -- it reads the same bytes
+  pub same_bytes : q.model.now ≡ s
+  same_bytes = ap (λ (x : Reader). x.model.now) h.0 ∙ e
+
+  pub passed : φ s r.place q.place
+  passed = subst (λ (x : List ℕ). φ x r.place q.place) e h.1
+
+-- ---- a field that a reader takes
+
+abbrev pub field_in : Taken → Field
+field_in t = record { value = t.value; next = t.rest.place }
+
+module _ (s : List ℕ) (w : ℕ) (r : Reader) (t : Taken) (h : t ≡ took r w) (e : r.model.now ≡ s) where
+  pub taken_bytes : t.rest.model.now ≡ s
+  taken_bytes = ap (λ (x : Taken). x.rest.model.now) h ∙ e
+
+  pub taken_field : field_in t ≡ taken_at s r.place w
+  taken_field = ap field_in h ∙ ap (λ (x : List ℕ). taken_at x r.place w) e
+
+-- ---- six of them in a row, from the first bit on
+
+module _ (s : List ℕ) (r : Reader) (e : r.model.now ≡ s) (p : r.place ≡ start) (a b c d f g : Taken)
+    (ha : a ≡ took r 32) (hb : b ≡ took a.rest 32) (hc : c ≡ took b.rest 32) (hd : d ≡ took c.rest 32) (hf : f ≡ took d.rest 32) (hg : g ≡ took f.rest 32) where
+  a_same : a.rest.model.now ≡ s
+  a_same = taken_bytes s 32 r a ha e
+
+  b_same : b.rest.model.now ≡ s
+  b_same = taken_bytes s 32 a.rest b hb a_same
+
+  c_same : c.rest.model.now ≡ s
+  c_same = taken_bytes s 32 b.rest c hc b_same
+
+  d_same : d.rest.model.now ≡ s
+  d_same = taken_bytes s 32 c.rest d hd c_same
+
+  f_same : f.rest.model.now ≡ s
+  f_same = taken_bytes s 32 d.rest f hf d_same
+
+  a_is : field_in a ≡ taken_at s start 32
+  a_is = taken_field s 32 r a ha e ∙ ap (λ (q : Place). taken_at s q 32) p
+
+  b_is : field_in b ≡ taken_at s a.rest.place 32
+  b_is = taken_field s 32 a.rest b hb a_same
+
+  c_is : field_in c ≡ taken_at s b.rest.place 32
+  c_is = taken_field s 32 b.rest c hc b_same
+
+  d_is : field_in d ≡ taken_at s c.rest.place 32
+  d_is = taken_field s 32 c.rest d hd c_same
+
+  f_is : field_in f ≡ taken_at s d.rest.place 32
+  f_is = taken_field s 32 d.rest f hf d_same
+
+  g_is : field_in g ≡ taken_at s f.rest.place 32
+  g_is = taken_field s 32 f.rest g hg f_same
+
+  pub six_fit : (a.value < 2 ^ 32) × (b.value < 2 ^ 32) × (c.value < 2 ^ 32) × (d.value < 2 ^ 32) × (f.value < 2 ^ 32) × (g.value < 2 ^ 32)
+  six_fit = (
+    field_lt s start 32 a_is,
+    field_lt s a.rest.place 32 b_is,
+    field_lt s b.rest.place 32 c_is,
+    field_lt s c.rest.place 32 d_is,
+    field_lt s d.rest.place 32 f_is,
+    field_lt s f.rest.place 32 g_is,
+  )
+
+  pub six_are : counts_by (a.value, (b.value, (c.value, (d.value, (f.value, g.value))))) g.rest.place ≡ counts_at s start
+  six_are = counts_are s a_is b_is c_is d_is f_is g_is
 
 -- ---- what the places make
 
@@ -54,56 +105,3 @@ behind a b c d = record {
   assignments = pass_like (like_times _ strict_assignments) c;
   expenses = pass_like (like_times _ strict_expenses) d;
 }
-
--- ---- the steps
-
-pub kind_is : (k : Kind) → Is K.the_row k (K'.lowered k ∷ [])
-kind_is Calendars = EL.owes K.the_type K'.the_laws Calendars tt
-kind_is Activities = EL.owes K.the_type K'.the_laws Activities tt
-kind_is Links = EL.owes K.the_type K'.the_laws Links tt
-kind_is Resources = EL.owes K.the_type K'.the_laws Resources tt
-kind_is Assignments = EL.owes K.the_type K'.the_laws Assignments tt
-kind_is Expenses = EL.owes K.the_type K'.the_laws Expenses tt
-
-pub kind_typed : {M : Type 1} {𝓤 : Ura M} (𝓛 : Logic 𝓤) (k : Kind) → Holds (has_ty K'.mir (K'.lowered k)) × WT (K'.lowered k)
-kind_typed 𝓛 k = ((EL.lawful K.the_type K'.the_laws 𝓛 tt).typed k _ (kind_is k)).0
-
-abbrev past_project : Passing []
-past_project κs a = PassesProject
-
-abbrev kind_and_count : List (Slot 1)
-kind_and_count = plain (λ _. K.the_row) ∷ plain (λ _. u32) ∷ []
-
-abbrev past_records : Passing kind_and_count
-past_records κs a = PassesRecords a.0 a.1.0
-
-abbrev P : Ended
-P = passing [] tt
-
-abbrev R : Ended
-R = passing kind_and_count (yes, (yes, tt))
-
-module _ {M : Type 1} {𝓤 : Ura M} (𝓛 : Logic 𝓤) where
-  abbrev pub Project : Contract 𝓤
-  Project = Promise 𝓤 P 𝓛 (none 𝓤 P) (passing_says [] tt past_project)
-
-  abbrev pub Records : Contract 𝓤
-  Records = Promise 𝓤 R 𝓛 (none 𝓤 R) (passing_says kind_and_count (yes, (yes, tt)) past_records)
-
-module _ {M : Type 1} {𝓤 : Ura M} {𝓛 : Logic 𝓤} {Y : Type 0} {Γ : List (Item 𝓤)} {E : Env 𝓤 𝓛.H} {C : Calls 𝓤 𝓛.H} {f : Name} {xs : List Operand} {Λ : Loops 𝓤 𝓛.H} {z : Post 𝓤 𝓛.H} {d : Dest} {rest : Body} where
-  open 𝓛 use {H}
-
-  pub passes_project : Y → FmC 𝓤 H 𝓛.laws C → Triple 𝓤 (C f) (Project 𝓛) → (κ : Lft) (q : Share) (s : Bor (List ℕ)) (p : Place) → Placed p
-      → Opds Y 𝓛 (raw (Pre 𝓛 P (κ, tt) (none 𝓤 P) (passing_says [] tt past_project) (q, tt) tt (at s p, tt) (mach (at s p) ∷ [], tt)) ∷ ‵ (Bytes κ s) ∷ Γ) E xs (mach (at s p) ∷ [])
-      → ((p' : Place) → PassesProject s.now p p' → Placed p' → Typed (at s p') → Seq Y 𝓛 (tokens 𝓛 P (κ, tt) (q, tt) ∷ ‵ (Bytes κ s) ∷ Γ) (lands C Λ E d (mach (at s p')) rest z))
-      → Seq Y 𝓛 (tokens 𝓛 P (κ, tt) (q, tt) ∷ ‵ (Bytes κ s) ∷ Γ) (runs C Λ E (seq (call f xs d) rest) z)
-  passes_project t fm known κ q s p h os k = passes t fm κ q s [] tt past_project known p h tt tt nothing_more os k
-
-  pub passes_records : Y → FmC 𝓤 H 𝓛.laws C → Triple 𝓤 (C f) (Records 𝓛) → (κ : Lft) (q : Share) (s : Bor (List ℕ)) (p : Place) → Placed p → (kind : Kind) (n : ℕ) → Is u32 n (vint w32 n ∷ [])
-      → Opds Y 𝓛 (raw (Pre 𝓛 R (κ, tt) (none 𝓤 R) (passing_says kind_and_count (yes, (yes, tt)) past_records) (q, tt) tt (at s p, (kind, (n, tt))) (mach (at s p) ∷ [], (K'.lowered kind ∷ [], (vint w32 n ∷ [], tt)))) ∷ ‵ (Bytes κ s) ∷ Γ) E xs
-      (mach (at s p) ∷ K'.lowered kind ∷ vint w32 n ∷ [])
-      → ((p' : Place) → PassesRecords kind n s.now p p' → Placed p' → Typed (at s p') → Seq Y 𝓛 (tokens 𝓛 R (κ, tt) (q, tt) ∷ ‵ (Bytes κ s) ∷ Γ) (lands C Λ E d (mach (at s p')) rest z))
-      → Seq Y 𝓛 (tokens 𝓛 R (κ, tt) (q, tt) ∷ ‵ (Bytes κ s) ∷ Γ) (runs C Λ E (seq (call f xs d) rest) z)
-  passes_records t fm known κ q s p h kind n ns os k =
-      passes t fm κ q s kind_and_count (yes, (yes, tt)) past_records known p h (kind, (n, tt)) (K'.lowered kind ∷ [], (vint w32 n ∷ [], tt))
-      (plainly K.the_row (EL.makes K.the_type K'.the_plain 𝓛) kind (kind_is kind) and-also plainly u32 (uint_Makes 𝓛 w32) n ns and-also nothing_more) os k
