@@ -9,7 +9,8 @@ use Rattle.definition.specs.Format.{Format, dates}
 use Rattle.laws.specs.Formats.{Good, Both, Rising, ◌&◌, good_list}
 use Rattle.laws.specs.Bools.{both}
 use Rattle.laws.specs.Options.{never}
-use Rattle.laws.specs.Fields.{InYears, good_periods, good_date, good_dates}
+use Rattle.laws.specs.Fields.{InYears, good_periods}
+use Rattle.laws.proofs.Fields.{good_date, good_dates}
 use Rattle.bits.specs.Places.{at, past, inside, room_fits}
 use Rattle.bits.specs.Reads.{Reads, rest, rest_in, rest_out, rest_past, spot_at, read-⊗}
 use Rattle.bits.specs.declared.Place.{Place}

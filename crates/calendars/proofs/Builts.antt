@@ -46,10 +46,13 @@ use Rattle.names.specs.Uids.{MakesUids, calendar_by}
 use Rattle.names.specs.declared.ids.IdsMade.{IdsMade}
 use Rattle.names.specs.declared.uids.CalendarTable.{CalendarTable}
 use Rattle.laws.specs.FitLists.{each_keep}
-use Rattle.laws.specs.FitRecords.{Short, FitsCalendarBy, CalendarParts, good_calendar_parts}
+use Rattle.laws.specs.FitRecords.{Short, FitsCalendarBy, CalendarParts}
+use Rattle.laws.proofs.FitRecords.{good_calendar_parts}
 use Rattle.laws.specs.FitTrees.{Small, holds_calendars, slim_texts}
-use Rattle.laws.specs.FitNames.{Distinct, calendars_in, names_in, keep_both, built_distinct, names_are, others}
-use Rattle.laws.specs.FitCalendars.{FitsNamedBy, fit_build}
+use Rattle.laws.specs.FitNames.{Distinct, calendars_in, names_in, keep_both, names_are, others}
+use Rattle.laws.proofs.FitNames.{built_distinct}
+use Rattle.laws.specs.FitCalendars.{FitsNamedBy}
+use Rattle.laws.proofs.FitCalendars.{fit_build}
 use Rattle.names.specs.Kept.{There, there_at, there_inside, there_split, there_reads, reads_there}
 use Rattle.names.specs.Records.{calendar_fields, same_calendars, front_calendars, plain_calendars, plain_calendars_lem, good_raw, parted, calendars_lie, Lies, row_reads, texts_calendars}
 use Rattle.calendars.specs.declared.base.Base.{Base}

@@ -13,7 +13,7 @@ use Rattle.definition.specs.Base.{if◌then◌else◌, when, given, within}
 use Rattle.definition.specs.Bits.{twos, signed}
 use Rattle.definition.specs.Date.{Date, epoch, first_date, last_date, day_number, from_days}
 use Rattle.definition.specs.Time.{most_time}
-use Rattle.definition.specs.Format.{Format, Period, bit, flag, code, time, number, date, period, optional, earlier, periods, dates}
+use Rattle.definition.specs.Format.{Format, Period, bit, flag, code, time, number, period, optional, earlier, periods}
 use Rattle.laws.specs.Bools.{Within, within_is, is_within}
 use Rattle.laws.specs.Options.{never, when_is}
 use Rattle.laws.specs.Formats.{got, Good, good_field, ◌&◌, IfGiven, good_depending, Stands, good_via, Rising, good_list}
@@ -87,17 +87,17 @@ Signed w (pos n) = n < 2 ^ (w - 1)
 Signed w (negsuc n) = n < 2 ^ (w - 1)
 
 module _ (w : ℕ) (twice : 2 ^ w ≡ 2 ^ (w - 1) + 2 ^ (w - 1)) where
-  twos_fits : (z : ℤ) → Signed w z → twos w z < 2 ^ w
+  pub twos_fits : (z : ℤ) → Signed w z → twos w z < 2 ^ w
   unfolding twos
   twos_fits (pos n) h = omega arith
   twos_fits (negsuc n) h = omega arith
 
-  signed_twos : (z : ℤ) → Signed w z → signed w (twos w z) ≡ z
+  pub signed_twos : (z : ℤ) → Signed w z → signed w (twos w z) ≡ z
   unfolding twos signed
   signed_twos (pos n) h = rw (lt-ltb n (2 ^ (w - 1)) h)
   signed_twos (negsuc n) h = rw (le-ltb (2 ^ w - suc n) (2 ^ (w - 1)) (omega arith)) (ap negsuc (omega arith))
 
-  twos_signed : (v : ℕ) → v < 2 ^ w → (twos w (signed w v) ≡ v) × Signed w (signed w v)
+  pub twos_signed : (v : ℕ) → v < 2 ^ w → (twos w (signed w v) ≡ v) × Signed w (signed w v)
   unfolding twos signed
   twos_signed v h = go (ltb v (2 ^ (w - 1))) refl
     where
@@ -164,23 +164,8 @@ day_days (negsuc n) d h = go (ltb n epoch) refl h
         (day_early (epoch - suc n) (omega arith) ∙ ap negsuc (omega arith), within_is first_date last_date (epoch - suc n) p)
     go false e h = never h
 
-day_fits : (d : Date) → InYears d → Signed 32 (day_number d)
+pub day_fits : (d : Date) → InYears d → Signed 32 (day_number d)
 day_fits = by_epoch (λ d. InYears d → Signed 32 (day_number d)) (λ d k h. rw (day_late d k) (omega arith)) (λ d k h. rw (day_early d k) (omega arith))
-
-pub good_date : Good date InYears
-unfolding date
-good_date =
-    good_via
-    (record {
-      fits = λ d h. twos_fits 32 refl (day_number d) (day_fits d h);
-      there = λ d h. rw (signed_twos 32 refl (day_number d) (day_fits d h)) (days_day d h);
-      back = λ v d h e. let (p, q) = day_days (signed 32 v) d e in (ap (twos 32) p ∙ (twos_signed 32 refl v h).0, q);
-    })
-    (good_field 32)
-
-pub good_dates : Good dates (Rising ltb InYears)
-unfolding dates
-good_dates = good_list ltb good_date
 
 -- ---- a value or none
 

@@ -11,13 +11,13 @@ use Rattle.definition.specs.Date.{Date}
 use Rattle.definition.specs.Tree.{Element}
 use Rattle.definition.specs.Field.{text_in, yes_in, int_in, number_in, minutes_in}
 use Rattle.definition.specs.Calendar.{Named, elapsed_name}
-use Rattle.definition.specs.Task.{Context, not_below0, level_of, unless_main, format_of, percent_format, elapsed_format, is_elapsed, wanted_id, parent_of, constraint_from, duration_type_from, calendar_name_of, under_way, activity_of}
-use Rattle.definition.specs.Link.{held_by, cut, tenfold, Lag, working_lag, elapsed_lag, percent_lag, lag_of, kind_from, link_of}
+use Rattle.definition.specs.Task.{Context, not_below0, level_of, unless_main, is_elapsed, wanted_id, parent_of, constraint_from, duration_type_from, calendar_name_of, under_way, activity_of}
+use Rattle.definition.specs.Link.{held_by, cut, tenfold, Lag, working_lag, elapsed_lag, percent_lag, kind_from}
 use Rattle.laws.specs.Bools.{Within, within_is}
 use Rattle.laws.specs.Each.{Each}
 use Rattle.laws.specs.Formats.{IfGiven}
 use Rattle.laws.specs.Fields.{InYears}
-use Rattle.laws.specs.FitRecords.{IsCount, IsNumber, IsConstraint, IsLagKind, FitsActivityBy, FitsLink}
+use Rattle.laws.specs.FitRecords.{IsCount, IsNumber, IsConstraint, IsLagKind, FitsActivityBy}
 use Rattle.laws.specs.FitLists.{Perhaps, missing, there, is_given_lem, perhaps_or, perhaps_else, perhaps_when, perhaps_if, perhaps_bind, perhaps_any, perhaps_less, last_row}
 use Rattle.laws.specs.FitTrees.{Holds, Texts, says}
 use Rattle.laws.specs.FitFields.{date_in_lem}
@@ -141,7 +141,7 @@ module _ {S T : Text → Type 0} (texts : Texts S T) where
 
 -- ---- a link
 
-link_kind_lem : (z : ℤ) → Within 0 3 (kind_from z)
+pub link_kind_lem : (z : ℤ) → Within 0 3 (kind_from z)
 link_kind_lem (negsuc n) = (omega arith, omega arith)
 link_kind_lem (pos n) = by (eqb n 0) (eqb n 2) (eqb n 3)
   where
@@ -160,7 +160,7 @@ module _ (z : ℤ) (h : UpTo 100000000000 z) where
   minutes_in_lem : IsNumber z
   minutes_in_lem = up_to_number 100000000000 z h (omega arith)
 
-  working_in : (per_day : ℕ) → FitsLag (working_lag per_day z)
+  pub working_in : (per_day : ℕ) → FitsLag (working_lag per_day z)
   working_in per_day = by (eqb (nat_abs z % per_day) 0)
     where
       by : (t : Bool) → FitsLag (record { days = if t then cut z per_day else pos 0; minutes = when (not t) z; kind = (0, none) })
@@ -168,27 +168,12 @@ module _ (z : ℤ) (h : UpTo 100000000000 z) where
           record { days = up_to_number 100000000000 (cut z per_day) (cut_up_to 100000000000 z per_day h) (omega arith); minutes = tt; kind = ((omega arith, omega arith), (refl, tt)) }
       by false = record { days = omega arith; minutes = minutes_in_lem; kind = ((omega arith, omega arith), (refl, tt)) }
 
-  elapsed_in_lem : FitsLag (elapsed_lag z)
+  pub elapsed_in_lem : FitsLag (elapsed_lag z)
   elapsed_in_lem = record { days = omega arith; minutes = minutes_in_lem; kind = ((omega arith, omega arith), (refl, tt)) }
 
-percent_in : (z : ℤ) → FitsLag (percent_lag z)
+pub percent_in : (z : ℤ) → FitsLag (percent_lag z)
 percent_in z = record {
   days = omega arith;
   minutes = tt;
   kind = ((omega arith, omega arith), (refl, up_to_number 10000000 (held_by 10000000 (tenfold z)) (held_up_to 10000000 (tenfold z)) (omega arith)));
 }
-
-lag_in : (per_day format : ℕ) (z : ℤ) → UpTo 100000000000 z → FitsLag (lag_of per_day format z)
-unfolding lag_of
-lag_in per_day format z h = by (percent_format format) (elapsed_format format)
-  where
-    by : (t u : Bool) → FitsLag (if t then percent_lag z else if u then elapsed_lag (cut z 10) else working_lag per_day (cut z 10))
-    by true u = percent_in z
-    by false true = elapsed_in_lem (cut z 10) (cut_up_to 100000000000 z 10 h)
-    by false false = working_in (cut z 10) (cut_up_to 100000000000 z 10 h) per_day
-
-pub fit_link : (x : Context) (p q : ℕ) (l : Element) → p < 2 ^ 32 → q < 2 ^ 32 → FitsLink (link_of x p q l)
-unfolding link_of
-fit_link x p q l h k =
-    let g = lag_in x.per_day (format_of l "LagFormat") (held_by 100000000000 (int_in l "LinkLag" or pos 0)) (held_up_to 100000000000 (int_in l "LinkLag" or pos 0)) in
-    (h, (k, (link_kind_lem (int_in l "Type" or pos 1), (g.days, (g.minutes, g.kind)))))

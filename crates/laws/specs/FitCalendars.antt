@@ -1,32 +1,27 @@
 -- The calendars that the definition makes of a tree fit, by what a text is. Assumes nothing.
-use Rattle.std.specs.Prelude.{◌++◌, ◌≡◌, Bool, true, false, ◌&&◌, ℕ, ◌+◌, ◌≤◌, ◌<◌, length, set}
+use Rattle.std.specs.Prelude.{◌≡◌, Bool, true, false, ◌&&◌, ℕ, ◌≤◌, ◌<◌, length, set}
 use Rattle.std.proofs.Math.Path.{refl}
 use Rattle.std.proofs.Common.{sym, ◌∙◌, subst, arith, ltb-true, length-set}
 use Rattle.std.proofs.Math.Bool.{not}
 use mathlib.Core.List.{List, [], ◌∷◌, append-nil}
 use Rattle.std.proofs.Math.Option.{Option, some, none}
 use Rattle.std.proofs.Math.Dec.{ltb}
-use Rattle.std.proofs.Math.ListN.{length-append}
-use Rattle.std.proofs.lemmas.List.{length-map}
-use Rattle.definition.specs.Base.{if◌then◌else◌, ◌>>=◌, ◌or◌, given, keep, every?, some?, same}
+use Rattle.definition.specs.Base.{if◌then◌else◌, ◌>>=◌, ◌or◌, every?, same}
 use Rattle.definition.specs.Ascii.{bytes}
 use Rattle.definition.specs.Text.{Text}
 use Rattle.definition.specs.Format.{Period, rises, earlier}
 use Rattle.definition.specs.Tree.{Element}
 use Rattle.definition.specs.Field.{text_in, yes_in}
 use Rattle.definition.specs.Model.{Calendar}
-use Rattle.definition.specs.Calendar.{free, periods_of, is_empty, elapsed_name, default_calendar, elapsed_calendar, week_days, place_of, week_by, hours_by, Exception, works, days_off, days_on, days_with_hours, by_date, calendar_of, Named, with_uid, name_of, base_of, renamed, build, calendar_elements, built_calendars, main_calendar}
-use Rattle.definition.specs.Task.{context_of, is_elapsed, kept_tasks}
-use Rattle.definition.specs.Read.{calendars_of}
+use Rattle.definition.specs.Calendar.{free, is_empty, elapsed_name, default_calendar, elapsed_calendar, place_of, week_by, Exception, works, days_off, days_on, days_with_hours, by_date, Named, with_uid, name_of, base_of, main_calendar}
 use Rattle.laws.specs.Bools.{both}
-use Rattle.laws.specs.Each.{Each, empty, next, each_append, each_replicate}
-use Rattle.laws.specs.Formats.{Times}
+use Rattle.laws.specs.Each.{Each, empty, next, each_replicate}
 use Rattle.laws.specs.Fields.{IsPeriod, InYears}
 use Rattle.laws.specs.FitRecords.{ArePeriods, IsDay, FitsCalendarBy}
-use Rattle.laws.specs.FitLists.{each_keep, each_map, each_flat, each_set, Perhaps, there, perhaps_or, perhaps_else, perhaps_bind, perhaps_any, each_first, rising_none, dates_rising, days_rising}
-use Rattle.laws.specs.FitTrees.{Holds, Texts, says, holds_calendars}
-use Rattle.laws.specs.FitNames.{free_shape, names_in, added_to, build_length, keep_both}
-use Rattle.laws.specs.FitFields.{periods_of_lem, IsException, exceptions_of_lem}
+use Rattle.laws.specs.FitLists.{each_keep, each_map, Perhaps, there, perhaps_or, perhaps_else, perhaps_bind, perhaps_any, each_first, rising_none}
+use Rattle.laws.specs.FitTrees.{Texts}
+use Rattle.laws.specs.FitNames.{free_shape}
+use Rattle.laws.specs.FitFields.{IsException}
 
 -- ---- texts
 
@@ -58,33 +53,21 @@ week_length (w ∷ ws) week = week_length ws _ ∙ by (place_of w)
     by none = refl
     by (some k) = length-set week k (yes_in w "DayWorking")
 
-hours_if : (t : Bool) {l : List Period} → ArePeriods l → ArePeriods (if t then l else [])
+pub hours_if : (t : Bool) {l : List Period} → ArePeriods l → ArePeriods (if t then l else [])
 hours_if true h = h
 hours_if false h = rising_none earlier IsPeriod
 
-hours_fit : (ws : List Element) {hours : List (List Period)} → Times ArePeriods 7 hours → Times ArePeriods 7 (hours_by ws hours)
-unfolding hours_by
-hours_fit [] h = h
-hours_fit (w ∷ ws) {hours} h =
-    hours_fit ws
-    (perhaps_or {P = Times ArePeriods 7} hours
-    (perhaps_any (place_of w)
-    (λ k.
-    let l = if yes_in w "DayWorking" then periods_of w else [] in
-    there (record { many = length-set hours k l ∙ h.many; each = each_set k l (hours_if (yes_in w "DayWorking") (periods_of_lem w)) h.each })))
-    h)
-
-each_if : {A : Type 0} {P : A → Type 0} (t : Bool) {a b : List A} → Each P a → Each P b → Each P (if t then a else b)
+pub each_if : {A : Type 0} {P : A → Type 0} (t : Bool) {a b : List A} → Each P a → Each P b → Each P (if t then a else b)
 each_if true h k = h
 each_if false h k = k
 
-off_in : (week : List Bool) (x : Exception) → IsException x → Each InYears (days_off week x)
+pub off_in : (week : List Bool) (x : Exception) → IsException x → Each InYears (days_off week x)
 off_in week x h = each_if x.working empty (each_keep (works week) h.days)
 
-on_in : (week : List Bool) (x : Exception) → IsException x → Each InYears (days_on week x)
+pub on_in : (week : List Bool) (x : Exception) → IsException x → Each InYears (days_on week x)
 on_in week x h = each_if (x.working && is_empty x.periods) (each_keep (λ d. not (works week d)) h.days) empty
 
-with_hours : (x : Exception) → IsException x → Each IsDay (days_with_hours x)
+pub with_hours : (x : Exception) → IsException x → Each IsDay (days_with_hours x)
 with_hours x h = each_if (x.working && not (is_empty x.periods)) (each_map (λ d. (d, x.periods)) (λ d k. (k, h.periods)) h.days) empty
 
 -- ---- one calendar
@@ -94,35 +77,6 @@ unfolding rises
 whole_day = record { short = omega arith; each = next {x = (0, 1440)} (omega arith, omega arith) empty; rise = refl }
 
 module _ {S T : Text → Type 0} (texts : Texts S T) where
-  name_in : {e : Element} → Holds S e → S (text_in e "Name" or bytes "Calendar")
-  unfolding every?
-  name_in h = perhaps_or {P = S} (bytes "Calendar") (says texts h "Name") (texts.plain (bytes "Calendar") (ascii (bytes "Calendar") refl) (omega arith))
-
-  -- a calendar over its base, under a name
-  fit_named : (e : Element) (base : Calendar) (n : Text) → T n → FitsCalendarBy T base → FitsCalendarBy T (renamed n (calendar_of e base))
-  unfolding calendar_of
-  fit_named e base n t (b, (w, (h, (o, (x, s))))) =
-      let week = week_by (week_days e) base.week in
-      let changes = exceptions_of_lem e in (
-        t,
-        (
-          week_length (week_days e) base.week ∙ w,
-          (
-            hours_fit (week_days e) h,
-            (
-              dates_rising (each_flat (days_off week) (off_in week) changes) o,
-              (dates_rising (each_flat (days_on week) (on_in week) changes) x, days_rising (each_flat days_with_hours with_hours changes) s),
-            ),
-          ),
-        ),
-      )
-
-  pub fit_free : (names : List Text) {e : Element} (base : Calendar) → Holds S e → length names ≤ 5000000 → FitsCalendarBy T base
-      → FitsCalendarBy T (renamed (free names (calendar_of e base).name) (calendar_of e base))
-  unfolding calendar_of
-  fit_free names {e} base h m b =
-      fit_named e base (free names (text_in e "Name" or bytes "Calendar")) (text_free texts names (text_in e "Name" or bytes "Calendar") (name_in h) m) b
-
   pub fit_default : FitsCalendarBy T default_calendar
   unfolding default_calendar every?
   fit_default = (
@@ -169,38 +123,9 @@ module _ {S T : Text → Type 0} (texts : Texts S T) where
   pub fit_base : (e : Element) {built : List Named} → Each (FitsNamedBy T) built → FitsCalendarBy T ((base_of e >>= λ u. with_uid u built) or default_calendar)
   fit_base e h = perhaps_or {P = FitsCalendarBy T} default_calendar (perhaps_any (base_of e) (λ u. with_uid_lem {P = FitsCalendarBy T} u h)) (fit_default texts)
 
-  pub fit_added : {built : List Named} {e : Element} → Each (FitsNamedBy T) built → Holds S e → length built ≤ 5000000 → FitsNamedBy T (added_to built e)
-  fit_added {built} {e} h k m = fit_free texts (names_in built) ((base_of e >>= λ u. with_uid u built) or default_calendar) k (rw (length-map built (λ (x : Named). x.1.name)) m) (fit_base e h)
-
-  pub fit_build : {built : List Named} {es : List Element} → Each (FitsNamedBy T) built → Each (Holds S) es → length built + length es ≤ 5000000
-      → Each (FitsNamedBy T) (build built es)
-  unfolding build
-  fit_build {built} h empty m = h
-  fit_build {built} h (next {x = e} {l = es} k ks) m =
-      fit_build {built = built ++ (added_to built e ∷ [])} (each_append h (next (fit_added h k (omega arith)) empty)) ks (omega (arith, length-append built (added_to built e ∷ [])))
-
-  pub fit_built : {root : Element} → Holds S root → length (calendar_elements root) ≤ 5000000 → Each (FitsNamedBy T) (built_calendars root)
-  unfolding built_calendars
-  fit_built {root} h m =
-      let es = calendar_elements root in
-      let plain = keep (λ e. not (given (base_of e))) es in
-      let based = keep (λ e. given (base_of e)) es in
-      let n = keep_both (λ e. given (base_of e)) es in
-      let k = holds_calendars h in
-      fit_build (fit_build empty (each_keep (λ e. not (given (base_of e))) k) (omega arith)) (each_keep (λ e. given (base_of e)) k) (omega (arith, build_length [] plain))
-
   pub fit_main : (root : Element) {built : List Named} → Each (FitsNamedBy T) built → FitsCalendarBy T (main_calendar root built)
   unfolding main_calendar
   fit_main root h =
       perhaps_or {P = FitsCalendarBy T} default_calendar
       (perhaps_else (perhaps_any (text_in root "CalendarUID") (λ u. with_uid_lem {P = FitsCalendarBy T} u h)) (perhaps_bind (each_first h) (λ x k. there k)))
       (fit_default texts)
-
-  pub fit_calendars : {root : Element} → Holds S root → length (calendar_elements root) ≤ 5000000 → Each (FitsCalendarBy T) (calendars_of (context_of root))
-  unfolding calendars_of context_of
-  fit_calendars {root} h m =
-      let b = fit_built h m in
-      let main = main_calendar root (built_calendars root) in
-      each_append
-      (next (fit_main root b) (each_keep (λ (c : Calendar). not (same c.name main.name)) (each_map (λ (n : Named). n.1) (λ n k. k) b)))
-      (each_if (some? is_elapsed (kept_tasks root)) (next (fit_elapsed texts) empty) empty)

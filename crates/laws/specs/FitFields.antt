@@ -2,25 +2,23 @@
 -- Assumes nothing.
 use Rattle.std.specs.Prelude.{◌≡◌, refl, Bool, true, false, ◌&&◌, List, [], ◌∷◌, map, ℕ, suc, ◌+◌, ◌-◌, ◌*◌, ◌≤◌, min, leb, ltb, eqb, ℤ, pos, negsuc}
 use Rattle.std.proofs.Common.{sym, ap, ◌∙◌, subst, arith, add-one, leb-true, ltb-true}
-use Rattle.std.proofs.Math.Option.{some}
 use Prim.Native.String.{String}
-use Rattle.definition.specs.Base.{if◌then◌else◌, ◌>>=◌, ◌or◌, within, keep}
+use Rattle.definition.specs.Base.{if◌then◌else◌, ◌>>=◌, ◌or◌, within}
 use Rattle.definition.specs.Ascii.{bytes}
 use Rattle.definition.specs.Text.{Text, trim, before, after, signed_of, unsigned_of}
 use Rattle.definition.specs.Date.{Date, month_length, year_length, new_year, date_at, first_date, last_date, in_years, year_at, from_ymd, dash, first_ten, date_parts, date_of}
 use Rattle.definition.specs.Time.{most_time, is_colon, time_parts, time_of}
-use Rattle.definition.specs.Tree.{Element, child, all_in}
+use Rattle.definition.specs.Tree.{Element, child}
 use Rattle.definition.specs.Field.{text_in, yes_in, date_in}
-use Rattle.definition.specs.Format.{earlier}
-use Rattle.definition.specs.Recurrence.{Rule, century, rule_from, is_rule, rule_of, fits, days_of_rule, recurrence_days, days_of, most_exception_days}
-use Rattle.definition.specs.Calendar.{working_time, periods_of, Exception, exception_on, day_type, week_days, recurring, exceptions_of}
+use Rattle.definition.specs.Recurrence.{Rule, century, rule_from, is_rule, rule_of, fits, days_of_rule, days_of, most_exception_days}
+use Rattle.definition.specs.Calendar.{working_time, Exception}
 use Rattle.laws.specs.Bools.{both, Within, within_is}
-use Rattle.laws.specs.Each.{Each, empty, next, each_append, each_take}
+use Rattle.laws.specs.Each.{Each, empty, next, each_take}
 use Rattle.laws.specs.Rows.{rising}
 use Rattle.laws.specs.Calendar.{new_year_next, InYear, in_year, IsDay, falls, first_new_year, last_new_year}
 use Rattle.laws.specs.Fields.{IsPeriod, InYears}
 use Rattle.laws.specs.FitRecords.{ArePeriods}
-use Rattle.laws.specs.FitLists.{each_keep, Perhaps, there, perhaps_or, perhaps_when, perhaps_bind, perhaps_any, each_present, each_count, each_up_to, count_least, rising_none, periods_rising}
+use Rattle.laws.specs.FitLists.{each_keep, Perhaps, there, perhaps_or, perhaps_when, perhaps_bind, perhaps_any, each_count, each_up_to, count_least}
 
 pub each_map_any : {A B : Type 0} {Q : B → Type 0} (f : A → B) → ((x : A) → Q (f x)) → (l : List A) → Each Q (map f l)
 each_map_any f g [] = empty
@@ -92,11 +90,6 @@ working_time_lem t =
     let to = if eqb until 0 then 1440 else until in
     perhaps_when (ltb from to) (from, to) (λ e. (ltb-true from to e, end_most (eqb until 0) until h))))
 
-pub periods_of_lem : (e : Element) → ArePeriods (periods_of e)
-unfolding periods_of
-periods_of_lem e =
-    periods_rising (each_present (each_map_any working_time working_time_lem (all_in (child e (bytes "WorkingTimes")) (bytes "WorkingTime")))) (rising_none earlier IsPeriod)
-
 -- ---- exceptions
 
 -- days and hours that fit
@@ -133,19 +126,6 @@ rule_of_lem x =
     let k : to ≤ last_date = (perhaps_or {P = InYears} from (date_in_lem p "ToDate") h).1 in
     perhaps_when (is_rule (rule_from x from to)) (rule_from x from to) (λ e. record { from = h; last = last_in (yes_in x "EnteredByOccurrences") from to k })))
 
-rule_days_lem : (r : Rule) → IsRule r → Each InYears (days_of_rule r)
+pub rule_days_lem : (r : Rule) → IsRule r → Each InYears (days_of_rule r)
 unfolding days_of_rule
 rule_days_lem r h = each_take r.most (each_keep (fits r) (each_count first_date last_date r.from (suc r.last - r.from) h.from.0 (omega (arith, h.from.1, h.last))))
-
-pub recurrence_days_lem : (x : Element) → Perhaps (Each InYears) (recurrence_days x)
-unfolding recurrence_days
-recurrence_days_lem x = perhaps_bind (rule_of_lem x) (λ r h. there (rule_days_lem r h))
-
-pub exceptions_of_lem : (e : Element) → Each IsException (exceptions_of e)
-unfolding exceptions_of
-exceptions_of_lem e =
-    each_append
-    (each_map_any (λ w. exception_on w (days_of w)) (λ w. record { days = days_of_lem w; periods = periods_of_lem w }) (keep (λ w. eqb (day_type w or 1) 0) (week_days e)))
-    (each_present
-    (each_map_any (λ x. recurrence_days x >>= λ days. some (exception_on x days))
-    (λ x. perhaps_bind (recurrence_days_lem x) (λ days h. there (record { days = h; periods = periods_of_lem x }))) (recurring e)))

@@ -49,7 +49,7 @@ bit_most : (t : Bool) → bit t ≤ 1
 bit_most true = omega arith
 bit_most false = omega arith
 
-many_most : (n : ℕ) (l : List Text) → many n l ≤ length l
+pub many_most : (n : ℕ) (l : List Text) → many n l ≤ length l
 many_most n [] = omega arith
 many_most n (s ∷ l) = omega (arith, many_most n l, bit_most (leb n (length s)))
 
@@ -88,7 +88,7 @@ many_none n (s ∷ l) h =
     by : leb (length n) (length s) ≡ true → bit (leb (length n) (length s)) ≡ 0 → ⊥
     by e k = let z : ◌≡◌ {A = ℕ} 1 0 = sym (ap bit e) ∙ k in omega arith
 
-starred_new : (k : ℕ) (names : List Text) (n : Text) → many (length n) names ≤ k → Fresh (starred k names n) names
+pub starred_new : (k : ℕ) (names : List Text) (n : Text) → many (length n) names ≤ k → Fresh (starred k names n) names
 unfolding starred
 starred_new zero names n h = many_none n names (omega arith)
 starred_new (suc k) names n h = by (some? (same n) names) refl (starred_new k names (n ++ bytes "*"))
@@ -99,9 +99,6 @@ starred_new (suc k) names n h = by (some? (same n) names) refl (starred_new k na
     by true e more =
         let l : length (n ++ bytes "*") ≡ suc (length n) = length-append n (bytes "*") ∙ omega arith in
         more (rw l (omega (arith, many_there n names e)))
-
-pub free_new : (names : List Text) (n : Text) → Fresh (free names n) names
-free_new names n = starred_new (length names) names n (many_most (length n) names)
 
 -- with so many stars
 pub record Starred (most : ℕ) (n r : Text) : Type 0 where
@@ -134,9 +131,6 @@ distinct_end n (next {n = m} {l = l} h d) f =
     let (u, v) = neither (same n m) (some? (same n) l) f in
     next (some_both (same m) l (n ∷ []) ∙ rw (h, same_turned m n, u)) (distinct_end n d v)
 
-pub free_distinct : {names : List Text} (n : Text) → Distinct names → Distinct (names ++ (free names n ∷ []))
-free_distinct {names = names} n d = distinct_end (free names n) d (free_new names n)
-
 -- ---- the calendars
 
 abbrev pub calendars_in : List Named → List Calendar
@@ -148,7 +142,7 @@ names_in built = map (λ (x : Named). x.1.name) built
 abbrev name_in : Calendar → Text
 name_in c = c.name
 
-names_append : (a b : List Named) → names_in (a ++ b) ≡ names_in a ++ names_in b
+pub names_append : (a b : List Named) → names_in (a ++ b) ≡ names_in a ++ names_in b
 names_append [] b = refl
 names_append (x ∷ a) b = ap (λ (l : List Text). x.1.name ∷ l) (names_append a b)
 
@@ -166,27 +160,10 @@ pub build_next : (built : List Named) (e : Element) (es : List Element) → buil
 unfolding build
 build_next built e es = refl
 
-pub added_distinct : (built : List Named) (e : Element) → Distinct (names_in built) → Distinct (names_in (built ++ (added_to built e ∷ [])))
-added_distinct built e d =
-    subst Distinct (sym (names_append built (added_to built e ∷ [])))
-    (free_distinct (calendar_of e ((base_of e >>= λ u. with_uid u built) or default_calendar)).name d)
-
-pub build_distinct : (built : List Named) (es : List Element) → Distinct (names_in built) → Distinct (names_in (build built es))
-unfolding build
-build_distinct built [] d = d
-build_distinct built (e ∷ es) d = build_distinct (built ++ (added_to built e ∷ [])) es (added_distinct built e d)
-
 pub build_length : (built : List Named) (es : List Element) → length (build built es) ≡ length built + length es
 unfolding build
 build_length built [] = omega arith
 build_length built (e ∷ es) = build_length (built ++ (added_to built e ∷ [])) es ∙ omega (arith, length-append built (added_to built e ∷ []))
-
-pub built_distinct : (root : Element) → Distinct (names_in (built_calendars root))
-unfolding built_calendars build
-built_distinct root =
-    let es = calendar_elements root in
-    let first = keep (λ e. not (given (base_of e))) es in
-    build_distinct (build [] first) (keep (λ e. given (base_of e)) es) (build_distinct [] first empty)
 
 -- a test and its opposite keep all
 pub keep_both : {A : Type 0} (p : A → Bool) (l : List A) → length (keep (λ x. not (p x)) l) + length (keep p l) ≡ length l

@@ -7,16 +7,16 @@ use Rattle.definition.specs.Base.{if◌then◌else◌, ◌>>=◌}
 use Rattle.definition.specs.Bits.{Bits, bits_of, bytes_up_to}
 use Rattle.definition.specs.Text.{Text}
 use Rattle.definition.specs.Date.{Date}
-use Rattle.definition.specs.Format.{Format, Period, ◌⊗◌, times, whole, count, row, flag, code, number, date, optional, depending, list_of, periods, dates, earlier}
+use Rattle.definition.specs.Format.{Format, Period, ◌⊗◌, times, whole, count, row, flag, code, number, optional, depending, earlier}
 use Rattle.definition.specs.Model.{Project, Calendar, Activity, Link, Resource, Assignment, Expense}
 use Rattle.definition.specs.Calendar.{by_date}
-use Rattle.definition.specs.Pack.{named, project, calendar, constraint, activity, link, resource, assignment, expense}
+use Rattle.definition.specs.Pack.{named, resource, assignment, expense}
 use Rattle.laws.specs.Bools.{Within}
 use Rattle.laws.specs.Options.{never}
 use Rattle.laws.specs.Each.{Each, empty, next}
 use Rattle.laws.specs.Bits.{Binary, Bytes, bits_binary, length_bits, length_bytes, bytes_bits, bits_bytes, bytes_small}
-use Rattle.laws.specs.Formats.{got, Begins, Good, regard, lead, good_lead, Both, ◌&◌, IfGiven, Depends, good_depending, good_via, Times, good_times, good_whole, IsText, good_count, good_text, Rising, good_list}
-use Rattle.laws.specs.Fields.{good_flag, good_code, IsPeriod, good_periods, Signed, good_number, InYears, good_date, good_dates, good_optional}
+use Rattle.laws.specs.Formats.{got, Begins, Good, regard, lead, good_lead, Both, ◌&◌, IfGiven, Depends, good_depending, good_via, Times, good_times, good_whole, IsText, good_count, good_text, Rising}
+use Rattle.laws.specs.Fields.{good_flag, good_code, IsPeriod, Signed, good_number, InYears, good_optional}
 
 -- ---- texts of any bytes
 
@@ -110,10 +110,6 @@ IsDay = Both InYears ArePeriods
 abbrev pub IsConstraint : ℕ × Option Date → Type 0
 IsConstraint = Depends (Within 1 7) (λ k. not (eqb k 1)) InYears
 
-pub good_constraint : Good constraint IsConstraint
-unfolding constraint
-good_constraint = good_depending (λ k. not (eqb k 1)) (good_code 1 7 (omega arith)) good_date
-
 -- code 0 to 2, and a number if it is 2
 abbrev pub IsLagKind : ℕ × Option ℤ → Type 0
 IsLagKind = Depends (Within 0 2) (eqb 2) IsNumber
@@ -146,23 +142,8 @@ abbrev pub AssignmentParts : ℕ × (ℕ × (ℤ × (ℤ × (Option ℤ × Optio
 AssignmentParts = Both IsCount (Both IsCount (Both IsNumber (Both IsNumber (Both (IfGiven IsNumber) (IfGiven IsNumber)))))
 
 module _ {t : Format Text} {T : Text → Type 0} (g : Good t T) where
-  pub good_project_parts : Good (t ⊗ date ⊗ t ⊗ count ⊗ count ⊗ count ⊗ count ⊗ optional date) (ProjectParts T)
-  good_project_parts = g & good_date & g & good_count & good_count & good_count & good_count & good_optional good_date
-
-  pub good_calendar_parts : Good (t ⊗ times 7 flag ⊗ times 7 periods ⊗ dates ⊗ dates ⊗ list_of by_date (date ⊗ periods)) (CalendarParts T)
-  good_calendar_parts = g & good_week & good_times 7 good_periods & good_dates & good_dates & good_list by_date (good_date & good_periods)
-
-  pub good_activity_rest :
-      Good (optional t ⊗ optional constraint ⊗ optional date ⊗ optional date ⊗ optional date ⊗ optional number ⊗ code 0 3 ⊗ optional number ⊗ t) (ActivityRest T)
-  good_activity_rest =
-      good_optional g & good_optional good_constraint & good_optional good_date & good_optional good_date & good_optional good_date &
-      good_optional good_number & good_code 0 3 (omega arith) & good_optional good_number & g
-
   pub good_expense_parts : Good (row ⊗ t ⊗ number ⊗ number ⊗ optional number ⊗ code 0 2) (ExpenseParts T)
   good_expense_parts = good_count & g & good_number & good_number & good_optional good_number & good_code 0 2 (omega arith)
-
-pub good_link_parts : Good (row ⊗ row ⊗ code 0 3 ⊗ number ⊗ optional number ⊗ depending (code 0 2) (eqb 2) number) LinkParts
-good_link_parts = good_count & good_count & good_code 0 3 (omega arith) & good_number & good_optional good_number & good_lag_kind
 
 pub good_assignment_parts : Good (row ⊗ row ⊗ number ⊗ number ⊗ optional number ⊗ optional number) AssignmentParts
 good_assignment_parts = good_count & good_count & good_number & good_number & good_optional good_number & good_optional good_number
@@ -211,25 +192,6 @@ FitsResource = FitsResourceBy IsText
 
 abbrev pub FitsExpense : Expense → Type 0
 FitsExpense = FitsExpenseBy IsText
-
-pub good_project : Good project FitsProject
-unfolding project
-good_project = good_named _ _ (λ p. refl) (λ t. refl) (good_project_parts good_text)
-
-pub good_calendar : Good calendar FitsCalendar
-unfolding calendar
-good_calendar = good_named _ _ (λ c. refl) (λ t. refl) (good_calendar_parts good_text)
-
-pub good_activity : Good activity FitsActivity
-unfolding activity
-good_activity =
-    good_named _ _ (λ a. refl) (λ t. refl)
-    (good_text & good_text & good_code 0 2 (omega arith) & good_number & good_optional good_number & good_optional good_count & good_text &
-    good_activity_rest good_text)
-
-pub good_link : Good link FitsLink
-unfolding link
-good_link = good_named _ _ (λ l. refl) (λ t. refl) good_link_parts
 
 pub good_resource : Good resource FitsResource
 unfolding resource

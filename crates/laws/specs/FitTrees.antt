@@ -1,23 +1,22 @@
 -- The texts of a tree are short: a head has 16 bits for the length of a text, and 9 for that of a name. How many elements there are at most.
 -- Assumes nothing.
-use Rattle.std.specs.Prelude.{◌≡◌, refl, Bool, not, ℕ, zero, suc, ◌+◌, ◌^◌, ◌≤◌, ◌<◌, leb, ltb, eqb, length, take, drop, get_or, replicate}
+use Rattle.std.specs.Prelude.{Bool, not, ℕ, zero, suc, ◌+◌, ◌≤◌, ◌<◌, leb, ltb, eqb, length, take, drop, get_or, replicate}
 use Rattle.std.proofs.Math.Bool.{true, false}
 use mathlib.Core.List.{List, [], ◌∷◌, ◌++◌, reverse, reverse_aux}
-use Rattle.std.proofs.Math.Option.{Option, none}
+use Rattle.std.proofs.Math.Option.{Option}
 use Prim.Native.String.{String}
-use Rattle.std.proofs.Common.{arith, ltb-false, length-append, length-take, length-drop}
+use Rattle.std.proofs.Common.{arith, length-append, length-take, length-drop}
 use Rattle.std.proofs.lemmas.List.{length-replicate, length-reverse}
 use Rattle.definition.specs.Base.{if◌then◌else◌, keep, same}
-use Rattle.definition.specs.Bits.{Bits, dec, bits_of}
 use Rattle.definition.specs.Ascii.{bytes}
 use Rattle.definition.specs.Text.{Text, strip, front_width, back_width, trim_front, trim_back, trim}
-use Rattle.definition.specs.Tree.{Rec, depth_width, name_width, head_bytes, body_of, record_of, and_then, records_up_to, records, Forest, nothing, one, Element, elements, level, element, all, child, non_empty, text_of, all_in}
+use Rattle.definition.specs.Tree.{Rec, body_of, Forest, nothing, one, Element, elements, level, element, all, child, non_empty, text_of, all_in}
 use Rattle.definition.specs.Field.{text_in}
 use Rattle.definition.specs.Calendar.{calendar_elements}
 use Rattle.definition.specs.Task.{most_tasks, is_kept, kept_tasks}
 use Rattle.definition.specs.Resource.{is_resource, is_cost, resource_elements, work_resources, cost_resources, assignment_elements}
 use Rattle.laws.specs.Each.{Each, empty, next, each_append, each_take, each_drop, each_replicate}
-use Rattle.laws.specs.Bits.{Bytes, bits_binary, length_bits, dec_lt, dec_part}
+use Rattle.laws.specs.Bits.{Bytes}
 use Rattle.laws.specs.FitRecords.{Short}
 use Rattle.laws.specs.FitLists.{each_keep, each_first, Perhaps, missing, there, perhaps_when, perhaps_bind}
 
@@ -97,52 +96,20 @@ module _ {P : Text → Type 0} where
 abbrev pub Slim : Text → Type 0
 Slim s = (length s ≤ 65535) × Bytes s
 
-abbrev SlimRecord : Rec → Type 0
+abbrev pub SlimRecord : Rec → Type 0
 SlimRecord = OfRecord Slim
 
-abbrev Taken : Rec × Text → Type 0
+abbrev pub Taken : Rec × Text → Type 0
 Taken x = SlimRecord x.0 × Bytes x.1
 
-slim_body : (depth n t : ℕ) {s : Text} → n ≤ 65535 → t ≤ 65535 → Bytes s → Perhaps Taken (body_of depth n t s)
+pub slim_body : (depth n t : ℕ) {s : Text} → n ≤ 65535 → t ≤ 65535 → Bytes s → Perhaps Taken (body_of depth n t s)
 slim_body depth n t {s} hn ht b =
     let p : length (take n s) ≤ 65535 = rw length-take (omega arith) in
     let q : length (take t (drop n s)) ≤ 65535 = rw length-take (omega arith) in
     perhaps_when (leb (n + t) (length s)) _ (λ e. (((p, each_take n b), (q, each_take t (each_drop n b))), each_drop (n + t) b))
 
-slim_record : {s : Text} → Bytes s → Perhaps Taken (record_of s)
-unfolding record_of
-slim_record {s} b = by (ltb (length s) head_bytes) refl
-  where
-    h : Bits
-    h = bits_of (take head_bytes s)
-
-    by : (u : Bool) → ltb (length s) head_bytes ≡ u
-        → Perhaps Taken
-        (if u then none else body_of (dec (take depth_width h)) (dec (take name_width (drop depth_width h))) (dec (drop (depth_width + name_width) h)) (drop head_bytes s))
-    by true e = missing
-    by false e =
-        let l : 4 ≤ length s = ltb-false (length s) head_bytes e in
-        let k : length (take head_bytes s) ≡ 4 = rw length-take (omega arith) in
-        let n : dec (take name_width (drop depth_width h)) < 2 ^ 9 = dec_part (take head_bytes s) 7 9 (omega arith) in
-        let w : length (drop (depth_width + name_width) h) ≡ 16 = rw (length-drop, length_bits) (omega arith) in
-        let t : dec (drop (depth_width + name_width) h) < 2 ^ 16 = rw w at (dec_lt (each_drop (depth_width + name_width) (bits_binary (take head_bytes s)))) in
-        slim_body (dec (take depth_width h)) (dec (take name_width (drop depth_width h))) (dec (drop (depth_width + name_width) h)) (omega arith) (omega arith) (each_drop head_bytes b)
-
-slim_records : (n : ℕ) {s : Text} → Bytes s → Each SlimRecord (records_up_to n s)
-unfolding records_up_to
-slim_records zero b = empty
-slim_records (suc n) b = by (slim_record b) (λ t c. slim_records n {s = t} c)
-  where
-    by : {o : Option (Rec × Text)} → Perhaps Taken o → ((t : Text) → Bytes t → Each SlimRecord (records_up_to n t)) → Each SlimRecord (and_then o (records_up_to n))
-    by missing more = empty
-    by (there {a = (r, rest)} h) more = next {x = r} h.0 (more rest h.1)
-
 abbrev pub Small : Element → Type 0
 Small = Holds Slim
-
-pub small_element : (s : Text) → Bytes s → Small (element (records s))
-unfolding records
-small_element s b = holds_element (omega arith, empty) (slim_records (length s) b)
 
 -- ---- texts of a tree, and texts of records: those, or those with stars behind
 

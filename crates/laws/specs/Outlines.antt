@@ -227,7 +227,7 @@ outline_in ps c h = out ps c (length ps) 1 h
 -- ---- so many rows
 
 -- how often the rows below a number stand
-total : ℕ → List (ℕ × ℕ) → ℕ
+pub total : ℕ → List (ℕ × ℕ) → ℕ
 total zero l = 0
 total (suc n) l = total n l + stands n l
 
@@ -250,7 +250,7 @@ total_more (suc n) x l h = go (eqb n x.0) refl (total_more n x l)
     go true e f = omega (arith, total_past n x l (omega (arith, eqb-true n x.0 e)))
     go false e f = let d : n ≡ x.0 → ⊥ = eqb-false n x.0 e in omega (arith, f (omega arith))
 
-length_total : (n : ℕ) (l : List (ℕ × ℕ)) → ((c : ℕ) → n ≤ c → stands c l ≡ 0) → length l ≡ total n l
+pub length_total : (n : ℕ) (l : List (ℕ × ℕ)) → ((c : ℕ) → n ≤ c → stands c l ≡ 0) → length l ≡ total n l
 unfolding stands
 length_total n [] f = sym (total_nil n)
 length_total n (x ∷ l) f = go (ltb x.0 n) refl (length_total n l (λ c h. omega (arith, f c h)))
@@ -259,12 +259,7 @@ length_total n (x ∷ l) f = go (ltb x.0 n) refl (length_total n l (λ c h. omeg
     go true e i = omega (arith, total_more n x l (ltb-true x.0 n e))
     go false e i = absurd (omega (arith, f x.0 (ltb-false x.0 n e), ap bit (eq-eqb x.0 x.0 refl)))
 
-total_most : (n : ℕ) (l : List (ℕ × ℕ)) → ((c : ℕ) → stands c l ≤ 1) → total n l ≤ n
+pub total_most : (n : ℕ) (l : List (ℕ × ℕ)) → ((c : ℕ) → stands c l ≤ 1) → total n l ≤ n
 unfolding total
 total_most zero l f = omega arith
 total_most (suc n) l f = omega (arith, total_most n l f, f n)
-
--- there are at most as many rows as activities
-pub outline_length : (ps : List (Option ℕ)) → length (outline_of ps) ≤ length ps
-outline_length ps =
-    omega (arith, length_total (length ps) (outline_of ps) (outline_in ps), total_most (length ps) (outline_of ps) (outline_once ps))

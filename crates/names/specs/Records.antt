@@ -19,7 +19,8 @@ use Rattle.laws.specs.Each.{Each, empty, next, each_front, each_back}
 use Rattle.laws.specs.Formats.{Good, ◌&◌, Both, IfGiven, good_times, good_whole, good_count, all_append}
 use Rattle.laws.specs.Fields.{good_code, good_number, good_optional}
 use Rattle.laws.specs.Bools.{Within, differ as never_both}
-use Rattle.laws.specs.FitRecords.{Short, IsCount, IsNumber, any_text, good_any, CalendarParts, ActivityRest, ExpenseParts, FitsCalendarBy, FitsActivityBy, FitsResourceBy, FitsExpenseBy, good_calendar_parts, good_activity_rest, good_expense_parts}
+use Rattle.laws.specs.FitRecords.{Short, IsCount, IsNumber, any_text, good_any, CalendarParts, ActivityRest, ExpenseParts, FitsCalendarBy, FitsActivityBy, FitsResourceBy, FitsExpenseBy, good_expense_parts}
+use Rattle.laws.proofs.FitRecords.{good_calendar_parts, good_activity_rest}
 use Rattle.bits.specs.Places.{at, place, past, inside, at_place, room_fits}
 use Rattle.bits.specs.Reads.{rest, rest_in, spot, Reads}
 use Rattle.bits.specs.Steps.{Puts, past_out}

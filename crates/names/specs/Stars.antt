@@ -10,7 +10,8 @@ use Rattle.std.proofs.Math.Decide.{dec_lt}
 use Rattle.definition.specs.Base.{if◌then◌else◌, same, some?}
 use Rattle.definition.specs.Text.{Text}
 use Rattle.definition.specs.Calendar.{starred, free}
-use Rattle.laws.specs.FitNames.{free_new, free_shape}
+use Rattle.laws.specs.FitNames.{free_shape}
+use Rattle.laws.proofs.FitNames.{free_new}
 use Rattle.pack.specs.Value.{starred_by}
 pub use Rattle.laws.specs.Stars.{star_length}
 

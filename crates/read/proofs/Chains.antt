@@ -20,7 +20,7 @@ use Rattle.definition.specs.Read.{project_of, calendars_of, model_of}
 use Rattle.laws.specs.Each.{Each, next}
 use Rattle.laws.specs.FitRecords.{Short, FitsCalendarBy}
 use Rattle.laws.specs.FitTrees.{slim_texts}
-use Rattle.laws.specs.FitCalendars.{fit_calendars}
+use Rattle.laws.proofs.FitCalendars.{fit_calendars}
 use Rattle.laws.specs.Buf.{full, ◌▷◌, ▷-full}
 use Rattle.laws.specs.Formats.{Fills, fills_whole, fills_pair}
 use Rattle.laws.specs.Bits.{bytes_of_lem}

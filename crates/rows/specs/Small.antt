@@ -8,7 +8,8 @@ use Rattle.definition.specs.Tree.{Forest, one}
 use Rattle.laws.specs.Bits.{Bytes}
 use Rattle.laws.specs.Each.{empty, each_less, each_drop}
 use Rattle.laws.specs.FitCalendars.{ascii}
-use Rattle.laws.specs.FitTrees.{Throughout, nowhere, along, Slim, Small, small_element}
+use Rattle.laws.specs.FitTrees.{Throughout, nowhere, along, Slim, Small}
+use Rattle.laws.proofs.FitTrees.{small_element}
 use Rattle.tree.specs.Place.{element_at}
 use Rattle.tree.specs.Root.{root_at}
 use Rattle.tree.specs.declared.root.Root.{Root}

@@ -28,7 +28,8 @@ use Rattle.laws.specs.Each.{Each, empty, next, each_append, each_less}
 use Rattle.laws.specs.Same.{same_refl, same_eq}
 use Rattle.laws.specs.Tests.{some_both, some_map, some_keep, each_passes, OneOf, each_some, distinct_add}
 use Rattle.laws.specs.FitLists.{Perhaps, missing, there, perhaps_when, perhaps_bind, perhaps_any, perhaps_less, last_row}
-use Rattle.laws.specs.FitNames.{calendars_in, free_new}
+use Rattle.laws.specs.FitNames.{calendars_in}
+use Rattle.laws.proofs.FitNames.{free_new}
 use Rattle.laws.specs.FitCalendars.{name_of_lem}
 use Rattle.theorems.specs.Leads.{◌also◌, same_if, expense_if}
 use Rattle.theorems.specs.Reading.{activities_length, resources_length, links_each, assignments_each, expenses_each, answer_decodes}

@@ -22,7 +22,8 @@ use Rattle.laws.specs.Options.{never}
 use Rattle.laws.specs.Outlines.{times, stands, stands_append, all, child_times, top_none, top_times, at_top, as_parent, no_levels}
 -- ---- for any parents
 
-pub use Rattle.laws.specs.Outlines.{outline_once, outline_in, outline_length}
+pub use Rattle.laws.specs.Outlines.{outline_once, outline_in}
+pub use Rattle.laws.proofs.Outlines.{outline_length}
 
 -- ---- where a row stands
 

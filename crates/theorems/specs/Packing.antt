@@ -13,7 +13,8 @@ use Rattle.laws.specs.Bits.{Bytes, length_enc, bits_binary, length_bits, bytes_s
 use Rattle.laws.specs.Formats.{got, Ends, Good, regard, lead, good_lead, Both, ◌&◌, Times, good_times, good_whole, good_count, Fills, fills_whole, fills_pair, fills_times}
 use Rattle.laws.specs.FitRecords.{good_named, IsCount}
 pub use Rattle.laws.specs.FitRecords.{FitsProject, FitsCalendar, FitsActivity, FitsLink, FitsResource, FitsAssignment, FitsExpense}
-pub use Rattle.laws.specs.FitRecords.{good_project, good_calendar, good_activity, good_link, good_resource, good_assignment, good_expense}
+pub use Rattle.laws.specs.FitRecords.{good_resource, good_assignment, good_expense}
+pub use Rattle.laws.proofs.FitRecords.{good_project, good_calendar, good_activity, good_link}
 
 -- ---- the whole
 

@@ -29,8 +29,10 @@ use Rattle.laws.specs.FitLists.{each_flat, Perhaps, missing, there, is_given_lem
 use Rattle.laws.specs.FitTrees.{Holds, says, holds_tasks, holds_work, holds_costs, keep_most, calendars_most, resources_most, assignments_most, tasks_most}
 use Rattle.laws.specs.FitNames.{built_length, calendars_in}
 use Rattle.laws.specs.FitFields.{each_map_any, date_in_lem}
-use Rattle.laws.specs.FitCalendars.{text_none, text_is, fit_names, fit_built, fit_calendars}
-use Rattle.laws.specs.FitActivities.{text_in_lem, fit_activity, fit_link}
+use Rattle.laws.specs.FitCalendars.{text_none, text_is, fit_names}
+use Rattle.laws.proofs.FitCalendars.{fit_built, fit_calendars}
+use Rattle.laws.specs.FitActivities.{text_in_lem, fit_activity}
+use Rattle.laws.proofs.FitActivities.{fit_link}
 use Rattle.laws.specs.FitResources.{fit_resource, fit_expense, fit_assignment}
 use Rattle.theorems.specs.Utf8.{Neat, neat_texts, neat_element}
 use Rattle.theorems.specs.Counts.{root_most, skipped_most, fates_most}

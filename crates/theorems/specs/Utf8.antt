@@ -14,7 +14,8 @@ use Rattle.laws.specs.Each.{Each, empty, next, each_replicate}
 use Rattle.laws.specs.Bits.{Bytes}
 use Rattle.laws.specs.Formats.{IsText}
 use Rattle.laws.specs.FitLists.{Perhaps, missing, there, perhaps_if, perhaps_when}
-use Rattle.laws.specs.FitTrees.{Throughout, nowhere, along, OfRecord, Slim, Holds, holds_element, small_element, Texts, slim_texts}
+use Rattle.laws.specs.FitTrees.{Throughout, nowhere, along, OfRecord, Slim, Holds, holds_element, Texts, slim_texts}
+use Rattle.laws.proofs.FitTrees.{small_element}
 
 -- ---- characters
 
