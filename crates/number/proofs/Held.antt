@@ -35,7 +35,7 @@ pub record Steps {A : Type 0} (F : ℕ → ℕ → Text → A) : Type 0 where
   pub step : (c v b : ℕ) (t : Text) → is_digit b ≡ true → F c v (b ∷ t) ≡ F (suc c) (v * 10 + (b - 48)) t
   pub cap : (c v : ℕ) (t : Text) → F c v t ≡ F c (min v limit) t
 
-pub follow : {A : Type 0} (F : ℕ → ℕ → Text → A) → Steps F → {v c w : ℕ} {s t : Text} → Reads v s c w t → F 0 v s ≡ F c w t
+pub follow : {A : Type 0} (F : ℕ → ℕ → Text → A) → Steps F → {v : ℕ} {s : Text} {c w : ℕ} {t : Text} → Reads v s c w t → F 0 v s ≡ F c w t
 follow F k start = refl
 follow F k (digit {c} {w} {b} {t} r d) = follow F k r ∙ k.step c w b t d ∙ k.cap (suc c) (w * 10 + (b - 48)) t
 

@@ -1,0 +1,26 @@
+use Rattle.std.proofs.Common.{[], sym, refl, ap, ◌∙◌}
+use lib.Ieee.{Float}
+use Rattle.definition.specs.Number.{Reading}
+use Rattle.definition.specs.Duration.{is_t, ◌then◌, time_figures, day_figures}
+use Rattle.text.specs.Parts.{all_of}
+use Rattle.number.proofs.Parts.{up_to_lem}
+use Rattle.number.proofs.Figures.{no_figures, not_p, some_figures}
+use Rattle.number.proofs.duration.figures_of.Goals as goal
+
+pub returns-then-s-eq0 : goal.returns-then-s-eq0
+returns-then-s-eq0 c = sym (no_figures c.args.s.now c.if-s-eq0.true)
+
+pub returns-then-s-ne80 : goal.returns-then-s-ne80
+returns-then-s-ne80 c = sym (not_p c.args.s.now c.if-s-eq0.false c.if-s-ne80.true)
+
+pub slice_bounds-days_of-end : goal.slice_bounds-days_of-end
+slice_bounds-days_of-end c = up_to_lem is_t _ c.place-k.result c.place-k.ensures
+
+pub returns : goal.returns
+returns c =
+    let s = c.args.s.now in
+    let k = c.place-k.result in
+    let time = c.behind.result.now in
+    c.after_days.ensures
+    ∙ ap (λ (r : Reading Float). r then λ x. time_figures time [] (day_figures x)) c.days_of.ensures
+    ∙ some_figures s _ _ time k c.if-s-eq0.false c.if-s-ne80.false (all_of 1 s) c.place-k.ensures refl c.behind.ensures

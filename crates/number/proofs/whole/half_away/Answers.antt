@@ -1,0 +1,47 @@
+use Rattle.std.proofs.Common.{◌≡◌, ℕ, ◌+◌, ◌/◌, Bool, true, ◌&&◌, T, sym, ap, ◌∙◌, subst}
+use lib.Ieee.{Float, le, of_bits, fits, binary64}
+use denote.Floats.{passes}
+use Rattle.definition.specs.Base.{if◌then◌else◌}
+use Rattle.definition.specs.Number.{half_away, zero_float}
+use Rattle.number.proofs.Doubled.{cap, halved, Halved}
+use Rattle.number.proofs.Rounded.{half_is}
+use Rattle.number.proofs.whole.half_away.Goals as goal
+
+abbrev pick : Float → Bool → Bool → ℕ
+pick x a b = if a && b then half_away x else 0
+
+both : (x : Float) → T (fits binary64 x) → le zero_float x ≡ true → le x cap ≡ true → Halved x
+both x f a b = halved x f (subst T (sym a) tt) (subst T (sym b) tt)
+
+pub truncating_f64_to_u64-requires : goal.truncating_f64_to_u64-requires
+unfolding of_bits
+truncating_f64_to_u64-requires c =
+    let h = both c.args.x (passes (fits binary64 c.args.x) c.well_formed.0.1) c.if-x.true c.if-x-2.true in
+    record { lower_bound = h.cuts.low; upper_bound = h.cuts.high }
+
+pub overflow_add-result : goal.overflow_add-result
+unfolding of_bits
+overflow_add-result c =
+    let h = both c.args.x (passes (fits binary64 c.args.x) c.well_formed.0.1) c.if-x.true c.if-x-2.true in
+    record { fits = rw (c.truncating_f64_to_u64.ensures ∙ h.cuts.is) h.fine }
+
+pub returns-then-x-2 : goal.returns-then-x-2
+unfolding of_bits
+returns-then-x-2 c =
+    let x = c.args.x in
+    let h = both x (passes (fits binary64 x) c.well_formed.0.1) c.if-x.true c.if-x-2.true in
+    ap (λ (n : ℕ). (n + 1) / 2) (c.truncating_f64_to_u64.ensures ∙ h.cuts.is)
+    ∙ h.is_half
+    ∙ sym (half_is x ∙ ap (λ (t : Bool). pick x t (le x cap)) c.if-x.true ∙ ap (λ (t : Bool). pick x true t) c.if-x-2.true)
+
+pub returns-else-x-2 : goal.returns-else-x-2
+unfolding of_bits
+returns-else-x-2 c =
+    let x = c.args.x in
+    sym (half_is x ∙ ap (λ (t : Bool). pick x t (le x cap)) c.if-x.true ∙ ap (λ (t : Bool). pick x true t) c.if-x-2.false)
+
+pub returns-else-x : goal.returns-else-x
+unfolding of_bits
+returns-else-x c =
+    let x = c.args.x in
+    sym (half_is x ∙ ap (λ (t : Bool). pick x t (le x cap)) c.if-x.false)
