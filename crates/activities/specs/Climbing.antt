@@ -9,11 +9,12 @@ use Rattle.std.proofs.Math.ListN.{get_or-map}
 use Rattle.definition.specs.Task.{level_of, kept_tasks, parent_of}
 use Rattle.definition.specs.Text.{Text}
 use Rattle.definition.specs.Tree.{Element}
-use Rattle.index.specs.Law.{last_small as word_below}
+use Rattle.index.proofs.Law.{last_small as word_below}
 use Rattle.index.specs.Below.{SameBelow}
 use Rattle.index.specs.Frame.{SameIn}
 use Rattle.index.specs.declared.Table.{Table}
-use Rattle.index.specs.Last.{last_below, word_of, last_none, last_yes, last_no, last_here, last_on, last_same, rows_of}
+use Rattle.index.specs.Last.{last_below, word_of, last_none, rows_of}
+use Rattle.index.proofs.Last.{last_yes, last_no, last_here, last_on, last_same}
 use Rattle.index.specs.With.{one_more}
 use Rattle.rows.specs.Tables.{no_element}
 use Rattle.tree.specs.Place.{element_at}

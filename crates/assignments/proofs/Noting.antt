@@ -28,7 +28,8 @@ use Rattle.index.specs.declared.Row.{Row}
 use Rattle.index.specs.declared.Row.TheVariants as row
 use Rattle.index.specs.Chains.{zeros, added, first_of, next_of, place_of, chain_of, as_row}
 use Rattle.index.specs.Last.{last_below, rows_of}
-use Rattle.index.specs.Law.{Fits, indexed_none, indexed_by, indexed_same, find_like, Seeks, seeks_first, seeks_none, seeks_here, seeks_next}
+use Rattle.index.specs.Law.{Fits, Seeks, seeks_first, seeks_none, seeks_here, seeks_next}
+use Rattle.index.proofs.Law.{indexed_none, indexed_by, indexed_same, find_like}
 use Rattle.index.specs.With.{with, with_here, with_before, one_more}
 use Rattle.index.specs.Below.{SameBelow, below_refl, below_added}
 use Rattle.model.specs.Splits.{Stands}

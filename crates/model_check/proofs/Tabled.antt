@@ -18,7 +18,8 @@ use Rattle.index.specs.declared.Row.TheVariants.{At, None}
 use Rattle.index.specs.declared.Made.{Made}
 use Rattle.index.specs.declared.Made.TheVariants.{Ready, NoRoom}
 use Rattle.index.specs.Chains.{table_of, zeros, added, first_of, next_of, place_of, as_row, up_to, chain}
-use Rattle.index.specs.Law.{Seeks, table_placed, first_less, next_less, indexed_none, indexed_by, indexed_same, find_chain, find_next, seeks_none, seeks_here}
+use Rattle.index.specs.Law.{Seeks, table_placed, first_less, next_less, seeks_none, seeks_here}
+use Rattle.index.proofs.Law.{indexed_none, indexed_by, indexed_same, find_chain, find_next}
 use Rattle.index.specs.Frame.{same_zeros}
 use Rattle.bits.specs.declared.Place.{Place}
 use Rattle.model.specs.Answers.{rest_fits}

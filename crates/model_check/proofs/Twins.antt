@@ -12,7 +12,8 @@ use Rattle.definition.specs.Base.{given, some?, same}
 use Rattle.definition.specs.Check.{distinct}
 use Rattle.laws.specs.Bools.{both}
 use Rattle.laws.specs.Same.{same_eq, same_refl}
-use Rattle.index.specs.Last.{last_below, last_none, last_yes, last_no}
+use Rattle.index.specs.Last.{last_below, last_none}
+use Rattle.index.proofs.Last.{last_yes, last_no}
 use Rattle.model_check.specs.Keys.{Key, no_key, same_key}
 
 -- ---- keys that are the same

@@ -20,7 +20,8 @@ use Rattle.laws.specs.FitLists.{each_keep}
 use Rattle.index.specs.declared.Table.{Table}
 use Rattle.index.specs.Hash.{hash_of}
 use Rattle.index.specs.Chains.{place_at, place_of, end_of, zeros, added}
-use Rattle.index.specs.Law.{Fits, indexed_none, indexed_by, indexed_same, added_other, length_added}
+use Rattle.index.specs.Law.{Fits, added_other, length_added}
+use Rattle.index.proofs.Law.{indexed_none, indexed_by, indexed_same}
 use Rattle.index.specs.Frame.{zeros_other, zeros_outside, added_outside}
 use Rattle.index.specs.Steps.{length_zeros}
 use Rattle.rows.specs.Rows.{in_order}

@@ -23,7 +23,8 @@ use Rattle.index.specs.declared.Made.{Made}
 use Rattle.index.specs.declared.Made.TheVariants.{Ready, NoRoom}
 use Rattle.index.specs.Hash.{hash_of}
 use Rattle.index.specs.Chains.{place_at, place_of, end_of, table_of}
-use Rattle.index.specs.Law.{Fits, indexed_same}
+use Rattle.index.specs.Law.{Fits}
+use Rattle.index.proofs.Law.{indexed_same}
 use Rattle.index.specs.Frame.{SameIn, indexed_kept}
 use Rattle.index.specs.Steps.{table_short}
 use Rattle.bits.specs.declared.Place.{Place}

@@ -15,7 +15,8 @@ use Rattle.index.specs.declared.Made.{Made}
 use Rattle.index.specs.declared.Made.TheVariants.{Ready, NoRoom}
 use Rattle.index.specs.Below.{SameBelow, below_in}
 use Rattle.index.specs.Hash.{hash_of}
-use Rattle.index.specs.Last.{last_below, last_in}
+use Rattle.index.specs.Last.{last_below}
+use Rattle.index.proofs.Last.{last_in}
 use Rattle.index.specs.Frame.{SameIn, find_same, place_same}
 use Rattle.index.specs.Chains.{place_of}
 use Rattle.bits.specs.declared.Place.{Place}

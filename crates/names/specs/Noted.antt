@@ -16,8 +16,10 @@ use Rattle.bits.specs.declared.Place.{Place}
 use Rattle.index.specs.Hash.{hash_of}
 use Rattle.index.specs.Chains.{zeros, added, place_of, chain_of, end_of}
 use Rattle.index.specs.Steps.{length_zeros}
-use Rattle.index.specs.Last.{last_below, last_yes, last_no, last_in}
-use Rattle.index.specs.Law.{Fits, Indexed, indexed_none, indexed_by, indexed_same, find_like}
+use Rattle.index.specs.Last.{last_below}
+use Rattle.index.proofs.Last.{last_yes, last_no, last_in}
+use Rattle.index.specs.Law.{Fits, Indexed}
+use Rattle.index.proofs.Law.{indexed_none, indexed_by, indexed_same, find_like}
 use Rattle.index.specs.With.{with, with_here, with_before, one_more}
 use Rattle.index.specs.Frame.{apart_before, apart_behind, same_added, same_zeros, indexed_kept}
 use Rattle.model.specs.Answers.{read_at}

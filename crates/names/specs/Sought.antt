@@ -15,8 +15,10 @@ use Rattle.index.specs.declared.Made.{Made}
 use Rattle.index.specs.declared.Made.TheVariants.{Ready, NoRoom}
 use Rattle.index.specs.Below.{SameBelow, below_refl, below_in}
 use Rattle.index.specs.Hash.{hash_of, same_hash}
-use Rattle.index.specs.Last.{last_below, last_none, last_yes, last_no, last_same, last_in}
-use Rattle.index.specs.Law.{Placed, table_placed, find_by_place}
+use Rattle.index.specs.Last.{last_below, last_none}
+use Rattle.index.proofs.Last.{last_yes, last_no, last_same, last_in}
+use Rattle.index.specs.Law.{Placed, table_placed}
+use Rattle.index.proofs.Law.{find_by_place}
 use Rattle.index.specs.Frame.{SameIn, find_same, place_same}
 use Rattle.index.specs.Chains.{table_of, place_of}
 use Rattle.rows.specs.Rows.{in_order, has_uid, with_uid_in}

@@ -7,7 +7,8 @@ use Rattle.index.specs.Hash.{hash_of}
 use Rattle.index.specs.declared.Made.{Made}
 use Rattle.index.specs.declared.Made.TheVariants.{Ready, NoRoom}
 use Rattle.index.specs.Chains.{table_of, zeros, added}
-use Rattle.index.specs.Law.{table_placed, Indexed, indexed_none, indexed_by, indexed_same, length_added}
+use Rattle.index.specs.Law.{table_placed, Indexed, length_added}
+use Rattle.index.proofs.Law.{indexed_none, indexed_by, indexed_same}
 use Rattle.index.specs.With.{with, with_here, with_before, one_more}
 use Rattle.index.specs.Frame.{Outside, added_outside, zeros_outside}
 use Rattle.index.specs.Steps.{length_zeros}

@@ -14,10 +14,11 @@ use Rattle.index.specs.declared.Table.{Table}
 use Rattle.index.specs.declared.Made.{Made}
 use Rattle.index.specs.declared.Made.TheVariants.{Ready, NoRoom}
 use Rattle.index.specs.Chains.{table_of, chain_of, place_of, end_in}
-use Rattle.index.specs.Last.{last_in, rows_of}
+use Rattle.index.specs.Last.{rows_of}
+use Rattle.index.proofs.Last.{last_in}
 use Rattle.index.specs.Law.{table_placed}
 use Rattle.index.specs.Frame.{SameIn, same_refl, apart_before, place_same, find_agree, find_same}
-use Rattle.index.specs.Texts.{text_by_place}
+use Rattle.index.proofs.Texts.{text_by_place}
 use Rattle.tree.specs.Place.{element_at}
 use Rattle.rows.specs.Rows.{has_uid}
 use Rattle.rows.specs.Turns.{keep_head}

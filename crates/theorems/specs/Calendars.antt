@@ -1,7 +1,7 @@
 -- The main calendar stands first, and what has no calendar of its own has that one; how many exceptions give no rule. Assumes nothing.
 use Rattle.std.specs.Prelude.{◌++◌, ◌≡◌, Bool, not, List, [], ◌∷◌, map, ℕ, zero, suc}
 use Rattle.std.proofs.Math.Path.{refl, ap}
-use Rattle.std.proofs.Common.{sym, ◌∙◌, true≢false, arith}
+use Rattle.std.proofs.Common.{sym, ◌∙◌, true≢false}
 use Rattle.std.proofs.Math.Option.{Option, some, none}
 use Rattle.std.proofs.lemmas.Bool.{not-true}
 use Rattle.std.proofs.Math.ListN.{length}
@@ -10,20 +10,19 @@ use Rattle.definition.specs.Text.{Text}
 use Rattle.definition.specs.Tree.{Element}
 use Rattle.definition.specs.Field.{text_in}
 use Rattle.definition.specs.Recurrence.{Rule, rule_of, days_of_rule, recurrence_days}
-use Rattle.definition.specs.Model.{Activity, Resource}
+use Rattle.definition.specs.Model.{Resource}
 use Rattle.definition.specs.Calendar.{name_of, skipped}
-use Rattle.definition.specs.Task.{Context, context_of, kept_tasks, unless_main, calendar_name_of, activity_of}
+use Rattle.definition.specs.Task.{Context, context_of, unless_main}
 use Rattle.definition.specs.Resource.{work_resources, resource_of, resources_after, resources}
 use Rattle.definition.specs.Read.{project_of, calendars_of, model_of}
 use Rattle.laws.specs.Each.{Each, empty, next, each_append}
 use Rattle.laws.specs.Formats.{got}
 use Rattle.laws.specs.Options.{never, when_is}
-use Rattle.theorems.specs.Leads.{At, at_in, leads, same_if}
-use Rattle.theorems.specs.Made.{as_many_lem, made}
+use Rattle.theorems.specs.Leads.{At, same_if}
 use Rattle.theorems.specs.Told.{exception_elements, gives_no_rule, main_of}
 
 -- a name that is used is not the main one's
-unless_other : (x : Context) (o : Option Text) → (o >>= unless_main x) ≡ some x.main.name → ⊥
+pub unless_other : (x : Context) (o : Option Text) → (o >>= unless_main x) ≡ some x.main.name → ⊥
 unless_other x none h = never h
 unless_other x (some n) h =
     let (t, e) = when_is (not (same n x.main.name)) n x.main.name h in
@@ -56,13 +55,6 @@ module _ (root : Element) where
   pub main_first_lem : At (model_of root).calendars 0 (main_of root)
   unfolding model_of calendars_of context_of
   main_first_lem = refl
-
-  pub activity_other_lem : (row : ℕ) (a : Activity) → At (model_of root).activities row a → a.calendar ≡ some (main_of root).name → ⊥
-  unfolding activity_of context_of
-  activity_other_lem row a e h =
-      let t = leads (kept_tasks root) row (omega (arith, as_many_lem root, at_in (model_of root).activities row a e)) in
-      let w = (made root row t.item a t.is e).whole in
-      unless_other (context_of root) (calendar_name_of (context_of root) t.item) (sym (ap (λ (a : Activity). a.calendar) w) ∙ h)
 
   pub resource_other_lem : (row : ℕ) (r : Resource) → At (model_of root).resources row r → r.calendar ≡ some (main_of root).name → ⊥
   unfolding model_of resources resource_of context_of

@@ -8,37 +8,32 @@ use Rattle.std.proofs.Math.Option.{Option, some}
 use Prim.Native.Nat.{ℕ, suc, ◌+◌, ◌<◌}
 use borrow.Author.Tests.{lt-ltb, eqb-true}
 use Rattle.std.proofs.Math.Dec.{ltb}
-use Rattle.std.proofs.Math.ListN.{length, length-append}
-use Rattle.definition.specs.Base.{if◌then◌else◌, ◌>>=◌, ◌or◌, ◌or_else◌, when, keep, some?, numbered, same}
+use Rattle.std.proofs.Math.ListN.{length}
+use Rattle.definition.specs.Base.{if◌then◌else◌, ◌>>=◌, when, keep, some?, numbered, same}
 use Rattle.definition.specs.Ascii.{bytes}
 use Rattle.definition.specs.Text.{Text}
-use Rattle.definition.specs.Tree.{Element, records, element}
+use Rattle.definition.specs.Tree.{Element}
 use Rattle.definition.specs.Field.{text_in}
-use Rattle.definition.specs.Model.{Calendar, Activity, Resource, Expense, Model}
+use Rattle.definition.specs.Model.{Calendar, Expense, Model}
 use Rattle.definition.specs.Calendar.{Named, name_of, elapsed_name, elapsed_calendar}
-use Rattle.definition.specs.Task.{Context, context_of, level_of, parent_of, is_elapsed, unless_main, calendar_name_of, wanted_id, activity_of, activities_after, activities}
-use Rattle.definition.specs.Link.{link_of, links, entered}
-use Rattle.definition.specs.Resource.{work_resources, cost_resources, resource_of, resources_after, resources, assignment_from, expense_from, same_expense, firsts, expenses}
+use Rattle.definition.specs.Task.{Context, context_of, level_of, parent_of, is_elapsed, unless_main, calendar_name_of, activity_of}
+use Rattle.definition.specs.Resource.{same_expense, firsts}
 use Rattle.definition.specs.Read.{calendars_of, model_of}
-use Rattle.definition.specs.Check.{distinct, if_given, is_calendar, activity_right, link_right, assignment_right, keeps_list}
-use Rattle.definition.specs.Refusal.{gives, read_answer, check_of, check_answer}
-use Rattle.laws.specs.Bits.{Bytes}
+use Rattle.definition.specs.Check.{distinct, if_given, is_calendar, activity_right}
 use Rattle.laws.specs.Bools.{both}
-use Rattle.laws.specs.Each.{Each, empty, next, each_append, each_less}
+use Rattle.laws.specs.Each.{Each, each_less}
 use Rattle.laws.specs.Same.{same_refl, same_eq}
-use Rattle.laws.specs.Tests.{some_both, some_map, some_keep, each_passes, OneOf, each_some, distinct_add}
+use Rattle.laws.specs.Tests.{some_both, some_map, some_keep, OneOf, each_some, distinct_add}
 use Rattle.laws.specs.FitLists.{Perhaps, missing, there, perhaps_when, perhaps_bind, perhaps_any, perhaps_less, last_row}
 use Rattle.laws.specs.FitNames.{calendars_in}
-use Rattle.laws.proofs.FitNames.{free_new}
 use Rattle.laws.specs.FitCalendars.{name_of_lem}
 use Rattle.theorems.specs.Leads.{◌also◌, same_if, expense_if}
-use Rattle.theorems.specs.Reading.{activities_length, resources_length, links_each, assignments_each, expenses_each, answer_decodes}
 
 if_perhaps : {A : Type 0} (p : A → Bool) {o : Option A} → Perhaps (λ a. p a ≡ true) o → if_given p o ≡ true
 if_perhaps p missing = refl
 if_perhaps p (there h) = h
 
-numbered_end : {A : Type 0} (n : ℕ) (l : List A) (x : A) → numbered n (l ++ (x ∷ [])) ≡ numbered n l ++ ((n + length l, x) ∷ [])
+pub numbered_end : {A : Type 0} (n : ℕ) (l : List A) (x : A) → numbered n (l ++ (x ∷ [])) ≡ numbered n l ++ ((n + length l, x) ∷ [])
 unfolding numbered
 numbered_end n [] x = let e : n ≡ n + 0 = omega arith in rw (← e)
 numbered_end {A} n (y ∷ l) x =
@@ -48,7 +43,7 @@ numbered_end {A} n (y ∷ l) x =
 -- ---- ids
 
 -- one more with an id that is free
-ids_add : {A : Type 0} (id : A → Text) (done : List A) (a : A) → distinct same (map id done) ≡ true → some? (same (id a)) (map id done) ≡ false
+pub ids_add : {A : Type 0} (id : A → Text) (done : List A) (a : A) → distinct same (map id done) ≡ true → some? (same (id a)) (map id done) ≡ false
     → distinct same (map id (done ++ (a ∷ []))) ≡ true
 ids_add id done a d f =
     rw (map-append id done (a ∷ [])) (distinct_add same (λ x y e. same_if (sym (same_eq x y e))) (map id done) (id a) d f)
@@ -57,11 +52,11 @@ ids_add id done a d f =
 
 module _ (x : Context) where
   -- a name is some calendar's
-  abbrev known : Text → Bool
+  abbrev pub known : Text → Bool
   known n = some? (λ (c : Calendar). same c.name n) (calendars_of x)
 
   -- where it is not the main one's
-  abbrev Known : Text → Type 0
+  abbrev pub Known : Text → Type 0
   Known n = not (same n x.main.name) ≡ true → known n ≡ true
 
   abbrev others : List Calendar
@@ -86,7 +81,7 @@ module _ (x : Context) where
       ∙ some_map (λ c. test c && q c) (λ (n : Named). n.1) x.built
       ∙ s (λ (n : Named). test n.1 && q n.1) (h also same_refl n.1.name)
 
-  built_known : Each (λ (n : Named). Known n.1.name) x.built
+  pub built_known : Each (λ (n : Named). Known n.1.name) x.built
   unfolding some?
   built_known = each_less (λ n s h. known_is n.1.name ∙ rw (others_known n s h, or-true (same x.main.name n.1.name))) (each_some x.built)
 
@@ -98,7 +93,7 @@ module _ (x : Context) where
       by true e = there (λ h. elapsed_known (s is_elapsed e))
       by false e = perhaps_any (text_in t "CalendarUID") (λ u. perhaps_any (when (not (same u (bytes "-1"))) u) (λ v. name_of_lem {T = Known} v built_known))
 
-  used_known : {o : Option Text} → Perhaps Known o → if_given known (o >>= unless_main x) ≡ true
+  pub used_known : {o : Option Text} → Perhaps Known o → if_given known (o >>= unless_main x) ≡ true
   used_known h = if_perhaps known (perhaps_bind h (λ n k. perhaps_when (not (same n x.main.name)) n k))
 
 -- ---- expenses
@@ -108,7 +103,7 @@ expense_back e f h =
     let (a, n) = both (eqb e.activity f.activity) (same e.name f.name) h in
     expense_if f e (sym (eqb-true e.activity f.activity a)) (sym (same_eq e.name f.name n))
 
-firsts_distinct : (done es : List Expense) → distinct same_expense done ≡ true → distinct same_expense (firsts done es) ≡ true
+pub firsts_distinct : (done es : List Expense) → distinct same_expense done ≡ true → distinct same_expense (firsts done es) ≡ true
 unfolding firsts
 firsts_distinct done [] d = d
 firsts_distinct done (e ∷ es) d = firsts_distinct (if some? (same_expense e) done then done else done ++ (e ∷ [])) es (by (some? (same_expense e) done) refl)
@@ -126,7 +121,7 @@ module _ (root : Element) where
   abbrev m : Model
   m = model_of root
 
-  activity_right_lem : (ids : List Text) (levels : List ℕ) (enters : Bool) (t : Element) (row : ℕ) → length levels ≡ row → OneOf x.tasks t
+  pub activity_right_lem : (ids : List Text) (levels : List ℕ) (enters : Bool) (t : Element) (row : ℕ) → length levels ≡ row → OneOf x.tasks t
       → activity_right m (row, activity_of x ids levels enters t) ≡ true
   unfolding activity_right is_calendar activity_of model_of parent_of
   activity_right_lem ids levels enters t row e s =
@@ -134,71 +129,3 @@ module _ (root : Element) where
     where
       below : (p : ℕ) → p < length levels → ltb p row ≡ true
       below p h = lt-ltb p row (omega arith)
-
-  record Activities (done : List Activity) : Type 0 where
-    ids : distinct same (map (λ (a : Activity). a.id) done) ≡ true
-    right : Each (λ y. activity_right m y ≡ true) (numbered 0 done)
-
-  activities_keep : (enters : ℕ → Bool) {done : List Activity} (levels : List ℕ) {ts : List Element} → length levels ≡ length done → Activities done → Each (OneOf x.tasks) ts
-      → Activities (activities_after x enters done levels ts)
-  unfolding activities_after activity_of
-  activities_keep enters {done} levels e d empty = d
-  activities_keep enters {done} levels e d (next {x = t} s ss) =
-      let ids = map (λ (a : Activity). a.id) done in
-      let a = activity_of x ids levels (enters (length done)) t in
-      activities_keep enters {done = done ++ (a ∷ [])} (levels ++ (level_of t ∷ [])) (omega (arith, length-append levels (level_of t ∷ []), length-append done (a ∷ [])))
-      (record {
-        ids = ids_add (λ (a : Activity). a.id) done a d.ids (free_new ids (wanted_id t));
-        right =
-            rw (numbered_end 0 done a) (each_append d.right (next {x = (0 + length done, a)} (activity_right_lem ids levels (enters (length done)) t (0 + length done) (omega arith) s) empty));
-      })
-      ss
-
-  record Resources (done : List Resource) : Type 0 where
-    ids : distinct same (map (λ (r : Resource). r.id) done) ≡ true
-    right : Each (λ (r : Resource). if_given (known x) r.calendar ≡ true) done
-
-  resources_keep : {done : List Resource} (rs : List Element) → Resources done → Resources (resources_after x done rs)
-  unfolding resources_after resource_of
-  resources_keep {done} [] d = d
-  resources_keep {done} (r ∷ rs) d =
-      let ids = map (λ (r : Resource). r.id) done in
-      let a = resource_of x ids r in
-      resources_keep {done = done ++ (a ∷ [])} rs
-      (record {
-        ids = ids_add (λ (r : Resource). r.id) done a d.ids (free_new ids ((text_in r "ID" or_else text_in r "UID") or []));
-        right = each_append d.right (next {x = a} (used_known x (perhaps_any (text_in r "CalendarUID") (λ u. name_of_lem {T = Known x} u (built_known x)))) empty);
-      })
-
-  -- ---- the whole
-
-  abbrev enters : ℕ → Bool
-  enters = entered (links x)
-
-  -- a task's row is an activity's, and a resource element's a resource's
-  task_row_lem : (n : ℕ) → n < length x.tasks → ltb n (length (activities x enters)) ≡ true
-  unfolding activities
-  task_row_lem n h = lt-ltb n (length (activities x enters)) (omega (arith, activities_length x enters [] [] x.tasks))
-
-  resource_row_lem : (n : ℕ) → n < length (work_resources root) → ltb n (length (resources x root)) ≡ true
-  unfolding resources
-  resource_row_lem n h = lt-ltb n (length (resources x root)) (omega (arith, resources_length x [] (work_resources root)))
-
-  pub keeps_list_lem : keeps_list (model_of root) ≡ true
-  unfolding keeps_list model_of activities resources expenses link_right assignment_right is_calendar link_of assignment_from expense_from distinct numbered
-  keeps_list_lem =
-      let a = activities_keep enters [] refl (record { ids = refl; right = empty }) (each_some x.tasks) in
-      let r = resources_keep (work_resources root) (record { ids = refl; right = empty }) in
-      a.ids
-      also each_passes (activity_right m) a.right
-      also r.ids
-      also each_passes (λ (r : Resource). if_given (is_calendar m) r.calendar) r.right
-      also each_passes (link_right m) (links_each (λ l. link_right m l ≡ true) x (λ p row l h k. task_row_lem p h also task_row_lem row k))
-      also each_passes (assignment_right m) (assignments_each x root (λ t r a h k. task_row_lem t h also resource_row_lem r k))
-      also each_passes (λ (e : Expense). ltb e.activity (length m.activities)) (expenses_each x root (each_some (cost_resources root)) (λ t r a h k. task_row_lem t h))
-      also firsts_distinct [] _ refl
-
--- what reading gives passes the check
-pub read_passes : (s : Text) (room : ℕ) (l : List ℕ) → Bytes s → read_answer s room ≡ gives l → check_answer l ≡ 0
-unfolding check_answer
-read_passes s room l b h = ap check_of (answer_decodes s room l b h) ∙ ap (λ (t : Bool). if t then 0 else 7) (keeps_list_lem (element (records s)))

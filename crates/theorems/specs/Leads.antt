@@ -1,19 +1,18 @@
 -- In a model that passes the check no row and no name leads nowhere: a parent is an activity above, link ends, assignments and expenses point at
 -- rows that are there, and each calendar name used is some calendar's. Ids are distinct, and so are expenses by activity and name. And a model that
 -- decodes and is so passes. Assumes nothing.
-use Rattle.std.specs.Prelude.{◌≡◌, refl, ◌↔◌, Bool, true, false, ◌&&◌, ◌||◌, not, List, [], ◌∷◌, map, ℕ, zero, suc, ◌+◌, ◌<◌, ltb, eqb, length}
+use Rattle.std.specs.Prelude.{◌≡◌, refl, Bool, true, false, ◌&&◌, ◌||◌, not, List, [], ◌∷◌, map, ℕ, zero, suc, ◌+◌, ◌<◌, ltb, eqb, length}
 use Rattle.std.proofs.Common.{sym, ap, ◌∙◌, arith, ltb-true, lt-ltb, eq-eqb, eqb-true}
 use Rattle.std.proofs.Math.Bool.{or-true, and-eq-true_iff}
 use Rattle.std.proofs.Math.Option.{Option, some, none, some-injective}
 use Rattle.std.proofs.lemmas.Bool.{not-true}
 use Rattle.std.proofs.Math.ListN.{get_elem?}
-use Rattle.definition.specs.Base.{if◌then◌else◌, some?, every?, numbered, same}
+use Rattle.definition.specs.Base.{some?, every?, numbered, same}
 use Rattle.definition.specs.Text.{Text}
 use Rattle.definition.specs.Model.{Calendar, Activity, Link, Resource, Assignment, Expense, Model}
 use Rattle.definition.specs.Resource.{same_expense}
 use Rattle.definition.specs.Pack.{decode}
 use Rattle.definition.specs.Check.{distinct, if_given, is_calendar, activity_right, link_right, assignment_right, keeps_list}
-use Rattle.definition.specs.Refusal.{check_of, check_answer}
 use Rattle.laws.specs.Bools.{and_left, and_right, both}
 use Rattle.laws.specs.Options.{never}
 use Rattle.laws.specs.Same.{same_refl, same_eq}
@@ -254,18 +253,6 @@ pub record Passed (s : Text) : Type 0 where
   pub leads : LeadsSomewhere model
   pub distinct : IsDistinct model
 
-pub passes : (s : Text) → check_answer s ≡ 0 → Passed s
-unfolding check_answer
-passes s h = by_model (decode s) refl h
-  where
-    by_list : (m : Model) → decode s ≡ some m → (t : Bool) → keeps_list m ≡ t → ◌≡◌ {A = ℕ} (if t then 0 else 7) 0 → Passed s
-    by_list m d true k e = record { model = m; decodes = d; leads = leads_somewhere m k; distinct = is_distinct m k }
-    by_list m d false k e = absurd (omega arith)
-
-    by_model : (o : Option Model) → decode s ≡ o → check_of o ≡ 0 → Passed s
-    by_model none d e = absurd (omega arith)
-    by_model (some m) d e = by_list m d (keeps_list m) refl e
-
 -- ---- and the other way
 
 given_if : {A : Type 0} (p : A → Bool) (o : Option A) → ((a : A) → o ≡ some a → p a ≡ true) → if_given p o ≡ true
@@ -280,7 +267,7 @@ in_if : {A : Type 0} {l : List A} {i : ℕ} → Leads l i → ltb i (length l) �
 in_if {l = l} {i} t = lt-ltb i (length l) t.in_range
 
 -- a model in which all leads somewhere and what has to differ does keeps the list
-keeps : (m : Model) → LeadsSomewhere m → IsDistinct m → keeps_list m ≡ true
+pub keeps : (m : Model) → LeadsSomewhere m → IsDistinct m → keeps_list m ≡ true
 unfolding keeps_list activity_right link_right assignment_right
 keeps m t d =
     own_ids (λ (a : Activity). a.id) m.activities d.activities
@@ -306,11 +293,3 @@ keeps m t d =
     once i j a b e f k =
         let (p, q) = both (eqb a.activity b.activity) (same a.name b.name) k in
         d.expenses i j a b e f (eqb-true a.activity b.activity p) (same_eq a.name b.name q)
-
-pub checks : (s : Text) (m : Model) → decode s ≡ some m → LeadsSomewhere m → IsDistinct m → check_answer s ≡ 0
-unfolding check_answer
-checks s m e t d = rw (e, keeps m t d)
-
--- so the check passes exactly then
-pub passes_iff : (s : Text) → (check_answer s ≡ 0) ↔ Passed s
-passes_iff s = (passes s, λ p. checks s p.model p.decodes p.leads p.distinct)

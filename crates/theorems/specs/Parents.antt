@@ -10,9 +10,9 @@ use Rattle.definition.specs.Model.{Activity}
 use Rattle.definition.specs.Task.{Context, level_of, kept_tasks, context_of, parent_of, activity_of, activities_after, activities}
 use Rattle.definition.specs.Link.{links, entered}
 use Rattle.definition.specs.Read.{model_of}
-use Rattle.theorems.specs.Leads.{At, map_at, at_in, leads}
+use Rattle.theorems.specs.Leads.{At, map_at, at_in}
 use Rattle.theorems.specs.Outlines.{parents_of}
-use Rattle.theorems.specs.Told.{NoneLower, IsParent}
+use Rattle.theorems.specs.Told.{IsParent}
 use Rattle.theorems.specs.LastRow.{RowFound, nowhere, found, none_at, last_row}
 use Rattle.theorems.specs.Made.{as_many_lem}
 
@@ -126,14 +126,3 @@ module _ (root : Element) where
             lower = λ t u i j. omega (arith, f.lower, level_at_lem row t i, level_at_lem p u j);
             between = λ q t u k l i j. omega (arith, f.between q k l, level_at_lem row t i, level_at_lem q u j);
           }
-
-  pub no_parent : (row : ℕ) (a : Activity) → At (model_of root).activities row a → NoneLower (kept_tasks root) row → a.parent ≡ none
-  no_parent row a h f = by a.parent (nearest_parent row a h)
-    where
-      by : (o : Option ℕ) → IsParent (kept_tasks root) row o → o ≡ none
-      by none g = refl
-      by (some p) g =
-          let r : row < length (kept_tasks root) = omega (arith, as_many_lem root, at_in (model_of root).activities row a h) in
-          let t = leads (kept_tasks root) row r in
-          let u = leads (kept_tasks root) p (omega (arith, g.earlier)) in
-          absurd (omega (arith, g.lower t.item u.item t.is u.is, f p t.item u.item g.earlier t.is u.is))

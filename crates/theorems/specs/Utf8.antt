@@ -1,20 +1,19 @@
 -- Texts in UTF-8 stay so: trimmed, with stars behind; and plain texts are. So what the definition makes of a tree whose texts are in UTF-8 has
 -- only such texts. Assumes nothing.
-use Rattle.std.specs.Prelude.{◌≡◌, refl, Bool, true, false, ◌&&◌, ◌||◌, ℕ, zero, suc, ◌≤◌, ◌<◌, leb, eqb, length, drop, get_or, replicate}
+use Rattle.std.specs.Prelude.{◌≡◌, refl, Bool, true, false, ◌&&◌, ◌||◌, ℕ, zero, suc, ◌≤◌, ◌<◌, leb, eqb, drop, get_or}
 use Rattle.std.proofs.Common.{sym, ap, ◌∙◌, subst, true≢false, arith, le-leb, eqb-true, ne_eqb}
-use mathlib.Core.List.{List, [], ◌∷◌, ◌++◌, reverse, reverse-cons, reverse-reverse, append_assoc}
+use mathlib.Core.List.{List, [], ◌∷◌, ◌++◌, reverse, reverse-cons, append_assoc}
 use Rattle.std.proofs.Math.Option.{Option, some, none}
 use Rattle.std.proofs.lemmas.Bool.{lt-leb}
 use Rattle.definition.specs.Base.{if◌then◌else◌, when, within, every?}
-use Rattle.definition.specs.Text.{Text, tail_byte, following, utf8_after, is_utf8, white1, white2, white3, front_width, back_width, strip, trim_front, trim_back, trim}
+use Rattle.definition.specs.Text.{Text, tail_byte, following, utf8_after, is_utf8, white1, white2, white3, front_width, strip}
 use Rattle.definition.specs.Tree.{Rec, records, Forest, Element, element}
 use Rattle.definition.specs.Refusal.{utf8?}
 use Rattle.laws.specs.Bools.{both, within_is, is_within}
-use Rattle.laws.specs.Each.{Each, empty, next, each_replicate}
+use Rattle.laws.specs.Each.{Each, empty, next}
 use Rattle.laws.specs.Bits.{Bytes}
-use Rattle.laws.specs.Formats.{IsText}
 use Rattle.laws.specs.FitLists.{Perhaps, missing, there, perhaps_if, perhaps_when}
-use Rattle.laws.specs.FitTrees.{Throughout, nowhere, along, OfRecord, Slim, Holds, holds_element, Texts, slim_texts}
+use Rattle.laws.specs.FitTrees.{Throughout, nowhere, along, OfRecord, Slim, Holds, holds_element}
 use Rattle.laws.proofs.FitTrees.{small_element}
 
 -- ---- characters
@@ -80,10 +79,10 @@ utf8_plain (next {x = b} {l = s} h hs) = ap (utf8_after s) (plain_following b h)
 abbrev Begins : ℕ → Type 0
 Begins b = (r : ℕ × ℕ) → (0x80 ≤ r.0) × (r.1 ≤ 0xBF) → within r.0 r.1 b ≡ false
 
-low_begins : (b : ℕ) → b < 128 → Begins b
+pub low_begins : (b : ℕ) → b < 128 → Begins b
 low_begins b h r (p, q) = rw (lt-leb r.0 b (omega arith))
 
-high_begins : (b : ℕ) → 0xBF < b → Begins b
+pub high_begins : (b : ℕ) → 0xBF < b → Begins b
 high_begins b h r (p, q) = rw (lt-leb b r.1 (omega arith)) (and_no (leb r.0 b))
   where
     and_no : (t : Bool) → (t && false) ≡ false
@@ -119,14 +118,14 @@ or_is : (a b : Bool) {P : Type 0} → (a || b) ≡ true → (a ≡ true → P) �
 or_is true b h p q = p refl
 or_is false b h p q = q h
 
-white1_low : (a : ℕ) → white1 a ≡ true → a < 128
+pub white1_low : (a : ℕ) → white1 a ≡ true → a < 128
 white1_low a h = or_is (within 9 13 a) (eqb a 32) h (λ e. let k = within_is 9 13 a e in omega arith) (λ e. let k = eqb-true a 32 e in omega arith)
 
-white2_first : (a b : ℕ) → white2 a b ≡ true → a ≡ 0xC2
+pub white2_first : (a b : ℕ) → white2 a b ≡ true → a ≡ 0xC2
 white2_first a b h = eqb-true a 0xC2 (both (eqb a 0xC2) (eqb b 0x85 || eqb b 0xA0) h).0
 
 -- E1, E2 or E3
-white3_first : (a b c : ℕ) → white3 a b c ≡ true → (0xE1 ≤ a) × (a ≤ 0xEC)
+pub white3_first : (a b c : ℕ) → white3 a b c ≡ true → (0xE1 ≤ a) × (a ≤ 0xEC)
 white3_first a b c h =
     or_is (eqb a 0xE1 && (eqb b 0x9A && eqb c 0x80)) _ h (λ e. is 0xE1 (both (eqb a 0xE1) _ e).0 (omega arith) (omega arith))
     (λ g. or_is (eqb a 0xE2 && (eqb b 0x80 && (within 0x80 0x8A c || (within 0xA8 0xA9 c || eqb c 0xAF)))) _ g (λ e. is 0xE2 (both (eqb a 0xE2) _ e).0 (omega arith) (omega arith))
@@ -183,7 +182,7 @@ front_step (a ∷ s) h = by (white1 a) (white2 a (get_or s 0 0)) (white3 a (get_
         three s (sym (ap (utf8_after s) (three_follow a p q)) ∙ h)
     by false false false x y z = h
 
-front_trim : (n : ℕ) (s : Text) → is_utf8 s ≡ true → is_utf8 (strip front_width n s) ≡ true
+pub front_trim : (n : ℕ) (s : Text) → is_utf8 s ≡ true → is_utf8 (strip front_width n s) ≡ true
 unfolding strip
 front_trim zero s h = h
 front_trim (suc n) s h = front_trim n (drop (front_width (get_or s 0 0) (get_or s 1 0) (get_or s 2 0)) s) (front_step s h)
@@ -191,24 +190,24 @@ front_trim (suc n) s h = front_trim n (drop (front_width (get_or s 0 0) (get_or 
 -- ---- white space behind
 
 -- the text that stands in a list from its end
-abbrev Turned : Text → Type 0
+abbrev pub Turned : Text → Type 0
 Turned l = is_utf8 (reverse l) ≡ true
 
-turned_none : (n : ℕ) → Turned (drop n [])
+pub turned_none : (n : ℕ) → Turned (drop n [])
 unfolding is_utf8 utf8_after
 turned_none zero = refl
 turned_none (suc n) = refl
 
-turned_cut : (a : ℕ) (l : Text) → Begins a → Turned (a ∷ l) → Turned l
+pub turned_cut : (a : ℕ) (l : Text) → Begins a → Turned (a ∷ l) → Turned l
 turned_cut a l g h = utf8_before (reverse l) a [] g (subst (λ (t : Text). is_utf8 t ≡ true) (reverse-cons a l) h)
 
-turned_two : (a b : ℕ) (l : Text) → Begins b → Turned (a ∷ b ∷ l) → Turned l
+pub turned_two : (a b : ℕ) (l : Text) → Begins b → Turned (a ∷ b ∷ l) → Turned l
 turned_two a b l g h =
     let e : reverse (a ∷ b ∷ l) ≡ reverse l ++ (b ∷ a ∷ []) =
     reverse-cons a (b ∷ l) ∙ ap (λ (t : Text). t ++ (a ∷ [])) (reverse-cons b l) ∙ append_assoc (reverse l) (b ∷ []) (a ∷ []) in
     utf8_before (reverse l) b (a ∷ []) g (subst (λ (t : Text). is_utf8 t ≡ true) e h)
 
-turned_three : (a b c : ℕ) (l : Text) → Begins c → Turned (a ∷ b ∷ c ∷ l) → Turned l
+pub turned_three : (a b c : ℕ) (l : Text) → Begins c → Turned (a ∷ b ∷ c ∷ l) → Turned l
 turned_three a b c l g h =
     let f : reverse (b ∷ c ∷ l) ≡ reverse l ++ (c ∷ b ∷ []) =
     reverse-cons b (c ∷ l) ∙ ap (λ (t : Text). t ++ (b ∷ [])) (reverse-cons c l) ∙ append_assoc (reverse l) (c ∷ []) (b ∷ []) in
@@ -216,49 +215,10 @@ turned_three a b c l g h =
     reverse-cons a (b ∷ c ∷ l) ∙ ap (λ (t : Text). t ++ (a ∷ [])) f ∙ append_assoc (reverse l) (c ∷ b ∷ []) (a ∷ []) in
     utf8_before (reverse l) c (b ∷ a ∷ []) g (subst (λ (t : Text). is_utf8 t ≡ true) e h)
 
-back_step : (l : Text) → Turned l → Turned (drop (back_width (get_or l 0 0) (get_or l 1 0) (get_or l 2 0)) l)
-unfolding back_width
-back_step [] h = turned_none (back_width 0 0 0)
-back_step (a ∷ l) h = by (white1 a) (white2 (get_or l 0 0) a) (white3 (get_or l 1 0) (get_or l 0 0) a) refl refl refl
-  where
-    two : (l : Text) → Turned (a ∷ l) → white2 (get_or l 0 0) a ≡ true → Turned (drop 1 l)
-    two [] h e = turned_none 0
-    two (b ∷ l) h e = let k = white2_first b a e in turned_two a b l (high_begins b (omega arith)) h
-
-    three : (l : Text) → Turned (a ∷ l) → white3 (get_or l 1 0) (get_or l 0 0) a ≡ true → Turned (drop 2 l)
-    three [] h e = turned_none 0
-    three (b ∷ []) h e = turned_none 0
-    three (b ∷ c ∷ l) h e = let (p, q) = white3_first c b a e in turned_three a b c l (high_begins c (omega arith)) h
-
-    by : (t u v : Bool) → white1 a ≡ t → white2 (get_or l 0 0) a ≡ u → white3 (get_or l 1 0) (get_or l 0 0) a ≡ v
-        → Turned (drop (if t then 1 else if u then 2 else if v then 3 else 0) (a ∷ l))
-    by true u v x y z = turned_cut a l (low_begins a (white1_low a x)) h
-    by false true v x y z = two l h y
-    by false false true x y z = three l h z
-    by false false false x y z = h
-
-back_trim : (n : ℕ) (l : Text) → Turned l → Turned (strip back_width n l)
-unfolding strip
-back_trim zero l h = h
-back_trim (suc n) l h = back_trim n (drop (back_width (get_or l 0 0) (get_or l 1 0) (get_or l 2 0)) l) (back_step l h)
-
-pub utf8_trim : (s : Text) → is_utf8 s ≡ true → is_utf8 (trim s) ≡ true
-unfolding trim trim_front trim_back
-utf8_trim s h =
-    let f = strip front_width (length s) s in
-    back_trim (length f) (reverse f) (subst (λ (t : Text). is_utf8 t ≡ true) (sym (reverse-reverse f)) (front_trim (length s) s h))
-
 -- ---- trees in UTF-8
 
 abbrev pub Neat : Text → Type 0
 Neat s = Slim s × (is_utf8 s ≡ true)
-
-pub neat_texts : Texts Neat IsText
-neat_texts = record {
-  plain = λ s a l. (slim_texts.plain s a l, utf8_plain a);
-  trims = λ s h. (slim_texts.trims s h.0, utf8_trim s h.1);
-  stars = λ s k h m. ((slim_texts.stars s k h.0 m).0, utf8_append s (replicate k 42) h.1 (utf8_plain (each_replicate k 42 (omega arith))));
-}
 
 -- two things that hold throughout
 along_both : {P Q : Text → Type 0} {f : Forest} → Throughout P f → Throughout Q f → Throughout (λ s. P s × Q s) f
