@@ -1,5 +1,7 @@
 // Fields of any width at any bit of a buffer: read, written, moved. A place is a byte and a bit, so that no buffer is too long for it; what
 // does not fit leads to a place past every end, where nothing fits any more.
+#![tactic(auto)]
+
 mod copying; // runs of bits written again
 mod places; // what fits, and which place comes first
 mod reading; // fields read

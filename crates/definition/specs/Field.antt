@@ -1,6 +1,6 @@
 -- What an element says in a child: a text, a yes, a whole number, a number, a date, a duration. MSPDI's fields are such children. What is
 -- missing or cannot be read is absent. Assumes nothing.
-use Rattle.std.specs.Prelude.{ℕ, min, max, Bool, false, not, List, [], ℤ, pos, negsuc, Float}
+use Rattle.std.specs.Prelude.{ℕ, min, max, Bool, false, not, [], ℤ, pos, negsuc, Float}
 use Rattle.std.proofs.Math.Option.{Option, some, none}
 use Prim.Native.String.{String}
 use Rattle.definition.specs.Base.{◌>>=◌, ◌or◌}

@@ -2,7 +2,7 @@
 -- The top-level ones come in model order at level 1. Each row is followed at once by the rows of its children (the other activities that
 -- name it as parent), in model order and one level deeper, each child with all below it before the next. A circle of parents vanishes with
 -- all below it. Assumes nothing.
-use Rattle.std.specs.Prelude.{ℕ, zero, suc, Bool, true, false, ◌&&◌, ◌||◌, not, length, get_or, ltb, eqb}
+use Rattle.std.specs.Prelude.{ℕ, zero, suc, Bool, true, false, ◌&&◌, not, length, get_or, ltb, eqb}
 use mathlib.Core.List.{List, [], ◌∷◌, map, flat_map}
 use Rattle.std.proofs.Math.Option.{Option, some, none}
 use Rattle.definition.specs.Base.{keep, count}

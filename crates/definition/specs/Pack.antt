@@ -1,32 +1,13 @@
 -- A model as bytes. Document 01: six counts (calendars, main first; activities; links; resources; assignments; expenses), then a project record,
 -- then the rest in that order, each record from a whole byte. What does not decode is refused with 6. Document 02, E2: a project has a fourth count, and
 -- every model is decoded as one with it, whatever wrote it. Assumes nothing.
-use Rattle.std.specs.Prelude.{ℕ, Bool, not, List, [], ◌∷◌, ◌++◌, length, eqb, ℤ}
+use Rattle.std.specs.Prelude.{ℕ, not, List, [], ◌∷◌, ◌++◌, length, eqb, ℤ}
 use Rattle.std.proofs.Math.Option.{Option, some, none}
 use Rattle.definition.specs.Base.{◌>>=◌}
 use Rattle.definition.specs.Text.{Text}
 use Rattle.definition.specs.Date.{Date}
 use Rattle.definition.specs.Bits.{Bits, bits_of, bytes_of}
-use Rattle.definition.specs.Format.{
-  Format,
-  Period,
-  ◌⊗◌,
-  via,
-  depending,
-  times,
-  whole,
-  count,
-  row,
-  flag,
-  code,
-  number,
-  date,
-  text,
-  optional,
-  list_of,
-  periods,
-  dates,
-}
+use Rattle.definition.specs.Format.{Format, ◌⊗◌, via, depending, times, whole, count, row, flag, code, number, date, text, optional, list_of, periods, dates}
 use Rattle.definition.specs.Model.{Project, Calendar, Activity, Link, Resource, Assignment, Expense, Model}
 use Rattle.definition.specs.Calendar.{by_date}
 

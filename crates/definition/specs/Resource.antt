@@ -4,7 +4,7 @@
 -- resource wins; work is in hundredths of an hour, minutes × 100 / 60 in whole numbers; money in hundredths, rounded half away from zero; a
 -- remaining that equals planned less actual, at least 0, is dropped, as is a rate of 100; of two expenses with equal activity and name the
 -- first is kept. Assumes nothing.
-use Rattle.std.specs.Prelude.{ℕ, ◌*◌, ◌/◌, ◌^◌, Bool, true, false, ◌&&◌, not, List, [], ◌∷◌, ◌++◌, map, length, eqb, ℤ, pos, negsuc, ◌-ℤ◌, Float}
+use Rattle.std.specs.Prelude.{ℕ, ◌*◌, ◌/◌, ◌^◌, Bool, false, ◌&&◌, not, List, [], ◌∷◌, ◌++◌, map, eqb, ℤ, pos, negsuc, ◌-ℤ◌, Float}
 use Rattle.std.proofs.Math.Option.{Option, some, none}
 use Prim.Native.String.{String}
 use Rattle.std.specs.Float.Ieee.{lt, neg}

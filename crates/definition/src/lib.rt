@@ -1,4 +1,5 @@
 // The types that the definitions and the code share. What they mean is said in specs/.
+#![tactic(auto)]
 
 // The four figures of a duration text.
 #[derive(Clone, Copy)]

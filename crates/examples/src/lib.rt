@@ -1,1 +1,3 @@
+#![tactic(auto)]
+
 // No code: examples of document 01 that antt computes, in specs/.

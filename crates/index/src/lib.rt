@@ -2,6 +2,8 @@
 // head for each of n buckets, then for each row the one before it in its chain, then for each row a place, where what it stands for is found. A head
 // names the last row of its bucket: 0 for none, else the row plus 1, as does the word of a row. Words past the end read as 0 and store nothing.
 // What the words mean is said in specs/.
+#![tactic(auto)]
+
 ghost use Rattle.std.specs.Prelude.{◌≡◌, ◌+◌, ◌-◌, ◌*◌, ◌%◌, ◌^◌, ◌≤◌, ◌<◌, min, ◌++◌, length, get_or, set, replicate};
 ghost use Rattle.index.specs.Hash.{quad_at, mixed, hash_after, hash_of};
 ghost use Rattle.laws.specs.Stars.{starred_by};

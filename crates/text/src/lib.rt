@@ -1,4 +1,6 @@
 // Texts, as bytes: trimming, parts, whole numbers, comparing, UTF-8.
+#![tactic(auto)]
+
 mod compare;
 mod parts;
 mod utf8;

@@ -1,6 +1,6 @@
 -- Laws of floats that are whole numbers: sums and products are those of the numbers, rounded once; up to 2 ^ 53 they are exact, and a float is
 -- whole exactly where it equals the whole number that is nearest (eq-whole). Assumes nothing.
-use Rattle.std.specs.Prelude.{◌≡◌, refl, Bool, true, false, ℕ, ◌+◌, ◌*◌, ◌/◌, ◌%◌, ◌^◌, ◌≤◌, ◌<◌, T, Float}
+use Rattle.std.specs.Prelude.{◌≡◌, refl, Bool, true, false, ℕ, ◌+◌, ◌*◌, ◌%◌, ◌^◌, ◌≤◌, T, Float}
 use Rattle.std.proofs.Common.{sym, ap, ◌∙◌, true≢false, mul-pos, mul-one, zero-lt-suc, arith, eq-eqb}
 use Rattle.std.proofs.Math.Nat.{mul-mod_left}
 use Rattle.std.specs.Float.{nan, inf, fin, binary64}

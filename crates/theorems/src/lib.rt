@@ -1,1 +1,3 @@
+#![tactic(auto)]
+
 // No code: theorems on the definitions, in specs/.

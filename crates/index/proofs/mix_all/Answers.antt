@@ -1,5 +1,4 @@
 use mathlib.Core.Path.{◌≡◌, sym, ap, ◌∙◌}
-use Prim.Native.Nat.{◌-◌}
 use Rattle.index.specs.Hash.{hash_after}
 use Rattle.laws.specs.Stars.{starred_by, star_length}
 use Rattle.index.specs.Steps.{hash_none, hash_more}

@@ -1,6 +1,5 @@
 use mathlib.Core.Path.{refl}
 use mathlib.Core.Path.{◌≡◌, ◌∙◌}
-use Prim.Native.Nat.{◌-◌}
 use Rattle.bits.specs.Places.{at}
 use Rattle.bits.proofs.Copied.{copy_none, copy_more}
 use native.Mathlib.Omega.{arith}

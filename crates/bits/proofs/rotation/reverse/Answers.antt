@@ -1,5 +1,4 @@
 use mathlib.Core.Path.{refl}
-use Prim.Native.Nat.{◌-◌}
 use lib.ListN.{length-set}
 use Rattle.bits.proofs.Rotating.{reverse_none, reverse_more, reverse_done}
 use borrow.Author.Rules.{rules}

@@ -1,5 +1,4 @@
 use mathlib.Core.Path.{◌≡◌, refl, ◌∙◌}
-use Prim.Native.Nat.{◌-◌}
 use Rattle.bits.specs.Places.{at}
 use Rattle.bits.proofs.Rotating.{move_none}
 use Rattle.bits.proofs.Rotating.{shift_turn}

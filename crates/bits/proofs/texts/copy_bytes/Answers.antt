@@ -1,6 +1,5 @@
 use mathlib.Core.Path.{refl}
 use lib.ListN.{length-set}
-use Prim.Native.Nat.{◌-◌}
 use lib.Seq.{paste-zero}
 use Rattle.bits.proofs.Bytes.{copy_short, copy_turn, copy_done}
 use native.Mathlib.Omega.{arith}

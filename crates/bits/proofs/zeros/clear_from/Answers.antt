@@ -1,5 +1,4 @@
 use mathlib.Core.Path.{refl}
-use Prim.Native.Nat.{◌-◌}
 use lib.ListN.{length-set}
 use Rattle.bits.proofs.Clearing.{clear_none, clear_more, clear_all}
 use native.Mathlib.Omega.{arith}

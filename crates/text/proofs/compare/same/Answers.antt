@@ -1,5 +1,4 @@
 use mathlib.Core.Path.{refl, sym, ◌∙◌}
-use Prim.Native.Nat.{◌-◌}
 use Rattle.text.proofs.Equal.{same_lengths, same_off, same_on, same_end}
 use borrow.Author.Rules.{rules}
 use Rattle.text.proofs.compare.same.Goals as goal

@@ -1,4 +1,3 @@
-use Prim.Native.Nat.{◌-◌}
 use borrow.Author.Tests.{not-false}
 use Rattle.text.proofs.Wellformed.{stay, ◌⨾◌}
 use Rattle.text.proofs.utf8.ascii_run.Goals as goal

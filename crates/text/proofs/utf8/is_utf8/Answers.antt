@@ -1,5 +1,5 @@
 use mathlib.Core.Path.{refl, sym, ◌∙◌}
-use Prim.Native.Nat.{◌-◌, ◌+◌}
+use Prim.Native.Nat.{◌+◌}
 use Rattle.text.proofs.Wellformed.{stay, ◌⨾◌, skip_one, skip_char, utf8_end}
 use borrow.Author.Rules.{rules}
 use native.Mathlib.Omega.{arith}

@@ -1,6 +1,5 @@
 use mathlib.Core.Path.{sym, ap, ◌∙◌}
 use Rattle.definition.specs.Base.{within}
-use Rattle.definition.specs.Text.{white1, white2, white3}
 use Rattle.text.proofs.Strip.{back_plain, back_read}
 use borrow.Author.Rules.{rules}
 use Rattle.text.proofs.white.back_at.Goals as goal

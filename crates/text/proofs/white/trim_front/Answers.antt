@@ -1,5 +1,4 @@
 use mathlib.Core.Path.{refl, sym, ◌∙◌}
-use Prim.Native.Nat.{◌-◌}
 use lib.ListN.{drop}
 use Rattle.text.specs.Parts.{all_of}
 use Rattle.text.proofs.Strip.{front_empty, front_stop, front_within, front_turn}
