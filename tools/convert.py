@@ -30,16 +30,35 @@ def run(cmd, cwd):
     return subprocess.run(cmd, cwd=cwd, stdout=subprocess.PIPE, stderr=subprocess.STDOUT, universal_newlines=True).stdout
 
 
+def part(names, rest):
+    """The path `rest` into a product of unnamed clauses, `.0`, `.1.0`, .., by the clauses' names."""
+    i, k = 0, 0
+    while names and k < len(rest) and rest[k] in "01" and i < len(names) - 1:
+        k += 1
+        if rest[k - 1] == "0":
+            return [names[i]] + rest[k:]
+        i += 1
+        if i == len(names) - 1:
+            return [names[i]] + rest[k:]
+    return rest
+
+
 class Function:
     """Today's names of a function by the old ones."""
 
     def __init__(self, of):
         self.of, self.stem = of, of.get("stem") or ""
-        self.parent, self.row = {}, {}
+        self.parent, self.row, self.full = {}, {}, {}
         for i, p in enumerate(of["places"]):
             self.row[p[0]] = i
             self.parent[p[0]] = p[1]
         self.new = {p[0]: n for p, n in zip(of["places"], of["places_by_name"])}
+        # inside an arm the record that proofs name is that of the whole arm
+        for i, p in enumerate(of["places"]):
+            whole = re.sub(r"-\d+$", "", self.new[p[0]])
+            if of["arms"][i] and whole in of["places_by_name"]:
+                self.new[p[0]] = whole
+                self.full[p[0]] = of["places"][of["places_by_name"].index(whole)][0]
         self.by_norm = {norm(p): p for p in self.row}
 
     def chain(self, place):
@@ -51,12 +70,10 @@ class Function:
         """The path `c.fields` of today for the old fields, with the leading `before`s gone, seen from `place`; None if unknown."""
         step, rest = re.sub("_lem$", "", fields[0]), fields[1:]
         if step.replace("-", "_") in ("args", "ranges", "utf8", "lifetimes", "captures", "type_inv", "well_formed"):
-            return [step.replace("-", "_")] + rest
+            return [step.replace("-", "_")] + [f.replace("-", "_") for f in rest]
         if norm(step) == "requires":
             pre = self.of.get("pre")
-            if pre and rest and rest[0].isdigit():
-                rest = [pre["fields"][int(rest[0])]] + rest[1:] if int(rest[0]) < len(pre["fields"]) else rest
-            return ["requires"] + rest
+            return ["requires"] + (part(pre["fields"], rest) if pre else rest)
         best = None
         for p, i in self.chain(place):
             arm = self.of["arms"][i]
@@ -79,10 +96,10 @@ class Function:
                 if rest and norm(rest[0]) == "typeinv":
                     rest = ["type_inv"] + rest[1:]
                 clause = self.of["clauses"][i]
-                if clause and len(rest) > 1 and rest[0] == "ensures" and rest[1].isdigit():
-                    names = clause.get("fields") if isinstance(clause, dict) else clause
-                    if names and int(rest[1]) < len(names):
-                        rest = ["ensures", names[int(rest[1])]] + rest[2:]
+                if clause and rest and rest[0] == "ensures":
+                    rest = rest[:1] + part(clause.get("fields") if isinstance(clause, dict) else clause, rest[1:])
+                if rest == ["ensures"] and (callee or "").startswith("core::num::wrapping_"):
+                    rest = ["ensures", "value"]
                 return [new] + rest
         return None
 
@@ -123,7 +140,11 @@ class Body:
                 new = self.fn.new.get(place, place)
                 if self.goal:
                     return "(goal.at.%s %s).%s" % (self.goal, self.root, new)
-                up = [p for p, _ in self.fn.chain(self.place)]
+                up = []
+                for p, _ in self.fn.chain(self.place):
+                    p = self.fn.full.get(p, p)
+                    if p not in up:
+                        up.append(p)
                 return self.root + ".before" * (up.index(place) if place in up else 0)
         return None
 
@@ -229,7 +250,7 @@ def parse(text):
             blocks.append(("use", notes, [line]))
             notes, cur = [], None
             continue
-        if line[0].isspace() and cur is not None:
+        if (line[0].isspace() or line[0] in ")}]|") and cur is not None:
             if notes:
                 cur += notes
                 notes = []
@@ -293,6 +314,10 @@ def tuple_to_record(body, fields):
     return m[1] + "record { " + "; ".join("%s = %s" % (f, p.strip()) for f, p in zip(fields, parts)) + " }"
 
 
+def is_search(text):
+    return bool(re.match(r"(?s)^(.*\s=\s|\(?\s*λ [^.]*\.)?\s*\(?search \(?(rules|needs|std-rules)\)?\)?\s*$", text))
+
+
 def names_in(text):
     return set(re.findall(W, re.sub(r"--[^\n]*", "", text)))
 
@@ -335,6 +360,11 @@ def convert(crate, folder, of, keyed):
     head = next((b["notes"] for b in blocks if b["notes"]), []) if blocks and blocks[0]["kind"] == "use" else []
     uses = [u for u in uses if not re.search(r"\.(Statement|Tie)(\.\{|\s+as\s|$)", u)]
     decls = [b for b in blocks if b["kind"] == "decl"]
+    if len([u for u in uses if re.search(r"[{ ]rules[,}]", u)]) > 1:
+        # a name of the crate's own that is spelled as today's `rules`
+        uses = [u.replace("{rules}", "{rules as std-rules}") if u.startswith("use borrow.Author.Rules") else u for u in uses]
+        for b in decls:
+            b["parts"] = [re.sub(r"(search \(?)rules\b", r"\1std-rules", p) for p in b["parts"]]
     by_name = {b["name"]: b for b in decls}
     close = next((b for b in decls if any("tie.spec" in p for p in b["parts"])), None)
     joined = "\n".join(close["parts"])
@@ -363,18 +393,23 @@ def convert(crate, folder, of, keyed):
         for a, b, n in difflib.SequenceMatcher(None, key, want, False).get_matching_blocks():
             for x in range(n):
                 pair[a + x] = b + x
-        for x, a in enumerate(answers):
-            if x not in pair:
-                say(where, "no goal today for", a)
+        left = [x for x, a in enumerate(answers) if x not in pair and not is_search(by_name[a]["parts"][-1] if a in by_name else a)]
+        free = [y for y in range(len(needs)) if y not in pair.values()]
+        if left and free and left[-1] == len(answers) - 1 and free[-1] == len(needs) - 1:
+            pair[left.pop()] = free.pop()
+        for x in left:
+            say(where, "no goal today for", answers[x])
     # names of helpers and the places that they take
     helper_names = [b for b in decls if b is not close and b["name"] not in args]
     helpers, imports = {}, []
     for b in helper_names:
+        b["parts"] = [re.sub(r"(tie\.(?!Need-)[^\s()]+)((?:\s+(?:%s))+)\)" % "|".join(map(re.escape, measures or ["-"])), r"\1)", p) for p in b["parts"]]
         m = re.search(r"tie\.((?!Need-|invariant|decreases)\S+?)\)", b["parts"][0])
         if m:
             p = fn.by_norm.get(norm(m[1]))
             if p is None:
                 say(where, "helper", b["name"], "takes an unknown place", m[1])
+            p = fn.full.get(p, p)
             helpers[b["name"]] = p
             imports.append(fn.new.get(p, m[1]))
         else:
@@ -396,6 +431,13 @@ def convert(crate, folder, of, keyed):
             say(where, "measure in a form of its own:", a)
             continue
         params = m[1].split()
+        named = {}
+        for p in params:
+            v = next((v for v in vs if norm(v) == norm(p.rstrip("₀"))), None)
+            if v:
+                named[p] = ("l.initial." if p.endswith("₀") else "l.") + v
+        if len(params) != len(vs) + len(changed):
+            params = [p for p in params if p in named or not re.match(r"t\d+₀?$", p)]
         if len(params) != len(vs) + len(changed):
             say(where, "%s has %d parameters, the loop %s + %s" % (a, len(params), vs, changed))
         sub = {}
@@ -403,6 +445,8 @@ def convert(crate, folder, of, keyed):
             sub[p] = ("l.initial." if c else "l.") + v
         for p, v in zip(params[len(vs):], changed):
             sub[p] = "l." + v
+        if len(params) != len(vs) + len(changed):
+            sub = named
         body = PATH.sub(lambda m: m[0] if m[1] is None or m[1] not in sub else sub[m[1]] + m[2], m[2])
         name = "%s-%s" % (kind, new)
         part = [p for p in b["parts"] if p.startswith("unfolding")]
@@ -410,6 +454,10 @@ def convert(crate, folder, of, keyed):
     # answers
     done = []
     cited = {}
+    quoted = set()
+    for b in decls:
+        if b is not close:
+            quoted |= names_in("\n".join(b["parts"][1:])) - {b["name"]}
     for x, a in enumerate(answers):
         if x in pair and a in by_name:
             cited[a] = needs[pair[x]][1]
@@ -445,8 +493,7 @@ def convert(crate, folder, of, keyed):
                 roots, body = [lam[1]], "\n    " + lam[2] if "\n" in lam[2] else " " + lam[2]
             else:
                 body = " " + a + " c"
-        plain = re.sub(r"\s+", " ", body).strip()
-        if re.match(r"^\(?search \(?(rules|needs)\)?\)?$", plain) and not part:
+        if is_search(body) and not part and a not in quoted:
             continue
         if new in settled:
             say(where, new, "is settled today: its answer goes")
