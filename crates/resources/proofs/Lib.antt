@@ -1,2 +1,2 @@
 pub mod Ints
-pub mod Amounts
+pub mod HeldAmounts

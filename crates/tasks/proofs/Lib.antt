@@ -1,5 +1,5 @@
 pub mod Sign
 pub mod Codes
 pub mod Lags
-pub mod Parts
+pub mod DurationParts
 pub mod Floats

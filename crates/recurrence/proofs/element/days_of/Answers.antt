@@ -1,0 +1,19 @@
+use mathlib.Core.Path.{ap, subst⁻¹, ◌∙◌}
+use native.Mathlib.Omega.{arith}
+use Rattle.tree.specs.Place.{element_at}
+use Rattle.recurrence.specs.Element.{RangeRead, range_in}
+use Rattle.recurrence.specs.declared.element.Period.{Period}
+use Rattle.recurrence.proofs.Rules.{period_most}
+use Rattle.recurrence.proofs.Ranges.{range_is}
+use Rattle.recurrence.proofs.element.days_of.Goals as goal
+
+pub range_in-requires : goal.range_in-requires
+range_in-requires c =
+    let x = element_at c.args.s.now c.args.at in
+    let m = period_most x in
+    omega (arith, ap (λ (v : Period). v.from) c.period_of-p.ensures)
+
+pub returns : goal.returns
+returns c =
+    let x = element_at c.args.s.now c.args.at in
+    subst⁻¹ (RangeRead x) (c.range_in.ensures ∙ ap (λ (v : Period). range_in v.from v.to) c.period_of-p.ensures) (range_is x)

@@ -1,0 +1,26 @@
+use mathlib.Core.Path.{◌≡◌, ap, sym, ◌∙◌}
+use mathlib.Core.Bool.{true, false}
+use Rattle.definition.specs.Base.{◌or◌}
+use Rattle.recurrence.specs.Scale.{month_meaning}
+use Rattle.recurrence.specs.Meaning.{rules}
+use Rattle.recurrence.specs.Element.{judged}
+use Rattle.recurrence.proofs.Types.{chosen_rule, chosen_none}
+use borrow.Author.Rules.{rules as std-rules}
+use Rattle.recurrence.proofs.element.judge.Goals as goal
+
+pub enum_told-1 : goal.enum_told-1
+enum_told-1 c = search std-rules
+
+pub returns-in-Is : goal.returns-in-Is
+unfolding judged
+returns-in-Is c =
+    let r = c.args.r in
+    let e : rules r.kind (month_meaning r.month or 13) ≡ true = ap (rules r.kind) (sym c.month_number.ensures) ∙ chosen_rule r.kind c.month_number.result c.kind_of.ensures c.in-Is.is in
+    rw e
+
+pub returns-in-NoRule : goal.returns-in-NoRule
+unfolding judged
+returns-in-NoRule c =
+    let r = c.args.r in
+    let e : rules r.kind (month_meaning r.month or 13) ≡ false = ap (rules r.kind) (sym c.month_number.ensures) ∙ chosen_none r.kind c.month_number.result c.kind_of.ensures c.in-NoRule.is in
+    rw e

@@ -1,0 +1,92 @@
+use Rattle.recurrence.specs.Kind.{UpTo, candidate_at}
+use Rattle.recurrence.specs.Scale.{month_at}
+use Rattle.recurrence.proofs.Bounds.{month_bound, month_last, month_first}
+use Rattle.recurrence.proofs.Fits.{step_month, monthly_first, monthly_next, monthly_fit, monthly_past, monthly_none}
+use Rattle.recurrence.proofs.Months.{month_rises}
+use Rattle.definition.specs.Base.{◌or◌}
+use Prim.Native.Nat.{ℕ, ◌+◌, ◌-◌, ◌*◌, ◌<◌}
+use native.Mathlib.Nat.{mul-le-mul, le_of_lt}
+use native.Mathlib.Numerals.{add-one}
+use mathlib.Core.Path.{◌≡◌, ap, subst, ◌∙◌}
+use native.Mathlib.Omega.{arith}
+use Rattle.recurrence.proofs.kind.monthly.Goals as goal
+use Rattle.recurrence.proofs.kind.monthly.Goals.{After-candidate_in-x}
+
+candidate_is : (c : After-candidate_in-x) →
+    c.candidate_in-x.result ≡ (candidate_at c.args.positioned c.args.r (step_month c.args.r c.loop-q.q) or 0)
+candidate_is c =
+    c.candidate_in-x.ensures ∙ ap (λ (n : ℕ). candidate_at c.args.positioned c.args.r (n + c.loop-q.q * c.args.r.period) or 0) c.month_at-first.ensures
+
+pub month_at-first-requires : goal.month_at-first-requires
+month_at-first-requires c = let s = c.requires in record { low = s.first; high = omega (arith, s.from, s.until, s.last) }
+
+pub month_at-end-requires : goal.month_at-end-requires
+month_at-end-requires c = let s = c.requires in record { low = omega (arith, s.first, s.from, s.until); high = s.last }
+
+pub month_at-requires : goal.month_at-requires
+month_at-requires c = let s = c.requires in record { low = omega (arith, s.first, s.from); high = omega (arith, s.until, s.last) }
+
+pub overflow_sub-month_at : goal.overflow_sub-month_at
+overflow_sub-month_at c =
+    omega (arith, c.month_at.ensures, c.month_at-first.ensures, month_rises c.args.r.from c.args.at c.requires.from)
+
+pub steps_up-q-requires : goal.steps_up-q-requires
+steps_up-q-requires c =
+    record { fact_1 = omega (arith, c.month_at.ensures, month_bound c.args.at (omega (arith, c.requires.until, c.requires.last))); fact_2 = c.requires.step; fact_3 = c.requires.most }
+
+pub loop-q-init : goal.loop-q-init
+loop-q-init c =
+    let r = c.args.r in
+    let q = c.steps_up-q.result in
+    let u = subst (λ (n : ℕ). UpTo (n - c.month_at-first.result) r.period q) c.month_at.ensures c.steps_up-q.ensures in
+    monthly_first c.args.positioned r c.args.at c.requires.step q c.requires.from (subst (λ (n : ℕ). UpTo (month_at c.args.at - n) r.period q) c.month_at-first.ensures u)
+
+pub overflow_mul-k : goal.overflow_mul-k
+overflow_mul-k c =
+    omega (arith, mul-le-mul (le_of_lt c.loop-q-test.true) c.requires.most)
+
+pub overflow_add-k : goal.overflow_add-k
+overflow_add-k c =
+    omega (arith, mul-le-mul (le_of_lt c.loop-q-test.true) c.requires.most, c.month_at-first.ensures, month_bound c.args.r.from (omega (arith, c.requires.from, c.requires.until, c.requires.last)))
+
+pub overflow_add-result : goal.overflow_add-result
+overflow_add-result c =
+    omega (arith, c.requires.last)
+
+pub returns-then-end-k : goal.returns-then-end-k
+returns-then-end-k c =
+    let q = c.loop-q.q in
+    let past : month_at c.args.r.last < step_month c.args.r q = omega (arith, c.if-end-k.true, c.month_at-end.ensures, c.month_at-first.ensures) in
+    rw add-one (monthly_past c.args.positioned c.args.r c.args.at c.requires.step q past c.loop-q.invariant)
+
+pub candidate_in-x-requires : goal.candidate_in-x-requires
+candidate_in-x-requires c =
+    record { fact_1 = (omega (arith, c.month_at-first.ensures, month_first c.args.r.from c.requires.first), omega (arith, c.if-end-k.false, c.month_at-end.ensures, month_last c.args.r.last c.requires.last)); fact_2 = omega arith }
+
+pub returns-then-at-x : goal.returns-then-at-x
+returns-then-at-x c =
+    let q = c.loop-q.q in
+    let r = c.args.r in
+    let is = candidate_is (goal.at.returns-then-at-x c).After-candidate_in-x in
+    monthly_fit c.args.positioned r c.args.at c.requires.step q c.candidate_in-x.result is (omega (arith, c.requires.first, c.requires.from)) c.if-at-x.true c.loop-q-test.true c.loop-q.invariant
+
+pub overflow_add-q : goal.overflow_add-q
+overflow_add-q c = omega (arith, c.loop-q-test.true)
+
+pub loop-q-smaller : goal.loop-q-smaller
+loop-q-smaller c = omega (arith, c.loop-q-test.true)
+
+pub loop-q-preserved : goal.loop-q-preserved
+loop-q-preserved c =
+    let q = c.loop-q.q in
+    let r = c.args.r in
+    let is = candidate_is (goal.at.loop-q-preserved c).After-candidate_in-x in
+    rw add-one (monthly_next c.args.positioned r c.args.at c.requires.step q c.candidate_in-x.result is c.if-at-x.false c.loop-q.invariant)
+
+pub overflow_add-result-2 : goal.overflow_add-result-2
+overflow_add-result-2 c =
+    omega (arith, c.requires.last)
+
+pub returns : goal.returns
+returns c =
+    rw add-one (monthly_none c.args.positioned c.args.r c.args.at c.requires.step c.loop-q.q c.loop-q-test.false c.loop-q.invariant)

@@ -1,0 +1,32 @@
+use Rattle.recurrence.proofs.Items.{of_december, of_last, of_nth, of_none}
+use Rattle.recurrence.proofs.Bounds.{first_day}
+use Rattle.recurrence.proofs.Months.{month_end}
+use mathlib.Core.Path.{◌≡◌, ap, ◌∙◌}
+use Prim.Native.Nat.{ℕ, ◌+◌}
+use Rattle.definition.specs.Date.{date_at}
+use native.Mathlib.Omega.{arith}
+use Rattle.recurrence.proofs.position.nth_of.Goals as goal
+use Rattle.recurrence.proofs.position.nth_of.Goals.{After-length_in}
+
+first_is : (c : After-length_in) → c.day_in-first.result ≡ date_at c.args.y c.args.m 1
+first_is c =
+    c.day_in-first.ensures ∙ first_day c.args.y c.args.m
+
+pub returns-then-y-m : goal.returns-then-y-m
+returns-then-y-m c = of_december _ _ _ _ c.if-y-m.true
+
+pub overflow_add-end : goal.overflow_add-end
+overflow_add-end c =
+    omega (arith, c.day_in-first.ensures, first_day c.args.y c.args.m, c.length_in.ensures, month_end c.args.y c.args.m c.requires.fact_1.1 c.requires.fact_2)
+
+pub returns-then-position-eq4 : goal.returns-then-position-eq4
+returns-then-position-eq4 c =
+    c.last_fit.ensures ∙ of_last c.args.y c.args.m c.args.item c.args.position c.day_in-first.result _ (first_is (goal.at.returns-then-position-eq4 c).After-length_in) (ap (λ (n : ℕ). c.day_in-first.result + n) c.length_in.ensures) c.if-y-m.false c.if-position-eq4.true
+
+pub returns-then-position-lt4 : goal.returns-then-position-lt4
+returns-then-position-lt4 c =
+    c.nth_fit.ensures ∙ of_nth c.args.y c.args.m c.args.item c.args.position c.day_in-first.result _ (first_is (goal.at.returns-then-position-lt4 c).After-length_in) (ap (λ (n : ℕ). c.day_in-first.result + n) c.length_in.ensures) c.if-y-m.false c.if-position-eq4.false c.if-position-lt4.true
+
+pub returns : goal.returns
+returns c =
+    of_none c.args.y c.args.m c.args.item c.args.position c.day_in-first.result _ (first_is (goal.at.returns c).After-length_in) (ap (λ (n : ℕ). c.day_in-first.result + n) c.length_in.ensures) c.if-y-m.false c.if-position-eq4.false c.if-position-lt4.false

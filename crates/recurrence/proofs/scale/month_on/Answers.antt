@@ -1,0 +1,34 @@
+use mathlib.Core.Path.{ap, ◌∙◌}
+use native.Mathlib.Omega.{arith}
+use Rattle.definition.specs.Date.{year_of, ymd_of}
+use Rattle.definition.specs.declared.Date.{Date}
+use Rattle.definition.specs.declared.Ymd.{Ymd}
+use Rattle.date.proofs.Signs.{difference_back}
+use Rattle.recurrence.proofs.Bounds.{year_last}
+use Rattle.recurrence.proofs.Counts.{ymd_is, ymd_there, year_same}
+use borrow.Author.Rules.{rules}
+use Rattle.recurrence.proofs.scale.month_on.Goals as goal
+
+pub year_count-requires : goal.year_count-requires
+unfolding ymd_of
+year_count-requires c =
+    let d = c.args.d in
+    let e = ymd_is d c.requires _ (ap (λ (t : Date). t.0) c.date_at.ensures) c.ymd.result c.ymd.ensures _ c.in-Is.is in
+    let l = year_last d c.requires.high in
+    record { year = year_of d; number = difference_back (year_of d) 10000 (omega arith) (omega arith) _ (ap (λ (v : Ymd). v.year) e); most = l }
+
+pub enum_told-1 : goal.enum_told-1
+enum_told-1 c = search rules
+
+pub returns-in-Is : goal.returns-in-Is
+unfolding ymd_of
+returns-in-Is c =
+    let d = c.args.d in
+    let e = ymd_is d c.requires _ (ap (λ (t : Date). t.0) c.date_at.ensures) c.ymd.result c.ymd.ensures _ c.in-Is.is in
+    let l = year_last d c.requires.high in
+    let n = year_same c.year_count.result (year_of d) (c.year_count.ensures ∙ difference_back (year_of d) 10000 (omega arith) (omega arith) _ (ap (λ (v : Ymd). v.year) e)) in
+    λ i. record { year = n i; month = (e i).month }
+
+pub returns-in-Absent : goal.returns-in-Absent
+returns-in-Absent c =
+    absurd (ymd_there c.args.d c.requires _ (ap (λ (t : Date). t.0) c.date_at.ensures) c.ymd.result c.ymd.ensures c.in-Absent.is)

@@ -1,0 +1,18 @@
+use Rattle.recurrence.proofs.scale.to_scale.Goals as goal
+
+pub returns : goal.returns
+returns c =
+    let r = c.args.r in
+    λ i.
+    record {
+      kind = r.kind;
+      from = c.count_of-from.ensures i;
+      last = c.count_of.ensures i;
+      most = r.most;
+      period = r.period;
+      month = c.month_number.ensures i;
+      day = r.day;
+      item = r.item;
+      position = r.position;
+      weekdays = r.weekdays;
+    }

@@ -1,0 +1,76 @@
+use Prim.Native.Nat.{◌-◌, max}
+use mathlib.Core.Path.{◌≡◌, ap, sym, subst⁻¹, ◌∙◌}
+use mathlib.Core.Bool.{true, false}
+use native.Mathlib.Omega.{arith}
+use borrow.Author.Tests.{not-true, not-false}
+use Rattle.definition.specs.declared.Date.{Date}
+use Rattle.date.specs.Scale.{day_count}
+use Rattle.recurrence.specs.Scale.{day_date}
+use Rattle.recurrence.specs.Meaning.{sound}
+use Rattle.recurrence.specs.Kind.{Ready}
+use Rattle.recurrence.specs.declared.Step.TheVariants.{Day}
+use Rattle.recurrence.proofs.Types.{chosen_kind}
+use Rattle.recurrence.proofs.Going.{Right, is_one, is_one_lem, not_sound, no_kind, ready, no_rule, none_left, past_last, no_more, day_next}
+use borrow.Author.Rules.{rules}
+use Rattle.recurrence.proofs.sequence.next.Goals as goal
+use Rattle.recurrence.proofs.sequence.next.Goals.{After-later-at, Else-not-is_sound, Else-t-at, In-Is}
+
+sounds : (c : Else-not-is_sound) → sound c.to_scale-t.result ≡ true
+sounds c = sym c.is_sound.ensures ∙ not-false _ c.if-not-is_sound.false-raw
+
+yes : (c : In-Is) → is_one c.to_scale-t.result ≡ true
+yes c = is_one_lem c.to_scale-t.result (sounds c.before.before) c.kind_of.ensures c.in-Is.is
+
+at_is : (c : After-later-at) →
+    c.later-at.result ≡ max c.to_scale-t.result.from (day_count c.args.c.at.0)
+at_is c =
+    c.later-at.ensures ∙ ap (max c.to_scale-t.result.from) c.count_of.ensures
+
+goes : (c : Else-t-at) →
+    Ready c.to_scale-t.result c.later-at.result
+goes c =
+    ready c.to_scale-t.result (yes c.before.before.before.before.before.before.before) c.later-at.result (omega (arith, at_is c.before.before)) c.if-t-at.false
+
+pub returns-then-not-is_sound : goal.returns-then-not-is_sound
+returns-then-not-is_sound c =
+    no_rule c.args.r c.args.c c.to_scale-t.result c.to_scale-t.ensures (not_sound c.to_scale-t.result (sym c.is_sound.ensures ∙ not-true _ c.if-not-is_sound.true-raw))
+
+pub enum_told-1 : goal.enum_told-1
+enum_told-1 c = search rules
+
+pub returns-then-c-eq0 : goal.returns-then-c-eq0
+returns-then-c-eq0 c =
+    none_left c.args.r c.args.c c.to_scale-t.result c.to_scale-t.ensures (yes (goal.at.returns-then-c-eq0 c).In-Is) c.if-c-eq0.true
+
+pub returns-then-t-at : goal.returns-then-t-at
+returns-then-t-at c =
+    past_last c.args.r c.args.c c.to_scale-t.result c.to_scale-t.ensures (yes (goal.at.returns-then-t-at c).In-Is) c.later-at.result (at_is (goal.at.returns-then-t-at c).After-later-at) c.if-t-at.true
+
+pub first_fit-x-requires : goal.first_fit-x-requires
+first_fit-x-requires c =
+    record { fact_1 = goes (goal.at.first_fit-x-requires c).Else-t-at; fact_2 = chosen_kind c.to_scale-t.result.kind c.to_scale-t.result.month c.kind_of.ensures c.in-Is.is }
+
+pub returns-then-t-x : goal.returns-then-t-x
+returns-then-t-x c =
+    no_more c.args.r c.args.c c.to_scale-t.result c.to_scale-t.ensures (yes (goal.at.returns-then-t-x c).In-Is) c.later-at.result (at_is (goal.at.returns-then-t-x c).After-later-at) c.first_fit-x.result c.first_fit-x.ensures c.if-t-x.true
+
+pub date_at-day-requires : goal.date_at-day-requires
+date_at-day-requires c = omega (arith, c.if-t-x.false, (goes (goal.at.date_at-day-requires c).Else-t-at).last)
+
+pub overflow_add-x : goal.overflow_add-x
+overflow_add-x c = omega (arith, c.if-t-x.false, (goes (goal.at.overflow_add-x c).Else-t-at).last)
+
+pub date_at-requires : goal.date_at-requires
+date_at-requires c = omega (arith, c.if-t-x.false, (goes (goal.at.date_at-requires c).Else-t-at).last)
+
+pub returns-in-NoRule : goal.returns-in-NoRule
+returns-in-NoRule c =
+    no_rule c.args.r c.args.c c.to_scale-t.result c.to_scale-t.ensures (no_kind c.to_scale-t.result (sounds (goal.at.returns-in-NoRule c).Else-not-is_sound) c.kind_of.ensures c.in-NoRule.is)
+
+pub returns-else-t-x : goal.returns-else-t-x
+returns-else-t-x c =
+    let x = c.first_fit-x.result in
+    let n = c.args.c.left - 1 in
+    subst⁻¹ (λ (d : Date). Right c.args.r c.args.c (Day d (record { at = c.date_at.result; left = n }))) c.date_at-day.ensures
+    (subst⁻¹ (λ (d : Date). Right c.args.r c.args.c (Day (day_date x) (record { at = d; left = n }))) c.date_at.ensures
+    (day_next c.args.r c.args.c c.to_scale-t.result c.to_scale-t.ensures (yes (goal.at.returns-else-t-x c).In-Is) c.later-at.result (at_is (goal.at.returns-else-t-x c).After-later-at) x c.first_fit-x.ensures c.if-t-x.false c.if-c-eq0.false))
