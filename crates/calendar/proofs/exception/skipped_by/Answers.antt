@@ -1,0 +1,24 @@
+use Rattle.std.proofs.Common.{◌%◌, ◌^◌, sym, ap, ◌∙◌, rules}
+use mathlib.Core.Option.{Option}
+use Rattle.definition.specs.Ascii.{bytes}
+use Rattle.definition.specs.Tree.{Element, all_in}
+use Rattle.definition.specs.Calendar.{recurring}
+use Rattle.tree.specs.Place.{element_at}
+use Rattle.tree.specs.Answer.{found_child, none_child}
+use Rattle.calendar.specs.Skipped.{without_rule}
+use Rattle.calendar.proofs.Counts.{no_sum, without_none}
+use Rattle.calendar.proofs.exception.skipped_by.Goals as goal
+
+pub enum_told-1 : goal.enum_told-1
+enum_told-1 c = search rules
+
+pub returns-in-Nothing : goal.returns-in-Nothing
+returns-in-Nothing c =
+    let e = element_at c.args.s.now c.args.at in
+    no_sum (2 ^ 32) without_rule without_none (recurring e) (ap (λ (o : Option Element). all_in o (bytes "Exception")) (none_child e c.child.ensures c.in-Nothing.is))
+
+pub returns-in-At : goal.returns-in-At
+returns-in-At c =
+    let e = element_at c.args.s.now c.args.at in
+    c.skipped_in.ensures
+    ∙ sym (ap (λ (o : Option Element). without_rule (all_in o (bytes "Exception")) % 2 ^ 32) (found_child e c.child.ensures c.in-At.is))

@@ -1,0 +1,8 @@
+use Rattle.std.proofs.Common.{◌∙◌}
+use Rattle.tree.specs.Place.{element_at}
+use Rattle.calendar.proofs.Texts.{type_or}
+use Rattle.calendar.proofs.week.day_type.Goals as goal
+
+pub returns : goal.returns
+returns c =
+    c.u64_of.ensures ∙ type_or (element_at c.args.s.now c.args.at) _ c.text_of.ensures

@@ -1,0 +1,7 @@
+use Rattle.std.proofs.Common.{ℕ, eqb, ap, ◌∙◌}
+use mathlib.Core.Option.{Option}
+use Rattle.definition.specs.Base.{◌or◌}
+use Rattle.calendar.proofs.week.is_old_exception.Goals as goal
+
+pub returns : goal.returns
+returns c = ap (λ (n : ℕ). eqb n 0) (c.type_or_1.ensures ∙ ap (λ (o : Option ℕ). o or 1) c.day_type.ensures)

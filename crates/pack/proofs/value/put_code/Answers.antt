@@ -1,0 +1,6 @@
+use Rattle.bits.specs.Steps.{put_code}
+use Rattle.pack.proofs.value.put_code.Goals as goal
+
+pub returns : goal.returns
+returns c =
+    λ lo hi. put_code lo hi c.put.ensures

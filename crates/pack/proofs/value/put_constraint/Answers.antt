@@ -1,0 +1,19 @@
+use Rattle.definition.specs.Pack.{constraint}
+use Rattle.tasks.specs.Task.{constraint_means}
+use Rattle.pack.specs.Value.{constraint_given}
+use mathlib.Core.Path.{ap}
+use Rattle.pack.proofs.Puts.{put_missing}
+use borrow.Author.Rules.{rules}
+use Rattle.pack.proofs.value.put_constraint.Goals as goal
+
+pub enum_told-1 : goal.enum_told-1
+enum_told-1 c = search rules
+
+pub returns-in-Is : goal.returns-in-Is
+returns-in-Is c =
+    rw c.in-Is.is c.put_given_constraint.ensures
+
+pub returns-in-Absent : goal.returns-in-Absent
+unfolding constraint_means
+returns-in-Absent c =
+    put_missing constraint (ap constraint_given c.in-Absent.is) c.put_flag.ensures

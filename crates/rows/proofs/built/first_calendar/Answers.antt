@@ -1,0 +1,21 @@
+use Rattle.definition.specs.Ascii.{bytes}
+use Rattle.tree.specs.Root.{in_calendars}
+use Rattle.rows.specs.Turns.{starts_same}
+use Rattle.rows.proofs.Walking.{picks_of, order_first, after_plain, after_none}
+use Rattle.std.proofs.Common.{rules}
+use Rattle.rows.proofs.built.first_calendar.Goals as goal
+
+pub enum_told-1 : goal.enum_told-1
+enum_told-1 c = search rules
+
+pub returns-in-At : goal.returns-in-At
+returns-in-At c =
+    let a = c.args in
+    let first = starts_same (in_calendars a.s.now a.root (bytes "Calendar")) c.child-first.ensures in
+    order_first _ _ (picks_of first c.which_from.ensures) (after_plain _ c.in-At.is)
+
+pub returns-in-Nothing : goal.returns-in-Nothing
+returns-in-Nothing c =
+    let a = c.args in
+    let first = starts_same (in_calendars a.s.now a.root (bytes "Calendar")) c.child-first.ensures in
+    order_first _ _ (picks_of first c.which_from.ensures) (after_none _ _ c.in-Nothing.is (picks_of first c.which_from-in-Nothing.ensures))

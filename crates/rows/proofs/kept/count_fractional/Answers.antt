@@ -1,0 +1,32 @@
+use Rattle.std.proofs.Common.{◌≡◌, ◌≤◌, List, length, sym, ap, ◌∙◌, arith, rules}
+use Rattle.definition.specs.Base.{keep}
+use Rattle.definition.specs.Tree.{Element}
+use Rattle.definition.specs.Task.{is_fractional, kept_tasks}
+use Rattle.laws.specs.Keep.{one_if}
+use Rattle.laws.specs.FitTrees.{keep_most, tasks_most}
+use Rattle.rows.specs.Turns.{kept_end, kept_at, kept_less, many_begin, many_end, many_room, many_on}
+use Rattle.rows.proofs.kept.count_fractional.Goals as goal
+
+few : (root : Element) {l : List Element} → kept_tasks root ≡ l → length (keep is_fractional l) ≤ 100000
+few root {l} e = omega (arith, keep_most is_fractional l, ap length e, tasks_most root)
+
+pub loop-task-init : goal.loop-task-init
+loop-task-init c = many_begin is_fractional _
+
+pub enum_told-1 : goal.enum_told-1
+enum_told-1 c = search rules
+
+pub returns-in_default : goal.returns-in_default
+returns-in_default c =
+    many_end c.loop-task.invariant (kept_end _ c.in_default.is) ∙ ap (λ (l : List Element). length (keep is_fractional l)) (sym c.first_kept-task.ensures.is)
+
+pub overflow_add-count : goal.overflow_add-count
+overflow_add-count c =
+    omega (arith, many_room c.loop-task.invariant (kept_at _ c.in-Is.is) (c.one_if-count.ensures ∙ ap one_if c.is_fractional.ensures), few _ c.first_kept-task.ensures.is)
+
+pub loop-task-smaller : goal.loop-task-smaller
+loop-task-smaller c = kept_less c.in-Is.is c.next_kept-task.ensures (omega arith)
+
+pub loop-task-preserved : goal.loop-task-preserved
+loop-task-preserved c =
+    many_on c.loop-task.invariant (kept_at _ c.in-Is.is) (c.one_if-count.ensures ∙ ap one_if c.is_fractional.ensures) c.next_kept-task.ensures.is

@@ -1,0 +1,36 @@
+use Rattle.std.proofs.Common.{◌-◌, ltb, List, map, take, sym, refl, ap, ◌∙◌, arith, rules}
+use Rattle.definition.specs.Task.{level_of, parent_of}
+use Rattle.definition.specs.Tree.{Element}
+use Rattle.rows.specs.Turns.{kept_end, kept_next, kept_less}
+use Rattle.rows.proofs.Lasts.{parents_begin, row_turn, row_end}
+use Rattle.rows.proofs.Walking.{take_next, take_last, take_out}
+use Rattle.rows.proofs.kept.parent_row.Goals as goal
+
+pub loop-n-init : goal.loop-n-init
+loop-n-init c = parents_begin c.args.row _ _ refl
+
+pub enum_told-1 : goal.enum_told-1
+enum_told-1 c = search rules
+
+pub returns-in_default : goal.returns-in_default
+returns-in_default c =
+    let a = c.args in
+    row_end c.loop-n.invariant (take_out (a.row - c.loop-n.n) (kept_end _ c.in_default.is))
+    ∙ ap (λ (l : List Element). parent_of (map level_of (take a.row l)) a.level) (sym c.first_kept-task.ensures.is)
+
+pub overflow_add-n : goal.overflow_add-n
+overflow_add-n c = omega (arith, c.loop-n-test.true)
+
+pub loop-n-smaller : goal.loop-n-smaller
+loop-n-smaller c = kept_less c.in-Is.is c.next_kept-task.ensures (omega arith)
+
+pub loop-n-preserved : goal.loop-n-preserved
+loop-n-preserved c =
+    let a = c.args in
+    row_turn c.loop-n.invariant (take_next a.row c.loop-n.n c.loop-n-test.true (kept_next c.in-Is.is c.next_kept-task.ensures)) (ap (λ n. ltb n a.level) c.level_of.ensures) c.row_when-lower.ensures c.or_row-found.ensures refl
+
+pub returns : goal.returns
+returns c =
+    let a = c.args in
+    row_end c.loop-n.invariant (take_last a.row c.loop-n.n _ c.loop-n-test.false)
+    ∙ ap (λ (l : List Element). parent_of (map level_of (take a.row l)) a.level) (sym c.first_kept-task.ensures.is)

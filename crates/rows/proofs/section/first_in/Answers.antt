@@ -1,0 +1,18 @@
+use Rattle.tree.specs.Place.{element_at}
+use Rattle.tree.specs.Answer.{found_child, none_child, found_on}
+use Rattle.rows.proofs.Walking.{section_none, section_found}
+use Rattle.std.proofs.Common.{arith, rules}
+use Rattle.rows.proofs.section.first_in.Goals as goal
+
+pub enum_told-1 : goal.enum_told-1
+enum_told-1 c = search rules
+
+pub returns-in-Nothing : goal.returns-in-Nothing
+returns-in-Nothing c =
+    let a = c.args in
+    section_none (none_child (element_at a.s.now a.at) c.child.ensures c.in-Nothing.is)
+
+pub returns-in-At : goal.returns-in-At
+returns-in-At c =
+    let a = c.args in
+    section_found (found_child (element_at a.s.now a.at) c.child.ensures c.in-At.is) (omega (arith, found_on c.child.ensures c.in-At.is)) c.child-in-At.ensures

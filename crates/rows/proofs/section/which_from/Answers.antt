@@ -1,0 +1,24 @@
+use Rattle.std.proofs.Common.{sym, ◌∙◌, rules}
+use Rattle.rows.specs.Turns.{ahead_less}
+use Rattle.rows.proofs.Walking.{left_all, left_later, picks_none, picks_here}
+use Rattle.rows.proofs.section.which_from.Goals as goal
+
+pub loop-e-init : goal.loop-e-init
+loop-e-init c = left_all
+
+pub enum_told-1 : goal.enum_told-1
+enum_told-1 c = search rules
+
+pub returns-in_default : goal.returns-in_default
+returns-in_default c = picks_none c.loop-e.invariant c.in_default.is
+
+pub returns-then-passes : goal.returns-then-passes
+returns-then-passes c =
+    picks_here c.loop-e.invariant c.in-At.is (sym c.passes.ensures ∙ c.if-passes.true)
+
+pub loop-e-smaller : goal.loop-e-smaller
+loop-e-smaller c = ahead_less _ c.in-At.is _ c.next_child-e.ensures.on
+
+pub loop-e-preserved : goal.loop-e-preserved
+loop-e-preserved c =
+    left_later c.loop-e.invariant c.in-At.is (sym c.passes.ensures ∙ c.if-passes.false) c.next_child-e.ensures

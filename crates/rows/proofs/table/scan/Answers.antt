@@ -1,0 +1,26 @@
+use Rattle.std.proofs.Common.{◌%◌, ◌^◌, List, sym, refl, ap, ◌∙◌, rules}
+use mathlib.Core.Option.{some}
+use Rattle.definition.specs.Base.{◌>>=◌}
+use Rattle.definition.specs.Tree.{Element}
+use Rattle.definition.specs.Task.{row_of}
+use Rattle.rows.proofs.Lasts.{within_begin, row_turn, row_end}
+use Rattle.rows.proofs.Listing.{lists_end, lists_next, lists_less}
+use Rattle.rows.proofs.table.scan.Goals as goal
+
+pub loop-e-init : goal.loop-e-init
+loop-e-init c = within_begin (2 ^ 32) _ _ refl
+
+pub enum_told-1 : goal.enum_told-1
+enum_told-1 c = search rules
+
+pub returns-in_default : goal.returns-in_default
+returns-in_default c =
+    row_end c.loop-e.invariant (lists_end _ _ c.in_default.is)
+    ∙ ap (λ (es : List Element). row_of es c.args.uid.now >>= λ n. some (n % 2 ^ 32)) (sym c.first_listed-e.ensures.is)
+
+pub loop-e-smaller : goal.loop-e-smaller
+loop-e-smaller c = lists_less c.in-Is.is c.next_listed-e.ensures refl
+
+pub loop-e-preserved : goal.loop-e-preserved
+loop-e-preserved c =
+    row_turn c.loop-e.invariant (lists_next c.in-Is.is c.next_listed-e.ensures) c.text_is.ensures c.row_when-named.ensures c.or_row-found.ensures c.wrapping_add_u32-row.ensures.value
