@@ -457,7 +457,7 @@ def convert(crate, folder, of, keyed):
     quoted = set()
     for b in decls:
         if b is not close:
-            quoted |= names_in("\n".join(b["parts"][1:])) - {b["name"]}
+            quoted |= {m[1] for p in b["parts"][1:] for m in PATH.finditer(p)} - {b["name"]}
     for x, a in enumerate(answers):
         if x in pair and a in by_name:
             cited[a] = needs[pair[x]][1]

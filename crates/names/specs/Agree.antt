@@ -55,7 +55,7 @@ module _ {x y : Context} (h : Agree x y) where
   all_agree e done levels [] = refl
   all_agree e done levels (t ∷ ts) =
       let a = activity_agree (map (λ (a : Activity). a.id) done) levels (e (length done)) t in
-      all_agree e _ (levels ++ (level_of t ∷ [])) ts ∙ ap (λ (a : Activity). activities_after y e (done ++ (a ∷ [])) (levels ++ (level_of t ∷ [])) ts) a
+      all_agree e (done ++ (activity_of x (map (λ (a : Activity). a.id) done) levels (e (length done)) t ∷ [])) (levels ++ (level_of t ∷ [])) ts ∙ ap (λ (a : Activity). activities_after y e (done ++ (a ∷ [])) (levels ++ (level_of t ∷ [])) ts) a
 
   pub activities_agree : (e : ℕ → Bool) → activities x e ≡ activities y e
   unfolding activities
@@ -68,7 +68,7 @@ module _ {x y : Context} (h : Agree x y) where
   after_agree : (done : List Resource) (rs : List Element) → resources_after x done rs ≡ resources_after y done rs
   unfolding resources_after
   after_agree done [] = refl
-  after_agree done (r ∷ rs) = after_agree _ rs ∙ ap (λ (a : Resource). resources_after y (done ++ (a ∷ [])) rs) (resource_agree (map (λ (d : Resource). d.id) done) r)
+  after_agree done (r ∷ rs) = after_agree (done ++ (resource_of x (map (λ (d : Resource). d.id) done) r ∷ [])) rs ∙ ap (λ (a : Resource). resources_after y (done ++ (a ∷ [])) rs) (resource_agree (map (λ (d : Resource). d.id) done) r)
 
   pub resources_agree : (root : Element) → resources x root ≡ resources y root
   unfolding resources

@@ -1,0 +1,24 @@
+-- `names::calendars::is_main` meets its contract. Assumes nothing.
+use mathlib.Core.Path.{sym, ap, ◌∙◌}
+use Rattle.definition.specs.Base.{same}
+use Rattle.definition.specs.Ascii.{bytes}
+use Rattle.tree.specs.Root.{root_at}
+use Rattle.pack.specs.Value.{starred_by}
+use Rattle.names.specs.Stars.{star_none}
+use Rattle.names.specs.ByUid.{main_there, main_absent}
+use Rattle.names.proofs.Found.{is_there, is_absent, main_same}
+use Rattle.names.proofs.calendars.is_main.Goals as goal
+
+pub returns-in-Is : goal.returns-in-Is
+returns-in-Is c =
+    let a = c.args in
+    let x = c.main_calendar in
+    let t = starred_by a.text.now a.stars in
+    c.same_starred.ensures ∙ main_same a.out.now a.c (root_at a.s.now a.root) _ _ c.wanted_name.ensures t c.stars_of-m.ensures ∙ ap (same t) (sym (main_there a.out.now a.c (root_at a.s.now a.root) _ (is_there a.s.now x.result x.ensures c.in-Is.is)))
+
+pub returns-in-Absent : goal.returns-in-Absent
+returns-in-Absent c =
+    let a = c.args in
+    let x = c.main_calendar in
+    let t = starred_by a.text.now a.stars in
+    c.same_starred-in-Absent.ensures ∙ ap (same t) (star_none (bytes "Standard") ∙ sym (main_absent a.out.now a.c (root_at a.s.now a.root) (is_absent a.s.now x.result x.ensures c.in-Absent.is)))

@@ -1,0 +1,11 @@
+-- `names::ids::clear_ids` meets its contract. Assumes nothing.
+use mathlib.Core.Path.{ap, ◌∙◌}
+use mathlib.Core.List.{List}
+use Prim.Native.Nat.{ℕ}
+use Rattle.index.specs.Chains.{zeros}
+use Rattle.names.proofs.ids.clear_ids.Goals as goal
+
+pub returns : goal.returns
+returns c =
+    let a = c.args in
+    c.clear-2.ensures ∙ ap (λ (w : List ℕ). zeros w a.ids.wanted.at a.ids.wanted.rows) c.clear.ensures
