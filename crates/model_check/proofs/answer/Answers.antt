@@ -1,11 +1,6 @@
 -- `model_check::answer` meets its contract. Assumes nothing.
-use borrow.Author.Tests.{not-true, not-false}
 use Rattle.model_check.proofs.Walking.{no_model, judged}
-use borrow.Author.Rules.{rules}
 use Rattle.model_check.proofs.answer.Goals as goal
-
-pub enum_told-1 : goal.enum_told-1
-enum_told-1 c = search rules
 
 pub returns-in_default : goal.returns-in_default
 returns-in_default c =
@@ -13,8 +8,8 @@ returns-in_default c =
 
 pub returns-then-not-keeps_list : goal.returns-then-not-keeps_list
 returns-then-not-keeps_list c =
-    judged c.take_counts-counts.ensures c.walk_model-walked.ensures c.sections_of-opened.ensures c.in-Model.is c.keeps_list.ensures (not-true _ c.if-not-keeps_list.true-raw)
+    judged c.take_counts-counts.ensures c.walk_model-walked.ensures c.sections_of-opened.ensures c.in-Model.is c.keeps_list.ensures c.if-not-keeps_list.true
 
 pub returns : goal.returns
 returns c =
-    judged c.take_counts-counts.ensures c.walk_model-walked.ensures c.sections_of-opened.ensures c.in-Model.is c.keeps_list.ensures (not-false _ c.if-not-keeps_list.false-raw)
+    judged c.take_counts-counts.ensures c.walk_model-walked.ensures c.sections_of-opened.ensures c.in-Model.is c.keeps_list.ensures c.if-not-keeps_list.false

@@ -1,10 +1,6 @@
 -- `outline::outline` meets its contract. The rows of a model with room for them; else both slices are cleared. Assumes nothing.
 use Rattle.outline.proofs.Models.{gives_rows, gives_short, gives_no_model}
-use borrow.Author.Rules.{rules}
 use Rattle.outline.proofs.outline.Goals as goal
-
-pub enum_told-1 : goal.enum_told-1
-enum_told-1 c = search rules
 
 pub returns-in_default : goal.returns-in_default
 returns-in_default c = gives_no_model c.take_counts-counts.ensures c.walk_model-places.ensures c.sections_of-opened.ensures c.clear_words_from.ensures c.clear_words_from-in_default.ensures c.in_default.is

@@ -3,11 +3,7 @@ use mathlib.Core.Path.{◌∙◌}
 use native.Mathlib.Omega.{arith}
 use Rattle.model.specs.Places.{between}
 use Rattle.model_check.proofs.Right.{no_name, a_name}
-use borrow.Author.Rules.{rules}
 use Rattle.model_check.proofs.rules.calendar_known.Goals as goal
-
-pub enum_told-1 : goal.enum_told-1
-enum_told-1 c = search rules
 
 pub returns-in_default : goal.returns-in_default
 returns-in_default c = λ m end d x o h. no_name m h c.take_name-n.ensures c.in_default.is

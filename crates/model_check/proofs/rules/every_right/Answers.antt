@@ -16,7 +16,7 @@ returns-then-not-is_right c =
     λ m d n xs end h.
     let w = l.invariant m d n xs end (run _ h) in
     let t = here _ _ w (omega arith) in
-    stops _ _ w t.is (ap not (sym (c.is_right.ensures m d n t.item t.stands)) ∙ c.if-not-is_right.true-raw) ∙ every_scan (right_of m a.kind) 0 xs
+    stops _ _ w t.is (ap not (sym (c.is_right.ensures m d n t.item t.stands) ∙ c.if-not-is_right.true)) ∙ every_scan (right_of m a.kind) 0 xs
 
 pub loop-i-preserved : goal.loop-i-preserved
 loop-i-preserved c =
@@ -24,7 +24,7 @@ loop-i-preserved c =
     λ m d n xs end r.
     let w = l.invariant m d n xs end r in
     let t = on _ _ w (omega arith) c.skip_record-q.ensures.0 in
-    goes _ _ w t (ap not (sym (c.is_right.ensures m d n t.item t.stands)) ∙ c.if-not-is_right.false-raw)
+    goes _ _ w t (ap not (sym (c.is_right.ensures m d n t.item t.stands) ∙ c.if-not-is_right.false))
 
 pub returns : goal.returns
 returns c =

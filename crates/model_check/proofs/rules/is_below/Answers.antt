@@ -1,10 +1,6 @@
 -- `model_check::rules::is_below` meets its contract. Assumes nothing.
 use Rattle.definition.specs.Answer.{row_meaning}
-use borrow.Author.Rules.{rules}
 use Rattle.model_check.proofs.rules.is_below.Goals as goal
-
-pub enum_told-1 : goal.enum_told-1
-enum_told-1 c = search rules
 
 pub returns-in-Is : goal.returns-in-Is
 unfolding row_meaning

@@ -2,11 +2,7 @@
 use mathlib.Core.Path.{refl, ◌∙◌}
 use Rattle.model.specs.Places.{resource_calendar_lem, expense_activity}
 use Rattle.model_check.proofs.Right.{link_right_lem, assignment_right_lem}
-use borrow.Author.Rules.{rules}
 use Rattle.model_check.proofs.rules.is_right.Goals as goal
-
-pub enum_told-1 : goal.enum_told-1
-enum_told-1 c = search rules
 
 pub returns-in-Calendars : goal.returns-in-Calendars
 returns-in-Calendars c = rw c.in-Calendars.is (λ m d n a h. refl)

@@ -2,14 +2,10 @@ use mathlib.Core.Path.{refl, sym, ◌∙◌}
 use native.Mathlib.Omega.{arith}
 use Rattle.index.specs.Law.{seeks_next, next_less}
 use Rattle.model_check.proofs.Tabled.{key_there, row_in, walk_ends, walk_hits}
-use borrow.Author.Rules.{rules}
 use Rattle.model_check.proofs.tables.chain_has_key.Goals as goal
 
 pub loop-at-init : goal.loop-at-init
 loop-at-init c = λ ks x u. (u, record { finds = refl })
-
-pub enum_told-1 : goal.enum_told-1
-enum_told-1 c = search rules
 
 pub returns-in_default : goal.returns-in_default
 returns-in_default c = λ ks x u. walk_ends (c.loop-at.invariant ks x u).1 c.in_default.is

@@ -1,10 +1,6 @@
 -- `outline::parents::word_of` meets its contract. Assumes nothing.
 use Rattle.definition.specs.Answer.{row_meaning}
-use borrow.Author.Rules.{rules}
 use Rattle.outline.proofs.parents.word_of.Goals as goal
-
-pub enum_told-1 : goal.enum_told-1
-enum_told-1 c = search rules
 
 pub returns-in-Is : goal.returns-in-Is
 unfolding row_meaning
