@@ -3,7 +3,7 @@ use mathlib.Core.Path.{◌≡◌, refl, sym, ap, ◌∙◌}
 use mathlib.Core.Bool.{true, false, ◌&&◌}
 use mathlib.Core.List.{List, [], ◌∷◌}
 use mathlib.Core.Option.{Option, some, none}
-use Prim.Native.Nat.{ℕ, zero, suc, ◌+◌, ◌-◌, ◌*◌, ◌/◌, ◌%◌, ◌≤◌, ◌<◌}
+use Prim.Native.Nat.{ℕ, zero, suc, ◌+◌, ◌*◌, ◌/◌, ◌%◌, ◌≤◌, ◌<◌}
 use native.Mathlib.Nat.{add-zero}
 use native.Mathlib.Omega.{arith}
 use borrow.Author.Tests.{le-leb, lt-leb, lt-ltb, ltb-true}
@@ -171,7 +171,7 @@ module _ {s : Text} (row : ℕ) (z : ℤ) (room : ℕ) {o : Opened} (h : Opens s
       pub value : Calendar
       pub date : Date
       pub stands : Stands (whole calendar) s p value
-      pub is_date_lem : from_days z ≡ some date
+      pub is_date : from_days z ≡ some date
       pub on : w ≡ weekday date
       pub answers : day_sheet_answer s row z room ≡ in_room room (day_sheet value date)
 
@@ -194,7 +194,7 @@ module _ {s : Text} (row : ℕ) (z : ℤ) (room : ℕ) {o : Opened} (h : Opens s
           value = i.item;
           date = d.0;
           stands = i.stands;
-          is_date_lem = d.1;
+          is_date = d.1;
           on = d.2;
           answers = rw (m.decodes, element_at_lem m.model.calendars row i.is, d.1);
         }

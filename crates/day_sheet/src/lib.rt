@@ -1,4 +1,6 @@
 // The day sheet of a model's calendar: the weekday of a date, whether it stands in the holidays and in the extra days, and its periods.
+#![tactic(auto)]
+
 ghost use Rattle.std.specs.Prelude.{◌≡◌, List, eqb, length};
 ghost use Rattle.std.proofs.Math.Option.{some};
 ghost use Rattle.definition.specs.Base.{◌or◌, some?};

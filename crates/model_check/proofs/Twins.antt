@@ -73,11 +73,11 @@ some_below p ks (suc n) h = by (p (get_or ks n no_key)) refl (some_below p ks n 
 
 -- no key of a row from n on has a twin before it
 pub record Looked (ks : List Key) (n : ℕ) : Type 0 where
-  pub in_range_lem : n ≤ length ks
+  pub in_range : n ≤ length ks
   pub same : distinct same_key ks ≡ distinct same_key (take n ks)
 
 pub all_left : (ks : List Key) {n : ℕ} → n ≡ length ks → Looked ks n
-all_left ks e = record { in_range_lem = omega arith; same = rw (e, take-length ks) refl }
+all_left ks e = record { in_range = omega arith; same = rw (e, take-length ks) refl }
 
 pub none_left : {ks : List Key} {n : ℕ} → Looked ks n → n ≡ 0 → true ≡ distinct same_key ks
 unfolding distinct
@@ -91,7 +91,7 @@ module _ {ks : List Key} {i j : ℕ} {b : Bool} (v : Looked ks i) (e : i ≡ suc
       v.same ∙ rw e (ap (distinct same_key) u ∙ distinct_end (take j ks) (get_or ks j no_key) ∙ ap (λ (t : Bool). not t && distinct same_key (take j ks)) (sym f))
 
   pub no_twin : b ≡ false → Looked ks j
-  no_twin g = record { in_range_lem = omega (arith, v.in_range); same = more ∙ rw g }
+  no_twin g = record { in_range = omega (arith, v.in_range); same = more ∙ rw g }
 
   pub a_twin : b ≡ true → false ≡ distinct same_key ks
   a_twin g = sym (more ∙ rw g)

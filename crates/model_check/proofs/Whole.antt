@@ -3,7 +3,7 @@ use mathlib.Core.Path.{◌≡◌, refl, sym, ap}
 use mathlib.Core.Bool.{Bool, ◌&&◌, not}
 use mathlib.Core.List.{List, [], ◌∷◌, map}
 use Prim.Native.Nat.{ℕ, suc}
-use Rattle.definition.specs.Base.{if◌then◌else◌, some?, every?, numbered}
+use Rattle.definition.specs.Base.{if◌then◌else◌, every?, numbered}
 use Rattle.definition.specs.Text.{Text}
 use Rattle.definition.specs.Model.{Model}
 use Rattle.definition.specs.Check.{distinct, keeps_list}

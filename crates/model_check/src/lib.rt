@@ -1,5 +1,7 @@
 // The check of a model's bytes: whether they decode, and whether the model keeps the check's list. Keys are looked up in tables in the lent words;
 // where these are too few for a table, in the sections themselves.
+#![tactic(auto)]
+
 mod keys; // records told apart by their keys
 mod rules; // each record by itself
 mod tables; // keys in tables

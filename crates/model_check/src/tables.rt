@@ -79,7 +79,7 @@ fn chain_has_key(
     row: u64,
     name: &[u8],
 ) -> bool
-    ensures* { λ r. ⌜ ((ks : List Key) → KeyTable (lead_of kind) s.now ks t words.now → up_to from ≤ length ks → r ≡ given (find (λ (r : ℕ). same_key (row, name.now) (get_or ks r no_key)) (chain words.now t from))) ⌝ }
+    ensures { (ks : List Key) → KeyTable (lead_of kind) s.now ks t words.now → up_to from ≤ length ks → result ≡ given (find (λ (r : ℕ). same_key (row, name.now) (get_or ks r no_key)) (chain words.now t from)) }
 {
     let mut at = from;
     loop {

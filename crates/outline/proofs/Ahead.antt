@@ -13,7 +13,8 @@ use lib.Seq.{take-suc-set}
 use Rattle.definition.specs.Base.{if◌then◌else◌, keep, first, count}
 use Rattle.definition.specs.Outline.{parent_at, top_rows, child_rows, under, outline_of}
 use Rattle.definition.specs.Refusal.{row_words}
-use Rattle.laws.specs.Outlines.{no_levels, parent_in_lem, outline_length}
+use Rattle.laws.specs.Outlines.{no_levels, parent_in_lem}
+use Rattle.laws.proofs.Outlines.{outline_length}
 use Rattle.outline.specs.Words.{no_row}
 use Rattle.outline.specs.declared.Visit.{Visit}
 use Rattle.outline.specs.Steps.{word_of, home_of, same_parent, siblings, later, Links, climb_of, step_of}

@@ -1,5 +1,7 @@
 // The outline of a model: its activities' parents are put into the work slice, four words an activity, and the rows are written in one pass
 // over lists of children that are built there. What the words of a row hold is said in specs/Steps.antt.
+#![tactic(auto)]
+
 mod parents; // the parents of a model's activities
 
 ghost use Rattle.std.specs.Prelude.{◌≡◌, ◌+◌, ◌*◌, ◌<◌, ◌≤◌, length, get_or, set, ◌||◌, ltb};

@@ -1,0 +1,18 @@
+-- `model_check::tables::chain_has_key` meets its contract. The invariant: from here on the walk finds what it has to find. Assumes nothing.
+use mathlib.Core.List.{List}
+use Prim.Native.Nat.{ℕ, ◌≤◌}
+use lib.ListN.{length, get_or}
+use Rattle.definition.specs.Base.{find}
+use Rattle.index.specs.Chains.{up_to, chain}
+use Rattle.index.specs.Law.{Seeks}
+use Rattle.model_check.specs.Keys.{Key, no_key, same_key, lead_of}
+use Rattle.model_check.specs.Tables.{KeyTable}
+use Rattle.model_check.proofs.tables.chain_has_key.Given as goal
+
+abbrev pub invariant-loop-at : goal.invariant-loop-at
+invariant-loop-at l =
+    (ks : List Key) → KeyTable (lead_of l.kind) l.s ks l.t l.words → up_to l.initial.at ≤ length ks
+    → (up_to l.at ≤ length ks) × Seeks l.words l.t (λ (r : ℕ). same_key (l.row, l.name) (get_or ks r no_key)) (find (λ (r : ℕ). same_key (l.row, l.name) (get_or ks r no_key)) (chain l.words l.t l.initial.at)) l.at
+
+abbrev pub decreases-loop-at : goal.decreases-loop-at
+decreases-loop-at l = up_to l.at

@@ -1,0 +1,12 @@
+-- `model_check::tables::table_distinct` meets its contract. The invariant: no key of a row that was looked at has a twin before it. Assumes nothing.
+use mathlib.Core.List.{List}
+use Rattle.model_check.specs.Keys.{Key, lead_of}
+use Rattle.model_check.specs.Tables.{KeyTable}
+use Rattle.model_check.proofs.Twins.{Looked}
+use Rattle.model_check.proofs.tables.table_distinct.Given as goal
+
+abbrev pub invariant-loop-i : goal.invariant-loop-i
+invariant-loop-i l = (ks : List Key) → KeyTable (lead_of l.kind) l.s ks l.t l.words → Looked ks l.i
+
+abbrev pub decreases-loop-i : goal.decreases-loop-i
+decreases-loop-i l = l.i

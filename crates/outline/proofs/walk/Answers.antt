@@ -1,0 +1,45 @@
+use mathlib.Core.Path.{◌≡◌, refl, ◌∙◌}
+use Prim.Native.Nat.{◌+◌, ◌*◌}
+use lib.ListN.{length, take}
+use lib.Seq.{length-take-le}
+use Rattle.outline.proofs.Ahead.{going_start, going_on, going_none, going_full, no_rows, length_put}
+use native.Mathlib.Omega.{arith}
+use Rattle.outline.proofs.walk.Goals as goal
+
+pub returns-then-n-eq0 : goal.returns-then-n-eq0
+returns-then-n-eq0 c = record { few = omega arith; long = refl; words = λ ps e l. no_rows ps (omega (arith, c.if-n-eq0.true)) }
+
+pub loop-k-init : goal.loop-k-init
+loop-k-init c =
+    let a = c.args in
+    (omega arith, omega arith, refl, λ ps e l. going_start ps a.work.now a.rows.now (omega arith) (omega (arith, c.if-n-eq0.false)) l c.field-row.ensures)
+
+pub shape_of-rows-then-row : goal.shape_of-rows-then-row
+shape_of-rows-then-row c = c.loop-k.invariant.2
+
+pub returns-then-row : goal.returns-then-row
+returns-then-row c =
+    let l = c.loop-k in
+    record { few = omega arith; long = l.invariant.2; words = λ ps e m. going_none ps (take (2 * l.k) l.rows) l.row l.depth (l.invariant.3 ps e m) c.if-row.true }
+
+pub loop-k-smaller : goal.loop-k-smaller
+loop-k-smaller c = omega arith
+
+pub loop-k-preserved : goal.loop-k-preserved
+loop-k-preserved c =
+    let l = c.loop-k in
+    let a = c.args in
+    let g : length l.rows ≡ length a.rows.now = l.invariant.2 in (
+      omega arith,
+      omega (arith, c.step-at.ensures.deep),
+      length_put l.rows (2 * l.k) (2 * l.k + 1) l.row (l.depth + 1) c.put_row.ensures ∙ g,
+      λ ps e m. going_on ps a.n a.work.now l.rows l.k l.row l.depth e (omega arith) m (l.invariant.3 ps e m) c.if-row.false (omega arith) (omega arith) c.put_row.ensures c.step-at.ensures.place,
+    )
+
+pub shape_of-rows : goal.shape_of-rows
+shape_of-rows c = c.loop-k.invariant.2
+
+pub returns : goal.returns
+returns c =
+    let l = c.loop-k in
+    record { few = omega arith; long = l.invariant.2; words = λ ps e m. going_full ps (take (2 * l.k) l.rows) l.row l.depth l.k (l.invariant.3 ps e m) (length-take-le (2 * l.k) l.rows (omega arith)) (omega arith) }
