@@ -1,0 +1,19 @@
+use Prim.Native.Nat.{ℕ}
+use mathlib.Core.Path.{refl, ap, ◌∙◌}
+use mathlib.Core.Option.{Option}
+use Rattle.definition.specs.Base.{◌or◌}
+use Rattle.definition.specs.Field.{minutes_in}
+use Rattle.definition.specs.Task.{duration_days, duration_minutes}
+use Rattle.activities.proofs.value.plan_of.Goals as goal
+
+pub returns : goal.returns
+unfolding minutes_in
+returns c =
+    let day = c.args.day in
+    let e = c.minutes_or_0-minutes.ensures ∙ ap (λ (o : Option ℕ). o or 0) c.minutes_in.ensures in
+    record {
+      kind_is = c.kind_of-kind.ensures;
+      days_is = c.duration_parts-duration.ensures.0 ∙ ap (λ (n : ℕ). duration_days n day) e;
+      minutes_is = c.duration_parts-duration.ensures.1 ∙ ap (λ (n : ℕ). duration_minutes n day) e;
+      parent_is = refl;
+    }

@@ -1,0 +1,18 @@
+use Rattle.definition.specs.Field.{text_in}
+use Rattle.tree.specs.Place.{element_at}
+use Rattle.tree.specs.Root.{root_at}
+use Rattle.rows.specs.Rows.{found_meaning}
+use Rattle.rows.specs.Tables.{cost_in}
+use Rattle.assignments.proofs.Given.{look_not, look_up}
+use Rattle.assignments.proofs.assignment.cost_of.Goals as goal
+
+pub returns-then-not-given : goal.returns-then-not-given
+unfolding found_meaning
+returns-then-not-given c =
+    let a = c.args in
+    look_not (text_in (element_at a.s.now a.at) "ResourceUID") c.given.ensures _ c.if-not-given.true-raw
+
+pub returns : goal.returns
+returns c =
+    let a = c.args in
+    look_up (text_in (element_at a.s.now a.at) "ResourceUID") c.given.ensures (cost_in a.s.now (root_at a.s.now a.root) a.words.now a.t.cost) c.if-not-given.false-raw c.text_of-uid.ensures c.cost_with.ensures

@@ -1,0 +1,11 @@
+-- `assignments::expense::seek` meets its contract. The invariant: from here on the walk finds what is to be found. Assumes nothing.
+use Rattle.index.specs.Chains.{up_to}
+use Rattle.index.specs.Law.{Seeks}
+use Rattle.assignments.proofs.Noting.{used_at, used_row}
+use Rattle.assignments.proofs.expense.seek.Given as goal
+
+abbrev pub invariant-loop-row : goal.invariant-loop-row
+invariant-loop-row l = Seeks l.words l.t (used_at l.out l.words l.t l.activity l.name) (used_row l.out l.words l.t l.activity l.name) l.row
+
+abbrev pub decreases-loop-row : goal.decreases-loop-row
+decreases-loop-row l = up_to l.row
