@@ -1,0 +1,11 @@
+use Rattle.std.proofs.Common.{◌-◌, length}
+use Rattle.tree.specs.Place.{element_at}
+use Rattle.calendar_days.specs.Exceptions.{name_of, items_of}
+use Rattle.calendar_days.proofs.Elements.{Counting}
+use Rattle.calendar_days.proofs.exceptions.count_of.Given as goal
+
+abbrev pub invariant-loop-f : goal.invariant-loop-f
+invariant-loop-f l = Counting l.s (name_of l.old) (items_of l.old (element_at l.s l.at)) l.f l.n
+
+abbrev pub decreases-loop-f : goal.decreases-loop-f
+decreases-loop-f l = length (items_of l.old (element_at l.s l.at)) - l.n
