@@ -16,14 +16,14 @@ use Rattle.rows.specs.Rows.{has_uid, in_order, with_uid_in, main_in, calendar_me
 use Rattle.rows.specs.declared.CalendarAnswer.{CalendarAnswer}
 use Rattle.rows.specs.declared.CalendarAnswer.TheVariants.{Is, Absent}
 use Rattle.calendars.specs.Built.{built_of, found_or, base_in}
-use Rattle.laws.specs.FitNames.{calendars_in, names_in, build_length}
+use Rattle.laws.specs.FitNames.{added_to, calendars_in, names_in, build_length}
 
 -- ---- one after another
 
 pub build_both : (built : List Named) (xs ys : List Element) → build built (xs ++ ys) ≡ build (build built xs) ys
 unfolding build
 build_both built [] ys = refl
-build_both built (x ∷ xs) ys = build_both _ xs ys
+build_both built (x ∷ xs) ys = build_both (built ++ (added_to built x ∷ [])) xs ys
 
 pub built_in_order : (root : Element) → built_calendars root ≡ build [] (in_order root)
 unfolding built_calendars in_order
@@ -48,7 +48,7 @@ uids_in built = map (λ (n : Named). n.0) built
 uids_build : (built : List Named) (es : List Element) → uids_in (build built es) ≡ uids_in built ++ map uid_of es
 unfolding build
 uids_build built [] = sym (append-nil (uids_in built))
-uids_build built (e ∷ es) = uids_build _ es ∙ ap (λ (l : List Text). l ++ map uid_of es) (map-append _ built _) ∙ append_assoc (uids_in built) _ _
+uids_build built (e ∷ es) = uids_build (built ++ (added_to built e ∷ [])) es ∙ ap (λ (l : List Text). l ++ map uid_of es) (map-append _ built _) ∙ append_assoc (uids_in built) _ _
 
 size_of : (es : List Element) → length (build [] es) ≡ length es
 size_of es = build_length [] es ∙ zero-add (length es)

@@ -76,8 +76,8 @@ flags_length w = length-map (enc 7 w) (eqb 1) ∙ length_enc 7 w
 flags_put : (n : ℕ) (l : List Bool) → put_all flag n l ≡ map bit l
 unfolding put_all flag via field enc
 flags_put n [] = refl
-flags_put n (true ∷ l) = ap (λ (m : Bits). 1 ∷ m) (flags_put _ l)
-flags_put n (false ∷ l) = ap (λ (m : Bits). 0 ∷ m) (flags_put _ l)
+flags_put n (true ∷ l) = ap (λ (m : Bits). 1 ∷ m) (flags_put (n + length (flag.put n true)) l)
+flags_put n (false ∷ l) = ap (λ (m : Bits). 0 ∷ m) (flags_put (n + length (flag.put n false)) l)
 
 -- ---- the week
 

@@ -1,0 +1,13 @@
+use Rattle.std.proofs.Common.{sym, ap, ◌∙◌}
+use Rattle.definition.specs.Base.{find_last}
+use Rattle.tree.specs.Answer.{found_list, none_list}
+use Rattle.rows.specs.Rows.{found_meaning}
+use Rattle.calendars.specs.Record.{on_place}
+use Rattle.calendars.proofs.record.last_day.Goals as goal
+
+pub returns-in-Nothing : goal.returns-in-Nothing
+unfolding found_meaning find_last
+returns-in-Nothing c = sym (ap (find_last (on_place c.args.day)) (none_list c.first_in.ensures c.in-Nothing.is))
+
+pub returns-in-At : goal.returns-in-At
+returns-in-At c = c.last_day_from.ensures ∙ sym (ap (find_last (on_place c.args.day)) (found_list c.first_in.ensures c.in-At.is))

@@ -1,0 +1,14 @@
+use Rattle.std.proofs.Common.{sym, ap, ◌∙◌}
+use Rattle.definition.specs.Calendar.{week_days}
+use Rattle.tree.specs.Place.{element_at}
+use Rattle.rows.specs.Rows.{found_meaning}
+use Rattle.calendars.proofs.WeekHours.{hours_of_base, hours_of_day}
+use Rattle.calendars.proofs.record.put_hours_of.Goals as goal
+
+pub returns-in-Nothing : goal.returns-in-Nothing
+unfolding found_meaning
+returns-in-Nothing c = let a = c.args in hours_of_base (week_days (element_at a.s.now a.at)) (sym c.last_day.ensures ∙ ap (found_meaning a.s.now) c.in-Nothing.is) c.put_base_hours.ensures
+
+pub returns-in-At : goal.returns-in-At
+unfolding found_meaning
+returns-in-At c = let a = c.args in hours_of_day (week_days (element_at a.s.now a.at)) a.base (sym c.last_day.ensures ∙ ap (found_meaning a.s.now) c.in-At.is) c.put_own_hours.ensures

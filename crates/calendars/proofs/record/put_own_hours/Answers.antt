@@ -1,0 +1,9 @@
+use Rattle.tree.specs.Place.{element_at}
+use Rattle.calendars.proofs.WeekHours.{own_worked, own_free}
+use Rattle.calendars.proofs.record.put_own_hours.Goals as goal
+
+pub returns-then-day_working : goal.returns-then-day_working
+returns-then-day_working c = own_worked (element_at c.args.s.now c.args.at) c.day_working.ensures c.if-day_working.true c.put_periods.ensures
+
+pub returns : goal.returns
+returns c = own_free (element_at c.args.s.now c.args.at) c.day_working.ensures c.if-day_working.false c.put_count.ensures
