@@ -35,13 +35,13 @@ module _ (z : ℤ) (f : SFits w64 z) where
   pub is_below : lt_z (to_z w64 (of_z w64 z)) (pos 0) ≡ true → 2 ^ 64 - 1 ≡ from_zero z
   is_below h = below z (subst (λ (y : ℤ). lt_z y (pos 0) ≡ true) back h)
 
-  from_zero : lt_z (to_z w64 (of_z w64 z)) (pos 0) ≡ false → From z
-  from_zero h = from z (subst (λ (y : ℤ). lt_z y (pos 0) ≡ false) back h)
+  from_zero_lem : lt_z (to_z w64 (of_z w64 z)) (pos 0) ≡ false → From z
+  from_zero_lem h = from z (subst (λ (y : ℤ). lt_z y (pos 0) ≡ false) back h)
 
   pub size_is : lt_z (to_z w64 (of_z w64 z)) (pos 0) ≡ false → nat_abs (to_z w64 (of_z w64 z)) ≡ from_zero z
-  size_is h = ap nat_abs back ∙ (from_zero h).size
+  size_is h = ap nat_abs back ∙ (from_zero_lem h).size
 
   pub casts : lt_z (to_z w64 (of_z w64 z)) (pos 0) ≡ false → T (non_neg (to_z w64 (of_z w64 z))) × Fits w64 (nat_abs (to_z w64 (of_z w64 z)))
   casts h =
       subst (λ (y : ℤ). T (non_neg y) × Fits w64 (nat_abs y)) (sym back)
-      ((from_zero h).sign, record { fits = small z f (from_zero h).sign })
+      ((from_zero_lem h).sign, record { fits = small z f (from_zero_lem h).sign })

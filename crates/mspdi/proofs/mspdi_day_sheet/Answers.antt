@@ -1,0 +1,20 @@
+use Prim.Native.Nat.{ℕ}
+use mathlib.Core.Path.{ap, ◌∙◌}
+use lib.IntN.{ℤ}
+use lib.ListN.{length}
+use mir.Syntax.{w32}
+use mir.ValLaws.{to_z-of_z}
+use Rattle.definition.specs.Refusal.{day_sheet_answer}
+use Rattle.day_sheet.specs.Answer.{sheet_number}
+use Rattle.mspdi.specs.Outcome.{leaves}
+use Rattle.mspdi.proofs.mspdi_day_sheet.Goals as goal
+
+pub returns : goal.returns
+returns c =
+    let a = c.args in
+    let room = length a.sheet.now in
+    let out = c.day_sheet-a.new.sheet in
+    ap (λ (n : ℕ). (n, out, c.sheet_length.result)) c.sheet_number.ensures
+    ∙ ap (λ (n : ℕ). (sheet_number c.day_sheet-a.result, out, n)) c.sheet_length.ensures
+    ∙ c.day_sheet-a.ensures
+    ∙ ap (λ (z : ℤ). leaves room (day_sheet_answer a.model.now a.calendar z room)) (to_z-of_z w32 a.date c.ranges.date)

@@ -1,0 +1,4 @@
+use Rattle.probe.proofs.probe_u64.Goals as goal
+
+pub returns : goal.returns
+returns c = rw c.u64_of.ensures at c.put_u64.ensures

@@ -1,0 +1,14 @@
+use mathlib.Core.Path.{ap}
+use mir.Syntax.{w32}
+use Rattle.definition.specs.Answer.{date_meaning}
+use Rattle.probe.specs.Answer.{signed_is, signed_absent}
+use Rattle.probe.proofs.put_date.Goals as goal
+
+pub returns-in-Is : goal.returns-in-Is
+unfolding date_meaning
+returns-in-Is c =
+    signed_is (date_meaning c.args.a) w32 (ap date_meaning c.in-Is.is) (record { sfits = c.in-Is.known_told-1-own.given.0.1.1.0.1 })
+
+pub returns-in-Absent : goal.returns-in-Absent
+unfolding date_meaning
+returns-in-Absent c = signed_absent (date_meaning c.args.a) (ap date_meaning c.in-Absent.is)
