@@ -1,7 +1,6 @@
 -- A day number on the scale that the definitions count in: days from 1 January of the year -10000. Assumes nothing.
-use Rattle.std.specs.Prelude.{ℕ, zero, suc, ◌+◌, ◌-◌, ◌<◌, ◌≡◌, refl, Bool, true, false, cond, ltb, ℤ, pos, negsuc, ◌+ℤ◌, ◌-ℤ◌}
-use Rattle.std.proofs.Common.{arith, sym, ap, ◌∙◌}
-use Rattle.std.proofs.Math.Decide.{dec_lt}
+use Rattle.std.specs.Prelude.{◌≡◌, ℤ, pos, negsuc}
+use Rattle.std.proofs.Common.{ap}
 use Rattle.std.proofs.Math.IntN
 use Rattle.definition.specs.Date.{Date, epoch, day_number}
 use Rattle.date.specs.Answer.{upward, days_between}

@@ -1,5 +1,7 @@
 // Dates of the Gregorian calendar, in whole numbers. What is right is said in the crate definition, specs/Date.antt. A `Date` is document
 // 01's day number. Inside, a day is counted from 1 January of the year -10000 and a year from that year, so that nothing is negative.
+#![tactic(auto)]
+
 ghost use Rattle.std.specs.Prelude.{◌≡◌, ◌≤◌, ◌<◌, ◌^◌, pos, ◌-ℤ◌};
 ghost use Rattle.definition.specs.Base.{◌or◌};
 ghost use Rattle.definition.specs.Date.{leap, month_length, new_year, date_at, weekday, year_at, from_days, from_ymd, first_ten, date_parts, date_of};

@@ -1,5 +1,5 @@
 -- A missing text is read as the empty one is; a text that is there is not empty. Assumes nothing.
-use Prim.Native.Nat.{ℕ, suc}
+use Prim.Native.Nat.{suc}
 use native.Mathlib.Omega.{arith}
 use borrow.Author.Tests.{ne_eqb}
 use mathlib.Core.Path.{◌≡◌, refl, ap, ◌∙◌}

@@ -6,7 +6,7 @@ use Rattle.bits.specs.declared.Place.{Place}
 use Rattle.bits.specs.Reads.{field_lt, taken_at}
 use Rattle.reader.specs.declared.Reader.{Reader}
 use Rattle.reader.specs.declared.Taken.{Taken}
-use Rattle.reader.specs.Read.{took, moved, moved_by}
+use Rattle.reader.specs.Read.{took, moved_by}
 use Rattle.model.specs.Lax.{like_times}
 use Rattle.model.specs.Passes.{pass_like}
 use Rattle.model.specs.Parts.{strict_calendars, strict_links, strict_resources, strict_assignments, strict_expenses}
@@ -15,7 +15,7 @@ use Rattle.model.specs.Answers.{counts_at}
 use Rattle.model.proofs.Single.{counts_are}
 use Rattle.model.specs.declared.Counts.{Counts}
 use Rattle.model.specs.declared.Head.{Head}
-use Rattle.model.specs.declared.records.Kind.TheVariants.{Calendars, Activities, Links, Resources, Assignments, Expenses}
+use Rattle.model.specs.declared.records.Kind.TheVariants.{Calendars, Links, Resources, Assignments, Expenses}
 
 -- ---- a reader further on
 

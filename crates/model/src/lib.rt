@@ -1,4 +1,6 @@
 // Decoding a model of any bytes: where its sections stand, and the fields of its records.
+#![tactic(auto)]
+
 mod fields; // each field passed over
 pub mod lists; // lists of periods and days
 pub mod records; // records, one and many

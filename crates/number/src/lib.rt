@@ -1,4 +1,6 @@
 // Number texts, durations and times of day, as `f64`, minutes and minutes of a day; and the texts of durations and times.
+#![tactic(auto)]
+
 mod decimal;
 mod duration;
 mod scan;

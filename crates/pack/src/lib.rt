@@ -1,5 +1,7 @@
 // The model's fields and records written at a place of a buffer, each by its format: crate definition, specs/Format.antt and specs/Pack.antt. A
 // function answers the place behind what it wrote; what does not fit stays past the end.
+#![tactic(auto)]
+
 mod record;
 mod stars;
 mod value;

@@ -1,5 +1,7 @@
 // A reader over a lent model that knows its bit position. It goes by value: each function takes it apart, calls the function of `bits` on the
 // slice and the place, and answers the value with the reader behind it.
+#![tactic(auto)]
+
 ghost use Rattle.std.specs.Prelude.{◌≡◌, ◌≤◌};
 ghost use Rattle.reader.specs.Read.{first, took};
 

@@ -1,14 +1,13 @@
 -- Days and years on the scale, and as they are written. Assumes nothing.
-use Prim.Native.Nat.{ℕ, suc, ◌+◌, ◌-◌, ◌≤◌, ◌<◌}
+use Prim.Native.Nat.{ℕ, suc, ◌+◌, ◌-◌, ◌<◌}
 use native.Mathlib.Omega.{arith}
 use native.Mathlib.Decide.{dec_lt}
 use mathlib.Core.Path.{◌≡◌, refl, sym, ap, ◌∙◌}
-use mathlib.Core.Bool.{◌&&◌}
 use mathlib.Core.Option.{Option, some, none}
 use lib.IntN.{ℤ, pos, nat_abs, ◌+ℤ◌, ◌-ℤ◌, -ℤ-+ℤ_cancel}
 use borrow.Author.Tests.{lt-ltb, le-ltb, le-leb}
-use Rattle.definition.specs.Base.{◌>>=◌, ◌or◌, when, within}
-use Rattle.definition.specs.Date.{Date, date_at, month_length, year_of, year_at, from_ymd, from_days, day_number, ymd_of}
+use Rattle.definition.specs.Base.{◌or◌}
+use Rattle.definition.specs.Date.{Date, month_length, year_at, from_ymd, day_number, ymd_of}
 use Rattle.definition.specs.Answer.{date_meaning, day_number_of}
 use Rattle.definition.specs.declared.Ymd.{Ymd}
 use Rattle.definition.specs.declared.DateAnswer.{DateAnswer}
@@ -16,7 +15,7 @@ use Rattle.date.specs.Answer.{length_meaning, length_at, ymd_meaning, ymd_at}
 use Rattle.date.specs.Scale.{day_count, count_of_number}
 use Rattle.date.specs.declared.LengthAnswer.{LengthAnswer}
 use Rattle.date.specs.declared.YmdAnswer.{YmdAnswer}
-use Rattle.recurrence.specs.Scale.{InDates, IsYear, IsMonth, day_date, count_by, day_in}
+use Rattle.recurrence.specs.Scale.{InDates, IsYear, IsMonth, count_by, day_in}
 use Rattle.recurrence.proofs.Dates.{days_back}
 
 -- ---- answers

@@ -4,7 +4,6 @@ use native.Mathlib.Omega.{arith}
 use mathlib.Core.Path.{◌≡◌}
 use mathlib.Core.Bool.{Bool, true, false}
 use borrow.Author.Tests.{le-leb, lt-leb}
-use Rattle.definition.specs.Base.{◌or◌}
 use Rattle.definition.specs.Bits.{twos}
 use Rattle.definition.specs.Date.{Date, first_date, last_date}
 use Rattle.definition.specs.Recurrence.{century}

@@ -1,17 +1,17 @@
 -- What fits, type by type, and the first day that does. Assumes nothing.
-use Prim.Native.Nat.{ℕ, suc, ◌+◌, ◌-◌, ◌*◌, ◌/◌, ◌%◌, ◌^◌, ◌≤◌, ◌<◌, max, min}
+use Prim.Native.Nat.{ℕ, suc, ◌+◌, ◌-◌, ◌*◌, ◌/◌, ◌%◌, ◌≤◌, ◌<◌, max, min}
 use native.Mathlib.Omega.{arith}
 use native.Mathlib.Decide.{dec_lt}
 use native.Mathlib.Nat.{mul-le-mul_right, mul-mod_left}
 use mathlib.Core.Path.{◌≡◌, refl}
 use mathlib.Core.Bool.{Bool, true, false, ◌&&◌, and-false}
-use mathlib.Core.Option.{Option, some}
-use lib.Dec.{leb, eqb}
+use mathlib.Core.Option.{some}
+use lib.Dec.{eqb}
 use borrow.Author.Tests.{eq-eqb, ne_eqb, le-leb, lt-leb}
-use Rattle.definition.specs.Base.{if◌then◌else◌, ◌or◌, when, within}
+use Rattle.definition.specs.Base.{◌or◌, when, within}
 use Rattle.definition.specs.Bits.{twos}
-use Rattle.definition.specs.Date.{Date, year_of, month_of, day_of, sunday_first, first_date, last_date}
-use Rattle.definition.specs.Recurrence.{most_days, century, every_nth, is_date, on_weekday, in_nth_week, month_count, fits, is_rule}
+use Rattle.definition.specs.Date.{Date, year_of, month_of, day_of, sunday_first}
+use Rattle.definition.specs.Recurrence.{most_days, century, every_nth, on_weekday, in_nth_week, month_count, fits}
 use Rattle.laws.specs.Calendar.{IsDay, is_day_lem}
 use Rattle.recurrence.specs.Kind.{UpTo, daily_fits, candidate_of, counts_year, yearly_fits, counts_month, candidate_at, monthly_fits, on_mask, weekly_fits, WeekDay}
 use Rattle.recurrence.specs.Meaning.{as_rule}

@@ -3,19 +3,19 @@ use Prim.Native.Nat.{ℕ, zero, suc, ◌+◌, ◌-◌, ◌≤◌, min, max}
 use native.Mathlib.Omega.{arith}
 use native.Mathlib.Numerals.{add-one}
 use mathlib.Core.Path.{◌≡◌, refl, sym, ap, ◌∙◌}
-use mathlib.Core.List.{List, [], ◌∷◌}
+use mathlib.Core.List.{◌∷◌}
 use mathlib.Core.Option.{Option, some, none}
 use lib.ListN.{length}
 use lib.Dec.{leb}
 use borrow.Author.Tests.{le-leb, ne_eqb}
-use Rattle.definition.specs.Base.{if◌then◌else◌, ◌>>=◌, ◌or◌, keep, count}
+use Rattle.definition.specs.Base.{◌>>=◌, ◌or◌, keep, count}
 use Rattle.definition.specs.Ascii.{bytes}
-use Rattle.definition.specs.Date.{Date, day_number, first_date, last_date}
+use Rattle.definition.specs.Date.{Date, last_date}
 use Rattle.definition.specs.Tree.{Element, child}
 use Rattle.definition.specs.Field.{date_in}
 use Rattle.definition.specs.Recurrence.{days_of, most_exception_days}
 use Rattle.definition.specs.declared.Date as Declared
-use Rattle.date.specs.Scale.{day_count, count_of_number}
+use Rattle.date.specs.Scale.{count_of_number}
 use Rattle.recurrence.specs.Scale.{day_date}
 use Rattle.recurrence.specs.Element.{range_by, range_days, RangeRead, range_in, period_of}
 use Rattle.recurrence.specs.declared.RangeAnswer.{RangeAnswer}

@@ -1,19 +1,19 @@
 -- The rule of an Exception: its numbers held to what can matter, and its days the same. Assumes nothing.
-use Prim.Native.Nat.{ℕ, zero, suc, ◌+◌, ◌-◌, ◌/◌, ◌%◌, ◌^◌, ◌≤◌, ◌<◌, min, max}
+use Prim.Native.Nat.{ℕ, zero, suc, ◌+◌, ◌/◌, ◌%◌, ◌^◌, ◌≤◌, ◌<◌, min, max}
 use native.Mathlib.Omega.{arith}
 use native.Mathlib.Decide.{dec_lt}
 use mathlib.Core.Path.{◌≡◌, refl, sym, ap, ◌∙◌}
-use mathlib.Core.Bool.{Bool, true, false, ◌&&◌, ◌||◌, not}
+use mathlib.Core.Bool.{Bool, true, false, ◌&&◌}
 use mathlib.Core.List.{List, [], ◌∷◌}
 use mathlib.Core.Option.{Option, some, none}
 use Prim.Native.String.{String}
 use lib.Dec.{leb, ltb, eqb}
 use lib.IntN.{ℤ, pos, negsuc}
-use borrow.Author.Tests.{lt-ltb, le-ltb, le-leb, lt-leb, eq-eqb, ne_eqb}
+use borrow.Author.Tests.{lt-ltb, le-ltb, le-leb, lt-leb, ne_eqb}
 use Rattle.definition.specs.Base.{if◌then◌else◌, ◌>>=◌, ◌or◌, when, given, within, keep}
 use Rattle.definition.specs.Ascii.{bytes}
 use Rattle.definition.specs.Bits.{twos}
-use Rattle.definition.specs.Date.{Date, year_of, month_of, day_of, sunday_first, in_years, first_date, last_date, date_of}
+use Rattle.definition.specs.Date.{Date, year_of, month_of, day_of, sunday_first, first_date, last_date, date_of}
 use Rattle.definition.specs.Tree.{Element, child}
 use Rattle.definition.specs.Text.{Text}
 use Rattle.definition.specs.Field.{text_in, int_in, yes_in, date_in, held}
@@ -21,12 +21,11 @@ use Rattle.definition.specs.Recurrence as D
 use Rattle.definition.specs.Recurrence.{most_days, century, month_from, type_from, rule_from, is_rule, is_number, item_fits, at_position, nth_in_month, on_weekday, fits, days_of_rule, rule_of, recurrence_days}
 use Rattle.definition.specs.declared.Date as Declared
 use Rattle.laws.specs.Calendar.{is_day_lem}
-use Rattle.date.specs.Scale.{day_count, count_of_number}
+use Rattle.date.specs.Scale.{count_of_number}
 use Rattle.recurrence.specs.Scale.{InDates, scaled_by, day_date, month_meaning}
-use Rattle.recurrence.specs.Meaning.{as_rule, sound, rules, meaning, days_by}
+use Rattle.recurrence.specs.Meaning.{as_rule, sound, meaning, days_by}
 use Rattle.recurrence.specs.Element.{capped, month_by, held_rule, rule_by, rule_days, RuleRead, pick_of, mask_of, last_by, most_by, judged, rule_in, period_of}
 use Rattle.recurrence.specs.declared.MonthAnswer.{MonthAnswer}
-use Rattle.recurrence.specs.declared.Rule.{Rule}
 use Rattle.recurrence.specs.declared.RuleAnswer.{RuleAnswer}
 use Rattle.recurrence.specs.declared.scale.Scaled.{Scaled}
 use Rattle.laws.specs.Bools.{within_is}

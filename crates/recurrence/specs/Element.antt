@@ -16,7 +16,6 @@ use Rattle.recurrence.specs.Meaning.{rules, days_by}
 use Rattle.recurrence.specs.declared.MonthAnswer.{MonthAnswer}
 use Rattle.recurrence.specs.declared.Rule.{Rule}
 use Rattle.recurrence.specs.declared.RuleAnswer.{RuleAnswer}
-use Rattle.recurrence.specs.declared.Range.{Range}
 use Rattle.recurrence.specs.declared.RangeAnswer.{RangeAnswer}
 use Rattle.recurrence.specs.declared.element.Period.{Period}
 

@@ -1,4 +1,6 @@
 // The days of an exception, one after the other. What is right is said in the crate definition, specs/Recurrence.antt.
+#![tactic(auto)]
+
 mod element;
 mod kind;
 mod position;

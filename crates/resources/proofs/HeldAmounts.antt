@@ -4,7 +4,7 @@ use native.Mathlib.Omega.{arith}
 use mathlib.Core.Path.{◌≡◌, refl, sym, ap, ◌∙◌, subst}
 use mathlib.Core.Bool.{Bool, true, false, ◌&&◌}
 use mathlib.Core.Option.{Option}
-use lib.IntN.{ℤ, pos, nat_abs, neg_ℤ, ◌-ℤ◌, +ℤ_idl}
+use lib.IntN.{ℤ, pos, nat_abs, neg_ℤ, +ℤ_idl}
 use lib.Ieee.{Float, fin, binary64, round, neg, le, lt, mul}
 use lib.Ieee.Fits.{and_l, and_r}
 use Rattle.definition.specs.Base.{◌or◌, when}

@@ -1,4 +1,6 @@
 // What a resource and an assignment say, each value by itself: a position in the lent tree in, a value out.
+#![tactic(auto)]
+
 mod assignment;
 mod resource;
 mod value;

@@ -1,13 +1,12 @@
 -- The day of a number of minutes, and the hundredths of a percentage, by the tests that the code makes. Assumes nothing.
-use Prim.Native.Nat.{ℕ, ◌*◌, ◌^◌, ◌<◌}
+use Prim.Native.Nat.{◌*◌, ◌^◌}
 use native.Mathlib.Omega.{arith}
 use mathlib.Core.Path.{◌≡◌, refl, sym, ap, ◌∙◌, subst}
 use mathlib.Core.Bool.{Bool, true, false, ◌&&◌}
-use mathlib.Core.Option.{some, none}
 use lib.Dec.{T, eqb, eqb→eq}
 use lib.IntN.{ℤ, pos, nat_abs}
 use lib.Ieee.{Float, nan, inf, fin, binary64, round, le, lt, mul, up, down, eq}
-use lib.Ieee.Fits.{and_i, and_l, and_r, down_pos}
+use lib.Ieee.Fits.{and_l, and_r, down_pos}
 use lib.Signed.{non_neg}
 use mir.Syntax.{w64}
 use mir.Val.{to_z, of_z, SFits, Fits}

@@ -1,14 +1,14 @@
 -- A lag by its sign and its size, in each format. Assumes nothing.
 use Prim.Native.Nat.{ℕ, suc, ◌+◌, ◌*◌, ◌/◌, ◌%◌, min}
 use native.Mathlib.Omega.{arith}
-use mathlib.Core.Path.{◌≡◌, refl, ap, ◌∙◌}
+use mathlib.Core.Path.{◌≡◌, ap, ◌∙◌}
 use mathlib.Core.Bool.{Bool, true, false}
 use mathlib.Core.Option.{some, none}
 use lib.IntN.{ℤ, pos, negsuc}
 use borrow.Author.Tests.{eq-eqb, ne_eqb}
 use Rattle.definition.specs.Number.{with_sign}
 use Rattle.definition.specs.Task.{percent_format, elapsed_format}
-use Rattle.definition.specs.Link.{Lag, working_lag, elapsed_lag, lag_of, held_by}
+use Rattle.definition.specs.Link.{working_lag, elapsed_lag, lag_of, held_by}
 use Rattle.fields.specs.Hundredths.{size_sign}
 use Rattle.tasks.proofs.Sign.{cut_sign, ten_sign, held_sign}
 

@@ -2,7 +2,6 @@
 use Rattle.std.specs.Prelude.{ℕ, ℤ}
 use Rattle.std.proofs.Math.Option.{Option, some, none}
 use Rattle.definition.specs.Date.{Date}
-use Rattle.laws.specs.Bools.{and_left}
 use Rattle.definition.specs.Answer.{day_number_of}
 use Rattle.tasks.specs.declared.task.Constraint.{Constraint}
 use Rattle.tasks.specs.declared.task.Constraint.TheVariants as constraint

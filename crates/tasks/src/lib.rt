@@ -1,4 +1,6 @@
 // What a task and a link say, each value by itself: a position in the lent tree in, a value out.
+#![tactic(auto)]
+
 mod link;
 mod task;
 mod value;

@@ -1,4 +1,6 @@
 // A lent tree: elements in document order, a record each.
+#![tactic(auto)]
+
 ghost use Rattle.std.specs.Prelude.{◌≡◌, [], ◌+◌, ◌<◌, length};
 ghost use Rattle.definition.specs.Base.{same, ◌or◌};
 ghost use Rattle.definition.specs.Tree.{right_at, size, level, all, text_of};

@@ -1,5 +1,4 @@
-use Rattle.std.proofs.Common.{sym, ◌∙◌, arith, rules}
-use Rattle.tree.proofs.Heads.{bounds}
+use Rattle.std.proofs.Common.{sym, ◌∙◌, arith}
 use Rattle.tree.proofs.Walk.{passed_cut, passed_end, passed_next, passed_below, one_less, below_shorter}
 use Rattle.tree.proofs.+skip.Goals as goal
 

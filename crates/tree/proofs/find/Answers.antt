@@ -1,6 +1,5 @@
 use lib.Arith.{lt_of_le-ne}
 use mathlib.Core.Path.{refl, sym, ◌∙◌}
-use Prim.Native.Nat.{◌-◌}
 use Rattle.tree.specs.Place.{Past}
 use Rattle.tree.proofs.Heads.{bounds}
 use Rattle.tree.proofs.Rows.{row_cut, row_end, row_hit, row_miss, row_under}

@@ -1,6 +1,5 @@
 use borrow.Author.Tests.{not-true, not-false}
 use mathlib.Core.Path.{sym, ◌∙◌}
-use Prim.Native.Nat.{◌-◌}
 use Rattle.tree.proofs.Heads.{bounds}
 use Rattle.tree.proofs.Walk.{verdict_all, left_fine, left_cut, left_wrong, left_step}
 use borrow.Author.Rules.{rules}

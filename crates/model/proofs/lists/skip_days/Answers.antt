@@ -1,4 +1,3 @@
-use Prim.Native.Nat.{◌-◌}
 use mathlib.Core.Path.{◌≡◌}
 use Rattle.bits.specs.Reads.{read_field}
 use Rattle.model.specs.Rising.{day_of, by_day_lem, rose_none, rose_more, rose_stop, rose_done}

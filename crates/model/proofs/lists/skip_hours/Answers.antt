@@ -1,5 +1,5 @@
 use mathlib.Core.Path.{◌≡◌}
-use Prim.Native.Nat.{◌+◌, ◌-◌}
+use Prim.Native.Nat.{◌+◌}
 use Rattle.definition.specs.Format.{periods}
 use Rattle.model.specs.Passes.{pass_no, pass_more, pass_cut}
 use Rattle.bits.specs.Reads.{far}

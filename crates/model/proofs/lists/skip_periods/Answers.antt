@@ -1,4 +1,3 @@
-use Prim.Native.Nat.{◌-◌}
 use mathlib.Core.Path.{◌≡◌}
 use Rattle.definition.specs.Format.{period, periods}
 use Rattle.bits.specs.Reads.{read_field}

@@ -1,5 +1,5 @@
 use mathlib.Core.Path.{◌≡◌}
-use Prim.Native.Nat.{◌+◌, ◌-◌}
+use Prim.Native.Nat.{◌+◌}
 use Rattle.model.specs.Passes.{pass_no, pass_more, pass_cut}
 use Rattle.model.specs.Parts.{record_of}
 use Rattle.bits.specs.Reads.{far}

@@ -1,4 +1,4 @@
-use Rattle.std.proofs.Common.{◌-◌, arith, rules}
+use Rattle.std.proofs.Common.{arith, rules}
 use Rattle.number.proofs.Held.{low, high, read_none, read_more}
 use Rattle.number.proofs.decimal.run.Goals as goal
 

@@ -1,4 +1,4 @@
-use Rattle.std.proofs.Common.{◌+◌, ◌-◌, [], drop, sym, refl, ap, ◌∙◌, arith, rules}
+use Rattle.std.proofs.Common.{◌+◌, [], drop, sym, refl, ap, ◌∙◌, arith, rules}
 use Rattle.definition.specs.Duration.{time_figures}
 use Rattle.definition.specs.declared.Figures.{Figures}
 use Rattle.number.proofs.Figures.{read, unit_within, no_unit, all_read}

@@ -1,4 +1,4 @@
-use Rattle.std.proofs.Common.{◌-◌, arith, rules}
+use Rattle.std.proofs.Common.{arith, rules}
 use Rattle.number.proofs.Parts.{is_a, is_b, is_c, is_none, stops, goes_on, ends}
 use Rattle.number.proofs.scan.first.Goals as goal
 

@@ -1,4 +1,4 @@
-use Rattle.std.proofs.Common.{ℕ, ◌/◌, [], ◌∷◌, ◌++◌, ap, ◌∙◌, arith, rules}
+use Rattle.std.proofs.Common.{ℕ, ◌/◌, [], ◌∷◌, ◌++◌, ap, ◌∙◌, rules}
 use Rattle.definition.specs.Duration.{decimal}
 use Rattle.number.specs.Written.{◌⨾◌}
 use Rattle.number.proofs.Writing.{put_as, decimal_one, decimal_more}

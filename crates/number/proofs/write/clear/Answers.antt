@@ -1,4 +1,4 @@
-use Rattle.std.proofs.Common.{◌≡◌, ℕ, ◌-◌, ◌≤◌, List, ◌++◌, length, set, replicate, refl, ap, ◌∙◌, append-nil, arith, length-set, drop_of_length-le}
+use Rattle.std.proofs.Common.{◌≡◌, ℕ, ◌≤◌, List, ◌++◌, length, set, replicate, refl, ap, ◌∙◌, append-nil, arith, length-set, drop_of_length-le}
 use borrow.Author.Fill.{fill_more}
 use Rattle.number.proofs.write.clear.Goals as goal
 

@@ -1,5 +1,4 @@
 use mathlib.Core.Path.{◌≡◌}
-use Prim.Native.Nat.{◌-◌}
 use native.Mathlib.Omega.{arith}
 use Rattle.pack.proofs.Starred.{star_none, star_more}
 use Rattle.pack.proofs.stars.put_stars.Goals as goal

@@ -3,7 +3,7 @@ use Rattle.recurrence.proofs.Bounds.{year_bound, year_last, year_first}
 use Rattle.recurrence.proofs.Fits.{yearly_units, yearly_none}
 use Rattle.recurrence.proofs.Units.{Passed, pass_none, pass_unit, fit_unit}
 use Rattle.definition.specs.Date.{year_of}
-use Prim.Native.Nat.{ℕ, ◌+◌, ◌-◌, ◌≤◌, min}
+use Prim.Native.Nat.{ℕ, ◌+◌, ◌≤◌, min}
 use native.Mathlib.Numerals.{add-one}
 use mathlib.Core.Path.{◌≡◌, ap, subst⁻¹, ◌∙◌}
 use borrow.Author.Tests.{le-leb}

@@ -1,5 +1,4 @@
 use Rattle.recurrence.proofs.Items.{last_yes, last_no, last_end}
-use Prim.Native.Nat.{◌-◌}
 use mathlib.Core.Path.{refl, ap, sym, ◌∙◌}
 use lib.IntN.{pos}
 use Rattle.definition.specs.Base.{◌or◌}

@@ -2,7 +2,6 @@ use Rattle.recurrence.proofs.Items.{nth_hit, nth_yes, nth_no, nth_end}
 use Prim.Native.Nat.{ℕ, ◌+◌, ◌-◌}
 use mathlib.Core.Path.{refl, ap, sym, ◌∙◌}
 use mathlib.Core.Option.{Option}
-use mathlib.Core.Logic.{⊎_elim}
 use lib.ListN.{get_elem?}
 use lib.IntN.{pos}
 use Rattle.definition.specs.Base.{◌or◌, keep, count}
@@ -26,7 +25,7 @@ loop-d-preserved c =
     let rest : ℕ → Option ℕ = get_elem? (keep p (count (d + 1) (end - (d + 1)))) in
     let is = sym c.item_fits.ensures in
     elim c.if-item_fits.branch [
-        then-item_fits+else-k-eq0 w ↦ c.loop-d.invariant ∙ nth_yes p d end k c.loop-d-test.true (is ∙ w.if-item_fits.true) w.if-k-eq0.false ∙ ap rest (sym w.k-is)
+      | then-item_fits+else-k-eq0 w ↦ c.loop-d.invariant ∙ nth_yes p d end k c.loop-d-test.true (is ∙ w.if-item_fits.true) w.if-k-eq0.false ∙ ap rest (sym w.k-is)
       | else-item_fits w ↦ c.loop-d.invariant ∙ nth_no p d end k c.loop-d-test.true (is ∙ w.if-item_fits.false) ∙ ap rest (sym w.k-is)
     ]
 

@@ -1,6 +1,6 @@
 use Prim.Native.Nat.{◌-◌, max}
 use mathlib.Core.Path.{◌≡◌, ap, sym, subst⁻¹, ◌∙◌}
-use mathlib.Core.Bool.{true, false}
+use mathlib.Core.Bool.{true}
 use native.Mathlib.Omega.{arith}
 use borrow.Author.Tests.{not-true, not-false}
 use Rattle.definition.specs.declared.Date.{Date}

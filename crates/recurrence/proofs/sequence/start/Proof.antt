@@ -1,6 +1,5 @@
 use mathlib.Core.Path.{refl}
 use Rattle.recurrence.proofs.Going.{starts}
-use borrow.Author.Rules.{rules}
 use Rattle.recurrence.proofs.sequence.start.Statement.{statement}
 use Rattle.recurrence.proofs.sequence.start.Tie as tie
 

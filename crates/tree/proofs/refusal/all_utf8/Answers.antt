@@ -1,6 +1,5 @@
 use borrow.Author.Tests.{not-true, not-false}
 use mathlib.Core.Path.{refl, sym, ◌∙◌}
-use Prim.Native.Nat.{◌-◌}
 use Rattle.tree.proofs.Heads.{bounds}
 use Rattle.tree.proofs.Passes.{utf8_cut, utf8_name, utf8_text, utf8_step}
 use borrow.Author.Rules.{rules}

@@ -1,5 +1,4 @@
 use mathlib.Core.Path.{refl, sym, ◌∙◌}
-use Prim.Native.Nat.{◌-◌}
 use Rattle.tree.proofs.Heads.{bounds}
 use Rattle.tree.proofs.Passes.{long_cut, long_end, long_here, long_step}
 use borrow.Author.Rules.{rules}

@@ -1,5 +1,4 @@
 use mathlib.Core.Path.{sym, ◌∙◌}
-use Prim.Native.Nat.{◌-◌}
 use lib.Arith.{lt_of_le-ne}
 use native.Mathlib.Omega.{arith}
 use borrow.Author.Rules.{rules}
