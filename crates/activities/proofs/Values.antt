@@ -1,4 +1,5 @@
 -- Laws of an activity's values. Assumes nothing.
+use Rattle.std.specs.Prelude.{if◌then◌else◌}
 use Prim.Native.Nat.{ℕ}
 use mathlib.Core.Path.{◌≡◌, refl, sym, ap, ◌∙◌}
 use mathlib.Core.Bool.{Bool, true, false, true≢false, ◌&&◌, not}
@@ -8,7 +9,7 @@ use borrow.Author.Tests.{not-true, not-false}
 use lib.Dec.{eqb}
 use lib.ListN.{length}
 use Rattle.definition.specs.Ascii.{bytes}
-use Rattle.definition.specs.Base.{if◌then◌else◌, ◌>>=◌, ◌or◌, ◌or_else◌, when, given, same, within}
+use Rattle.definition.specs.Base.{◌>>=◌, ◌or◌, ◌or_else◌, when, given, same, within}
 use Rattle.definition.specs.Calendar.{elapsed_name, name_of, free}
 use Rattle.definition.specs.Date.{Date}
 use Rattle.definition.specs.Field.{text_in}

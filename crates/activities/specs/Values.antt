@@ -1,9 +1,9 @@
 -- What an activity's values are to be, each from the task. Assumes nothing: these are definitions.
-use Rattle.std.specs.Prelude.{ℕ, ◌≡◌, Bool, ◌&&◌, not, List, [], eqb, length}
+use Rattle.std.specs.Prelude.{if◌then◌else◌, ℕ, ◌≡◌, Bool, ◌&&◌, not, List, [], eqb, length}
 use Rattle.std.proofs.Math.Option.{Option, some}
 use Rattle.definition.specs.Answer.{row_meaning}
 use Rattle.definition.specs.Ascii.{bytes}
-use Rattle.definition.specs.Base.{if◌then◌else◌, ◌>>=◌, ◌or◌, when, same}
+use Rattle.definition.specs.Base.{◌>>=◌, ◌or◌, when, same}
 use Rattle.definition.specs.Calendar.{elapsed_name, name_of}
 use Rattle.definition.specs.Field.{text_in, yes_in, date_in, minutes_in}
 use Rattle.definition.specs.Model.{Activity}

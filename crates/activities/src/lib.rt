@@ -1,4 +1,6 @@
 // Activities: the kept tasks, one after another. What is right is said in the crate definition, specs/Task.antt.
+#![tactic(auto)]
+
 ghost use Rattle.std.specs.Prelude.{◌≡◌, true, length};
 ghost use Rattle.definition.specs.Format.{whole};
 ghost use Rattle.definition.specs.Pack.{activity};

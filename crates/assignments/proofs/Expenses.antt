@@ -1,8 +1,9 @@
 -- Expenses: whether one stands in the buffer, and one after another, the first of equal ones. Assumes nothing.
+use Rattle.std.specs.Prelude.{if◌then◌else◌}
 use Rattle.std.proofs.Common.{◌≡◌, ℕ, ◌+◌, ◌-◌, ◌%◌, ◌^◌, ◌<◌, ◌≤◌, Bool, true, false, ◌&&◌, ◌||◌, eqb, List, [], ◌∷◌, ◌++◌, map, length, drop, sym, refl, ap, ◌∙◌, append-nil, mod-eq_of_lt, arith, drop_of_length-le}
 use native.Mathlib.Nat.{sub-zero}
 use mathlib.Core.Option.{some}
-use Rattle.definition.specs.Base.{if◌then◌else◌, ◌or◌, present, some?, same}
+use Rattle.definition.specs.Base.{◌or◌, present, some?, same}
 use Rattle.definition.specs.Bits.{Bits}
 use Rattle.definition.specs.Text.{Text}
 use Rattle.definition.specs.Tree.{Element}

@@ -1,9 +1,10 @@
 -- What is made of a tree's elements fits its fields, so it is read back as it was put. Assumes nothing.
+use Rattle.std.specs.Prelude.{if◌then◌else◌}
 use Rattle.std.proofs.Common.{◌≡◌, ℕ, ◌+◌, ◌^◌, ◌<◌, ◌≤◌, Bool, true, false, not, List, [], ◌∷◌, ◌++◌, map, length, refl, arith, length-append}
 use mathlib.Core.Option.{Option, some, none}
 use lib.ListN.{length-map}
 use Rattle.definition.specs.Ascii.{bytes}
-use Rattle.definition.specs.Base.{if◌then◌else◌, ◌>>=◌, keep, present, some?}
+use Rattle.definition.specs.Base.{◌>>=◌, keep, present, some?}
 use Rattle.definition.specs.Text.{Text}
 use Rattle.definition.specs.Tree.{Element}
 use Rattle.definition.specs.Field.{text_in}

@@ -1,9 +1,10 @@
 -- The work resources: how many there are, and one by one. Assumes nothing.
+use Rattle.std.specs.Prelude.{if◌then◌else◌}
 use Rattle.std.proofs.Common.{◌≡◌, ℕ, suc, ◌+◌, ◌%◌, ◌^◌, ◌<◌, ◌≤◌, min, Bool, true, false, not, ◌&&◌, leb, List, [], ◌∷◌, ◌++◌, map, length, ℤ, sym, refl, ap, ◌∙◌, subst, mod-eq_of_lt, zero-add, arith, length-append, le-leb, leb-false, leb-true}
 use mathlib.Core.Bool.{and-eq-true_iff}
 use mathlib.Core.Option.{Option, some, none}
 use borrow.Author.Tests.{lt-leb, not-true, not-false}
-use Rattle.definition.specs.Base.{if◌then◌else◌, ◌>>=◌, ◌or◌, keep}
+use Rattle.definition.specs.Base.{◌>>=◌, ◌or◌, keep}
 use Rattle.definition.specs.Ascii.{bytes}
 use Rattle.definition.specs.Text.{Text}
 use Rattle.definition.specs.Tree.{Element, child, all_in}

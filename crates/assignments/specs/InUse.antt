@@ -1,8 +1,8 @@
 -- The expenses that were written, by a table in lent words: the activity and the name of each, and the byte of its record. Assumes nothing: these are
 -- definitions.
-use Rattle.std.specs.Prelude.{◌≡◌, ℕ, ◌+◌, ◌*◌, ◌%◌, ◌^◌, ◌<◌, ◌≤◌, Bool, true, false, ◌&&◌, List, [], ◌∷◌, map, length, take, pos, ◌==◌, nat_lt, slice_index_or}
+use Rattle.std.specs.Prelude.{if◌then◌else◌, ◌≡◌, ℕ, ◌+◌, ◌*◌, ◌%◌, ◌^◌, ◌<◌, ◌≤◌, Bool, true, false, ◌&&◌, List, [], ◌∷◌, map, length, take, pos, ◌==◌, nat_lt, slice_index_or}
 use Rattle.std.proofs.Math.Option.{Option, some, none}
-use Rattle.definition.specs.Base.{if◌then◌else◌, given, find, present, some?, same}
+use Rattle.definition.specs.Base.{given, find, present, some?, same}
 use Rattle.definition.specs.Text.{Text}
 use Rattle.definition.specs.Format.{whole, put_all}
 use Rattle.definition.specs.Model.{Expense}

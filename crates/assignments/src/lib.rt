@@ -1,5 +1,7 @@
 // Resources, assignments and expenses, each section written one record after another. What is right is said in the crate definition,
 // specs/Resource.antt.
+#![tactic(auto)]
+
 mod assignment;
 mod expense;
 mod resource;

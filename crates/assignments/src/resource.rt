@@ -1,7 +1,7 @@
 // The work resources. What is right is said in the crate definition, specs/Resource.antt.
-ghost use Rattle.std.specs.Prelude.{◌≡◌, suc, min, ◌&&◌, [], ◌∷◌, length, nat_le};
+ghost use Rattle.std.specs.Prelude.{if◌then◌else◌, ◌≡◌, suc, min, ◌&&◌, [], ◌∷◌, length, nat_le};
 ghost use Rattle.definition.specs.Ascii.{bytes};
-ghost use Rattle.definition.specs.Base.{if◌then◌else◌, ◌>>=◌ as bind, ◌or◌, keep};
+ghost use Rattle.definition.specs.Base.{◌>>=◌ as bind, ◌or◌, keep};
 ghost use Rattle.definition.specs.Field.{text_in};
 ghost use Rattle.definition.specs.Format.{whole};
 ghost use Rattle.definition.specs.Pack.{resource};

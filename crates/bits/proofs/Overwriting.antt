@@ -1,4 +1,5 @@
 -- Bits laid over others in a row, and one turn of the loop that writes. Assumes nothing.
+use Rattle.std.specs.Prelude.{if◌then◌else◌}
 use mathlib.Core.Path.{◌≡◌, refl, sym, ap, ◌∙◌}
 use mathlib.Core.List.{List, [], ◌++◌, append_assoc}
 use mathlib.Core.Bool.{Bool, true, false}
@@ -13,7 +14,6 @@ use Rattle.bits.specs.Over.{over, over_mid, over_before, take_drop}
 use Rattle.bits.specs.Steps.{Laid, Pads, view, padded, laid_step, said, view_in, view_out, length_before}
 use Rattle.laws.specs.Buf.{◌▷◌, ▷-full}
 use Rattle.bits.specs.Places.{past, place_at_lem, at, place, room, inside, room_fits}
-use Rattle.definition.specs.Base.{if◌then◌else◌}
 use Rattle.definition.specs.Bits.{enc, bits_of, gap}
 use Rattle.laws.specs.Bits.{enc_zeros, bits_append, enc_split, enc_low, length_enc, length_bits, length_part, bits_at, enc_high}
 use Rattle.bits.proofs.Taking.{join_lt}

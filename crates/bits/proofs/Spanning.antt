@@ -1,4 +1,5 @@
 -- Where the bytes of a text stand. Assumes nothing.
+use Rattle.std.specs.Prelude.{if◌then◌else◌}
 use mathlib.Core.Path.{◌≡◌, refl, sym, ap, ◌∙◌}
 use mathlib.Core.List.{List, [], ◌∷◌}
 use mathlib.Core.Bool.{Bool, true, false, ◌&&◌}
@@ -11,7 +12,7 @@ use borrow.Author.Tests.{leb-true, leb-false, eq-eqb, lt-ltb, le-leb, lt-leb, le
 use Rattle.bits.specs.declared.Place.{Place}
 use Rattle.bits.specs.Reads.{rest, no_span, span_of, span_at, span_in, rest_in, rest_out, rest_past, length_rest, Reads, Refuses, chain, read_nothing, Spans}
 use Rattle.bits.specs.Places.{place_at_lem, at, place, inside, Fits, room_fits}
-use Rattle.definition.specs.Base.{if◌then◌else◌, ◌>>=◌, when}
+use Rattle.definition.specs.Base.{◌>>=◌, when}
 use Rattle.definition.specs.Bits.{enc, bits_of, Bits, bytes_up_to}
 use Rattle.laws.specs.Bits.{bits_drop, length_enc, dec_enc_lt}
 use mathlib.Core.Option.{Option, some, none}

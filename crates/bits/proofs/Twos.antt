@@ -1,4 +1,5 @@
 -- Signed numbers at the edge, at any width: what the machine's bits of a number and its reading of bits are. Assumes nothing.
+use Rattle.std.specs.Prelude.{if◌then◌else◌}
 use mathlib.Core.Path.{◌≡◌, refl}
 use mathlib.Core.Bool.{Bool, true, false}
 use Prim.Native.Nat.{ℕ, suc, ◌-◌, ◌*◌, ◌^◌, ◌<◌}
@@ -10,7 +11,6 @@ use mir.Syntax.{Width, w8, w16, w32, w64, w128}
 use mir.Val.{bits, hbits, Fits, SFits, of_z, to_z, sel}
 use mir.Facts.{to_z_pos, to_z-neg, to_z-of_z, sfits_to_z}
 use borrow.Author.Tests.{ltb-true}
-use Rattle.definition.specs.Base.{if◌then◌else◌}
 use Rattle.definition.specs.Bits.{twos, signed}
 
 half : (w : Width) → hbits w ≡ bits w - 1

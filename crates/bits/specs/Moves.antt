@@ -1,7 +1,6 @@
 -- Moving: runs of bits or bytes that change places, and bits that are written again. Assumes nothing.
-use Rattle.std.specs.Prelude.{◌≡◌, refl, Bool, true, false, ◌&&◌, List, ◌++◌, reverse, ℕ, ◌+◌, ◌-◌, ◌*◌, ◌≤◌, ◌<◌, length, take, drop}
+use Rattle.std.specs.Prelude.{if◌then◌else◌, ◌≡◌, refl, Bool, true, false, ◌&&◌, List, ◌++◌, reverse, ℕ, ◌+◌, ◌-◌, ◌*◌, ◌≤◌, ◌<◌, length, take, drop}
 use Rattle.std.proofs.Common.{sym, arith, take-take, length-take-le, drop-drop, take_at, drop_at}
-use Rattle.definition.specs.Base.{if◌then◌else◌}
 use Rattle.definition.specs.Bits.{Bits, bits_of}
 use Rattle.bits.specs.Places.{at, past, inside, up_to, room_fits, fits_room, up_before}
 use Rattle.laws.specs.Bits.{length_bits}

@@ -1,6 +1,6 @@
 -- Reading: the bits from a place on, what a field's reader answers, and how readers of parts make the reader of a whole, format by format.
 -- Assumes nothing.
-use Rattle.std.specs.Prelude.{◌≡◌, ◌&&◌, take, replicate, leb, ltb, eqb}
+use Rattle.std.specs.Prelude.{if◌then◌else◌, ◌≡◌, ◌&&◌, take, replicate, leb, ltb, eqb}
 use Rattle.std.proofs.Math.Path.{refl, sym, ap}
 use Rattle.std.proofs.Common.{◌∙◌, arith, zero-add, suc-add, zero-mul, length-drop, drop-drop, pow_pos}
 use Rattle.std.proofs.Math.Bool.{Bool, true, false}
@@ -11,7 +11,7 @@ use Rattle.std.proofs.Math.ListN.{length, drop}
 use Rattle.std.proofs.Math.Seq.{length-take-le}
 use Rattle.std.proofs.Math.Dec.{eqb-suc-zero}
 use borrow.Author.Tests.{le-leb, lt-leb, ne_eqb, ltb-false}
-use Rattle.definition.specs.Base.{if◌then◌else◌, ◌>>=◌, when, same, within}
+use Rattle.definition.specs.Base.{◌>>=◌, when, same, within}
 use Rattle.definition.specs.Bits.{Bits, dec, bits_of, signed}
 use Rattle.definition.specs.Date.{Date, from_days}
 use Rattle.definition.specs.Time.{most_time}

@@ -1,13 +1,12 @@
 -- Writing: a step goes from a buffer and a place to a buffer and a later place; steps compose, and what does not fit stays past the end.
 -- A step says what stands before the new place, and leaves what stood before the old one. Assumes nothing.
-use Rattle.std.specs.Prelude.{◌≡◌, Bool, List, [], ◌∷◌, ◌++◌, ℕ, ◌+◌, ◌*◌, ◌%◌, ◌≤◌, ◌<◌, take, ℤ}
+use Rattle.std.specs.Prelude.{if◌then◌else◌, ◌≡◌, Bool, List, [], ◌∷◌, ◌++◌, ℕ, ◌+◌, ◌*◌, ◌%◌, ◌≤◌, ◌<◌, take, ℤ}
 use Rattle.std.proofs.Math.Path.{refl}
 use Rattle.std.proofs.Common.{sym, ap, subst, ◌∙◌, append_assoc, append-nil, add_assoc, add-zero, arith, length-append, length-take-le, take-take}
 use Rattle.std.proofs.Math.Bool.{true, false}
 use Rattle.std.proofs.Math.Option.{Option, some, none}
 use Rattle.std.proofs.Math.ListN.{length}
 use borrow.Author.Tests.{le-leb, lt-leb}
-use Rattle.definition.specs.Base.{if◌then◌else◌}
 use Rattle.definition.specs.Bits.{Bits, enc, bits_of, pad, twos}
 use Rattle.definition.specs.Date.{Date, day_number}
 use Rattle.definition.specs.Format.{Format, field, via, whole, ◌⊗◌, depending, times, put_all, list_of, bit, count, flag, code, time, Period, period, number, date, text}

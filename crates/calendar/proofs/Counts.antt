@@ -1,9 +1,10 @@
 -- Exceptions that give no rule: one of them, and their number as 32 bits hold it. Assumes nothing.
-use Rattle.std.proofs.Common.{◌≡◌, ℕ, ◌+◌, ◌%◌, Bool, true, false, not, List, [], ◌∷◌, ◌++◌, length, sym, refl, ap, ◌∙◌, zero-add, arith}
+use Rattle.std.specs.Prelude.{if◌then◌else◌}
+use Rattle.std.proofs.Common.{◌≡◌, ℕ, ◌+◌, ◌%◌, not, List, [], ◌∷◌, ◌++◌, sym, refl, ap, ◌∙◌, zero-add, arith}
 use native.Mathlib.Nat.{zero-mod, mod-add-mod}
 use mathlib.Core.List.{flat_map}
 use mathlib.Core.Option.{Option, some, none}
-use Rattle.definition.specs.Base.{if◌then◌else◌, ◌>>=◌, given, keep}
+use Rattle.definition.specs.Base.{◌>>=◌, given, keep}
 use Rattle.definition.specs.Tree.{Element}
 use Rattle.definition.specs.Recurrence as D
 use Rattle.definition.specs.Recurrence.{recurrence_days, rule_of, days_of_rule}

@@ -1,7 +1,7 @@
 -- A missing text is read as the empty one is. Assumes nothing.
 use Rattle.std.proofs.Common.{◌≡◌, [], refl, ap, ◌∙◌}
-use mathlib.Core.Option.{Option, some, none}
-use Rattle.definition.specs.Base.{◌>>=◌, ◌or◌}
+use mathlib.Core.Option.{none}
+use Rattle.definition.specs.Base.{◌or◌}
 use Rattle.definition.specs.Text.{Text, trim, trim_front, trim_back, strip, before, after, sign_of, digits, unsigned_of}
 use Rattle.definition.specs.Time.{time_of, time_parts}
 use Rattle.definition.specs.Tree.{Element, text_of}

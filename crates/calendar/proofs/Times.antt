@@ -1,7 +1,8 @@
 -- Working times and places in the week, by the tests that the code makes. Assumes nothing.
+use Rattle.std.specs.Prelude.{if◌then◌else◌}
 use Rattle.std.proofs.Common.{◌≡◌, ℕ, ◌<◌, ◌≤◌, Bool, true, ◌&&◌, eqb, ltb, leb, sym, ap, ◌∙◌, le-ltb, lt-ltb, leb-true}
 use mathlib.Core.Option.{some, none}
-use Rattle.definition.specs.Base.{if◌then◌else◌, when}
+use Rattle.definition.specs.Base.{when}
 use Rattle.laws.specs.Bools.{and_right}
 use Rattle.calendar.specs.Hours.{time_by}
 

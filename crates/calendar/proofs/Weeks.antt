@@ -1,11 +1,9 @@
 -- The week as the WeekDays say, one after another. Assumes nothing.
-use Rattle.std.proofs.Common.{◌≡◌, ℕ, Bool, List, [], ◌∷◌, set, sym, refl, ap, ◌∙◌, arith}
+use Rattle.std.proofs.Common.{◌≡◌, Bool, List, [], ◌∷◌, sym, ap, ◌∙◌}
 use mathlib.Core.Option.{Option, some, none}
-use Rattle.definition.specs.Base.{◌>>=◌, ◌or◌}
 use Rattle.definition.specs.Ascii.{bytes}
 use Rattle.definition.specs.Tree.{Element, child, all, all_in}
-use Rattle.definition.specs.Field.{yes_in}
-use Rattle.definition.specs.Calendar.{place_of, week_days, week_by}
+use Rattle.definition.specs.Calendar.{week_days, week_by}
 use Rattle.calendar.specs.Week.{week_with}
 
 module _ (whole : List Bool) (e : Element) (l : List Element) (week after : List Bool) (h : whole ≡ week_by (e ∷ l) week) (f : after ≡ week_with e week) where

@@ -1,7 +1,7 @@
 -- What a working time means. Assumes nothing.
-use Rattle.std.specs.Prelude.{◌≡◌, ℕ, ◌==◌, nat_lt, refl}
+use Rattle.std.specs.Prelude.{if◌then◌else◌, ◌≡◌, ℕ, ◌==◌, nat_lt, refl}
 use Rattle.std.proofs.Math.Option.{Option, some, none}
-use Rattle.definition.specs.Base.{if◌then◌else◌, ◌>>=◌, when}
+use Rattle.definition.specs.Base.{◌>>=◌, when}
 use Rattle.definition.specs.Ascii.{bytes}
 use Rattle.definition.specs.Format.{Period}
 use Rattle.definition.specs.Time.{time_of}

@@ -1,7 +1,7 @@
 -- Exceptions that give no rule, counted. Assumes nothing.
-use Rattle.std.specs.Prelude.{ℕ, Bool, not, List, length}
+use Rattle.std.specs.Prelude.{if◌then◌else◌, ℕ, not, List, length}
 use mathlib.Core.List.{flat_map}
-use Rattle.definition.specs.Base.{if◌then◌else◌, given, keep}
+use Rattle.definition.specs.Base.{given, keep}
 use Rattle.definition.specs.Tree.{Element}
 use Rattle.definition.specs.Recurrence.{recurrence_days}
 use Rattle.definition.specs.Calendar.{recurring}

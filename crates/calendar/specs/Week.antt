@@ -1,5 +1,5 @@
 -- A week as a word of seven flags, Monday's the most significant. Assumes nothing.
-use Rattle.std.specs.Prelude.{◌≡◌, ℕ, ◌+◌, ◌*◌, ◌/◌, ◌%◌, ◌^◌, Bool, false, List, map, set, ℤ, nat_eq, slice_index_or, slice_set, refl}
+use Rattle.std.specs.Prelude.{◌≡◌, ℕ, ◌+◌, ◌*◌, ◌/◌, ◌%◌, ◌^◌, Bool, false, List, map, ℤ, nat_eq, slice_index_or, slice_set, refl}
 use Rattle.std.proofs.Math.Option.{Option, some, none}
 use Rattle.definition.specs.Base.{◌>>=◌, ◌or◌, when, within}
 use Rattle.definition.specs.Date.{from_days}

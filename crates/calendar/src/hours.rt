@@ -1,7 +1,6 @@
 // The hours of a WorkingTime. What is right is said in the crate definition, specs/Calendar.antt.
-ghost use Rattle.std.specs.Prelude.{◌≡◌, nat_eq};
+ghost use Rattle.std.specs.Prelude.{if◌then◌else◌, ◌≡◌, nat_eq};
 ghost use Rattle.std.proofs.Math.Option.{some, none};
-ghost use Rattle.definition.specs.Base.{if◌then◌else◌};
 ghost use Rattle.definition.specs.Calendar.{working_time};
 ghost use Rattle.number.specs.Time.{meaning as time_means};
 ghost use Rattle.tree.specs.Place.{element_at};

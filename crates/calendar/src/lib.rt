@@ -1,4 +1,6 @@
 // What the elements of a calendar say, each value by itself: a position in the lent tree in, a value out.
+#![tactic(auto)]
+
 mod base;
 mod exception;
 mod hours;

@@ -1,7 +1,8 @@
 -- The days of a rule, one after the other, and the rule of days in a row. Assumes nothing.
+use Rattle.std.specs.Prelude.{if◌then◌else◌}
 use Rattle.std.proofs.Common.{◌≡◌, ℕ, zero, suc, ◌+◌, ◌-◌, ◌/◌, ◌%◌, ◌<◌, ◌≤◌, min, max, Bool, true, false, ◌&&◌, eqb, ltb, leb, List, [], ◌∷◌, length, take, pos, sym, refl, ap, ◌∙◌, subst, arith, lt-ltb, leb-true}
 use mathlib.Core.Option.{Option, some, none}
-use Rattle.definition.specs.Base.{if◌then◌else◌, ◌>>=◌, ◌or◌, when, within, keep, count}
+use Rattle.definition.specs.Base.{◌>>=◌, ◌or◌, when, within, keep, count}
 use Rattle.definition.specs.Ascii.{bytes}
 use Rattle.definition.specs.Date.{Date, day_number, first_date, last_date}
 use Rattle.definition.specs.declared.Date.{Date as DateIs}

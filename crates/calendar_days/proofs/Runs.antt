@@ -1,6 +1,7 @@
 -- Runs of numbers, and what is kept and taken of them: they rise, and hold what each number of the run does. Assumes nothing.
+use Rattle.std.specs.Prelude.{if◌then◌else◌}
 use Rattle.std.proofs.Common.{◌≡◌, ℕ, zero, suc, ◌+◌, ◌<◌, ◌≤◌, Bool, true, false, ltb, List, [], ◌∷◌, length, take, refl, ap, suc-add, arith, lt-ltb}
-use Rattle.definition.specs.Base.{if◌then◌else◌, keep, count}
+use Rattle.definition.specs.Base.{keep, count}
 use Rattle.definition.specs.Format.{rises}
 use Rattle.laws.specs.Each.{Each, empty, next, each_take}
 use Rattle.calendar_days.proofs.New.{rises_tail, all_above}

@@ -1,7 +1,7 @@
 -- The exceptions of a calendar by its elements: WeekDays, of which those of DayType 0 are exceptions in the old form, or Exceptions. Assumes
 -- nothing: these are definitions.
-use Rattle.std.specs.Prelude.{◌≡◌, ◌<◌, Bool, true, false, not, List, [], ◌∷◌, drop, pos, ◌==◌}
-use Rattle.definition.specs.Base.{if◌then◌else◌, ◌or◌, given}
+use Rattle.std.specs.Prelude.{if◌then◌else◌, ◌≡◌, ◌<◌, Bool, true, false, not, List, [], ◌∷◌, drop, pos, ◌==◌}
+use Rattle.definition.specs.Base.{◌or◌, given}
 use Rattle.definition.specs.Ascii.{bytes}
 use Rattle.definition.specs.Text.{Text}
 use Rattle.definition.specs.Date.{Date}

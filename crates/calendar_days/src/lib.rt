@@ -1,4 +1,6 @@
 // The days of a calendar: its hours and its lists of days, kept rising while they are the last thing written, over those of its base.
+#![tactic(auto)]
+
 mod base;
 mod dates;
 mod days;

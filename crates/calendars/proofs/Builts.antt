@@ -1,10 +1,11 @@
 -- Calendars built one after another behind each other; the default one, the main one and the elapsed one. Assumes nothing.
+use Rattle.std.specs.Prelude.{if◌then◌else◌}
 use Rattle.std.proofs.Common.{◌≡◌, ℕ, suc, ◌+◌, ◌%◌, ◌^◌, ◌<◌, ◌≤◌, Bool, true, false, not, ◌&&◌, eqb, leb, List, [], ◌∷◌, ◌++◌, map, length, take, drop, sym, refl, ap, ◌∙◌, subst, true≢false, append_assoc, append-nil, arith, length-append, eqb-true, leb-true}
 use mathlib.Core.List.{map-append}
 use mathlib.Core.Option.{Option, some, none}
 use borrow.Author.Tests.{not-false}
 use lib.ListN.{get_elem?, length-map}
-use Rattle.definition.specs.Base.{if◌then◌else◌, ◌>>=◌, ◌or◌, ◌or_else◌, given, keep, first, same, some?}
+use Rattle.definition.specs.Base.{◌>>=◌, ◌or◌, ◌or_else◌, given, keep, first, same, some?}
 use Rattle.definition.specs.Bits.{pad}
 use Rattle.definition.specs.Text.{Text}
 use Rattle.definition.specs.Field.{text_in}

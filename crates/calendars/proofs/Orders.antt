@@ -1,10 +1,11 @@
 -- Calendars in the order in which they are built: what is built so far is the front of the whole, and a row in the order is a row of what is
 -- built. Assumes nothing.
+use Rattle.std.specs.Prelude.{if◌then◌else◌}
 use Rattle.std.proofs.Common.{◌≡◌, ℕ, zero, suc, ◌+◌, ◌<◌, ◌≤◌, Bool, true, false, not, List, [], ◌∷◌, ◌++◌, map, length, sym, refl, ap, ◌∙◌, true≢false, append_assoc, append-nil, zero-add, arith, length-append}
 use mathlib.Core.List.{map-append}
 use mathlib.Core.Option.{Option, some, none}
 use lib.ListN.{get_elem?, length-map}
-use Rattle.definition.specs.Base.{if◌then◌else◌, ◌>>=◌, ◌or◌, ◌or_else◌, when, given, keep, find, first, numbered, same}
+use Rattle.definition.specs.Base.{◌>>=◌, ◌or◌, ◌or_else◌, when, given, keep, find, first, numbered, same}
 use Rattle.definition.specs.Ascii.{bytes}
 use Rattle.definition.specs.Text.{Text}
 use Rattle.definition.specs.Field.{text_in}

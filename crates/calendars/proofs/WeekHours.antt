@@ -1,9 +1,10 @@
 -- The week and the hours of a calendar over its base's; the record from its parts. Assumes nothing.
+use Rattle.std.specs.Prelude.{if◌then◌else◌}
 use Rattle.std.proofs.Common.{◌≡◌, ℕ, suc, ◌+◌, ◌-◌, ◌<◌, ◌≤◌, Bool, true, false, eqb, List, [], ◌∷◌, ◌++◌, map, length, get_or, take, drop, set, sym, refl, ap, ◌∙◌, arith, length-set, get_or-drop, take_all, get_or-set_other, take-suc, get_or-set_same, take_at, eqb-true}
 use mathlib.Core.Option.{Option, some, none}
 use borrow.Author.Tests.{eqb-false}
 use lib.ListN.{length-map, get_or-replicate}
-use Rattle.definition.specs.Base.{if◌then◌else◌, ◌>>=◌, ◌or◌, ◌or_else◌, when, find_last}
+use Rattle.definition.specs.Base.{◌>>=◌, ◌or◌, ◌or_else◌, when, find_last}
 use Rattle.definition.specs.Bits.{Bits, enc, dec}
 use Rattle.definition.specs.Ascii.{bytes}
 use Rattle.definition.specs.Text.{Text}

@@ -1,8 +1,8 @@
 -- Calendars built one after another behind each other in a buffer; the main one turned to the front. Assumes nothing.
-use Rattle.std.specs.Prelude.{◌≡◌, ℕ, suc, ◌%◌, ◌≤◌, true, List, [], ◌∷◌, ◌++◌, length, take, drop}
+use Rattle.std.specs.Prelude.{if◌then◌else◌, ◌≡◌, ℕ, suc, ◌%◌, ◌≤◌, true, List, [], ◌∷◌, ◌++◌, length, take, drop}
 use Rattle.std.proofs.Math.Option.{some}
 use Rattle.std.proofs.Math.ListN.{get_elem?}
-use Rattle.definition.specs.Base.{if◌then◌else◌, ◌>>=◌, ◌or◌, some?}
+use Rattle.definition.specs.Base.{◌>>=◌, ◌or◌, some?}
 use Rattle.definition.specs.Text.{Text}
 use Rattle.definition.specs.Tree.{Element}
 use Rattle.definition.specs.Format.{times, whole}

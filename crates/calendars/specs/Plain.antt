@@ -1,6 +1,5 @@
 -- Calendars of seven flags and the same hours on each weekday. Assumes nothing.
-use Rattle.std.specs.Prelude.{Bool, List, [], ◌∷◌}
-use Rattle.definition.specs.Base.{if◌then◌else◌}
+use Rattle.std.specs.Prelude.{if◌then◌else◌, Bool, List, [], ◌∷◌}
 use Rattle.definition.specs.Format.{Period}
 
 -- the whole day, or no hours

@@ -1,7 +1,7 @@
 -- One calendar over its base, part by part. Assumes nothing.
-use Rattle.std.specs.Prelude.{◌≡◌, ℕ, ◌<◌, ◌≤◌, Bool, true, false, List, [], length, get_or, ◌==◌, slice_index_or}
+use Rattle.std.specs.Prelude.{if◌then◌else◌, ◌≡◌, ℕ, ◌<◌, ◌≤◌, Bool, true, false, List, [], length, get_or, ◌==◌, slice_index_or}
 use Rattle.std.proofs.Math.Option.{Option, some, none}
-use Rattle.definition.specs.Base.{if◌then◌else◌, ◌>>=◌, ◌or◌}
+use Rattle.definition.specs.Base.{◌>>=◌, ◌or◌}
 use Rattle.definition.specs.Tree.{Element}
 use Rattle.definition.specs.Field.{yes_in}
 use Rattle.definition.specs.Format.{Period, periods, times, whole}

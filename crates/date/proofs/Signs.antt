@@ -1,4 +1,5 @@
 -- Numbers with a sign, as the machine holds them and as they are counted from a first one. Assumes nothing.
+use Rattle.std.specs.Prelude.{if◌then◌else◌}
 use Prim.Native.Nat.{ℕ, zero, suc, ◌+◌, ◌-◌, ◌^◌, ◌≤◌, ◌<◌}
 use native.Mathlib.Omega.{arith}
 use native.Mathlib.Nat.{add_comm}
@@ -12,7 +13,7 @@ use mir.Syntax.{w32, w64}
 use mir.Val.{to_z, of_z, SFits}
 use mir.ValLaws.{to_z-of_z, to_z_pos}
 use borrow.Author.Tests.{le-leb, lt-leb, leb-true, leb-false, lt-ltb, le-ltb, ltb-true, ltb-false}
-use Rattle.definition.specs.Base.{if◌then◌else◌, ◌or◌, when, within}
+use Rattle.definition.specs.Base.{◌or◌, when, within}
 use Rattle.definition.specs.Date.{from_days, year_at, epoch, first_date, last_date}
 use Rattle.date.specs.Answer.{raised_of, placed, upward, days_between}
 

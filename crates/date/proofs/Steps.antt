@@ -1,4 +1,5 @@
 -- The code's whole-number steps give the calendar's dates. Assumes nothing.
+use Rattle.std.specs.Prelude.{if◌then◌else◌}
 use Prim.Native.Nat.{ℕ, zero, suc, ◌+◌, ◌-◌, ◌*◌, ◌/◌, ◌%◌, ◌≤◌, ◌<◌}
 use native.Mathlib.Omega.{arith}
 use native.Mathlib.Decide.{dec_lt}
@@ -8,7 +9,6 @@ use mathlib.Core.Bool.{Bool, true, false, ◌&&◌, ◌||◌}
 use mathlib.Core.Logic.{◌⊎◌, inl, inr, ⊎_elim}
 use lib.Dec.{leb, eqb}
 use borrow.Author.Tests.{ne_eqb, leb-true}
-use Rattle.definition.specs.Base.{if◌then◌else◌}
 use Rattle.definition.specs.Date.{leap, year_length, month_length, months_length, new_year, date_at, year_of}
 use Rattle.definition.specs.Format.{bit}
 use Rattle.laws.specs.Calendar.{leap_day, year_length_lem, new_year_next, new_year_lem, months_early, months_late, months_next, IsDay, Falls, falls, MarchDay, in_year}

@@ -1,7 +1,7 @@
 -- What the answers of this crate mean. Assumes nothing.
-use Rattle.std.specs.Prelude.{ℕ, suc, ◌+◌, ◌-◌, ◌^◌, Bool, ◌&&◌, ltb, ℤ, pos, negsuc, ◌-ℤ◌}
+use Rattle.std.specs.Prelude.{if◌then◌else◌, ℕ, suc, ◌+◌, ◌-◌, ◌^◌, Bool, ◌&&◌, ltb, ℤ, pos, negsuc, ◌-ℤ◌}
 use Rattle.std.proofs.Math.Option.{Option, some, none}
-use Rattle.definition.specs.Base.{if◌then◌else◌, ◌>>=◌, when, within}
+use Rattle.definition.specs.Base.{◌>>=◌, when, within}
 use Rattle.definition.specs.Date.{Date, month_length, year_of, month_of, day_of, weekday, from_days, year_at, ymd_of, from_ymd, dash}
 use Rattle.definition.specs.Text.{Text, before, after, unsigned_of}
 use Rattle.definition.specs.declared.Ymd.{Ymd}

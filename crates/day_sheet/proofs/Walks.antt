@@ -1,4 +1,5 @@
 -- Walks over a calendar's lists: what is known at a turn, after it, and at each way out. Assumes nothing.
+use Rattle.std.specs.Prelude.{if◌then◌else◌}
 use mathlib.Core.Path.{◌≡◌, refl, sym, ap, ◌∙◌}
 use mathlib.Core.Bool.{Bool, true, false, ◌||◌}
 use mathlib.Core.List.{List, [], ◌∷◌}
@@ -13,7 +14,7 @@ use mir.Val.{to_z, of_z, SFits}
 use mir.ValLaws.{to_z-of_z}
 use lib.ListN.{length, drop, drop_of_length-le}
 use Rattle.laws.specs.Fields.{day_days}
-use Rattle.definition.specs.Base.{given, some?, keep, first, find, if◌then◌else◌}
+use Rattle.definition.specs.Base.{given, some?, keep, first, find}
 use Rattle.definition.specs.Answer.{day_number_of}
 use Rattle.definition.specs.Date.{Date, epoch, day_number, from_days}
 use Rattle.definition.specs.Format.{Format, ◌⊗◌, date, dates, Period, period, periods, earlier}

@@ -1,6 +1,5 @@
 -- Bits. Document 01: bits are packed most significant bit first. They are a list of 0 and 1 here. Assumes nothing.
-use Rattle.std.specs.Prelude.{ℕ, zero, suc, ◌+◌, ◌-◌, ◌*◌, ◌/◌, ◌%◌, ◌^◌, List, [], ◌∷◌, ◌++◌, length, take, drop, replicate, ltb, ℤ, pos, negsuc}
-use Rattle.definition.specs.Base.{if◌then◌else◌}
+use Rattle.std.specs.Prelude.{if◌then◌else◌, ℕ, zero, suc, ◌+◌, ◌-◌, ◌*◌, ◌/◌, ◌%◌, ◌^◌, List, [], ◌∷◌, ◌++◌, length, take, drop, replicate, ltb, ℤ, pos, negsuc}
 
 abbrev pub Bits : Type 0
 Bits = List ℕ

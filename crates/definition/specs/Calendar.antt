@@ -3,10 +3,10 @@
 -- CalendarUID, else the first, else the default. Weekdays apply before exceptions, so an exception asks the final week. A day off on a
 -- working weekday is a holiday; a day worked without hours on another weekday is an extra day; a day worked with hours has those, and the
 -- last one given counts. ToTime `00:00` means 1440. Assumes nothing.
-use Rattle.std.specs.Prelude.{ℕ, zero, suc, ◌+◌, ◌%◌, Bool, true, false, ◌&&◌, not, length, get_or, set, replicate, ltb, eqb}
+use Rattle.std.specs.Prelude.{if◌then◌else◌, ℕ, zero, suc, ◌+◌, ◌%◌, Bool, true, false, ◌&&◌, not, length, get_or, set, replicate, ltb, eqb}
 use mathlib.Core.List.{List, [], ◌∷◌, ◌++◌, map, flat_map}
 use Rattle.std.proofs.Math.Option.{Option, some}
-use Rattle.definition.specs.Base.{if◌then◌else◌, ◌>>=◌, ◌or◌, ◌or_else◌, when, given, within, keep, first, find, present, some?, same}
+use Rattle.definition.specs.Base.{◌>>=◌, ◌or◌, ◌or_else◌, when, given, within, keep, first, find, present, some?, same}
 use Rattle.definition.specs.Ascii.{bytes}
 use Rattle.definition.specs.Text.{Text, unsigned_of}
 use Rattle.definition.specs.Date.{Date, weekday}

@@ -4,9 +4,9 @@
 --
 -- Here a date is counted in days from 1 January of the year -10000, and a year in years from that one. No date lies that early, so nothing
 -- is negative; and 10000 is a multiple of 400, so the leap rule stays as it is. `day_number` gives document 01's number. Assumes nothing.
-use Rattle.std.specs.Prelude.{ℕ, zero, suc, ◌+◌, ◌-◌, ◌*◌, ◌/◌, ◌%◌, Bool, ◌&&◌, ◌||◌, not, take, get_or, leb, ltb, eqb, ℤ, pos, negsuc, ◌-ℤ◌}
+use Rattle.std.specs.Prelude.{if◌then◌else◌, ℕ, zero, suc, ◌+◌, ◌-◌, ◌*◌, ◌/◌, ◌%◌, Bool, ◌&&◌, ◌||◌, not, take, get_or, leb, ltb, eqb, ℤ, pos, negsuc, ◌-ℤ◌}
 use Rattle.std.proofs.Math.Option.{Option, none}
-use Rattle.definition.specs.Base.{if◌then◌else◌, ◌>>=◌, when, within}
+use Rattle.definition.specs.Base.{◌>>=◌, when, within}
 use Rattle.definition.specs.Text.{Text, trim, before, after, signed_of, unsigned_of}
 use Rattle.definition.specs.declared.Ymd.{Ymd}
 

@@ -3,10 +3,10 @@
 -- above 1e9 is none, else rounded, halves away from zero. A repeated unit overwrites. `P` and `PT` are 0; `P1Y`, `PT5`, a piece below 0 are
 -- none. Pieces go left to right; an ill-formed one ends the reading with none, and a piece too long is refused. Document 02, E2: the reading answers
 -- two things, the minutes, and whether that f64 sum was a whole number before it was rounded. Assumes nothing.
-use Rattle.std.specs.Prelude.{ℕ, zero, suc, ◌+◌, ◌/◌, ◌%◌, Bool, ◌||◌, [], ◌∷◌, ◌++◌, ltb, eqb, Float}
+use Rattle.std.specs.Prelude.{if◌then◌else◌, ℕ, zero, suc, ◌+◌, ◌/◌, ◌%◌, Bool, ◌||◌, [], ◌∷◌, ◌++◌, ltb, eqb, Float}
 use Rattle.std.specs.Float.{binary64}
 use Rattle.std.specs.Float.Ieee.{add, mul, div, le}
-use Rattle.definition.specs.Base.{if◌then◌else◌, ◌or◌, same}
+use Rattle.definition.specs.Base.{◌or◌, same}
 use Rattle.definition.specs.Ascii.{bytes}
 use Rattle.definition.specs.Text.{Text, trim, before, after}
 use Rattle.definition.specs.Number.{Reading, absent, long, value, number_of, half_away, is_whole, float, zero_float}

@@ -3,9 +3,9 @@
 -- begins at a whole byte. A format says both how a value is written and what is read back: `get` refuses what is cut, a set pad bit, an
 -- unknown code, a time over 1440, a date outside the years, a list that does not rise, a period not from below to, bad UTF-8.
 -- Assumes nothing.
-use Rattle.std.specs.Prelude.{ℕ, zero, suc, ◌+◌, ◌*◌, ◌%◌, Bool, true, false, ◌&&◌, ◌||◌, List, [], ◌∷◌, ◌++◌, length, take, drop, replicate, leb, ltb, eqb, ℤ}
+use Rattle.std.specs.Prelude.{if◌then◌else◌, ℕ, zero, suc, ◌+◌, ◌*◌, ◌%◌, Bool, true, false, ◌&&◌, ◌||◌, List, [], ◌∷◌, ◌++◌, length, take, drop, replicate, leb, ltb, eqb, ℤ}
 use Rattle.std.proofs.Math.Option.{Option, some, none}
-use Rattle.definition.specs.Base.{if◌then◌else◌, ◌>>=◌, when, given, same, within}
+use Rattle.definition.specs.Base.{◌>>=◌, when, given, same, within}
 use Rattle.definition.specs.Bits.{Bits, enc, dec, bits_of, bytes_up_to, pad, twos, signed}
 use Rattle.definition.specs.Text.{Text, is_utf8}
 use Rattle.definition.specs.Date.{Date, day_number, from_days}

@@ -2,10 +2,10 @@
 -- and the Rust: it is across projects with a yes in CrossProject, else dangling if its PredecessorUID is absent or no kept task's UID, else kept, from
 -- the row of the last kept task with that UID to the row of the task it stands in. Lags are cut toward zero to whole minutes before they are
 -- tested for whole days: a lag of -15 tenths is -1 minute, so lag 0 and minutes -1. The day is always MinutesPerDay. Assumes nothing.
-use Rattle.std.specs.Prelude.{ℕ, suc, ◌/◌, ◌%◌, ◌*◌, min, Bool, true, false, not, eqb, ℤ, pos, negsuc, neg_ℤ, nat_abs}
+use Rattle.std.specs.Prelude.{if◌then◌else◌, ℕ, suc, ◌/◌, ◌%◌, ◌*◌, min, Bool, true, false, not, eqb, ℤ, pos, negsuc, neg_ℤ, nat_abs}
 use mathlib.Core.List.{List, [], ◌∷◌, flat_map, map}
 use Rattle.std.proofs.Math.Option.{Option, some, none}
-use Rattle.definition.specs.Base.{if◌then◌else◌, ◌>>=◌, ◌or◌, when, numbered, some?}
+use Rattle.definition.specs.Base.{◌>>=◌, ◌or◌, when, numbered, some?}
 use Rattle.definition.specs.Ascii.{bytes}
 use Rattle.definition.specs.Tree.{Element, all}
 use Rattle.definition.specs.Field.{text_in, yes_in, int_in}

@@ -3,11 +3,11 @@
 -- has at most 15 digits after leading zeros are dropped and its power of ten, fraction digits taken off, lies in -22 to 22, or if all
 -- digits are 0. Its value is the f64 nearest to the decimal, ties to even, as IEEE 754 has it. Amounts are rounded to whole numbers, a half
 -- away from zero; and which f64 are whole. Assumes nothing.
-use Rattle.std.specs.Prelude.{ℕ, ◌+◌, ◌*◌, ◌/◌, ◌%◌, ◌^◌, Bool, true, false, ◌&&◌, ◌||◌, [], ◌++◌, length, drop, leb, ltb, eqb, ℤ, pos, neg_ℤ, Float}
+use Rattle.std.specs.Prelude.{if◌then◌else◌, ℕ, ◌+◌, ◌*◌, ◌/◌, ◌%◌, ◌^◌, Bool, true, false, ◌&&◌, ◌||◌, [], ◌++◌, length, drop, leb, ltb, eqb, ℤ, pos, neg_ℤ, Float}
 use Rattle.std.proofs.Math.Option.{Option, some, none}
 use Rattle.std.specs.Float.{nan, inf, fin, binary64}
 use Rattle.std.specs.Float.Ieee.{up, down, round, neg, le, mul}
-use Rattle.definition.specs.Base.{if◌then◌else◌, ◌>>=◌, ◌or◌}
+use Rattle.definition.specs.Base.{◌>>=◌, ◌or◌}
 use Rattle.definition.specs.Text.{Text, Sign, plus, minus, bare, sign_of, before, after, digits}
 
 -- what reading a text gives: nothing, a refusal since a number in it is too long, or a value

@@ -2,8 +2,8 @@
 -- order in which they were built, then the elapsed one where a kept task is elapsed; activities, links, resources, assignments,
 -- expenses; the project's own fields, with the counts of skipped exceptions and of links dangling and across. Document 02, E2: a fourth count, of
 -- the kept tasks whose Duration, used or not, gives minutes and was not whole. Assumes nothing.
-use Rattle.std.specs.Prelude.{not, List, [], ◌∷◌, ◌++◌, map, length}
-use Rattle.definition.specs.Base.{if◌then◌else◌, ◌or◌, ◌or_else◌, keep, some?, same}
+use Rattle.std.specs.Prelude.{if◌then◌else◌, not, List, [], ◌∷◌, ◌++◌, map, length}
+use Rattle.definition.specs.Base.{◌or◌, ◌or_else◌, keep, some?, same}
 use Rattle.definition.specs.Date.{epoch}
 use Rattle.definition.specs.Tree.{Element}
 use Rattle.definition.specs.Field.{text_in, date_in}

@@ -4,10 +4,10 @@
 -- passes 9999. So many: 5,000, or Occurrences (default 1) held to 0 to 5,000. Period is held to 1 to 1,000. Any other Type, a bad `from` or,
 -- in 2 and 3, a bad Month gives no rule. A WeekDay of DayType 0 is an exception whose range ends at most 3,660 days after its first day; a
 -- reversed range is its first day alone. Assumes nothing.
-use Rattle.std.specs.Prelude.{ℕ, suc, ◌+◌, ◌-◌, ◌*◌, ◌/◌, ◌%◌, ◌^◌, min, Bool, true, false, ◌&&◌, ◌||◌, not, List, [], take, leb, ltb, eqb, ℤ, pos, negsuc}
+use Rattle.std.specs.Prelude.{if◌then◌else◌, ℕ, suc, ◌+◌, ◌-◌, ◌*◌, ◌/◌, ◌%◌, ◌^◌, min, Bool, true, false, ◌&&◌, ◌||◌, not, List, [], take, leb, ltb, eqb, ℤ, pos, negsuc}
 use Rattle.std.proofs.Math.Option.{Option, some, none}
 use Rattle.std.proofs.Math.ListN.{get_elem?}
-use Rattle.definition.specs.Base.{if◌then◌else◌, ◌>>=◌, ◌or◌, when, given, within, keep, find_last, count}
+use Rattle.definition.specs.Base.{◌>>=◌, ◌or◌, when, given, within, keep, find_last, count}
 use Rattle.definition.specs.Ascii.{bytes}
 use Rattle.definition.specs.Bits.{twos}
 use Rattle.definition.specs.Date.{Date, year_of, month_of, day_of, date_at, month_length, sunday_first, in_years, last_date}

@@ -3,11 +3,11 @@
 -- 1 tree breaks the layout; 2 name or text not UTF-8; 3 over 5,000,000 elements; 4 root not `Project`, or none; 5 number too long; 6 model
 -- does not decode; 7 the check's list is broken; 8 value asked outside its range; 9 result longer than its buffer, or rows or
 -- work slice below what the outline needs. Assumes nothing.
-use Rattle.std.specs.Prelude.{ℕ, ◌-◌, ◌*◌, ◌/◌, Bool, true, false, ◌&&◌, ◌||◌, not, length, replicate, leb, ltb, ℤ, pos, negsuc}
+use Rattle.std.specs.Prelude.{if◌then◌else◌, ℕ, ◌-◌, ◌*◌, ◌/◌, Bool, true, false, ◌&&◌, ◌||◌, not, length, replicate, leb, ltb, ℤ, pos, negsuc}
 use mathlib.Core.List.{List, [], ◌∷◌, ◌++◌, flat_map}
 use Rattle.std.proofs.Math.Option.{Option, some, none}
 use Rattle.std.proofs.Math.ListN.{get_elem?}
-use Rattle.definition.specs.Base.{if◌then◌else◌, some?, every?, same}
+use Rattle.definition.specs.Base.{some?, every?, same}
 use Rattle.definition.specs.Ascii.{bytes}
 use Rattle.definition.specs.Text.{Text, is_utf8, trim}
 use Rattle.definition.specs.Number.{Reading, absent, long, value, number_of}

@@ -4,11 +4,11 @@
 -- resource wins; work is in hundredths of an hour, minutes × 100 / 60 in whole numbers; money in hundredths, rounded half away from zero; a
 -- remaining that equals planned less actual, at least 0, is dropped, as is a rate of 100; of two expenses with equal activity and name the
 -- first is kept. Assumes nothing.
-use Rattle.std.specs.Prelude.{ℕ, ◌*◌, ◌/◌, ◌^◌, Bool, false, ◌&&◌, not, List, [], ◌∷◌, ◌++◌, map, eqb, ℤ, pos, negsuc, ◌-ℤ◌, Float}
+use Rattle.std.specs.Prelude.{if◌then◌else◌, ℕ, ◌*◌, ◌/◌, ◌^◌, Bool, false, ◌&&◌, not, List, [], ◌∷◌, ◌++◌, map, eqb, ℤ, pos, negsuc, ◌-ℤ◌, Float}
 use Rattle.std.proofs.Math.Option.{Option, some, none}
 use Prim.Native.String.{String}
 use Rattle.std.specs.Float.Ieee.{lt, neg}
-use Rattle.definition.specs.Base.{if◌then◌else◌, ◌>>=◌, ◌or◌, ◌or_else◌, when, given, keep, find_last, present, some?, same}
+use Rattle.definition.specs.Base.{◌>>=◌, ◌or◌, ◌or_else◌, when, given, keep, find_last, present, some?, same}
 use Rattle.definition.specs.Ascii.{bytes}
 use Rattle.definition.specs.Text.{Text}
 use Rattle.definition.specs.Number.{hundredths, between, float, zero_float}

@@ -3,11 +3,11 @@
 -- until no earlier activity has it. Its parent is the nearest earlier one of a lower level. MSPDI: DurationFormat 4, 6, 8, 10, 12 (and 20)
 -- are elapsed time, where a day has 1440 minutes and not MinutesPerDay; 32 more means estimated. Document 02, E2: which tasks have a duration that was
 -- not whole minutes. Assumes nothing.
-use Rattle.std.specs.Prelude.{ℕ, ◌+◌, ◌-◌, ◌/◌, ◌%◌, Bool, ◌&&◌, ◌||◌, not, List, [], ◌∷◌, ◌++◌, map, length, take, leb, ltb, eqb, ℤ, pos, negsuc, Float}
+use Rattle.std.specs.Prelude.{if◌then◌else◌, ℕ, ◌+◌, ◌-◌, ◌/◌, ◌%◌, Bool, ◌&&◌, ◌||◌, not, List, [], ◌∷◌, ◌++◌, map, length, take, leb, ltb, eqb, ℤ, pos, negsuc, Float}
 use Rattle.std.proofs.Math.Option.{Option, some, none}
 use Prim.Native.String.{String}
 use Rattle.std.specs.Float.Ieee.{le, lt}
-use Rattle.definition.specs.Base.{if◌then◌else◌, ◌>>=◌, ◌or◌, ◌or_else◌, when, given, within, keep, find_last, numbered, same}
+use Rattle.definition.specs.Base.{◌>>=◌, ◌or◌, ◌or_else◌, when, given, within, keep, find_last, numbered, same}
 use Rattle.definition.specs.Ascii.{bytes}
 use Rattle.definition.specs.Text.{Text}
 use Rattle.definition.specs.Date.{Date}

@@ -1,9 +1,9 @@
 -- Texts, as bytes. The Unicode Standard, table 3-7: which byte sequences are well-formed UTF-8. Its property White_Space: what `trim` takes
 -- away at both ends. Whole numbers as Rust's `parse` reads them: a sign or none (`-` for signed types only), digits, one at least, and
 -- nothing else; out of the type's range is absent. Document 02, E1: a yes is the text `1` or `true`, as xsd:boolean writes it. Assumes nothing.
-use Rattle.std.specs.Prelude.{ℕ, zero, suc, ◌+◌, ◌-◌, ◌*◌, ◌^◌, Bool, true, false, ◌&&◌, ◌||◌, List, [], ◌∷◌, reverse, length, drop, get_or, leb, ltb, eqb, ℤ, pos, neg_ℤ}
+use Rattle.std.specs.Prelude.{if◌then◌else◌, ℕ, zero, suc, ◌+◌, ◌-◌, ◌*◌, ◌^◌, Bool, true, false, ◌&&◌, ◌||◌, List, [], ◌∷◌, reverse, length, drop, get_or, leb, ltb, eqb, ℤ, pos, neg_ℤ}
 use Rattle.std.proofs.Math.Option.{Option, some, none}
-use Rattle.definition.specs.Base.{if◌then◌else◌, ◌>>=◌, when, within, same}
+use Rattle.definition.specs.Base.{◌>>=◌, when, within, same}
 use Rattle.definition.specs.Ascii.{bytes}
 
 abbrev pub Text : Type 0

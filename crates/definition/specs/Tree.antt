@@ -2,9 +2,9 @@
 -- text 16 bits, then name bytes, then text bytes. The first depth is 1; a depth is 1 to 65 and at most one more than the one before; depth
 -- 65 has no text. `child`, `all` and `text_of` look only at direct children. `text_of` takes the first child of that name, trims, and empty
 -- counts as absent. From the second depth-1 record on, records are not read. Assumes nothing.
-use Rattle.std.specs.Prelude.{ℕ, zero, suc, ◌+◌, ◌/◌, Bool, true, ◌&&◌, ◌||◌, List, [], ◌∷◌, ◌++◌, length, take, drop, leb, ltb, eqb}
+use Rattle.std.specs.Prelude.{if◌then◌else◌, ℕ, zero, suc, ◌+◌, ◌/◌, Bool, true, ◌&&◌, ◌||◌, List, [], ◌∷◌, ◌++◌, length, take, drop, leb, ltb, eqb}
 use Rattle.std.proofs.Math.Option.{Option, some, none}
-use Rattle.definition.specs.Base.{if◌then◌else◌, ◌>>=◌, when, first, keep, same, within}
+use Rattle.definition.specs.Base.{◌>>=◌, when, first, keep, same, within}
 use Rattle.definition.specs.Bits.{enc, dec, bits_of, bytes_of}
 use Rattle.definition.specs.Text.{Text, trim}
 

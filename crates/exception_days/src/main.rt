@@ -1,5 +1,7 @@
 // What a rule means: a packed tree whose root is an Exception on standard input, its days on standard output, an ISO date and its weekday
 // a line, or the line `skipped`. On a tree that breaks the layout, is not UTF-8, has another root or more than 65,536 bytes: nothing.
+#![tactic(auto)]
+
 ghost use Rattle.std.specs.Prelude.{◌≡◌, nat_abs};
 ghost use Rattle.exception_days.specs.Line.{digit_of, iso_of};
 

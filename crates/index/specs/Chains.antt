@@ -1,7 +1,6 @@
 -- The words of a table, and what each call makes of them. Words past the end read as 0 and store nothing. Assumes nothing.
-use Rattle.std.specs.Prelude.{ℕ, zero, suc, ◌+◌, ◌-◌, ◌*◌, ◌%◌, ◌&&◌, List, [], ◌∷◌, get_or, set, ltb, leb}
+use Rattle.std.specs.Prelude.{if◌then◌else◌, ℕ, zero, suc, ◌+◌, ◌-◌, ◌*◌, ◌%◌, ◌&&◌, List, [], ◌∷◌, get_or, set, ltb, leb}
 use Rattle.std.proofs.Math.Option.{Option, some, none}
-use Rattle.definition.specs.Base.{if◌then◌else◌}
 use Rattle.index.specs.declared.Table.{Table}
 use Rattle.index.specs.declared.Row.{Row}
 use Rattle.index.specs.declared.Row.TheVariants.{At, None}

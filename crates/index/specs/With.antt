@@ -1,8 +1,7 @@
 -- One row more: a value for it beside those of the rows before, and what holds of all. Assumes nothing.
-use Rattle.std.specs.Prelude.{◌≡◌, refl, ℕ, suc, ◌<◌, eqb}
+use Rattle.std.specs.Prelude.{if◌then◌else◌, ◌≡◌, refl, ℕ, suc, ◌<◌, eqb}
 use Rattle.std.proofs.Common.{subst, arith, eq-eqb, ne_eqb}
 use Rattle.std.proofs.Math.Decide.{dec_lt}
-use Rattle.definition.specs.Base.{if◌then◌else◌}
 
 abbrev pub with : {A : Type 0} → (ℕ → A) → ℕ → A → ℕ → A
 with f n a r = if eqb r n then a else f r

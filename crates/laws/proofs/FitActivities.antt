@@ -1,7 +1,7 @@
 -- The lag and the link that are read from an element fit. Assumes nothing.
-use Rattle.std.specs.Prelude.{Bool, true, false, ℕ, ◌^◌, ◌<◌, ℤ}
+use Rattle.std.specs.Prelude.{if◌then◌else◌, Bool, true, false, ℕ, ◌^◌, ◌<◌, ℤ}
 use Rattle.std.proofs.Math.IntN.{pos}
-use Rattle.definition.specs.Base.{if◌then◌else◌, ◌or◌}
+use Rattle.definition.specs.Base.{◌or◌}
 use Rattle.definition.specs.Tree.{Element}
 use Rattle.definition.specs.Field.{int_in}
 use Rattle.definition.specs.Task.{Context, format_of, percent_format, elapsed_format}

@@ -1,9 +1,8 @@
 -- The texts of a tree that is made of bytes are short. Assumes nothing.
-use Rattle.std.specs.Prelude.{◌≡◌, refl, Bool, ℕ, zero, suc, ◌+◌, ◌^◌, ◌≤◌, ◌<◌, ltb, length, take, drop}
+use Rattle.std.specs.Prelude.{if◌then◌else◌, ◌≡◌, refl, Bool, ℕ, zero, suc, ◌+◌, ◌^◌, ◌≤◌, ◌<◌, ltb, length, take, drop}
 use Rattle.std.proofs.Math.Bool.{true, false}
 use Rattle.std.proofs.Math.Option.{Option, none}
 use Rattle.std.proofs.Common.{arith, ltb-false, length-take, length-drop}
-use Rattle.definition.specs.Base.{if◌then◌else◌}
 use Rattle.definition.specs.Bits.{Bits, dec, bits_of}
 use Rattle.definition.specs.Text.{Text}
 use Rattle.definition.specs.Tree.{Rec, depth_width, name_width, head_bytes, body_of, record_of, and_then, records_up_to, records, element}

@@ -1,8 +1,7 @@
 -- A buffer that is written from the front: numbers (bits or bytes) are added while they fit, and once too many came it stays full. Assumes nothing.
-use Rattle.std.specs.Prelude.{◌≡◌, refl, Bool, true, false, List, ◌++◌, ℕ, ◌+◌, ◌≤◌, ◌<◌, leb, length}
+use Rattle.std.specs.Prelude.{if◌then◌else◌, ◌≡◌, refl, Bool, true, false, List, ◌++◌, ℕ, ◌+◌, ◌≤◌, ◌<◌, leb, length}
 use Rattle.std.proofs.Common.{append_assoc, add_assoc, arith, le-leb, leb-false, length-append}
 use Rattle.std.proofs.lemmas.Bool.{lt-leb}
-use Rattle.definition.specs.Base.{if◌then◌else◌}
 
 -- what was written so far, of at most so many numbers; or too many came
 pub data Buf : Type 0 where

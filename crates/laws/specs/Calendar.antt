@@ -1,9 +1,8 @@
 -- The laws of the calendar. Assumes nothing.
-use Rattle.std.specs.Prelude.{ℕ, zero, suc, ◌+◌, ◌-◌, ◌*◌, ◌/◌, ◌%◌, ◌≤◌, ◌<◌, ◌≡◌, refl, Bool, true, false, ◌&&◌, ◌||◌, not, leb, ltb, eqb}
+use Rattle.std.specs.Prelude.{if◌then◌else◌, ℕ, zero, suc, ◌+◌, ◌-◌, ◌*◌, ◌/◌, ◌%◌, ◌≤◌, ◌<◌, ◌≡◌, refl, Bool, true, false, ◌&&◌, ◌||◌, not, leb, ltb, eqb}
 use Rattle.std.proofs.Common.{arith, add-one, sym, ap, ◌∙◌, eqb→eq, eqb-true, ne_eqb, lt-ltb, le-ltb}
 use Rattle.std.proofs.Math.Decide.{dec_lt}
 use Rattle.std.proofs.lemmas.Bool.{eqb-false}
-use Rattle.definition.specs.Base.{if◌then◌else◌}
 use Rattle.definition.specs.Date.{leap, year_length, month_length, years_length, months_length, cycle, new_year, date_at, year_within, month_within, year_of, month_of, day_of, first_date, last_date}
 use Rattle.definition.specs.Format.{bit}
 use Rattle.laws.specs.Rows.{last, last_within, last_reached, last_passed, rising, last_found, at}

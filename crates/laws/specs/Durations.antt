@@ -1,11 +1,11 @@
 -- The figures of a duration text are not below 0, so their total is not, and its minutes are at most 10 ^ 9. Assumes nothing.
-use Rattle.std.specs.Prelude.{◌≡◌, refl, Bool, true, false, ◌&&◌, [], ◌∷◌, ◌++◌, ℕ, ◌≤◌, T, eqb, pos, Float}
+use Rattle.std.specs.Prelude.{if◌then◌else◌, ◌≡◌, refl, Bool, true, false, ◌&&◌, [], ◌∷◌, ◌++◌, ℕ, ◌≤◌, T, eqb, pos, Float}
 use Rattle.std.proofs.Common.{sym, ap, ◌∙◌, subst}
 use Prim.Native.String.{String}
 use Rattle.std.specs.Float.{fin, binary64}
 use Rattle.std.specs.Float.Ieee.{add, mul, div, le, lt, eq}
 use Rattle.std.specs.Float.Ieee.Fits.{and_i, and_l, and_r}
-use Rattle.definition.specs.Base.{if◌then◌else◌, ◌or◌, same}
+use Rattle.definition.specs.Base.{◌or◌, same}
 use Rattle.definition.specs.Text.{Text, before, after, trim}
 use Rattle.definition.specs.Number.{Reading, absent, long, value, float, zero_float, number_of, found}
 use Rattle.definition.specs.Duration.{is_unit, is_d, is_t, set_unit, not_below_zero, piece_of, ◌then◌, time_figures, days_of, day_figures, figures_of, total_of, most_minutes, Duration, duration_at, duration_from, duration_of}

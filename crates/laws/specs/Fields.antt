@@ -1,5 +1,5 @@
 -- Document 01's fields keep the promises of Formats: flags, codes, times, periods, signed numbers, dates, and what may be missing. Assumes nothing.
-use Rattle.std.specs.Prelude.{◌≡◌, Bool, leb, eqb, ℤ}
+use Rattle.std.specs.Prelude.{if◌then◌else◌, ◌≡◌, Bool, leb, eqb, ℤ}
 use Rattle.std.proofs.Math.Path.{refl}
 use Rattle.std.proofs.Common.{ap, ◌∙◌, subst}
 use Rattle.std.proofs.Math.Bool.{true, false}
@@ -9,7 +9,7 @@ use native.Mathlib.Omega.{arith}
 use borrow.Author.Tests.{leb-true, ltb-true, ltb-false, le-leb, lt-ltb, le-ltb}
 use Rattle.std.proofs.Math.Dec.{ltb}
 use Rattle.std.proofs.Math.IntN.{pos, negsuc}
-use Rattle.definition.specs.Base.{if◌then◌else◌, when, given, within}
+use Rattle.definition.specs.Base.{when, given, within}
 use Rattle.definition.specs.Bits.{twos, signed}
 use Rattle.definition.specs.Date.{Date, epoch, first_date, last_date, day_number, from_days}
 use Rattle.definition.specs.Time.{most_time}

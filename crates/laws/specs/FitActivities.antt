@@ -1,10 +1,10 @@
 -- The activities and the links that the definition makes of a tree fit, by what a text is. Assumes nothing.
-use Rattle.std.specs.Prelude.{◌≡◌, refl, Bool, true, false, not, List, [], ℕ, ◌%◌, ◌^◌, ◌≤◌, ◌<◌, ltb, eqb, ℤ, negsuc, nat_abs, length}
+use Rattle.std.specs.Prelude.{if◌then◌else◌, ◌≡◌, refl, Bool, true, false, not, List, [], ℕ, ◌%◌, ◌^◌, ◌≤◌, ◌<◌, ltb, eqb, ℤ, negsuc, nat_abs, length}
 use Rattle.std.proofs.Common.{sym, ap, arith}
 use Rattle.std.proofs.Math.Option.{Option, some, none}
 use Prim.Native.String.{String}
 use Rattle.std.proofs.Math.IntN.{pos}
-use Rattle.definition.specs.Base.{if◌then◌else◌, ◌>>=◌, ◌or◌, when, within, every?, same}
+use Rattle.definition.specs.Base.{◌>>=◌, ◌or◌, when, within, every?, same}
 use Rattle.definition.specs.Ascii.{bytes}
 use Rattle.definition.specs.Text.{Text}
 use Rattle.definition.specs.Date.{Date}

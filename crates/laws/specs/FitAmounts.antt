@@ -1,11 +1,10 @@
 -- Amounts fit a number of 64 bits: hundredths that are kept, and minutes. Assumes nothing.
-use Rattle.std.specs.Prelude.{◌≡◌, refl, Bool, true, false, ◌&&◌, not, ℕ, zero, suc, ◌+◌, ◌*◌, ◌/◌, ◌%◌, ◌^◌, ◌≤◌, ◌<◌, min, T, eqb, ℤ, pos, negsuc, neg_ℤ, nat_abs, Float}
+use Rattle.std.specs.Prelude.{if◌then◌else◌, ◌≡◌, refl, Bool, true, false, ◌&&◌, not, ℕ, zero, suc, ◌+◌, ◌*◌, ◌/◌, ◌%◌, ◌^◌, ◌≤◌, ◌<◌, min, T, eqb, ℤ, pos, negsuc, neg_ℤ, nat_abs, Float}
 use Rattle.std.proofs.Common.{sym, subst, div-le_self, arith}
 use Prim.Native.String.{String}
 use Rattle.std.specs.Float.{nan, inf, fin, binary64}
 use Rattle.std.specs.Float.Ieee.{mul, neg, le, lt}
 use Rattle.std.specs.Float.Ieee.Fits.{and_l, and_r}
-use Rattle.definition.specs.Base.{if◌then◌else◌}
 use Rattle.definition.specs.Number.{half_away, nearest_whole, float, zero_float, between, hundredths}
 use Rattle.definition.specs.Duration.{most_minutes}
 use Rattle.definition.specs.Tree.{Element}

@@ -1,9 +1,9 @@
 -- What is read from the texts of an element fits: dates lie in the years, times in a day, periods rise, and the days of exceptions lie in the years.
 -- Assumes nothing.
-use Rattle.std.specs.Prelude.{◌≡◌, refl, Bool, true, false, ◌&&◌, List, [], ◌∷◌, map, ℕ, suc, ◌+◌, ◌-◌, ◌*◌, ◌≤◌, min, leb, ltb, eqb, ℤ, pos, negsuc}
+use Rattle.std.specs.Prelude.{if◌then◌else◌, ◌≡◌, refl, Bool, true, false, ◌&&◌, List, [], ◌∷◌, map, ℕ, suc, ◌+◌, ◌-◌, ◌*◌, ◌≤◌, min, leb, ltb, eqb, ℤ, pos, negsuc}
 use Rattle.std.proofs.Common.{sym, ap, ◌∙◌, subst, arith, add-one, leb-true, ltb-true}
 use Prim.Native.String.{String}
-use Rattle.definition.specs.Base.{if◌then◌else◌, ◌>>=◌, ◌or◌, within}
+use Rattle.definition.specs.Base.{◌>>=◌, ◌or◌, within}
 use Rattle.definition.specs.Ascii.{bytes}
 use Rattle.definition.specs.Text.{Text, trim, before, after, signed_of, unsigned_of}
 use Rattle.definition.specs.Date.{Date, month_length, year_length, new_year, date_at, first_date, last_date, in_years, year_at, from_ymd, dash, first_ten, date_parts, date_of}

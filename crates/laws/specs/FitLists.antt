@@ -1,6 +1,6 @@
 -- What holds of each item of a list, and of a value that may be missing, holds of what is made of them. Lists kept rising: they stay so, and are
 -- no longer than there are numbers to rise by. Assumes nothing.
-use Rattle.std.specs.Prelude.{◌≡◌, Bool, ◌&&◌, ◌||◌, ℕ, zero, suc, ◌+◌, ◌*◌, ◌^◌, ◌≤◌, ◌<◌, leb, eqb, length, set}
+use Rattle.std.specs.Prelude.{if◌then◌else◌, ◌≡◌, Bool, ◌&&◌, ◌||◌, ℕ, zero, suc, ◌+◌, ◌*◌, ◌^◌, ◌≤◌, ◌<◌, leb, eqb, length, set}
 use Rattle.std.proofs.Math.Path.{refl}
 use Rattle.std.proofs.Common.{sym, ◌∙◌, subst, arith}
 use Rattle.std.proofs.Math.Bool.{true, false}
@@ -8,7 +8,7 @@ use mathlib.Core.List.{List, [], ◌∷◌, map, flat_map}
 use Rattle.std.proofs.Math.Option.{Option, some, none}
 use borrow.Author.Tests.{leb-true, ltb-true, ltb-false, lt-ltb, le-ltb, eqb-true, eqb-false}
 use Rattle.std.proofs.Math.Dec.{ltb}
-use Rattle.definition.specs.Base.{if◌then◌else◌, ◌>>=◌, ◌or◌, ◌or_else◌, when, keep, first, find_last, present, count, numbered}
+use Rattle.definition.specs.Base.{◌>>=◌, ◌or◌, ◌or_else◌, when, keep, first, find_last, present, count, numbered}
 use Rattle.definition.specs.Date.{Date, last_date}
 use Rattle.definition.specs.Format.{Period, rises, earlier}
 use Rattle.definition.specs.Calendar.{insert, insert_all, by_date}

@@ -1,9 +1,9 @@
 -- What fits the fields of a record, by what a text is: UTF-8, or any bytes. The formats of the records keep the promises of Formats for what
 -- fits. Assumes nothing.
-use Rattle.std.specs.Prelude.{◌≡◌, refl, Bool, true, false, not, List, [], ◌∷◌, ◌++◌, ℕ, ◌+◌, ◌*◌, ◌^◌, ◌<◌, ltb, eqb, ℤ, length, drop}
+use Rattle.std.specs.Prelude.{if◌then◌else◌, ◌≡◌, refl, Bool, true, false, not, List, [], ◌∷◌, ◌++◌, ℕ, ◌+◌, ◌*◌, ◌^◌, ◌<◌, ltb, eqb, ℤ, length, drop}
 use Rattle.std.proofs.Common.{sym, ap, ◌∙◌, arith, ltb-false, le-ltb, length-append, drop_at}
 use Rattle.std.proofs.Math.Option.{Option, some, none}
-use Rattle.definition.specs.Base.{if◌then◌else◌, ◌>>=◌}
+use Rattle.definition.specs.Base.{◌>>=◌}
 use Rattle.definition.specs.Bits.{Bits, bits_of, bytes_up_to}
 use Rattle.definition.specs.Text.{Text}
 use Rattle.definition.specs.Date.{Date}

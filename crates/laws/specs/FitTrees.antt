@@ -1,13 +1,13 @@
 -- The texts of a tree are short: a head has 16 bits for the length of a text, and 9 for that of a name. How many elements there are at most.
 -- Assumes nothing.
-use Rattle.std.specs.Prelude.{Bool, not, ℕ, zero, suc, ◌+◌, ◌≤◌, ◌<◌, leb, ltb, eqb, length, take, drop, get_or, replicate}
+use Rattle.std.specs.Prelude.{if◌then◌else◌, Bool, not, ℕ, zero, suc, ◌+◌, ◌≤◌, ◌<◌, leb, ltb, eqb, length, take, drop, get_or, replicate}
 use Rattle.std.proofs.Math.Bool.{true, false}
 use mathlib.Core.List.{List, [], ◌∷◌, ◌++◌, reverse, reverse_aux}
 use Rattle.std.proofs.Math.Option.{Option}
 use Prim.Native.String.{String}
 use Rattle.std.proofs.Common.{arith, length-append, length-take, length-drop}
 use Rattle.std.proofs.lemmas.List.{length-replicate, length-reverse}
-use Rattle.definition.specs.Base.{if◌then◌else◌, keep, same}
+use Rattle.definition.specs.Base.{keep, same}
 use Rattle.definition.specs.Ascii.{bytes}
 use Rattle.definition.specs.Text.{Text, strip, front_width, back_width, trim_front, trim_back, trim}
 use Rattle.definition.specs.Tree.{Rec, body_of, Forest, nothing, one, Element, elements, level, element, all, child, non_empty, text_of, all_in}

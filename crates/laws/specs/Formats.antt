@@ -1,11 +1,11 @@
 -- Each way to make a format keeps two promises: what is put is got back, and what is got is what was put, bit for bit. Assumes nothing.
-use Rattle.std.specs.Prelude.{◌≡◌, refl, Bool, true, false, List, [], ◌∷◌, ◌++◌, ℕ, zero, suc, ◌+◌, ◌*◌, ◌%◌, ◌^◌, ◌≤◌, ◌<◌, leb, ltb, eqb, length, take, drop, replicate}
+use Rattle.std.specs.Prelude.{if◌then◌else◌, ◌≡◌, refl, Bool, true, false, List, [], ◌∷◌, ◌++◌, ℕ, zero, suc, ◌+◌, ◌*◌, ◌%◌, ◌^◌, ◌≤◌, ◌<◌, leb, ltb, eqb, length, take, drop, replicate}
 use Rattle.std.proofs.Common.{sym, ap, ◌∙◌, subst, true≢false, append_assoc, add-zero, add_assoc, arith, leb-true, ltb-true, ltb-false, le-leb, le-ltb, ne_eqb, length-append, take-append-drop, take_at, drop_at}
 use Rattle.std.proofs.Math.Bool.{and-false, and-eq-true_iff}
 use Rattle.std.proofs.Math.Option.{Option, some, none, some-injective}
 use Rattle.std.proofs.lemmas.Bool.{lt-leb}
 use Rattle.std.proofs.lemmas.List.{length-replicate}
-use Rattle.definition.specs.Base.{if◌then◌else◌, ◌>>=◌, when, given, same, within}
+use Rattle.definition.specs.Base.{◌>>=◌, when, given, same, within}
 use Rattle.definition.specs.Bits.{Bits, enc, dec, bits_of, bytes_up_to, gap, pad}
 use Rattle.definition.specs.Text.{Text, tail_byte, following, utf8_after, is_utf8}
 use Rattle.definition.specs.Format.{Format, field, ◌⊗◌, via, put_given, get_given, depending, put_all, get_all, times, get_pad, whole, count, count_width, text, rises, list_of}

@@ -1,7 +1,7 @@
 -- What is kept of a list, from its first item on, and how many are. Assumes nothing.
-use Rattle.std.specs.Prelude.{ℕ, ◌+◌, ◌≡◌, Bool, true, false, List, ◌∷◌, length}
+use Rattle.std.specs.Prelude.{if◌then◌else◌, ℕ, ◌+◌, ◌≡◌, Bool, true, false, List, ◌∷◌, length}
 use Rattle.std.proofs.Common.{arith}
-use Rattle.definition.specs.Base.{if◌then◌else◌, keep}
+use Rattle.definition.specs.Base.{keep}
 
 pub keep_yes : {A : Type 0} (p : A → Bool) (x : A) (l : List A) → p x ≡ true → keep p (x ∷ l) ≡ x ∷ keep p l
 unfolding keep

@@ -1,6 +1,6 @@
 -- The rows of an outline, for any parents: no row stands twice and each is one of the activities', so there are at most as many as activities.
 -- Assumes nothing.
-use Rattle.std.specs.Prelude.{◌≡◌, Bool, ◌&&◌, not, length, get_or}
+use Rattle.std.specs.Prelude.{if◌then◌else◌, ◌≡◌, Bool, ◌&&◌, not, length, get_or}
 use Rattle.std.proofs.Math.Path.{refl, sym, ap}
 use Rattle.std.proofs.Common.{◌∙◌, ltb-true, ltb-false, eqb-true, eq-eqb, ne_eqb}
 use Rattle.std.proofs.Math.Bool.{true, false}
@@ -11,7 +11,7 @@ use native.Mathlib.Omega.{arith}
 use Rattle.std.proofs.lemmas.Bool.{eqb-false}
 use Rattle.std.proofs.Math.Dec.{ltb, eqb}
 use Rattle.std.proofs.Math.ListN.{get_or-eq_default}
-use Rattle.definition.specs.Base.{if◌then◌else◌, keep, count}
+use Rattle.definition.specs.Base.{keep, count}
 use Rattle.definition.specs.Format.{bit}
 use Rattle.definition.specs.Outline.{parent_in, is_top, is_under, parent_at, top_rows, child_rows, under, outline_of}
 use Rattle.laws.specs.Options.{never}

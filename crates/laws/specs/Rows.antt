@@ -2,12 +2,11 @@
 use Prim.Native.Nat.{ℕ, zero, suc, ◌≤◌, ◌<◌}
 use Rattle.std.proofs.Math.Decide.{dec_lt}
 use native.Mathlib.Omega.{arith}
-use Rattle.std.specs.Prelude.{◌≡◌, Bool, ◌&&◌, T, leb}
+use Rattle.std.specs.Prelude.{if◌then◌else◌, ◌≡◌, Bool, ◌&&◌, T, leb}
 use Rattle.std.proofs.Math.Path.{refl}
 use Rattle.std.proofs.Math.Bool.{true, false}
 use Rattle.std.proofs.Common.{leb-true, leb-false}
 use Rattle.std.proofs.Math.Facts.{and_yes}
-use Rattle.definition.specs.Base.{if◌then◌else◌}
 
 -- of the first k numbers of a row, the last that is at most n; 0 where there is none
 unfoldable pub last : (ℕ → ℕ) → ℕ → ℕ → ℕ

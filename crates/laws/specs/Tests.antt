@@ -1,11 +1,11 @@
 -- Tests of lists: some item passes, each does, no two are the same. Assumes nothing.
-use Rattle.std.specs.Prelude.{◌≡◌, Bool, ◌&&◌, ◌||◌, not}
+use Rattle.std.specs.Prelude.{if◌then◌else◌, ◌≡◌, Bool, ◌&&◌, ◌||◌, not}
 use Rattle.std.proofs.Math.Path.{refl, ap}
 use Rattle.std.proofs.Common.{sym, ◌∙◌, true≢false}
 use Rattle.std.proofs.Math.Bool.{true, false, or-true}
 use mathlib.Core.List.{List, [], ◌∷◌, ◌++◌, map}
 use Rattle.std.proofs.lemmas.Bool.{not-true}
-use Rattle.definition.specs.Base.{if◌then◌else◌, keep, some?, every?}
+use Rattle.definition.specs.Base.{keep, some?, every?}
 use Rattle.definition.specs.Check.{distinct}
 use Rattle.laws.specs.Bools.{both}
 use Rattle.laws.specs.Each.{Each, empty, next, each_less}

@@ -1,7 +1,8 @@
 -- Link elements counted: how many dangle and go across, as 32 bits hold it. Assumes nothing.
+use Rattle.std.specs.Prelude.{if◌then◌else◌}
 use Rattle.std.proofs.Common.{◌≡◌, ℕ, suc, ◌+◌, ◌%◌, ◌^◌, ◌<◌, Bool, true, false, List, [], ◌∷◌, ◌++◌, map, length, sym, refl, ap, ◌∙◌, zero-add, arith}
 use mathlib.Core.List.{flat_map}
-use Rattle.definition.specs.Base.{if◌then◌else◌, keep, numbered}
+use Rattle.definition.specs.Base.{keep, numbered}
 use Rattle.definition.specs.Ascii.{bytes}
 use Rattle.definition.specs.Tree.{Element, all}
 use Rattle.definition.specs.Task.{Context, context_of, kept_tasks}

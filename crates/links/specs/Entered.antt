@@ -1,13 +1,13 @@
 -- A kept link enters a task where the task has a link element that is kept; by the rows of the kept tasks these are the definition's links. Assumes
 -- nothing.
-use Rattle.std.specs.Prelude.{◌≡◌, ℕ, suc, ◌+◌, ◌<◌, Bool, true, false, ◌||◌, List, [], ◌∷◌, ◌++◌, map, length, ◌==◌, ◌≢◌}
+use Rattle.std.specs.Prelude.{if◌then◌else◌, ◌≡◌, ℕ, suc, ◌+◌, ◌<◌, Bool, true, false, ◌||◌, List, [], ◌∷◌, ◌++◌, map, length, ◌==◌, ◌≢◌}
 use native.Mathlib.Omega.{arith}
 use Rattle.std.proofs.Math.Path.{refl, sym, ap}
 use Rattle.std.proofs.Common.{◌∙◌, eq-eqb, ne_eqb}
 use Rattle.std.proofs.Math.Bool.{or-false}
 use mathlib.Core.List.{flat_map}
 use Rattle.std.proofs.Math.Option.{Option, some, none}
-use Rattle.definition.specs.Base.{if◌then◌else◌, ◌>>=◌, numbered, some?}
+use Rattle.definition.specs.Base.{◌>>=◌, numbered, some?}
 use Rattle.definition.specs.Ascii.{bytes}
 use Rattle.definition.specs.Field.{text_in, yes_in}
 use Rattle.definition.specs.Model.{Link}

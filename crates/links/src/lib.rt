@@ -1,5 +1,7 @@
 // Links: what becomes of each link element of the kept tasks, and the kept ones written. What is right is said in the crate definition,
 // specs/Link.antt.
+#![tactic(auto)]
+
 mod counting; // how many dangle and go across
 mod fate; // what becomes of one
 mod writing; // the kept ones

@@ -1,4 +1,5 @@
 -- Laws for the fields: one for each way out of a function. Assumes nothing.
+use Rattle.std.specs.Prelude.{if◌then◌else◌}
 use mathlib.Core.Path.{◌≡◌, refl, sym, ap, ◌∙◌}
 use mathlib.Core.Bool.{Bool, true, false, ◌&&◌, not, and-false, false≢true}
 use mathlib.Core.List.{List}
@@ -12,7 +13,7 @@ use lib.IntN.{ℤ, pos, negsuc}
 use lib.Signed.{le_z}
 use borrow.Author.Tests.{lt-ltb, le-ltb, ltb-true, ltb-false, le-leb, lt-leb, leb-true, leb-false, eq-eqb, ne_eqb}
 use Rattle.definition.specs.Pack.{lag_kind}
-use Rattle.definition.specs.Base.{◌>>=◌, ◌or◌, given, when, if◌then◌else◌}
+use Rattle.definition.specs.Base.{◌>>=◌, ◌or◌, given, when}
 use Rattle.definition.specs.Bits.{Bits, bits_of, bytes_up_to, signed}
 use Rattle.definition.specs.Answer.{day_number_of}
 use Rattle.definition.specs.Date.{Date, epoch, first_date, last_date, in_years, from_days}

@@ -2,13 +2,13 @@
 -- every end. A format whose values leave the tail of the bits behind them is read by what is answered. Assumes nothing.
 use Rattle.std.proofs.Math.Path.{◌≡◌, refl, sym, ap}
 use Rattle.std.proofs.Common.{◌∙◌, arith, drop_of_length-le, leb-true, leb-false}
-use Rattle.std.specs.Prelude.{Bool, List, ℕ, ◌+◌, ◌-◌, ◌*◌, length, take, ℤ, leb, ltb}
+use Rattle.std.specs.Prelude.{if◌then◌else◌, Bool, List, ℕ, ◌+◌, ◌-◌, ◌*◌, length, take, ℤ, leb, ltb}
 use Rattle.std.proofs.Math.Bool.{true, false}
 use Rattle.std.proofs.Math.Option.{Option, some, none}
 use Rattle.std.proofs.Math.ListN.{drop}
 use Rattle.std.proofs.Math.Seq.{drop-drop}
 use Rattle.laws.specs.Options.{never}
-use Rattle.definition.specs.Base.{◌>>=◌, ◌or◌, when, if◌then◌else◌}
+use Rattle.definition.specs.Base.{◌>>=◌, ◌or◌, when}
 use Rattle.definition.specs.Bits.{Bits, bits_of, dec}
 use Rattle.definition.specs.Answer.{day_number_of}
 use Rattle.definition.specs.Format.{Format, field, via, ◌⊗◌, depending, get_given, optional, flag, row, time, Period, period, date}

@@ -1,11 +1,11 @@
 -- The decoding pass: the counts and the places between the sections tell whether the bytes decode, and to what. Assumes nothing.
-use Rattle.std.specs.Prelude.{◌≡◌, refl, Bool, true, false, ◌&&◌, List, [], ◌∷◌, ℕ, ◌-◌, ◌*◌, ◌%◌, length, drop, eqb}
+use Rattle.std.specs.Prelude.{if◌then◌else◌, ◌≡◌, refl, Bool, true, false, ◌&&◌, List, [], ◌∷◌, ℕ, ◌-◌, ◌*◌, ◌%◌, length, drop, eqb}
 use Rattle.std.proofs.Common.{sym, ap, ◌∙◌, arith, eqb-true, eq-eqb}
 use Rattle.std.proofs.lemmas.Bool.{false≢true}
 use Rattle.std.proofs.Math.Option.{Option, some, none}
 use Rattle.laws.specs.Bools.{both}
 use Rattle.laws.specs.Options.{bind_assoc, never}
-use Rattle.definition.specs.Base.{if◌then◌else◌, ◌>>=◌}
+use Rattle.definition.specs.Base.{◌>>=◌}
 use Rattle.definition.specs.Bits.{Bits, bits_of}
 use Rattle.definition.specs.Format.{Format, whole, times}
 use Rattle.definition.specs.Model.{Model}

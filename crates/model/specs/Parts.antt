@@ -1,8 +1,8 @@
 -- The records' formats by their parts, as the functions go over them: with texts that are tested for UTF-8, or with any bytes for texts, since a
 -- model that was decoded needs no test again. Assumes nothing.
-use Rattle.std.specs.Prelude.{◌≡◌, Bool, true, false, List, ◌++◌, ℕ, ◌*◌, ltb, ℤ, length, drop}
+use Rattle.std.specs.Prelude.{if◌then◌else◌, ◌≡◌, Bool, true, false, List, ◌++◌, ℕ, ◌*◌, ltb, ℤ, length, drop}
 use Rattle.std.proofs.Math.Option.{Option, some, none}
-use Rattle.definition.specs.Base.{◌>>=◌, if◌then◌else◌, when}
+use Rattle.definition.specs.Base.{◌>>=◌, when}
 use Rattle.definition.specs.Bits.{Bits, bits_of, bytes_up_to}
 use Rattle.definition.specs.Text.{Text, is_utf8}
 use Rattle.definition.specs.Date.{Date}

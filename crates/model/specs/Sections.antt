@@ -1,9 +1,9 @@
 -- What the decoding pass answers: whether the bytes are a model, and where its sections stand. Assumes nothing.
-use Rattle.std.specs.Prelude.{◌≡◌, true, ◌&&◌, List, ℕ, ◌+◌, ◌-◌, ◌*◌, ◌%◌, ◌≤◌, ◌<◌, length, drop, eqb, ltb}
+use Rattle.std.specs.Prelude.{if◌then◌else◌, ◌≡◌, true, ◌&&◌, List, ℕ, ◌+◌, ◌-◌, ◌*◌, ◌%◌, ◌≤◌, ◌<◌, length, drop, eqb, ltb}
 use Rattle.std.proofs.Common.{◌∙◌, arith}
 use Rattle.std.proofs.Math.Option.{some, none}
 use Rattle.std.proofs.Math.Nat.{sub-zero}
-use Rattle.definition.specs.Base.{if◌then◌else◌, given}
+use Rattle.definition.specs.Base.{given}
 use Rattle.definition.specs.Bits.{Bits, bits_of}
 use Rattle.definition.specs.Format.{Format, whole, times}
 use Rattle.definition.specs.Model.{Model}

@@ -1,5 +1,6 @@
 -- A scan of records that ends at the first that stops it. Each loop of the crate is one: where it stands, what is left gives the same answer as
 -- the whole. Assumes nothing.
+use Rattle.std.specs.Prelude.{if◌then◌else◌}
 use mathlib.Core.Path.{◌≡◌, refl, sym, ap, ◌∙◌}
 use mathlib.Core.Bool.{Bool, true, false, ◌&&◌, ◌||◌, not}
 use mathlib.Core.List.{List, [], ◌∷◌}
@@ -10,7 +11,7 @@ use native.Mathlib.Numerals.{add-one}
 use native.Mathlib.Omega.{arith}
 use lib.ListN.{length, drop, drop_of_length-le}
 use lib.Seq.{drop-drop}
-use Rattle.definition.specs.Base.{if◌then◌else◌, ◌>>=◌, some?, every?, numbered}
+use Rattle.definition.specs.Base.{◌>>=◌, some?, every?, numbered}
 use Rattle.definition.specs.Bits.{Bits}
 use Rattle.definition.specs.Check.{distinct}
 use Rattle.definition.specs.Format.{Format, whole, times, get_all}

@@ -1,4 +1,5 @@
 -- Keys in tables: how a table is filled, and what its chains tell. Assumes nothing.
+use Rattle.std.specs.Prelude.{if◌then◌else◌}
 use mathlib.Core.Path.{◌≡◌, refl, sym, ap, subst, ◌∙◌}
 use mathlib.Core.Bool.{Bool, true, false}
 use mathlib.Core.List.{List, [], ◌∷◌, map}
@@ -10,7 +11,7 @@ use borrow.Author.Tests.{eqb-true, eqb-false, eq-eqb, ne_eqb}
 use lib.Dec.{eqb}
 use lib.ListN.{length, get_or, take, drop, length-map}
 use lib.Seq.{take-length}
-use Rattle.definition.specs.Base.{if◌then◌else◌, given, find, some?}
+use Rattle.definition.specs.Base.{given, find, some?}
 use Rattle.definition.specs.Format.{whole}
 use Rattle.index.specs.declared.Table.{Table}
 use Rattle.index.specs.declared.Row.{Row}

@@ -1,4 +1,5 @@
 -- The activities, tested and put into a table while the model is decoded. Assumes nothing.
+use Rattle.std.specs.Prelude.{if◌then◌else◌}
 use mathlib.Core.Path.{◌≡◌, refl, sym, ap, subst, ◌∙◌}
 use mathlib.Core.Bool.{Bool, true, false, ◌&&◌}
 use mathlib.Core.List.{List, [], map}
@@ -7,7 +8,7 @@ use Prim.Native.Nat.{ℕ, ◌+◌, ◌%◌, ◌≤◌, ◌<◌, min}
 use native.Mathlib.Numerals.{add-one}
 use native.Mathlib.Omega.{arith}
 use lib.ListN.{length, take, drop, drop_of_length-le}
-use Rattle.definition.specs.Base.{if◌then◌else◌, every?, numbered}
+use Rattle.definition.specs.Base.{every?, numbered}
 use Rattle.definition.specs.Text.{Text, is_utf8}
 use Rattle.definition.specs.Format.{Format, ◌⊗◌, whole, row, text, optional}
 use Rattle.definition.specs.Model.{Calendar, Activity, Model}

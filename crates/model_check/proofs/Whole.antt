@@ -1,9 +1,10 @@
 -- The check's list from the answers to its lines, and the number from both passes. Assumes nothing.
+use Rattle.std.specs.Prelude.{if◌then◌else◌}
 use mathlib.Core.Path.{◌≡◌, refl, sym, ap}
 use mathlib.Core.Bool.{Bool, ◌&&◌, not}
 use mathlib.Core.List.{List, [], ◌∷◌, map}
 use Prim.Native.Nat.{ℕ, suc}
-use Rattle.definition.specs.Base.{if◌then◌else◌, every?, numbered}
+use Rattle.definition.specs.Base.{every?, numbered}
 use Rattle.definition.specs.Text.{Text}
 use Rattle.definition.specs.Model.{Model}
 use Rattle.definition.specs.Check.{distinct, keeps_list}

@@ -1,4 +1,6 @@
 // The entries that a host calls; mspdi_c exports them to C. Each returns 0, or the number of the refusal; on a refusal all that is lent is zeros.
+#![tactic(auto)]
+
 ghost use Rattle.std.specs.Prelude.{◌≡◌, List, ℕ, length, replicate};
 ghost use Rattle.number.specs.Written.{refusal_of, written_of};
 ghost use Rattle.definition.specs.Refusal.{read_answer, check_answer, duration_answer, time_answer, outline_answer, day_sheet_answer};

@@ -1,4 +1,5 @@
 -- The table of the calendars while it is filled. Assumes nothing.
+use Rattle.std.specs.Prelude.{if◌then◌else◌}
 use Prim.Native.Nat.{ℕ, suc, ◌+◌, ◌-◌, ◌%◌, ◌^◌, ◌≤◌, ◌<◌}
 use native.Mathlib.Nat.{mod-lt}
 use native.Mathlib.Omega.{arith}
@@ -11,7 +12,7 @@ use lib.ListN.{length, get_or, set, drop, length-set, drop_of_length-le}
 use lib.Seq.{get_or-set_same, get_or-set_other}
 use borrow.Author.Tests.{ltb-true, ltb-false, eqb-true, eqb-false}
 use Rattle.definition.specs.Ascii.{bytes}
-use Rattle.definition.specs.Base.{if◌then◌else◌, given, keep, same}
+use Rattle.definition.specs.Base.{given, keep, same}
 use Rattle.definition.specs.Calendar.{base_of}
 use Rattle.definition.specs.Text.{Text}
 use Rattle.definition.specs.Tree.{Element, records, records_up_to, element, all, all_in, child}

@@ -1,4 +1,5 @@
 -- The words of the calendars' names while they are noted, and the whole table. Assumes nothing.
+use Rattle.std.specs.Prelude.{if◌then◌else◌}
 use Prim.Native.Nat.{ℕ, suc, ◌+◌, ◌-◌, ◌*◌, ◌^◌, ◌≤◌, ◌<◌, max}
 use native.Mathlib.Omega.{arith}
 use mathlib.Core.Path.{◌≡◌, refl, sym, ap, ◌∙◌}
@@ -10,7 +11,7 @@ use lib.ListN.{length, get_or, set}
 use lib.Seq.{get_or-set_same, get_or-set_other}
 use borrow.Author.Tests.{ltb-true, ltb-false, eqb-true, eqb-false, ne_eqb, lt-ltb, le-ltb, lt-leb, le-leb}
 use Rattle.definition.specs.Ascii.{bytes}
-use Rattle.definition.specs.Base.{if◌then◌else◌, ◌>>=◌, ◌or◌, ◌or_else◌, first, find, keep, numbered, same}
+use Rattle.definition.specs.Base.{◌>>=◌, ◌or◌, ◌or_else◌, first, find, keep, numbered, same}
 use Rattle.definition.specs.Calendar.{calendar_elements, elapsed_name}
 use Rattle.definition.specs.Field.{text_in}
 use Rattle.definition.specs.Format.{times}

@@ -1,11 +1,11 @@
 -- What is read before a place still is when others are written behind it: the names of the calendars. Assumes nothing.
-use Rattle.std.specs.Prelude.{◌≡◌, refl, Bool, true, false, leb, ltb, eqb, length}
+use Rattle.std.specs.Prelude.{if◌then◌else◌, ◌≡◌, refl, Bool, true, false, leb, ltb, eqb, length}
 use Rattle.std.proofs.Math.Path.{ap}
 use Rattle.std.proofs.Common.{◌∙◌, arith, ltb-true}
 use mathlib.Core.List.{List, [], ◌∷◌, map}
 use Rattle.std.proofs.Math.Option.{Option, some, none}
 use Prim.Native.Nat.{ℕ, suc, ◌+◌, ◌-◌, ◌≤◌, ◌<◌}
-use Rattle.definition.specs.Base.{if◌then◌else◌, ◌>>=◌, ◌or◌, ◌or_else◌, keep, first, numbered}
+use Rattle.definition.specs.Base.{◌>>=◌, ◌or◌, ◌or_else◌, keep, first, numbered}
 use Rattle.definition.specs.Bits.{Bits}
 use Rattle.definition.specs.Text.{Text}
 use Rattle.definition.specs.Tree.{Element}

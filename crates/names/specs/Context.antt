@@ -1,9 +1,9 @@
 -- What a tree says for each task and resource, with the calendars by their names alone, as these stand in a buffer: the main one's first, then the
 -- others in the order in which they are built. A name is the element's, with as many `*` as the text in the buffer is longer. Assumes nothing:
 -- these are definitions.
-use Rattle.std.specs.Prelude.{ℕ, suc, ◌-◌, Bool, ◌&&◌, List, [], map, leb, ltb, eqb, length}
+use Rattle.std.specs.Prelude.{if◌then◌else◌, ℕ, suc, ◌-◌, Bool, ◌&&◌, List, [], map, leb, ltb, eqb, length}
 use Rattle.std.proofs.Math.Option.{some}
-use Rattle.definition.specs.Base.{if◌then◌else◌, ◌>>=◌, ◌or◌, numbered}
+use Rattle.definition.specs.Base.{◌>>=◌, ◌or◌, numbered}
 use Rattle.definition.specs.Ascii.{bytes}
 use Rattle.definition.specs.Text.{Text}
 use Rattle.definition.specs.Tree.{Element}

@@ -1,8 +1,8 @@
 -- Ids by tables in lent words: what the calls make of the words and read in them, and the law that it is what a look at all records gives. Assumes
 -- nothing.
-use Rattle.std.specs.Prelude.{Bool, ◌&&◌, List, [], ℕ, suc, ◌+◌, ◌-◌, ◌*◌, min, ltb, leb, eqb, length}
+use Rattle.std.specs.Prelude.{if◌then◌else◌, Bool, ◌&&◌, List, [], ℕ, suc, ◌+◌, ◌-◌, ◌*◌, min, ltb, leb, eqb, length}
 use Rattle.std.proofs.Math.Option.{some}
-use Rattle.definition.specs.Base.{if◌then◌else◌, ◌>>=◌, ◌or◌, given, find, same}
+use Rattle.definition.specs.Base.{◌>>=◌, ◌or◌, given, find, same}
 use Rattle.definition.specs.Calendar.{free}
 use Rattle.definition.specs.Text.{Text}
 use Rattle.bits.specs.Places.{inside}

@@ -1,7 +1,7 @@
 -- The name of a calendar by its UID, as words say it. Assumes nothing: these are definitions.
-use Rattle.std.specs.Prelude.{ℕ, zero, suc, ◌+◌, ◌-◌, ◌*◌, ◌<◌, ◌≡◌, false, List, [], eqb, length, get_or, set}
+use Rattle.std.specs.Prelude.{if◌then◌else◌, ℕ, zero, suc, ◌+◌, ◌-◌, ◌*◌, ◌<◌, ◌≡◌, false, List, [], eqb, length, get_or, set}
 use Rattle.std.proofs.Math.Option.{Option, some, none}
-use Rattle.definition.specs.Base.{if◌then◌else◌, ◌>>=◌, ◌or◌, same}
+use Rattle.definition.specs.Base.{◌>>=◌, ◌or◌, same}
 use Rattle.definition.specs.Calendar.{name_of, elapsed_name}
 use Rattle.definition.specs.Format.{times}
 use Rattle.definition.specs.Task.{Context, unless_main}

@@ -1,11 +1,11 @@
 -- What a table of the calendars says: the name of each UID, as the definition says it. Assumes nothing.
 use Prim.Native.Nat.{ℕ, suc, ◌+◌, ◌-◌, ◌≤◌, ◌<◌}
 use native.Mathlib.Omega.{arith}
-use Rattle.std.specs.Prelude.{◌≡◌, Bool, true, false, not, List, get_or}
+use Rattle.std.specs.Prelude.{if◌then◌else◌, ◌≡◌, Bool, true, false, not, List, get_or}
 use Rattle.std.proofs.Math.Path.{refl, sym, ap}
 use Rattle.std.proofs.Common.{◌∙◌}
 use Rattle.std.proofs.Math.Option.{Option, some, none}
-use Rattle.definition.specs.Base.{if◌then◌else◌, ◌>>=◌, when, same}
+use Rattle.definition.specs.Base.{◌>>=◌, when, same}
 use Rattle.definition.specs.Calendar.{elapsed_name}
 use Rattle.definition.specs.Task.{Context, unless_main}
 use Rattle.definition.specs.Text.{Text}

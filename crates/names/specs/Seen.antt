@@ -1,5 +1,5 @@
 -- What the loops over records see in the buffer. Assumes nothing.
-use Rattle.std.specs.Prelude.{◌≡◌, Bool, ◌||◌, List, [], ◌++◌, map}
+use Rattle.std.specs.Prelude.{if◌then◌else◌, ◌≡◌, Bool, ◌||◌, List, [], ◌++◌, map}
 use Rattle.std.proofs.Math.Path.{refl, sym, ap}
 use Rattle.std.proofs.Common.{◌∙◌, take-append-drop, length-take-le}
 use Rattle.std.proofs.Math.Bool.{true, false}
@@ -10,7 +10,7 @@ use native.Mathlib.Omega.{arith}
 use Rattle.std.proofs.Math.Dec.{ltb}
 use Rattle.std.proofs.Math.ListN.{length, take, drop, length-map, length-drop}
 use borrow.Author.Tests.{ltb-false}
-use Rattle.definition.specs.Base.{if◌then◌else◌, ◌>>=◌, ◌or◌, some?, count}
+use Rattle.definition.specs.Base.{◌>>=◌, ◌or◌, some?, count}
 use Rattle.definition.specs.Text.{Text}
 use Rattle.definition.specs.Bits.{Bits, bits_of, bytes_up_to}
 use Rattle.definition.specs.Format.{Format, times, whole, count as counts}

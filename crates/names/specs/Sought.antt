@@ -1,12 +1,12 @@
 -- What a table of the calendars finds: the first calendar with a UID, as a look at all of them does. Assumes nothing.
 use Prim.Native.Nat.{ℕ, suc, ◌+◌, ◌-◌, ◌^◌, ◌≤◌, ◌<◌}
 use Rattle.std.proofs.Common.{arith, ◌∙◌, ltb-true}
-use Rattle.std.specs.Prelude.{◌≡◌, Bool, true, false, ◌&&◌, leb, ltb, get_or}
+use Rattle.std.specs.Prelude.{if◌then◌else◌, ◌≡◌, Bool, true, false, ◌&&◌, leb, ltb, get_or}
 use Rattle.std.proofs.Math.Path.{refl, sym, ap}
 use mathlib.Core.List.{List, [], ◌∷◌}
 use Rattle.std.proofs.Math.Option.{Option, some, none}
 use Rattle.std.proofs.Math.ListN.{length}
-use Rattle.definition.specs.Base.{if◌then◌else◌, ◌>>=◌, keep, first, find, numbered, same}
+use Rattle.definition.specs.Base.{◌>>=◌, keep, first, find, numbered, same}
 use Rattle.definition.specs.Refusal.{most_elements}
 use Rattle.definition.specs.Text.{Text}
 use Rattle.definition.specs.Tree.{Element}

@@ -1,5 +1,5 @@
 -- Texts with `*` behind them, and the first that is free. Assumes nothing.
-use Rattle.std.specs.Prelude.{◌≡◌, Bool, List, [], ◌∷◌, ◌++◌, length, take, replicate}
+use Rattle.std.specs.Prelude.{if◌then◌else◌, ◌≡◌, Bool, List, [], ◌∷◌, ◌++◌, length, take, replicate}
 use Rattle.std.proofs.Math.Path.{refl, sym}
 use Rattle.std.proofs.Common.{ap, ◌∙◌, true≢false, append_assoc, append-nil, take_at}
 use Rattle.std.proofs.Math.Bool.{true, false}
@@ -7,7 +7,7 @@ use Prim.Native.Nat.{ℕ, zero, suc, ◌+◌, ◌-◌, ◌≤◌, ◌<◌}
 use Rattle.std.proofs.Math.Nat.{sub-zero}
 use native.Mathlib.Omega.{arith}
 use Rattle.std.proofs.Math.Decide.{dec_lt}
-use Rattle.definition.specs.Base.{if◌then◌else◌, same, some?}
+use Rattle.definition.specs.Base.{same, some?}
 use Rattle.definition.specs.Text.{Text}
 use Rattle.definition.specs.Calendar.{starred, free}
 use Rattle.laws.specs.FitNames.{free_shape}

@@ -1,4 +1,6 @@
 // Names and ids as they stand in a buffer that is being written: which are taken, and the name of a calendar's UID.
+#![tactic(auto)]
+
 mod calendars; // the calendars of a tree, and their names in the buffer
 mod ids; // ids by tables in lent words
 mod named; // a calendar's name by its UID, from a table in lent words

@@ -1,8 +1,7 @@
 // The name of a calendar by its UID, from a table in lent words: behind that of the UIDs each row has a word for its name in the buffer, 0 where it is
 // the main calendar's, else how many `*` it has behind the wanted name, plus 1. A last word is for the elapsed calendar's name.
-ghost use Rattle.std.specs.Prelude.{◌≡◌, ◌+◌, ◌^◌, ◌≤◌, ◌<◌, length};
+ghost use Rattle.std.specs.Prelude.{if◌then◌else◌, ◌≡◌, ◌+◌, ◌^◌, ◌≤◌, ◌<◌, length};
 ghost use Rattle.definition.specs.Answer.{row_meaning};
-ghost use Rattle.definition.specs.Base.{if◌then◌else◌};
 ghost use Rattle.definition.specs.Calendar.{elapsed_name};
 ghost use Rattle.definition.specs.Text.{Text};
 ghost use Rattle.index.specs.Chains.{end_of};

@@ -1,8 +1,9 @@
 -- The figures of a duration text, piece by piece. Assumes nothing.
+use Rattle.std.specs.Prelude.{if◌then◌else◌}
 use Rattle.std.proofs.Common.{◌≡◌, ℕ, suc, ◌+◌, ◌-◌, ◌<◌, ◌≤◌, Bool, true, false, eqb, [], ◌∷◌, ◌++◌, length, get_or, take, drop, sym, refl, ap, ◌∙◌, append_assoc, append-nil, add-one, arith, length-append, length-drop, get_or-drop, drop-drop, eq-eqb, ne_eqb}
 use lib.Dec.{eqb-suc-suc, eqb_refl}
 use lib.Ieee.{Float}
-use Rattle.definition.specs.Base.{if◌then◌else◌, ◌or◌, same}
+use Rattle.definition.specs.Base.{◌or◌, same}
 use Rattle.definition.specs.Text.{Text, before, after}
 use Rattle.definition.specs.Number.{Reading, absent, value, zero_float}
 use Rattle.definition.specs.Duration.{is_unit, is_d, is_t, set_unit, piece_of, ◌then◌, time_figures, days_of, day_figures, figures_of}

@@ -1,9 +1,9 @@
 -- Digits read one after the other, one at least, and that a number past the limit may as well be the limit. Assumes nothing.
+use Rattle.std.specs.Prelude.{if◌then◌else◌}
 use Rattle.std.proofs.Common.{◌≡◌, ℕ, zero, suc, ◌+◌, ◌-◌, ◌*◌, ◌<◌, ◌≤◌, min, Bool, true, false, leb, [], ◌∷◌, length, get_or, drop, sym, refl, ap, ◌∙◌, subst, arith, le-leb}
 use mathlib.Core.Bool.{and-false}
 use mathlib.Core.Option.{Option, some, none}
 use borrow.Author.Tests.{lt-leb}
-use Rattle.definition.specs.Base.{if◌then◌else◌}
 use Rattle.definition.specs.Text.{Text, is_digit, digits, digits_after}
 use Rattle.number.specs.Number.{limit, hold, Reads, start, digit}
 use Rattle.text.specs.Parts.{at_cons}

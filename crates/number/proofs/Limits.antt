@@ -1,8 +1,8 @@
 -- When a number is long, and that what the code holds of its parts is judged as the parts themselves. Assumes nothing.
+use Rattle.std.specs.Prelude.{if◌then◌else◌}
 use Rattle.std.proofs.Common.{◌≡◌, ℕ, zero, suc, ◌+◌, ◌*◌, ◌^◌, ◌<◌, ◌≤◌, min, Bool, true, false, ◌&&◌, ltb, leb, ◌⊎◌, sym, refl, ap, ◌∙◌, inl, inr, arith, ltb-true, lt-ltb, eq-eqb, ne_eqb, le-leb, leb-true}
 use mathlib.Core.Option.{some}
 use lib.Ieee.{round, binary64}
-use Rattle.definition.specs.Base.{if◌then◌else◌}
 use Rattle.definition.specs.Number.{absent, long, value, short?, nearest, zero_float, magnitude}
 use Rattle.laws.specs.Bools.{and_left, and_right}
 use Rattle.text.specs.Parts.{le_or_lt}

@@ -1,10 +1,10 @@
 -- `nearest_whole`: a float below 0 and one that is not, and that the half is small. Assumes nothing.
+use Rattle.std.specs.Prelude.{if◌then◌else◌}
 use Rattle.std.proofs.Common.{◌≡◌, ℕ, zero, suc, ◌+◌, ◌*◌, ◌/◌, ◌^◌, ◌<◌, ◌≤◌, Bool, true, false, ◌&&◌, T, ℤ, pos, ◌-ℤ◌, neg_ℤ, sym, refl, ap, ◌∙◌, subst, zero-lt-suc, div-lt_iff_lt-mul, mul-pos, arith, ltb-false, ltb-true}
 use lib.IntN.{+ℤ_idl}
 use lib.Ieee.{Float, nan, inf, fin, up, down, neg, le, lt, eq}
 use lib.Signed.{mag}
 use lib.Ieee.Fits.{down_pos}
-use Rattle.definition.specs.Base.{if◌then◌else◌}
 use Rattle.definition.specs.Number.{zero_float, half_away, nearest_whole, with_sign}
 use Rattle.number.specs.Tests.{is_true}
 use Rattle.number.specs.Floats.{le_neg, neg_below, zero_below, float-10¹⁸}

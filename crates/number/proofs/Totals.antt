@@ -1,9 +1,9 @@
 -- The total of figures that are not below 0: it is not below 0, and up to 10 ^ 9 its whole number is small; and the duration that it gives. Assumes nothing.
+use Rattle.std.specs.Prelude.{if◌then◌else◌}
 use Rattle.std.proofs.Common.{◌≡◌, ℕ, ◌+◌, ◌*◌, ◌^◌, ◌≤◌, Bool, true, false, T, pos, sym, refl, ap, ◌∙◌, subst, zero-lt-suc, arith, lt-ltb}
 use lib.Ieee.{Float, nan, inf, fin, up, down, le, lt, eq}
 use lib.Ieee.Fits.{down_pos}
 use lib.Ieee.Order.{le_of_values}
-use Rattle.definition.specs.Base.{if◌then◌else◌}
 use Rattle.definition.specs.Number.{absent, value, zero_float, float, half_away, is_whole}
 use Rattle.definition.specs.Duration.{total_of, duration_at, duration_from}
 use Rattle.definition.specs.declared.Figures.{Figures}

@@ -1,8 +1,8 @@
 -- One byte written, the decimal digits of a number, and the end of a text. Assumes nothing.
+use Rattle.std.specs.Prelude.{if◌then◌else◌}
 use Rattle.std.proofs.Common.{◌≡◌, ℕ, zero, suc, ◌+◌, ◌-◌, ◌/◌, ◌%◌, ◌^◌, ◌<◌, ◌≤◌, Bool, true, false, ltb, leb, ◌⊎◌, [], ◌∷◌, ◌++◌, length, take, drop, set, replicate, sym, refl, ap, ◌∙◌, subst, inl, inr, append-nil, zero-le, zero-lt-suc, div-lt_iff_lt-mul, pow-suc, add-one, arith, length-drop, length-set, length-take, length-take-le, take-suc-set, le-ltb, lt-ltb, le-leb}
 use borrow.Author.Tests.{lt-leb}
 use borrow.Rule.Slice.PartMut.{put_mid, post_of, Post-is}
-use Rattle.definition.specs.Base.{if◌then◌else◌}
 use Rattle.definition.specs.Text.{Text}
 use Rattle.definition.specs.Duration.{decimal, decimal_up}
 use Rattle.definition.specs.Time.{two_digits}

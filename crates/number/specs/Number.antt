@@ -1,7 +1,6 @@
 -- What the answer of a number text means, and what the code holds of its parts. Assumes nothing.
-use Rattle.std.specs.Prelude.{◌≡◌, ℕ, zero, suc, ◌+◌, ◌-◌, ◌*◌, ◌^◌, ◌<◌, ◌≤◌, min, Bool, true, false, [], ◌∷◌, length, drop, slice_index, Float}
+use Rattle.std.specs.Prelude.{if◌then◌else◌, ◌≡◌, ℕ, zero, suc, ◌+◌, ◌-◌, ◌*◌, ◌^◌, ◌<◌, ◌≤◌, min, Bool, true, false, [], ◌∷◌, length, drop, slice_index, Float}
 use Rattle.std.proofs.Math.Option.{Option, some, none}
-use Rattle.definition.specs.Base.{if◌then◌else◌}
 use Rattle.definition.specs.Text.{Text, Sign, plus, minus, bare, sign_of, is_digit, digits}
 use Rattle.definition.specs.Number.{Reading, absent, long, value, Decimal, is_e, unsigned, decimal_of, magnitude}
 use Rattle.number.specs.declared.decimal.NumberAnswer.{NumberAnswer}

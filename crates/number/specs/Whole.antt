@@ -1,8 +1,7 @@
 -- Floats to whole numbers, within what the code works out, and that amounts lie within. Assumes nothing.
-use Rattle.std.specs.Prelude.{◌≡◌, ℕ, ◌^◌, ◌&&◌, T, ℤ, pos, Float}
+use Rattle.std.specs.Prelude.{if◌then◌else◌, ◌≡◌, ℕ, ◌^◌, ◌&&◌, T, ℤ, pos, Float}
 use Rattle.std.specs.Float.{binary64}
 use Rattle.std.specs.Float.Ieee.{neg, le, mul}
-use Rattle.definition.specs.Base.{if◌then◌else◌}
 use Rattle.definition.specs.Number.{float, zero_float, half_away, nearest_whole, hundredths}
 use Rattle.number.specs.Tests.{is_true}
 pub use Rattle.laws.specs.Floats.{most, Within, hundred}

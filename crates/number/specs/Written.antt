@@ -1,7 +1,6 @@
 -- What writing a text into a buffer gives: document 01's number, the buffer at the end, and how many bytes of it are the text. Assumes nothing.
-use Rattle.std.specs.Prelude.{◌≡◌, ℕ, ◌++◌, length, take, nat_le}
+use Rattle.std.specs.Prelude.{if◌then◌else◌, ◌≡◌, ℕ, ◌++◌, length, take, nat_le}
 use Rattle.std.proofs.Common.{ap, ◌∙◌}
-use Rattle.definition.specs.Base.{if◌then◌else◌}
 use Rattle.definition.specs.Text.{Text}
 use Rattle.definition.specs.Duration.{most_minutes, duration_text}
 use Rattle.definition.specs.Refusal.{Answer, refused, gives, result, left, written, ranged}

@@ -1,4 +1,5 @@
 -- What stands ahead of the walk, and that a step takes one row of it. Assumes nothing.
+use Rattle.std.specs.Prelude.{if◌then◌else◌}
 use mathlib.Core.Path.{◌≡◌, refl, sym, ap, ◌∙◌}
 use mathlib.Core.Bool.{Bool, true, false}
 use mathlib.Core.List.{List, [], ◌∷◌, ◌++◌, flat_map, append_assoc, append-nil}
@@ -10,7 +11,7 @@ use borrow.Author.Tests.{ltb-false, eqb-true, eqb-false, ne_eqb}
 use lib.Dec.{ltb, eqb}
 use lib.ListN.{length, get_or, take, set, length-set, length-append}
 use lib.Seq.{take-suc-set}
-use Rattle.definition.specs.Base.{if◌then◌else◌, keep, first, count}
+use Rattle.definition.specs.Base.{keep, first, count}
 use Rattle.definition.specs.Outline.{parent_at, top_rows, child_rows, under, outline_of}
 use Rattle.definition.specs.Refusal.{row_words}
 use Rattle.laws.specs.Outlines.{no_levels, parent_in_lem}

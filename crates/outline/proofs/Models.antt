@@ -1,4 +1,5 @@
 -- From a model's bytes to what the definition says of them: the model's outline, or why there is none. Assumes nothing.
+use Rattle.std.specs.Prelude.{if◌then◌else◌}
 use mathlib.Core.Path.{◌≡◌, refl, sym, ap, ◌∙◌}
 use mathlib.Core.Bool.{Bool, true, false, ◌||◌, false≢true}
 use mathlib.Core.List.{List}
@@ -8,7 +9,6 @@ use native.Mathlib.Omega.{arith}
 use borrow.Author.Tests.{ltb-false}
 use lib.Dec.{ltb}
 use lib.ListN.{length, replicate, length-map}
-use Rattle.definition.specs.Base.{if◌then◌else◌}
 use Rattle.definition.specs.Model.{Activity, Model}
 use Rattle.definition.specs.Pack.{activity, decode}
 use Rattle.definition.specs.Outline.{outline_of, outline}

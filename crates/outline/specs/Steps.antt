@@ -1,8 +1,8 @@
 -- The lists in the work slice, and the steps of the walk over them. The four words of a row: 0 its parent (0 where it has none), 1 its first
 -- child, 2 the next row with its parent; word 3 of row 0 is the first row at the top. Assumes nothing.
-use Rattle.std.specs.Prelude.{ℕ, zero, suc, ◌+◌, ◌-◌, ◌*◌, ◌≤◌, ◌<◌, ◌≡◌, Bool, List, [], length, get_or, set, take, eqb, ltb}
+use Rattle.std.specs.Prelude.{if◌then◌else◌, ℕ, zero, suc, ◌+◌, ◌-◌, ◌*◌, ◌≤◌, ◌<◌, ◌≡◌, Bool, List, [], length, get_or, set, take, eqb, ltb}
 use Rattle.std.proofs.Math.Option.{Option, some, none}
-use Rattle.definition.specs.Base.{if◌then◌else◌, keep, first, count}
+use Rattle.definition.specs.Base.{keep, first, count}
 use Rattle.definition.specs.Outline.{parent_in, is_top, is_under, parent_at, outline_of}
 use Rattle.definition.specs.Refusal.{Answer, refused, gives, row_words}
 use Rattle.outline.specs.declared.Visit.{Visit}

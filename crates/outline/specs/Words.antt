@@ -1,8 +1,8 @@
 -- What `outline_rows` gives. The work slice has four words an activity, and at entry the first of them names the row of its parent.
 -- Assumes nothing.
-use Rattle.std.specs.Prelude.{ℕ, ◌*◌, ◌/◌, ◌≤◌, ◌≡◌, ◌||◌, List, map, length, get_or, replicate, ltb}
+use Rattle.std.specs.Prelude.{if◌then◌else◌, ℕ, ◌*◌, ◌/◌, ◌≤◌, ◌≡◌, ◌||◌, List, map, length, get_or, replicate, ltb}
 use Rattle.std.proofs.Math.Option.{Option, some}
-use Rattle.definition.specs.Base.{if◌then◌else◌, count}
+use Rattle.definition.specs.Base.{count}
 use Rattle.definition.specs.Outline.{outline_of}
 use Rattle.definition.specs.Refusal.{Answer, refused, gives, left, written, row_words}
 

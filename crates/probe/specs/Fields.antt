@@ -1,6 +1,6 @@
 -- What the numbers that a probe hands over stand for. Assumes nothing: these are definitions.
-use Rattle.std.specs.Prelude.{ℕ, min, ◌≡◌, eqb}
-use Rattle.definition.specs.Base.{if◌then◌else◌, ◌or◌}
+use Rattle.std.specs.Prelude.{if◌then◌else◌, ℕ, min, ◌≡◌, eqb}
+use Rattle.definition.specs.Base.{◌or◌}
 use Rattle.definition.specs.declared.Date.{Date}
 use Rattle.date.specs.Scale.{day_count}
 use Rattle.recurrence.specs.Scale.{day_date, month_meaning}

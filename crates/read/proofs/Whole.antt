@@ -1,4 +1,5 @@
 -- The bytes of a model whose records were put and whose counts were closed, and what is answered. Assumes nothing.
+use Rattle.std.specs.Prelude.{if◌then◌else◌}
 use mathlib.Core.Path.{◌≡◌, refl, sym, ap, ◌∙◌, subst}
 use mathlib.Core.Bool.{Bool, true, false, not}
 use mathlib.Core.List.{List, ◌++◌, append_assoc}
@@ -8,7 +9,7 @@ use borrow.Author.Tests.{le-leb, lt-leb, lt-ltb, ltb-false}
 use lib.Dec.{ltb}
 use lib.ListN.{length, take, drop, get_or, replicate, length-append}
 use lib.Seq.{length-take-le, take_at}
-use Rattle.definition.specs.Base.{if◌then◌else◌, every?, some?}
+use Rattle.definition.specs.Base.{every?, some?}
 use Rattle.definition.specs.Text.{Text}
 use Rattle.definition.specs.Bits.{Bits, bits_of, bytes_of}
 use Rattle.definition.specs.Format.{field, ◌⊗◌}

@@ -1,6 +1,8 @@
 // A tree read into a model: crate definition, specs/Read.antt and specs/Pack.antt. Six counts are left open, then the project and the sections
 // are put one after another, then the counts are closed; what stands behind is zeros, and all is zeros where the tree is refused or the model does
 // not fit. Tables of the kept tasks and of the resources stand in the lent words; where they find no room, each row is sought by a scan.
+#![tactic(auto)]
+
 mod assigned; // resources, assignments and expenses
 mod project; // the project's record
 mod sections; // all records, and the counts

@@ -1,4 +1,6 @@
 // A packed tree on standard input, its model on standard output, 65,536 bytes at most each way; nothing on a refusal or a longer input.
+#![tactic(auto)]
+
 ghost use Rattle.std.specs.Prelude.{◌≡◌};
 ghost use Rattle.io.specs.Counts.{IsPrefixLen};
 ghost use Rattle.read.specs.Answers.{length_of};

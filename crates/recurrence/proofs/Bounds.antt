@@ -1,4 +1,5 @@
 -- Years, months and dates within the calendar. Assumes nothing.
+use Rattle.std.specs.Prelude.{if◌then◌else◌}
 use Prim.Native.Nat.{ℕ, ◌+◌, ◌≤◌, ◌<◌}
 use native.Mathlib.Omega.{arith}
 use mathlib.Core.Path.{◌≡◌}
@@ -6,7 +7,7 @@ use mathlib.Core.Bool.{Bool, true, false, ◌||◌}
 use lib.Dec.{eqb}
 use Rattle.recurrence.specs.Scale.{day_in}
 use borrow.Author.Tests.{le-leb}
-use Rattle.definition.specs.Base.{if◌then◌else◌, ◌or◌}
+use Rattle.definition.specs.Base.{◌or◌}
 use Rattle.definition.specs.Date.{year_of, month_of, day_of, date_at, leap, month_length, first_date, last_date}
 use Rattle.laws.specs.Calendar.{new_year_next, year_length_lem, year_found, first_new_year, last_new_year, IsDay, is_day_lem}
 use Rattle.recurrence.specs.Scale.{month_at}

@@ -1,4 +1,5 @@
 -- The items of a month, passed forwards and backwards. Assumes nothing.
+use Rattle.std.specs.Prelude.{if◌then◌else◌}
 use Prim.Native.Nat.{ℕ, zero, suc, ◌+◌, ◌-◌, ◌≤◌, ◌<◌}
 use native.Mathlib.Omega.{arith}
 use native.Mathlib.Numerals.{add-one}
@@ -10,7 +11,7 @@ use lib.ListN.{get_elem?}
 use lib.Dec.{eqb}
 use lib.IntN.{pos}
 use borrow.Author.Tests.{ne_eqb, lt-ltb, le-ltb}
-use Rattle.definition.specs.Base.{if◌then◌else◌, ◌or◌, ◌or_else◌, within, keep, count}
+use Rattle.definition.specs.Base.{◌or◌, ◌or_else◌, within, keep, count}
 use Rattle.definition.specs.Date.{weekday, sunday_first, date_at, month_length}
 use Rattle.definition.specs.Recurrence.{item_fits, nth_in_month}
 use Rattle.recurrence.specs.Kind.{last_of}

@@ -1,4 +1,5 @@
 -- Years and months in their order, and the candidate of a month: a day of it, or the item at a position. Assumes nothing.
+use Rattle.std.specs.Prelude.{if◌then◌else◌}
 use Prim.Native.Nat.{ℕ, zero, suc, ◌+◌, ◌-◌, ◌≤◌, ◌<◌}
 use native.Mathlib.Omega.{arith}
 use native.Mathlib.Decide.{dec_lt}
@@ -11,7 +12,7 @@ use lib.ListN.{get_elem?}
 use lib.Dec.{ltb, eqb}
 use lib.IntN.{ℤ, pos, negsuc}
 use borrow.Author.Tests.{eqb-true, eqb-false, eq-eqb, ne_eqb, le-leb}
-use Rattle.definition.specs.Base.{if◌then◌else◌, ◌or_else◌, within, keep, count, find_last}
+use Rattle.definition.specs.Base.{◌or_else◌, within, keep, count, find_last}
 use Rattle.definition.specs.Date.{Date, sunday_first, leap, year_of, month_of, day_of, date_at, month_length, months_length, new_year, year_length, last_date}
 use Rattle.definition.specs.Recurrence.{item_fits, at_position, nth_in_month, is_date}
 use Rattle.laws.specs.Rows.{lower, rising}

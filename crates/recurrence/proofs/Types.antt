@@ -1,10 +1,11 @@
 -- The kinds of a rule. Assumes nothing.
+use Rattle.std.specs.Prelude.{if◌then◌else◌}
 use Prim.Native.Nat.{ℕ, zero, suc}
 use native.Mathlib.Omega.{arith}
 use mathlib.Core.Path.{◌≡◌, refl, subst, subst⁻¹}
 use mathlib.Core.Bool.{Bool, true, false, ◌&&◌, ◌||◌, not}
 use borrow.Author.Tests.{le-leb, lt-leb}
-use Rattle.definition.specs.Base.{if◌then◌else◌, when, given, within}
+use Rattle.definition.specs.Base.{when, given, within}
 use Rattle.definition.specs.Recurrence.{is_rule}
 use Rattle.recurrence.specs.Scale.{IsMonth}
 use Rattle.recurrence.specs.Meaning.{as_rule, rules}

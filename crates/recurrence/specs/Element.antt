@@ -1,8 +1,8 @@
 -- What an element says, as this crate holds it: the rule of an Exception, the days of a WeekDay of DayType 0. Assumes nothing: these are
 -- definitions.
-use Rattle.std.specs.Prelude.{ℕ, suc, ◌+◌, ◌-◌, ◌%◌, min, ◌≡◌, Bool, List, [], ◌∷◌, length, eqb, ℤ, pos, negsuc}
+use Rattle.std.specs.Prelude.{if◌then◌else◌, ℕ, suc, ◌+◌, ◌-◌, ◌%◌, min, ◌≡◌, Bool, List, [], ◌∷◌, length, eqb, ℤ, pos, negsuc}
 use Rattle.std.proofs.Math.Option.{Option, some, none}
-use Rattle.definition.specs.Base.{if◌then◌else◌, ◌>>=◌, ◌or◌, count}
+use Rattle.definition.specs.Base.{◌>>=◌, ◌or◌, count}
 use Rattle.definition.specs.Ascii.{bytes}
 use Rattle.definition.specs.Bits.{twos}
 use Rattle.definition.specs.Date.{Date, in_years}

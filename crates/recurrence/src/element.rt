@@ -1,6 +1,6 @@
 // What an element says: the rule of an Exception, the days of a WeekDay of DayType 0.
-ghost use Rattle.std.specs.Prelude.{◌≡◌, ◌≤◌, eqb, pos};
-ghost use Rattle.definition.specs.Base.{if◌then◌else◌, ◌or◌};
+ghost use Rattle.std.specs.Prelude.{if◌then◌else◌, ◌≡◌, ◌≤◌, eqb, pos};
+ghost use Rattle.definition.specs.Base.{◌or◌};
 ghost use Rattle.definition.specs.Recurrence.{month_from, rule_from};
 ghost use Rattle.text.specs.Answers.{signed_means};
 ghost use Rattle.fields.specs.Said.{whole_said, date_said};

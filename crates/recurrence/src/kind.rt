@@ -1,7 +1,7 @@
 // The first day that fits a rule, from a day on, kind by kind: daily, yearly, monthly, weekly; past the last day where none fits. The kind is
 // chosen by the Type.
-ghost use Rattle.std.specs.Prelude.{◌≡◌, ◌≤◌};
-ghost use Rattle.definition.specs.Base.{if◌then◌else◌, within};
+ghost use Rattle.std.specs.Prelude.{if◌then◌else◌, ◌≡◌, ◌≤◌};
+ghost use Rattle.definition.specs.Base.{within};
 ghost use Rattle.definition.specs.Recurrence.{fits};
 ghost use Rattle.recurrence.specs.Sequence.{FirstFit};
 ghost use Rattle.recurrence.specs.Scale.{IsMonth};

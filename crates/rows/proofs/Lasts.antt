@@ -1,8 +1,9 @@
 -- The last of a list that passes a test, and its row, found from the front on. Assumes nothing.
+use Rattle.std.specs.Prelude.{if◌then◌else◌}
 use Rattle.std.proofs.Common.{◌≡◌, ℕ, suc, ◌+◌, ◌-◌, ◌%◌, Bool, true, false, ltb, List, [], ◌∷◌, map, take, sym, refl, ap, ◌∙◌, arith}
 use native.Mathlib.Nat.{zero-mod, mod-add-mod}
 use mathlib.Core.Option.{Option, some, none}
-use Rattle.definition.specs.Base.{if◌then◌else◌, ◌>>=◌, ◌or_else◌, when, first, keep, find, find_last, numbered}
+use Rattle.definition.specs.Base.{◌>>=◌, ◌or_else◌, when, first, keep, find, find_last, numbered}
 use Rattle.definition.specs.Answer.{row_meaning}
 use Rattle.definition.specs.Text.{Text}
 use Rattle.definition.specs.Tree.{Element}

@@ -1,10 +1,10 @@
 -- What a table in lent words says: where it was made of a list, the rows and elements of the definition; and nothing but its own words counts. Assumes
 -- nothing.
-use Rattle.std.specs.Prelude.{◌≡◌, ℕ, suc, ◌+◌, ◌%◌, ◌^◌, ◌<◌, ◌≤◌, max, Bool, true, false, ◌&&◌, ltb, List, [], ◌∷◌, length, nat_lt, slice_index_or}
+use Rattle.std.specs.Prelude.{if◌then◌else◌, ◌≡◌, ℕ, suc, ◌+◌, ◌%◌, ◌^◌, ◌<◌, ◌≤◌, max, Bool, true, false, ◌&&◌, ltb, List, [], ◌∷◌, length, nat_lt, slice_index_or}
 use Rattle.std.proofs.Common.{mod-eq_of_lt, zero-add, arith, sym, ◌∙◌, ltb-true, lt-ltb}
 use Rattle.std.proofs.Math.Path.{refl, ap, fun_ext}
 use Rattle.std.proofs.Math.Option.{Option, some, none}
-use Rattle.definition.specs.Base.{if◌then◌else◌, ◌>>=◌, ◌or_else◌, when, keep, first, find, find_last, numbered, same}
+use Rattle.definition.specs.Base.{◌>>=◌, ◌or_else◌, when, keep, first, find, find_last, numbered, same}
 use Rattle.definition.specs.Text.{Text}
 use Rattle.definition.specs.Tree.{Element}
 use Rattle.definition.specs.Task.{kept_tasks, row_of}

@@ -1,5 +1,7 @@
 // Look-ups in the tree: the row of a UID by a scan or by a table in lent words, the nearest lower level, a calendar by its UID; and the walks over
 // the elements that count. What is right is said in the crate definition, specs/Task.antt, specs/Resource.antt and specs/Calendar.antt.
+#![tactic(auto)]
+
 mod built; // calendars, in the order in which they are built
 mod kept; // the kept tasks
 mod resource; // cost resources

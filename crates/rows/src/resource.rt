@@ -1,6 +1,6 @@
 // Cost resources by their UID.
-ghost use Rattle.std.specs.Prelude.{◌≡◌};
-ghost use Rattle.definition.specs.Base.{if◌then◌else◌, find_last};
+ghost use Rattle.std.specs.Prelude.{if◌then◌else◌, ◌≡◌};
+ghost use Rattle.definition.specs.Base.{find_last};
 ghost use Rattle.definition.specs.Resource.{cost_resources};
 ghost use Rattle.tree.specs.Root.{root_at};
 ghost use Rattle.tree.specs.declared.Found.TheVariants.{At as FoundAt};

@@ -1,6 +1,8 @@
 // Replays cases, each with the answer of the Rust, or of document 01 as compare/ has it in Rust, and says of each kind how many agree. The cases
 // are standard input, made by compare/make-samples. A case is its kind (one byte), the length of its body (four bytes) and the body; the file of a
 // kind says what its body holds. Kinds 0 to 10 are texts, 11 a tree, 12 a rule, 13 a model, 14 a field of bits.
+#![tactic(auto)]
+
 mod fields;
 mod floats;
 mod models;

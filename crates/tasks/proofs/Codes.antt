@@ -1,4 +1,5 @@
 -- Codes of formats, types, kinds and constraints, by the tests that the code makes. Assumes nothing.
+use Rattle.std.specs.Prelude.{if◌then◌else◌}
 use Prim.Native.Nat.{ℕ, suc, ◌≤◌}
 use native.Mathlib.Omega.{arith}
 use mathlib.Core.Path.{◌≡◌, refl, sym, ap, ◌∙◌, subst}
@@ -8,7 +9,7 @@ use lib.Dec.{T, leb, eqb, leb→le}
 use lib.IntN.{ℤ, pos, negsuc}
 use lib.Ieee.Fits.{and_l}
 use borrow.Author.Tests.{leb-true, ne_eqb}
-use Rattle.definition.specs.Base.{if◌then◌else◌, ◌or◌, when, given, within}
+use Rattle.definition.specs.Base.{◌or◌, when, given, within}
 use Rattle.definition.specs.Date.{Date, day_number}
 use Rattle.definition.specs.Task.{constraint_from, duration_type_from}
 use Rattle.definition.specs.Link.{kind_from}

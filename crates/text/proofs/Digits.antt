@@ -1,4 +1,5 @@
 -- One turn of the loop over digits. A number only grows with more digits, so that past `most` nothing need be read. Assumes nothing.
+use Rattle.std.specs.Prelude.{if◌then◌else◌}
 use mathlib.Core.Path.{◌≡◌, refl, sym, ap, ◌∙◌}
 use mathlib.Core.List.{[], ◌∷◌}
 use mathlib.Core.Option.{some, none}
@@ -10,7 +11,6 @@ use native.Mathlib.Omega.{arith}
 use lib.Dec.{leb}
 use lib.ListN.{length, drop, get_or}
 use borrow.Author.Tests.{leb-true, le-leb, lt-leb}
-use Rattle.definition.specs.Base.{if◌then◌else◌}
 use Rattle.definition.specs.Text.{Text, is_digit, digits, digits_after}
 use Rattle.laws.specs.Bools.{and_left, and_right}
 use Rattle.text.specs.Parts.{at_cons, at_end_lem}

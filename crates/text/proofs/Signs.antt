@@ -1,4 +1,5 @@
 -- The sign of a text, by its first byte, and what follows it. Assumes nothing.
+use Rattle.std.specs.Prelude.{if◌then◌else◌}
 use mathlib.Core.Path.{◌≡◌, refl, ap, ◌∙◌}
 use mathlib.Core.List.{[], ◌∷◌}
 use mathlib.Core.Bool.{Bool, true, false, ◌||◌}
@@ -6,7 +7,6 @@ use Prim.Native.Nat.{ℕ, ◌<◌}
 use native.Mathlib.Omega.{arith}
 use lib.Dec.{eqb}
 use lib.ListN.{length, drop, get_or}
-use Rattle.definition.specs.Base.{if◌then◌else◌}
 use Rattle.definition.specs.Text.{Text, Sign, plus, minus, bare, sign_of}
 use Rattle.definition.specs.Number.{unsigned}
 

@@ -1,5 +1,5 @@
 -- A text cut at the first byte that passes a test: its place, and what stands before and after as parts of the text. Assumes nothing.
-use Rattle.std.specs.Prelude.{◌≡◌, ◌⊎◌, Bool, drop, get_or}
+use Rattle.std.specs.Prelude.{if◌then◌else◌, ◌≡◌, ◌⊎◌, Bool, drop, get_or}
 use Rattle.std.proofs.Math.Path.{refl, ap}
 use Rattle.std.proofs.Common.{sym, ◌∙◌, inl, inr, suc-add}
 use mathlib.Core.List.{[], ◌∷◌}
@@ -8,7 +8,7 @@ use Rattle.std.proofs.Math.Bool.{true, false}
 use Prim.Native.Nat.{ℕ, suc, ◌+◌, ◌≤◌, ◌<◌}
 use native.Mathlib.Omega.{arith}
 use Rattle.std.proofs.Math.ListN.{length, take}
-use Rattle.definition.specs.Base.{if◌then◌else◌, ◌or◌}
+use Rattle.definition.specs.Base.{◌or◌}
 use Rattle.definition.specs.Text.{Text, before, after}
 use Rattle.text.specs.Parts.{le_or_lt, at_cons, at_end_lem}
 

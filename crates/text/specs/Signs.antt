@@ -1,7 +1,6 @@
 -- Whether a text begins with `-`, by its first byte. Assumes nothing.
-use Rattle.std.specs.Prelude.{◌≡◌, refl, [], ◌∷◌, Bool, true, false, ℕ, eqb, get_or}
+use Rattle.std.specs.Prelude.{if◌then◌else◌, ◌≡◌, refl, [], ◌∷◌, Bool, true, false, ℕ, eqb, get_or}
 use Rattle.std.proofs.Common.{ap, ◌∙◌, arith, eqb-true, ne_eqb}
-use Rattle.definition.specs.Base.{if◌then◌else◌}
 use Rattle.definition.specs.Text.{Text, Sign, plus, minus, bare, sign_of}
 
 abbrev pub minus? : Sign → Bool

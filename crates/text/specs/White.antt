@@ -1,6 +1,5 @@
 -- The white space that a text begins with, that it ends with. Assumes nothing.
-use Rattle.std.specs.Prelude.{ℕ, Bool, reverse, get_or}
-use Rattle.definition.specs.Base.{if◌then◌else◌}
+use Rattle.std.specs.Prelude.{if◌then◌else◌, ℕ, Bool, reverse, get_or}
 use Rattle.definition.specs.Text.{Text, front_width, back_width}
 
 abbrev pub width_by : Bool → Bool → Bool → ℕ

@@ -1,5 +1,5 @@
 -- The model of any element keeps the check's list, so what reading gives passes the check. Assumes nothing.
-use Rattle.std.specs.Prelude.{◌≡◌, Bool}
+use Rattle.std.specs.Prelude.{if◌then◌else◌, ◌≡◌, Bool}
 use Rattle.std.proofs.Math.Path.{refl}
 use Rattle.std.proofs.Common.{ap, ◌∙◌, arith}
 use Rattle.std.proofs.Math.Bool.{true}
@@ -8,7 +8,7 @@ use Prim.Native.Nat.{ℕ, ◌+◌, ◌<◌}
 use borrow.Author.Tests.{lt-ltb}
 use Rattle.std.proofs.Math.Dec.{ltb}
 use Rattle.std.proofs.Math.ListN.{length, length-append}
-use Rattle.definition.specs.Base.{if◌then◌else◌, ◌or◌, ◌or_else◌, numbered, same}
+use Rattle.definition.specs.Base.{◌or◌, ◌or_else◌, numbered, same}
 use Rattle.definition.specs.Text.{Text}
 use Rattle.definition.specs.Tree.{Element, records, element}
 use Rattle.definition.specs.Field.{text_in}

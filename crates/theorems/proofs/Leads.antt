@@ -1,8 +1,7 @@
 -- A text passes the check exactly where it decodes to a model in which no row and no name leads nowhere, and ids and expenses are distinct. Assumes nothing.
-use Rattle.std.specs.Prelude.{◌≡◌, refl, ◌↔◌, Bool, true, false, ℕ}
+use Rattle.std.specs.Prelude.{if◌then◌else◌, ◌≡◌, refl, ◌↔◌, Bool, true, false, ℕ}
 use Rattle.std.proofs.Common.{arith}
 use Rattle.std.proofs.Math.Option.{Option, some, none}
-use Rattle.definition.specs.Base.{if◌then◌else◌}
 use Rattle.definition.specs.Text.{Text}
 use Rattle.definition.specs.Model.{Model}
 use Rattle.definition.specs.Pack.{decode}

@@ -1,8 +1,7 @@
 -- A text in UTF-8 stays so when it is trimmed, and so do the texts of a tree. Assumes nothing.
-use Rattle.std.specs.Prelude.{◌≡◌, refl, Bool, true, false, ℕ, zero, suc, length, drop, get_or, replicate}
+use Rattle.std.specs.Prelude.{if◌then◌else◌, ◌≡◌, refl, Bool, true, false, ℕ, zero, suc, length, drop, get_or, replicate}
 use Rattle.std.proofs.Common.{sym, subst, arith}
 use mathlib.Core.List.{[], ◌∷◌, reverse, reverse-reverse}
-use Rattle.definition.specs.Base.{if◌then◌else◌}
 use Rattle.definition.specs.Text.{Text, is_utf8, white1, white2, white3, front_width, back_width, strip, trim_front, trim_back, trim}
 use Rattle.laws.specs.Each.{each_replicate}
 use Rattle.laws.specs.Formats.{IsText}

@@ -1,9 +1,9 @@
 -- Which trees are read, and what reading answers then: a tree that passes the five tests is given as its model wherever there is room, and is refused with 9
 -- only where there is none; any other is refused with its own number. Assumes nothing.
-use Rattle.std.specs.Prelude.{◌≡◌, refl, ◌↔◌, Bool, true, false, not, List, [], ℕ, ◌≤◌, ◌<◌, leb, ltb, length}
+use Rattle.std.specs.Prelude.{if◌then◌else◌, ◌≡◌, refl, ◌↔◌, Bool, true, false, not, List, [], ℕ, ◌≤◌, ◌<◌, leb, ltb, length}
 use Rattle.std.proofs.Common.{sym, ap, true≢false, arith, ltb-false, le-ltb, lt-ltb, le-leb}
 use Rattle.std.proofs.lemmas.Bool.{lt-leb}
-use Rattle.definition.specs.Base.{if◌then◌else◌, every?, some?}
+use Rattle.definition.specs.Base.{every?, some?}
 use Rattle.definition.specs.Text.{Text}
 use Rattle.definition.specs.Tree.{records, layout, below_root}
 use Rattle.definition.specs.Read.{model_of}

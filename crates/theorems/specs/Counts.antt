@@ -1,6 +1,6 @@
 -- How many elements stand below an element: those of two and of four levels down are no more, and those below the root no more than the records.
 -- Assumes nothing.
-use Rattle.std.specs.Prelude.{◌≡◌, Bool, not, take}
+use Rattle.std.specs.Prelude.{if◌then◌else◌, ◌≡◌, Bool, not, take}
 use Rattle.std.proofs.Math.Path.{refl, ap}
 use Rattle.std.proofs.Common.{◌∙◌}
 use Rattle.std.proofs.Math.Bool.{true, false}
@@ -13,7 +13,7 @@ use Rattle.std.proofs.Math.Numerals.{add-one}
 use borrow.Author.Tests.{lt-ltb, le-ltb, eq-eqb, ne_eqb}
 use Rattle.std.proofs.Math.ListN.{length, length-append}
 use Rattle.std.proofs.lemmas.List.{length-map}
-use Rattle.definition.specs.Base.{if◌then◌else◌, given, keep, numbered, same}
+use Rattle.definition.specs.Base.{given, keep, numbered, same}
 use Rattle.definition.specs.Ascii.{bytes}
 use Rattle.definition.specs.Text.{Text}
 use Rattle.definition.specs.Tree.{Rec, Forest, nothing, one, Element, elements, level, element, all, child, all_in}

@@ -1,11 +1,11 @@
 -- The fourth count of a project: how many kept tasks have a duration that was not whole minutes, by the sum of its figures. Assumes nothing.
-use Rattle.std.specs.Prelude.{◌≡◌, Bool, ◌≤◌, T, length, Float}
+use Rattle.std.specs.Prelude.{if◌then◌else◌, ◌≡◌, Bool, ◌≤◌, T, length, Float}
 use Rattle.std.proofs.Math.Path.{refl, ap}
 use Rattle.std.proofs.Common.{sym, subst, arith}
 use Rattle.std.proofs.Math.Bool.{true, false, not}
 use Rattle.std.proofs.Math.Option.{Option, some, none}
 use Rattle.std.specs.Float.Ieee.{le}
-use Rattle.definition.specs.Base.{if◌then◌else◌, ◌>>=◌, keep, when}
+use Rattle.definition.specs.Base.{◌>>=◌, keep, when}
 use Rattle.definition.specs.Text.{Text, trim}
 use Rattle.definition.specs.Number.{Reading, absent, long, value, float, half_away, found}
 use Rattle.definition.specs.Duration.{◌then◌, figures_of, total_of, most_minutes, duration_at, duration_from, duration_of}

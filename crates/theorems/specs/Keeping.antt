@@ -1,5 +1,5 @@
 -- The model of any element keeps the check's list, so what reading gives passes the check. Assumes nothing.
-use Rattle.std.specs.Prelude.{◌≡◌, Bool, false, ◌&&◌, ◌||◌, not, eqb}
+use Rattle.std.specs.Prelude.{if◌then◌else◌, ◌≡◌, Bool, false, ◌&&◌, ◌||◌, not, eqb}
 use Rattle.std.proofs.Math.Path.{refl}
 use Rattle.std.proofs.Common.{sym, ap, ◌∙◌, arith}
 use Rattle.std.proofs.Math.Bool.{true, or-true}
@@ -9,7 +9,7 @@ use Prim.Native.Nat.{ℕ, suc, ◌+◌, ◌<◌}
 use borrow.Author.Tests.{lt-ltb, eqb-true}
 use Rattle.std.proofs.Math.Dec.{ltb}
 use Rattle.std.proofs.Math.ListN.{length}
-use Rattle.definition.specs.Base.{if◌then◌else◌, ◌>>=◌, when, keep, some?, numbered, same}
+use Rattle.definition.specs.Base.{◌>>=◌, when, keep, some?, numbered, same}
 use Rattle.definition.specs.Ascii.{bytes}
 use Rattle.definition.specs.Text.{Text}
 use Rattle.definition.specs.Tree.{Element}

@@ -1,5 +1,5 @@
 -- Laws of the definitions of texts, of number texts and of the pieces of a duration. Assumes nothing.
-use Rattle.std.specs.Prelude.{◌≡◌, refl, Bool, true, false, ◌||◌, [], ◌∷◌, ◌++◌, reverse, ℕ, zero, suc, ◌+◌, ◌-◌, ◌*◌, ◌/◌, ◌%◌, ◌^◌, ◌≤◌, ◌<◌, leb, ltb, eqb, length, get_or}
+use Rattle.std.specs.Prelude.{if◌then◌else◌, ◌≡◌, refl, Bool, true, false, ◌||◌, [], ◌∷◌, ◌++◌, reverse, ℕ, zero, suc, ◌+◌, ◌-◌, ◌*◌, ◌/◌, ◌%◌, ◌^◌, ◌≤◌, ◌<◌, leb, ltb, eqb, length, get_or}
 use Rattle.std.proofs.Common.{sym, ap, ◌∙◌, append-nil, append_assoc, mul-one, pow-suc, div-lt_iff_lt-mul, arith, leb-true, ltb-true, eqb-true, le-leb, lt-ltb, ne_eqb}
 use Rattle.std.proofs.Math.Bool.{and-false}
 use Rattle.std.proofs.lemmas.List.{reverse-append, reverse-reverse}
@@ -7,7 +7,7 @@ use Rattle.std.proofs.Math.Option.{Option, some, none}
 use Rattle.std.proofs.lemmas.Bool.{lt-leb}
 use Rattle.std.specs.Float.Ieee.{round}
 use Rattle.std.specs.Float.{binary64}
-use Rattle.definition.specs.Base.{if◌then◌else◌, ◌>>=◌}
+use Rattle.definition.specs.Base.{◌>>=◌}
 use Rattle.definition.specs.Text.{Text, white1, front_width, back_width, strip, trim_front, trim_back, trim, before, after, is_digit, digits_after, digits, bare, sign_of, unsigned_of}
 use Rattle.definition.specs.Number.{long, value, is_dot, is_e, decimal_of, most_digits, short?, nearest, number_of, float, zero_float}
 use Rattle.definition.specs.Duration.{is_unit, set_unit, piece_of, ◌then◌, time_figures, decimal_up, decimal}

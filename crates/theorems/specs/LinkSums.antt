@@ -1,13 +1,13 @@
 -- What becomes of the link elements: each is kept, dangling or across; the kept ones are the links in order, the others are counted, and together
 -- they are all. Assumes nothing.
-use Rattle.std.specs.Prelude.{◌≡◌, Bool, true}
+use Rattle.std.specs.Prelude.{if◌then◌else◌, ◌≡◌, Bool, true}
 use Rattle.std.proofs.Math.Path.{refl, ap}
 use Rattle.std.proofs.Math.Bool.{false}
 use mathlib.Core.List.{List, [], ◌∷◌, map, flat_map, map-map, map-append}
 use Prim.Native.Nat.{ℕ, zero, suc, ◌+◌}
 use native.Mathlib.Omega.{arith}
 use Rattle.std.proofs.Math.ListN.{length}
-use Rattle.definition.specs.Base.{if◌then◌else◌, keep}
+use Rattle.definition.specs.Base.{keep}
 use Rattle.definition.specs.Tree.{Element}
 use Rattle.definition.specs.Field.{text_in}
 use Rattle.definition.specs.Model.{Link}

@@ -1,5 +1,5 @@
 -- The outline of a model that was read gives the activities in their order, each one level below its parent. Assumes nothing.
-use Rattle.std.specs.Prelude.{◌≡◌, refl, Bool, true, false, length, get_or}
+use Rattle.std.specs.Prelude.{if◌then◌else◌, ◌≡◌, refl, Bool, true, false, length, get_or}
 use Rattle.std.proofs.Math.Path.{sym, ap}
 use Rattle.std.proofs.Common.{◌∙◌, true≢false, eqb-true, ne_eqb}
 use mathlib.Core.List.{List, [], ◌∷◌, ◌++◌, map, flat_map, append_assoc}
@@ -9,7 +9,7 @@ use native.Mathlib.Omega.{arith}
 use Rattle.std.proofs.Math.Decide.{dec_lt}
 use Rattle.std.proofs.Math.ListN.{get_elem?}
 use Rattle.std.proofs.lemmas.List.{length-map}
-use Rattle.definition.specs.Base.{if◌then◌else◌, keep, count}
+use Rattle.definition.specs.Base.{keep, count}
 use Rattle.definition.specs.Tree.{Element}
 use Rattle.definition.specs.Model.{Activity}
 use Rattle.definition.specs.Format.{bit}

@@ -1,11 +1,11 @@
 -- Texts in UTF-8 stay so: trimmed, with stars behind; and plain texts are. So what the definition makes of a tree whose texts are in UTF-8 has
 -- only such texts. Assumes nothing.
-use Rattle.std.specs.Prelude.{◌≡◌, refl, Bool, true, false, ◌&&◌, ◌||◌, ℕ, zero, suc, ◌≤◌, ◌<◌, leb, eqb, drop, get_or}
+use Rattle.std.specs.Prelude.{if◌then◌else◌, ◌≡◌, refl, Bool, true, false, ◌&&◌, ◌||◌, ℕ, zero, suc, ◌≤◌, ◌<◌, leb, eqb, drop, get_or}
 use Rattle.std.proofs.Common.{sym, ap, ◌∙◌, subst, true≢false, arith, le-leb, eqb-true, ne_eqb}
 use mathlib.Core.List.{List, [], ◌∷◌, ◌++◌, reverse, reverse-cons, append_assoc}
 use Rattle.std.proofs.Math.Option.{Option, some, none}
 use Rattle.std.proofs.lemmas.Bool.{lt-leb}
-use Rattle.definition.specs.Base.{if◌then◌else◌, when, within, every?}
+use Rattle.definition.specs.Base.{when, within, every?}
 use Rattle.definition.specs.Text.{Text, tail_byte, following, utf8_after, is_utf8, white1, white2, white3, front_width, strip}
 use Rattle.definition.specs.Tree.{Rec, records, Forest, Element, element}
 use Rattle.definition.specs.Refusal.{utf8?}

@@ -1,4 +1,5 @@
 -- The walk over a project's children: what is noted so far, and what is left. Assumes nothing.
+use Rattle.std.specs.Prelude.{if◌then◌else◌}
 use Prim.Native.Nat.{ℕ, ◌+◌, ◌<◌}
 use native.Mathlib.Omega.{arith}
 use mathlib.Core.Path.{◌≡◌, refl, sym, ap, ◌∙◌, subst}
@@ -8,7 +9,7 @@ use mathlib.Core.Option.{Option, some}
 use lib.Dec.{ltb}
 use lib.ListN.{length}
 use borrow.Author.Tests.{le-ltb, lt-ltb}
-use Rattle.definition.specs.Base.{if◌then◌else◌, first, same}
+use Rattle.definition.specs.Base.{first, same}
 use Rattle.definition.specs.Text.{Text}
 use Rattle.definition.specs.Tree.{Element, size, child}
 use Rattle.tree.specs.Place.{head_at, records_at, under, element_at, list_of}

@@ -1,7 +1,7 @@
 -- From positions in the bytes of a tree to the definition's records and elements. Assumes nothing: these are definitions.
-use Rattle.std.specs.Prelude.{ℕ, ◌≤◌, ◌<◌, ◌+◌, ◌*◌, ◌≡◌, List, [], ◌∷◌, length, get_or, drop, leb}
+use Rattle.std.specs.Prelude.{if◌then◌else◌, ℕ, ◌≤◌, ◌<◌, ◌+◌, ◌*◌, ◌≡◌, List, [], ◌∷◌, length, get_or, drop, leb}
 use Rattle.std.proofs.Math.Option.{Option, some, none}
-use Rattle.definition.specs.Base.{if◌then◌else◌, keep, same}
+use Rattle.definition.specs.Base.{keep, same}
 use Rattle.definition.specs.Text.{Text}
 use Rattle.definition.specs.Tree.{Rec, head_bytes, record_of, records, layout, Forest, nothing, Element, elements, level, element}
 use Rattle.tree.specs.declared.Head.{Head}

@@ -1,11 +1,11 @@
 -- The parts of a project by where they stand. Assumes nothing.
-use Rattle.std.specs.Prelude.{ℕ, ◌≡◌, Bool, [], length, drop}
+use Rattle.std.specs.Prelude.{if◌then◌else◌, ℕ, ◌≡◌, Bool, [], length, drop}
 use Rattle.std.proofs.Math.Path.{refl}
 use Rattle.std.proofs.Common.{◌∙◌, ltb-false, drop_of_length-le}
 use Rattle.std.proofs.Math.Bool.{true, false}
 use Rattle.std.proofs.Math.Option.{Option, some, none}
 use Rattle.std.proofs.Math.Dec.{ltb}
-use Rattle.definition.specs.Base.{if◌then◌else◌, ◌>>=◌, keep, first, same}
+use Rattle.definition.specs.Base.{◌>>=◌, keep, first, same}
 use Rattle.definition.specs.Ascii.{bytes}
 use Rattle.definition.specs.Text.{Text, trim, trim_front, trim_back, strip}
 use Rattle.definition.specs.Tree.{records_up_to, records, Element, Forest, nothing, one, elements, element, all, all_in, child, non_empty, text_of}

@@ -1,8 +1,9 @@
+use Rattle.std.specs.Prelude.{if◌then◌else◌}
 use mathlib.Core.Path.{◌≡◌, ap, ◌∙◌}
 use mathlib.Core.Bool.{Bool, true, false}
 use Prim.Native.Nat.{ℕ}
 use lib.Dec.{eqb}
-use Rattle.definition.specs.Base.{if◌then◌else◌, given}
+use Rattle.definition.specs.Base.{given}
 use Rattle.definition.specs.Pack.{decode}
 use Rattle.probe.specs.Answer.{one}
 use Rattle.probe.proofs.probe_model.Goals as goal

@@ -1,4 +1,4 @@
-use Rattle.std.proofs.Common.{ℕ, ◌-◌, ◌%◌, ◌^◌, ap, arith, rules}
+use Rattle.std.proofs.Common.{ℕ, ◌%◌, ◌^◌, ap, arith, rules}
 use Rattle.tree.specs.Answer.{found_list, none_list, found_on}
 use Rattle.calendar.specs.Skipped.{without_rule, one_if}
 use Rattle.calendar.proofs.Counts.{first_sum, next_sum, last_sum, without_more, without_none}

@@ -1,4 +1,4 @@
-use Rattle.std.proofs.Common.{ℕ, ◌-◌, ◌%◌, ◌^◌, ap, ◌∙◌, arith, rules}
+use Rattle.std.proofs.Common.{ℕ, ◌%◌, ◌^◌, ap, ◌∙◌, arith, rules}
 use native.Mathlib.Nat.{mod-mod}
 use Rattle.definition.specs.Calendar.{recurring}
 use Rattle.tree.specs.Answer.{found_list, none_list, found_on}

@@ -1,4 +1,4 @@
-use Rattle.std.proofs.Common.{◌-◌, refl, arith, rules}
+use Rattle.std.proofs.Common.{refl, arith, rules}
 use Rattle.tree.specs.Answer.{found_list, none_list, found_on}
 use Rattle.calendar.proofs.Weeks.{day_next, day_last}
 use Rattle.calendar.proofs.week.week_from.Goals as goal

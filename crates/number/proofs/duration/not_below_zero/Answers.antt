@@ -1,6 +1,6 @@
+use Rattle.std.specs.Prelude.{if◌then◌else◌}
 use Rattle.std.proofs.Common.{Bool, sym, ap, ◌∙◌}
 use lib.Ieee.{of_bits}
-use Rattle.definition.specs.Base.{if◌then◌else◌}
 use Rattle.definition.specs.Number.{value, absent}
 use Rattle.definition.specs.Duration.{not_below_zero}
 use Rattle.number.specs.Number.{meaning}

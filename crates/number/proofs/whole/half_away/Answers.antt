@@ -1,7 +1,7 @@
+use Rattle.std.specs.Prelude.{if◌then◌else◌}
 use Rattle.std.proofs.Common.{◌≡◌, ℕ, ◌+◌, ◌/◌, Bool, true, ◌&&◌, T, sym, ap, ◌∙◌, subst}
 use lib.Ieee.{Float, le, of_bits, fits, binary64}
 use denote.Floats.{passes}
-use Rattle.definition.specs.Base.{if◌then◌else◌}
 use Rattle.definition.specs.Number.{half_away, zero_float}
 use Rattle.number.proofs.Doubled.{cap, halved, Halved}
 use Rattle.number.proofs.Rounded.{half_is}

@@ -1,5 +1,4 @@
 use Rattle.std.proofs.Common.{sym, ◌∙◌, arith, rules}
-use Rattle.definition.specs.Task.{is_kept}
 use Rattle.rows.specs.Turns.{ahead_less}
 use Rattle.rows.proofs.Walking.{tasks_all, tasks_later, kept_none, kept_out, kept_here}
 use Rattle.rows.proofs.kept.kept_from.Goals as goal
