@@ -3,7 +3,7 @@
 // kind says what its body holds. Kinds 0 to 10 are texts, 11 a tree, 12 a rule, 13 a model, 14 a field of bits.
 #![tactic(auto)]
 
-mod fields;
+mod bit_fields;
 mod floats;
 mod models;
 mod parts;
@@ -62,7 +62,7 @@ fn agrees(kind: u8, body: &[u8]) -> bool {
         11 => trees::agrees(body),
         12 => rules::agrees(body),
         13 => models::agrees(body),
-        14 => fields::agrees(body),
+        14 => bit_fields::agrees(body),
         _ => texts::agrees(kind, body),
     }
 }
