@@ -1,5 +1,5 @@
 """Fields of bits with the bytes that they leave where ones stood: every width at two bits, document 01's widths at every bit. The form of a body stands
-in crates/samples/src/fields.rt."""
+in crates/samples/src/bit_fields.rt."""
 import random
 import struct
 
