@@ -1,5 +1,6 @@
 -- `outline::link` meets its contract. One return for each kind of parent. Assumes nothing.
 use mathlib.Core.Option.{some, none}
+use borrow.Author.Rules.{rules}
 use Rattle.outline.proofs.ParentLaws.{parent_far, parent_self, parent_is}
 use Rattle.outline.proofs.Lists.{link_by_lem}
 use Rattle.outline.proofs.link.Goals as goal
@@ -17,4 +18,4 @@ returns-then-p-i c =
 pub returns : goal.returns
 returns c =
     let a = c.args in
-    link_by_lem a.n a.i a.work.now (some c.field-p.result) c.field-p.ensures (parent_is a.n a.i c.field-p.result c.if-n-p.false c.if-p-i.false) c.push-2.ensures
+    link_by_lem a.n a.i a.work.now (some c.field-p.result) c.field-p.ensures (parent_is a.n a.i c.field-p.result c.if-n-p.false (search rules)) c.push-2.ensures
