@@ -1,3 +1,4 @@
+pub mod Table
 pub mod Values
 pub mod Powers
 pub mod Parts
