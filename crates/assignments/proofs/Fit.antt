@@ -1,6 +1,6 @@
 -- What is made of a tree's elements fits its fields, so it is read back as it was put. Assumes nothing.
 use Rattle.std.specs.Prelude.{if◌then◌else◌}
-use Rattle.std.proofs.Common.{◌≡◌, ℕ, ◌+◌, ◌^◌, ◌<◌, ◌≤◌, Bool, true, false, not, List, [], ◌∷◌, ◌++◌, map, length, refl, arith, length-append}
+use Rattle.std.proofs.Common.{◌≡◌, ℕ, ◌+◌, ◌^◌, ◌<◌, ◌≤◌, Bool, true, false, List, [], ◌∷◌, ◌++◌, map, length, refl, arith, length-append}
 use mathlib.Core.Option.{Option, some, none}
 use lib.ListN.{length-map}
 use Rattle.definition.specs.Ascii.{bytes}

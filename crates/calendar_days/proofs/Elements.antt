@@ -4,7 +4,7 @@ use mathlib.Core.Option.{Option}
 use Rattle.definition.specs.Base.{◌or◌, given, some?}
 use Rattle.definition.specs.Ascii.{bytes}
 use Rattle.definition.specs.Text.{Text}
-use Rattle.definition.specs.Tree.{Element, all, all_in, child}
+use Rattle.definition.specs.Tree.{Element, all_in, child}
 use Rattle.definition.specs.Format.{Period}
 use Rattle.definition.specs.Calendar.{week_days, recurring, periods_of, is_empty, day_type, working_time}
 use Rattle.tree.specs.Place.{later_at, list_of, Past, Starts}

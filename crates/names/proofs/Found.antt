@@ -9,10 +9,8 @@ use lib.Dec.{leb, ltb}
 use lib.ListN.{length}
 use borrow.Author.Tests.{lt-ltb, le-ltb, le-leb, lt-leb, ltb-true, leb-true, leb-false, eq-eqb, ne_eqb}
 use Rattle.definition.specs.Base.{◌>>=◌, ◌or◌, same}
-use Rattle.definition.specs.Ascii.{bytes}
 use Rattle.definition.specs.Text.{Text, trim}
 use Rattle.definition.specs.Tree.{Element, child, non_empty, text_of}
-use Rattle.definition.specs.Model.{Calendar}
 use Rattle.definition.specs.Calendar.{calendar_elements}
 use Rattle.definition.specs.Refusal.{most_elements}
 use Rattle.definition.specs.Task.{unless_main}

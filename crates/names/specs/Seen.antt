@@ -15,7 +15,7 @@ use Rattle.definition.specs.Text.{Text}
 use Rattle.definition.specs.Bits.{Bits, bits_of, bytes_up_to}
 use Rattle.definition.specs.Format.{Format, times, whole, count as counts}
 use Rattle.laws.specs.Bits.{Bytes, bits_append, bits_drop, bytes_bits, length_bytes}
-use Rattle.laws.specs.Each.{next, each_take, each_drop}
+use Rattle.laws.specs.Each.{each_take, each_drop}
 use Rattle.laws.specs.Options.{never}
 pub use Rattle.laws.specs.Bits.{bytes_of_lem}
 use Rattle.bits.specs.Places.{at, past, inside, Fits, room_fits}

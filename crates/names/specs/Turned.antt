@@ -26,7 +26,7 @@ use Rattle.laws.specs.Each.{Each}
 use Rattle.laws.specs.FitRecords.{Short, FitsCalendarBy}
 use Rattle.laws.specs.FitNames.{free_shape, names_in, calendars_in, added_to, build_next, keep_both, calendars_turned}
 use Rattle.laws.proofs.FitNames.{built_distinct}
-use Rattle.bits.specs.Places.{at, inside, room_fits}
+use Rattle.bits.specs.Places.{inside, room_fits}
 use Rattle.bits.specs.Steps.{Puts}
 use Rattle.bits.specs.declared.Place.{Place}
 use Rattle.model.specs.declared.records.Kind.TheVariants.{Calendars}

@@ -6,7 +6,6 @@ use Rattle.names.specs.Context.{context_at}
 use Rattle.rows.proofs.Listing.{first_tasks, next_tasks}
 use Rattle.rows.specs.Small.{small_at, small_root}
 use Rattle.rows.specs.Turns.{kept_end, kept_at, room_at}
-use Rattle.rows.specs.Walks.{room}
 use Rattle.tree.specs.Root.{root_at}
 use Rattle.activities.proofs.Ids.{row_below, row_held}
 use Rattle.activities.proofs.Loop.{written_none, written_all}

@@ -1,4 +1,3 @@
-use Prim.Native.Nat.{◌-◌}
 use Rattle.activities.specs.Climbing.{Climbing}
 use Rattle.activities.proofs.parents.climb.Given as goal
 

@@ -1,4 +1,4 @@
-use Rattle.std.proofs.Common.{◌-◌, refl, ◌∙◌, arith}
+use Rattle.std.proofs.Common.{refl, ◌∙◌, arith}
 use Rattle.tree.specs.Answer.{found_list, none_list, found_on}
 use Rattle.assignments.proofs.Assignments.{go_all, go_more, go_last}
 use Rattle.assignments.proofs.assignment.put_from.Goals as goal

@@ -1,4 +1,4 @@
-use Rattle.std.proofs.Common.{◌-◌, arith}
+use Rattle.std.proofs.Common.{arith}
 use Rattle.tree.specs.Answer.{found_list, none_list, found_on}
 use Rattle.assignments.proofs.Writing.{count_one, count_more, count_last}
 use Rattle.assignments.proofs.expense.count_from.Goals as goal

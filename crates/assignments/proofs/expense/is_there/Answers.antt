@@ -1,4 +1,4 @@
-use Rattle.std.proofs.Common.{◌-◌, arith}
+use Rattle.std.proofs.Common.{arith}
 use Rattle.assignments.proofs.Expenses.{seeks_all, seeks_more, seeks_found, seeks_none}
 use Rattle.assignments.proofs.expense.is_there.Goals as goal
 

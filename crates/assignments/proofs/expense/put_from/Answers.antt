@@ -1,4 +1,4 @@
-use Rattle.std.proofs.Common.{◌-◌, ◌∷◌, refl, ◌∙◌, arith}
+use Rattle.std.proofs.Common.{◌∷◌, refl, ◌∙◌, arith}
 use Rattle.definition.specs.Ascii.{bytes}
 use Rattle.tree.specs.Place.{element_at, later_at}
 use Rattle.tree.specs.Answer.{found_list, none_list, found_on}

@@ -1,6 +1,5 @@
-use Rattle.std.proofs.Common.{◌-◌, arith}
+use Rattle.std.proofs.Common.{arith}
 use Rattle.tree.specs.Answer.{found_list, none_list, found_on}
-use Rattle.assignments.specs.Resources.{is_work}
 use Rattle.assignments.proofs.Work.{counted_all, counted_more, counted_last}
 use Rattle.assignments.proofs.resource.count_from.Goals as goal
 

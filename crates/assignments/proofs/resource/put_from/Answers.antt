@@ -1,4 +1,4 @@
-use Rattle.std.proofs.Common.{◌-◌, refl, ◌∙◌, arith}
+use Rattle.std.proofs.Common.{refl, ◌∙◌, arith}
 use Rattle.tree.specs.Answer.{found_list, none_list, found_on}
 use Rattle.names.specs.Seen.{bytes_of_lem}
 use Rattle.assignments.proofs.Work.{go_all, go_more, go_last}

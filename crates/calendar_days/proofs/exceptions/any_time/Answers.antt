@@ -1,4 +1,4 @@
-use Rattle.std.proofs.Common.{◌-◌, sym, refl, ap, ◌∙◌, arith}
+use Rattle.std.proofs.Common.{sym, refl, ap, ◌∙◌, arith}
 use Rattle.definition.specs.Base.{some?}
 use Rattle.tree.specs.Answer.{found_list, none_list, found_on}
 use Rattle.calendar_days.specs.Exceptions.{is_time}

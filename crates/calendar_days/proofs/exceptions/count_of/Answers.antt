@@ -1,4 +1,4 @@
-use Rattle.std.proofs.Common.{◌-◌, arith}
+use Rattle.std.proofs.Common.{arith}
 use Rattle.calendar_days.proofs.Elements.{count_none, count_end, count_less, count_within, count_more}
 use Rattle.calendar_days.proofs.exceptions.count_of.Goals as goal
 

@@ -1,4 +1,4 @@
-use Rattle.std.proofs.Common.{◌-◌, arith}
+use Rattle.std.proofs.Common.{arith}
 use Rattle.tree.specs.Place.{element_at}
 use Rattle.calendar_days.specs.Exceptions.{items_of}
 use Rattle.calendar_days.proofs.Elements.{nth_more, nth_end}

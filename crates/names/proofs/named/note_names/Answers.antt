@@ -1,5 +1,4 @@
 use native.Mathlib.Omega.{arith}
-use Prim.Native.Nat.{◌-◌}
 use mathlib.Core.Path.{◌≡◌}
 use Rattle.names.proofs.Wording.{naming_begin, naming_turn}
 use Rattle.names.proofs.named.note_names.Goals as goal

@@ -1,5 +1,5 @@
 use mathlib.Core.Path.{sym, ap, ◌∙◌}
-use Prim.Native.Nat.{ℕ, ◌-◌}
+use Prim.Native.Nat.{ℕ}
 use Rattle.definition.specs.Calendar.{starred}
 use Rattle.names.specs.Texts.{texts_at}
 use Rattle.names.specs.Stars.{tried_none, tried_more, tried_free, tried_all}

@@ -1,6 +1,6 @@
 use mathlib.Core.Path.{◌≡◌}
 use mathlib.Core.Bool.{false}
-use Prim.Native.Nat.{◌+◌, ◌-◌}
+use Prim.Native.Nat.{◌+◌}
 use Rattle.bits.specs.Reads.{far}
 use Rattle.model.specs.Passes.{pass_no, pass_more, pass_cut}
 use Rattle.model.specs.Parts.{record_of}

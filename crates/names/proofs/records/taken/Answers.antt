@@ -1,5 +1,4 @@
 use mathlib.Core.Bool.{false}
-use Prim.Native.Nat.{◌-◌}
 use Rattle.definition.specs.Base.{same}
 use Rattle.model.specs.Passes.{pass_no, pass_more}
 use Rattle.model.specs.Parts.{record_of}

@@ -1,5 +1,4 @@
 use mathlib.Core.Path.{sym, ◌∙◌}
-use Prim.Native.Nat.{◌-◌}
 use Rattle.names.proofs.Starred.{other_lengths, other_byte, same_byte, all_bytes}
 use native.Mathlib.Omega.{arith}
 use Rattle.names.proofs.stars.same_starred.Goals as goal

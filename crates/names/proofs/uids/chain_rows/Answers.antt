@@ -1,5 +1,4 @@
 use native.Mathlib.Omega.{arith}
-use Prim.Native.Nat.{◌-◌}
 use mathlib.Core.Path.{◌≡◌, ◌∙◌}
 use Rattle.names.proofs.Placing.{chained_none, chained_all, chained_more}
 use Rattle.names.proofs.uids.chain_rows.Goals as goal
