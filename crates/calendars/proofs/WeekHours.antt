@@ -8,7 +8,7 @@ use Rattle.definition.specs.Base.{◌>>=◌, ◌or◌, ◌or_else◌, when, find
 use Rattle.definition.specs.Bits.{Bits, enc, dec}
 use Rattle.definition.specs.Ascii.{bytes}
 use Rattle.definition.specs.Text.{Text}
-use Rattle.definition.specs.Format.{Period, count, ◌⊗◌, field, via, flag, bit, times, put_all, text, periods}
+use Rattle.definition.specs.Format.{Period, count, field, via, flag, bit, times, put_all, text, periods}
 use Rattle.definition.specs.Model.{Calendar}
 use Rattle.definition.specs.Field.{text_in, yes_in}
 use Rattle.definition.specs.Tree.{Element}

@@ -1,6 +1,6 @@
 -- One calendar over its base, part by part. Assumes nothing.
 use Rattle.std.specs.Prelude.{if◌then◌else◌, ◌≡◌, ℕ, ◌<◌, ◌≤◌, Bool, true, false, List, [], length, get_or, ◌==◌, slice_index_or}
-use Rattle.std.proofs.Math.Option.{Option, some, none}
+use Rattle.std.proofs.Math.Option.{Option, some}
 use Rattle.definition.specs.Base.{◌>>=◌, ◌or◌}
 use Rattle.definition.specs.Tree.{Element}
 use Rattle.definition.specs.Field.{yes_in}

@@ -17,11 +17,11 @@ use Rattle.definition.specs.Link.{links, entered}
 use Rattle.definition.specs.Resource.{work_resources, resources, assignments, expenses}
 use Rattle.definition.specs.Refusal.{most_elements}
 use Rattle.definition.specs.Read.{project_of, calendars_of, model_of}
-use Rattle.laws.specs.Each.{Each, next}
+use Rattle.laws.specs.Each.{Each}
 use Rattle.laws.specs.FitRecords.{Short, FitsCalendarBy}
 use Rattle.laws.specs.FitTrees.{slim_texts}
 use Rattle.laws.proofs.FitCalendars.{fit_calendars}
-use Rattle.laws.specs.Buf.{full, ◌▷◌, ▷-full}
+use Rattle.laws.specs.Buf.{full, ▷-full}
 use Rattle.laws.specs.Formats.{Fills, fills_whole, fills_pair}
 use Rattle.laws.specs.Bits.{bytes_of_lem}
 use Rattle.laws.specs.Bools.{differ}
@@ -34,7 +34,6 @@ use Rattle.bits.specs.Steps.{Puts, ◌⨾◌, said, refuses, view, view_out, put
 use Rattle.bits.specs.declared.Place.{Place}
 use Rattle.pack.specs.Writes.{Writes, WritesIf}
 use Rattle.pack.specs.declared.record.Records.{Records}
-use Rattle.pack.specs.declared.record.Counts as P
 use Rattle.assignments.specs.Section.{WritesIn}
 use Rattle.names.specs.Context.{context_at, calendars_before}
 use Rattle.names.specs.Carried.{context_carried, before_carried}

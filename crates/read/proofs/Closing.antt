@@ -1,20 +1,18 @@
 -- Counts laid over zeros, one after another. Assumes nothing.
 use mathlib.Core.Path.{◌≡◌, refl, sym, ap, ◌∙◌}
 use mathlib.Core.List.{List, [], ◌++◌, append_assoc}
-use Prim.Native.Nat.{ℕ, ◌+◌, ◌*◌, ◌<◌}
+use Prim.Native.Nat.{ℕ, ◌+◌, ◌<◌}
 use native.Mathlib.Omega.{arith}
 use lib.ListN.{length, length-append}
 use Rattle.definition.specs.Bits.{Bits, enc, bits_of}
 use Rattle.definition.specs.Format.{field, ◌⊗◌}
-use Rattle.definition.specs.Pack.{counts}
 use Rattle.laws.specs.Bits.{length_bits, length_enc}
 use Rattle.bits.specs.Over.{over, over_mid}
 use Rattle.bits.specs.Places.{at, place, Fits, fits_room, at_place}
 use Rattle.bits.specs.Steps.{Laid, laid_in}
 use Rattle.bits.specs.declared.Place.{Place}
-use Rattle.pack.specs.Record.{counts_by}
 use Rattle.pack.specs.declared.record.Counts as P
-use Rattle.read.specs.Sections.{start, zeros, Closes}
+use Rattle.read.specs.Sections.{start, Closes}
 
 -- a place, and the bits before it and from it on
 record Over (d : List ℕ) (p : Place) (a c : Bits) : Type 0 where

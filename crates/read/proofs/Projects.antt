@@ -8,7 +8,7 @@ use Prim.Native.String.{String}
 use native.Mathlib.Omega.{arith}
 use lib.IntN.{ℤ, pos}
 use lib.ListN.{length}
-use Rattle.definition.specs.Base.{◌>>=◌, ◌or◌, ◌or_else◌, keep, given as present}
+use Rattle.definition.specs.Base.{◌>>=◌, ◌or◌, ◌or_else◌, given as present}
 use Rattle.definition.specs.Bits.{Bits, pad}
 use Rattle.definition.specs.Text.{Text}
 use Rattle.definition.specs.Date.{Date, date_of, epoch, from_days}
@@ -18,8 +18,6 @@ use Rattle.definition.specs.Format.{Format, field, via, ◌⊗◌, whole}
 use Rattle.definition.specs.Model.{Project}
 use Rattle.definition.specs.Pack.{project}
 use Rattle.definition.specs.Task.{context_of}
-use Rattle.definition.specs.Link.{fates, is_dangling, is_across}
-use Rattle.definition.specs.Calendar.{skipped}
 use Rattle.definition.specs.Read.{project_of}
 use Rattle.definition.specs.Answer.{date_meaning, day_number_of}
 use Rattle.definition.specs.declared.DateAnswer.{DateAnswer}

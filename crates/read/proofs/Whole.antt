@@ -3,7 +3,7 @@ use Rattle.std.specs.Prelude.{if◌then◌else◌}
 use mathlib.Core.Path.{◌≡◌, refl, sym, ap, ◌∙◌, subst}
 use mathlib.Core.Bool.{Bool, true, false, not}
 use mathlib.Core.List.{List, ◌++◌, append_assoc}
-use Prim.Native.Nat.{ℕ, ◌+◌, ◌-◌, ◌*◌, ◌/◌, ◌%◌, ◌≤◌, ◌<◌}
+use Prim.Native.Nat.{ℕ, ◌+◌, ◌*◌, ◌/◌, ◌%◌, ◌≤◌, ◌<◌}
 use native.Mathlib.Omega.{arith}
 use borrow.Author.Tests.{le-leb, lt-leb, lt-ltb, ltb-false}
 use lib.Dec.{ltb}
@@ -19,7 +19,7 @@ use Rattle.definition.specs.Pack.{Counts, counts, counts_of, Body, body, body_of
 use Rattle.definition.specs.Read.{model_of}
 use Rattle.definition.specs.Refusal.{Answer, refused, gives, in_room, most_elements, utf8?, project?, too_long, tree_refusal, read_answer}
 use Rattle.laws.specs.Bits.{length_enc, enc_low, length_bytes, whole_bytes, bits_take, bytes_of_lem}
-use Rattle.laws.specs.Each.{next, each_take}
+use Rattle.laws.specs.Each.{each_take}
 use Rattle.laws.specs.FitTrees.{calendars_most, resources_most}
 use Rattle.laws.specs.Formats.{Fills, fills_whole, fills_pair, fills_times}
 use Rattle.laws.specs.Buf.{◌▷◌, size_of}

@@ -1,4 +1,4 @@
-use Rattle.std.proofs.Common.{◌-◌, arith}
+use Rattle.std.proofs.Common.{arith}
 use Rattle.tree.specs.Place.{element_at}
 use Rattle.tree.specs.Answer.{found_list, none_list, found_on}
 use Rattle.rows.specs.Rows.{found_meaning}

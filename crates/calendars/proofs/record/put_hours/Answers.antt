@@ -1,4 +1,4 @@
-use Rattle.std.proofs.Common.{◌-◌, refl, ◌∙◌, arith}
+use Rattle.std.proofs.Common.{refl, ◌∙◌, arith}
 use Rattle.definition.specs.Calendar.{week_days}
 use Rattle.tree.specs.Place.{element_at}
 use Rattle.calendars.proofs.WeekHours.{hours_none, hours_more, hours_all}
