@@ -118,8 +118,7 @@ fn fields_of(a: RuleAnswer) -> Fields
 }
 
 // The rule of a tree whose root is an Exception; zeros where there is none.
-#[unsafe(no_mangle)]
-pub extern "C" fn probe_rule(
+pub fn probe_rule(
     s: &[u8],
     kind: &mut u32,
     from: &mut u32,
@@ -208,8 +207,7 @@ fn step(
 }
 
 // The next day of a rule: 0 with the day and what is to come, 1 where no day is left, 2 where it is no rule.
-#[unsafe(no_mangle)]
-pub extern "C" fn probe_next(
+pub fn probe_next(
     kind: u32,
     from: u32,
     last: u32,
@@ -253,8 +251,7 @@ fn run_of(a: RangeAnswer) -> Run
 }
 
 // The days of a tree whose root is a WeekDay: the first, and how many.
-#[unsafe(no_mangle)]
-pub extern "C" fn probe_week_day(s: &[u8], first: &mut u32, count: &mut u32)
+pub fn probe_week_day(s: &[u8], first: &mut u32, count: &mut u32)
     ensures { record { first = first.exit.now; count = count.new } ≡ run_of (range_by (days_of (element_at s.now 0))) }
 {
     let r = run_of(recurrence::days_of(s, 0));

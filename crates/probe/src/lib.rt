@@ -1,4 +1,4 @@
-// Leaves that the boundary does not export, exported for compare/ alone: each beside the Rust, on the same texts. The answer of a leaf is 0 where
+// Leaves that the boundary does not export, for compare/ alone, to which probe_c exports them: each beside the Rust, on the same texts. The answer of a leaf is 0 where
 // there is a value, which `out` then holds, 1 where there is none and 2 where document 01 refuses a number as too long, with 0 in `out`. A duration has two
 // values, its minutes and 1 where the sum was whole.
 #![tactic(auto)]
@@ -105,36 +105,31 @@ fn put_i32(a: I32Answer, out: &mut i32) -> u32
     }
 }
 
-#[unsafe(no_mangle)]
-pub extern "C" fn probe_u64(s: &[u8], out: &mut u64) -> u32
+pub fn probe_u64(s: &[u8], out: &mut u64) -> u32
     ensures { Whole (unsigned_of 64 s.now) result out.new }
 {
     put_u64(text::u64_of(s), out)
 }
 
-#[unsafe(no_mangle)]
-pub extern "C" fn probe_u32(s: &[u8], out: &mut u32) -> u32
+pub fn probe_u32(s: &[u8], out: &mut u32) -> u32
     ensures { Whole (unsigned_of 32 s.now) result out.new }
 {
     put_u32(text::u32_of(s), out)
 }
 
-#[unsafe(no_mangle)]
-pub extern "C" fn probe_u16(s: &[u8], out: &mut u16) -> u32
+pub fn probe_u16(s: &[u8], out: &mut u16) -> u32
     ensures { Whole (unsigned_of 16 s.now) result out.new }
 {
     put_u16(text::u16_of(s), out)
 }
 
-#[unsafe(no_mangle)]
-pub extern "C" fn probe_i64(s: &[u8], out: &mut i64) -> u32
+pub fn probe_i64(s: &[u8], out: &mut i64) -> u32
     ensures { Signed (signed_of 64 s.now) result out.new }
 {
     put_i64(text::i64_of(s), out)
 }
 
-#[unsafe(no_mangle)]
-pub extern "C" fn probe_i32(s: &[u8], out: &mut i32) -> u32
+pub fn probe_i32(s: &[u8], out: &mut i32) -> u32
     ensures { Signed (signed_of 32 s.now) result out.new }
 {
     put_i32(text::i32_of(s), out)
@@ -143,23 +138,20 @@ pub extern "C" fn probe_i32(s: &[u8], out: &mut i32) -> u32
 // ---- texts
 
 // How long the trimmed text is.
-#[unsafe(no_mangle)]
-pub extern "C" fn probe_trim(s: &[u8]) -> usize
+pub fn probe_trim(s: &[u8]) -> usize
     ensures { result ≡ length (trim s.now) }
 {
     text::trim(s).len()
 }
 
 // Whether the trimmed text is t.
-#[unsafe(no_mangle)]
-pub extern "C" fn probe_trimmed(s: &[u8], t: &[u8]) -> u32
+pub fn probe_trimmed(s: &[u8], t: &[u8]) -> u32
     ensures { result ≡ one (same (trim s.now) t.now) }
 {
     as_number(text::same(text::trim(s), t))
 }
 
-#[unsafe(no_mangle)]
-pub extern "C" fn probe_utf8(s: &[u8]) -> u32
+pub fn probe_utf8(s: &[u8]) -> u32
     ensures { result ≡ one (is_utf8 s.now) }
 {
     as_number(text::is_utf8(s))
@@ -189,8 +181,7 @@ fn put_date(a: DateAnswer, out: &mut i32) -> u32
     }
 }
 
-#[unsafe(no_mangle)]
-pub extern "C" fn probe_date(s: &[u8], out: &mut i32) -> u32
+pub fn probe_date(s: &[u8], out: &mut i32) -> u32
     ensures { Signed (day_number_of (date_of s.now)) result out.new }
 {
     put_date(date::date_of(s), out)
@@ -254,22 +245,19 @@ fn put_number(a: NumberAnswer, out: &mut f64) -> u32
     }
 }
 
-#[unsafe(no_mangle)]
-pub extern "C" fn probe_time(s: &[u8], out: &mut u16) -> u32
+pub fn probe_time(s: &[u8], out: &mut u16) -> u32
     ensures { Whole (time_of s.now) result out.new }
 {
     put_time(number::time_of(s), out)
 }
 
-#[unsafe(no_mangle)]
-pub extern "C" fn probe_duration(s: &[u8], minutes: &mut u32, whole: &mut u32) -> u32
+pub fn probe_duration(s: &[u8], minutes: &mut u32, whole: &mut u32) -> u32
     ensures { Minutes (duration_of s.now) result minutes.new whole.new }
 {
     put_duration(number::duration_of(s), minutes, whole)
 }
 
-#[unsafe(no_mangle)]
-pub extern "C" fn probe_number(s: &[u8], out: &mut f64) -> u32
+pub fn probe_number(s: &[u8], out: &mut f64) -> u32
     ensures { Number (number_text s.now) result out.new }
 {
     put_number(number::number_of(s), out)
@@ -278,8 +266,7 @@ pub extern "C" fn probe_number(s: &[u8], out: &mut f64) -> u32
 // ---- trees
 
 // The refusal of a tree, 0 for none.
-#[unsafe(no_mangle)]
-pub extern "C" fn probe_tree(s: &[u8]) -> u32
+pub fn probe_tree(s: &[u8]) -> u32
     ensures { result ≡ tree_refusal s.now }
 {
     tree::judge(s)
@@ -298,8 +285,7 @@ fn is_open(m: Opened) -> bool
 }
 
 // Whether a model decodes.
-#[unsafe(no_mangle)]
-pub extern "C" fn probe_model(s: &[u8]) -> u32
+pub fn probe_model(s: &[u8]) -> u32
     ensures { result ≡ one (given (decode s.now)) }
 {
     let m = model::open(s);
