@@ -4,7 +4,7 @@ use Prim.Native.Nat.{ℕ}
 use mathlib.Core.Path.{◌≡◌, refl, sym, ap, ◌∙◌}
 use mathlib.Core.Bool.{Bool, true, false, true≢false, ◌&&◌, not}
 use mathlib.Core.List.{List, []}
-use mathlib.Core.Option.{Option, some, none}
+use Rattle.std.specs.Prelude.{Option, Some, None}
 use borrow.Author.Tests.{not-true, not-false}
 use lib.Dec.{eqb}
 use lib.ListN.{length}
@@ -43,18 +43,18 @@ use Rattle.activities.specs.Values.{day_by, names_calendar, calendar_by, calenda
 -- ---- the first of three texts that is there
 
 first_text : (a b c : Option Text) → given a ≡ true → (a or []) ≡ ((a or_else b or_else c) or [])
-first_text none b c h = absurd (true≢false (sym h))
-first_text (some t) b c h = refl
+first_text None b c h = absurd (true≢false (sym h))
+first_text (Some t) b c h = refl
 
 second_text : (a b c : Option Text) → given a ≡ false → given b ≡ true → (b or []) ≡ ((a or_else b or_else c) or [])
-second_text (some t) b c g h = absurd (true≢false g)
-second_text none none c g h = absurd (true≢false (sym h))
-second_text none (some t) c g h = refl
+second_text (Some t) b c g h = absurd (true≢false g)
+second_text None None c g h = absurd (true≢false (sym h))
+second_text None (Some t) c g h = refl
 
 third_text : (a b c : Option Text) → given a ≡ false → given b ≡ false → (c or []) ≡ ((a or_else b or_else c) or [])
-third_text (some t) b c g h = absurd (true≢false g)
-third_text none (some t) c g h = absurd (true≢false h)
-third_text none none c g h = refl
+third_text (Some t) b c g h = absurd (true≢false g)
+third_text None (Some t) c g h = absurd (true≢false h)
+third_text None None c g h = refl
 
 module _ (e : Element) (wbs : Text) (i : wbs ≡ (text_in e "WBS" or [])) where
   pub first_id : (length wbs ≡ 0 → ⊥) → wbs ≡ wanted_id e
@@ -70,14 +70,14 @@ module _ (e : Element) (wbs : Text) (i : wbs ≡ (text_in e "WBS" or [])) where
 -- ---- the calendar's name
 
 no_calendar : (o : Option Text) (f : Text → Option Text) → (given o && not (same (o or []) (bytes "-1"))) ≡ false
-    → (o >>= λ u. when (not (same u (bytes "-1"))) u >>= f) ≡ none
-no_calendar none f h = refl
-no_calendar (some u) f h = rw h
+    → (o >>= λ u. when (not (same u (bytes "-1"))) u >>= f) ≡ None
+no_calendar None f h = refl
+no_calendar (Some u) f h = rw h
 
 own_calendar : (o : Option Text) (f : Text → Option Text) → (given o && not (same (o or []) (bytes "-1"))) ≡ true
     → (o >>= λ u. when (not (same u (bytes "-1"))) u >>= f) ≡ f (o or [])
-own_calendar none f h = absurd (true≢false (sym h))
-own_calendar (some u) f h = rw h
+own_calendar None f h = absurd (true≢false (sym h))
+own_calendar (Some u) f h = rw h
 
 module _ (x : Context) (s : Text) (w : List ℕ) (k : Made) (t : Element) {e : Bool} where
   pub by_elapsed : e ≡ true → (r : CalendarName) → name_meaning elapsed_name r.name ≡ elapsed_in x w k → name_found s e r ≡ calendar_in x s w k e t
@@ -115,21 +115,21 @@ calendar_found {x} {s} {k} {w} f false t = go (text_in t "CalendarUID")
     own false u = refl
 
     go : (o : Option Text) → (o >>= λ u. when (not (same u (bytes "-1"))) u >>= named_in x s w k) ≡ (o >>= λ u. when (not (same u (bytes "-1"))) u >>= name_of x.built) >>= unless_main x
-    go none = refl
-    go (some u) = own (not (same u (bytes "-1"))) u
+    go None = refl
+    go (Some u) = own (not (same u (bytes "-1"))) u
 
 -- ---- dates
 
 -- the date of a constraint is the one that was read
 pub constraint_years : (k : ℕ) (o : Option Date) → IfGiven InYears o → IfGiven (λ (x : ℕ × Option Date). IfGiven InYears x.1) (constraint_from k o)
-constraint_years k none h = alone (eqb k 1)
+constraint_years k None h = alone (eqb k 1)
   where
-    alone : (t : Bool) → IfGiven (λ (x : ℕ × Option Date). IfGiven InYears x.1) (when t (1, none))
+    alone : (t : Bool) → IfGiven (λ (x : ℕ × Option Date). IfGiven InYears x.1) (when t (1, None))
     alone true = tt
     alone false = tt
-constraint_years k (some d) h = dated (eqb k 1) (within 2 7 k)
+constraint_years k (Some d) h = dated (eqb k 1) (within 2 7 k)
   where
-    dated : (t u : Bool) → IfGiven (λ (x : ℕ × Option Date). IfGiven InYears x.1) (if t then some (1, none) else when u (k, some d))
+    dated : (t u : Bool) → IfGiven (λ (x : ℕ × Option Date). IfGiven InYears x.1) (if t then Some (1, None) else when u (k, Some d))
     dated true u = tt
     dated false true = h
     dated false false = tt

@@ -3,7 +3,7 @@ use Prim.Native.Nat.{ℕ, suc, ◌+◌, ◌-◌, ◌*◌, ◌^◌, ◌≤◌, �
 use native.Mathlib.Omega.{arith}
 use mathlib.Core.Path.{◌≡◌, refl, sym, ap, ◌∙◌}
 use mathlib.Core.List.{List, map}
-use mathlib.Core.Option.{Option, some, none}
+use Rattle.std.specs.Prelude.{Option, Some, None}
 use lib.ListN.{length, set, take}
 use Rattle.definition.specs.Answer.{row_meaning}
 use Rattle.definition.specs.Task.{level_of, kept_tasks, parent_of}
@@ -30,10 +30,10 @@ word_some w e = by w e
     by w e = omega arith
 
 word_same : (a b : Option ℕ) → word_of a ≡ word_of b → a ≡ b
-word_same none none e = refl
-word_same none (some r) e = absurd (omega arith)
-word_same (some q) none e = absurd (omega arith)
-word_same (some q) (some r) e = ap some (omega arith)
+word_same None None e = refl
+word_same None (Some r) e = absurd (omega arith)
+word_same (Some q) None e = absurd (omega arith)
+word_same (Some q) (Some r) e = ap Some (omega arith)
 
 -- ---- the parent of a row
 

@@ -1,6 +1,6 @@
 -- The section's own words, with the tables of ids behind the columns of parents: what they hold. Assumes nothing: these are definitions.
 use Rattle.std.specs.Prelude.{ℕ, ◌^◌, ◌≤◌, ◌<◌, ◌≡◌, Bool, true, List, length}
-use Rattle.std.proofs.Math.Option.{Option}
+use Rattle.std.specs.Prelude.{Option}
 use Rattle.definition.specs.Calendar.{free}
 use Rattle.definition.specs.Text.{Text}
 use Rattle.bits.specs.declared.Place.{Place}

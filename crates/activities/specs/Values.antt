@@ -1,6 +1,6 @@
 -- What an activity's values are to be, each from the task. Assumes nothing: these are definitions.
 use Rattle.std.specs.Prelude.{if◌then◌else◌, ℕ, ◌≡◌, Bool, ◌&&◌, not, List, [], eqb, length}
-use Rattle.std.proofs.Math.Option.{Option, some}
+use Rattle.std.specs.Prelude.{Option, Some}
 use Rattle.definition.specs.Answer.{row_meaning}
 use Rattle.definition.specs.Ascii.{bytes}
 use Rattle.definition.specs.Base.{◌>>=◌, ◌or◌, when, same}
@@ -55,7 +55,7 @@ names_calendar u = not (eqb (length u) 0) && not (same u (bytes "-1"))
 -- the calendar's name, unless it is the main one's
 abbrev pub calendar_by : Context → Bool → Element → Option Text
 calendar_by x elapsed t =
-    (if elapsed then some elapsed_name else
+    (if elapsed then Some elapsed_name else
     (text_in t "CalendarUID" >>= λ u. when (not (same u (bytes "-1"))) u >>= name_of x.built)) >>= unless_main x
 
 -- the same, as words say it where there is a table

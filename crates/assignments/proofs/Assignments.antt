@@ -1,6 +1,6 @@
 -- Assignments, one after another. Assumes nothing.
 use Rattle.std.proofs.Common.{◌≡◌, ℕ, ◌+◌, ◌%◌, ◌^◌, true, List, [], ◌∷◌, ◌++◌, map, sym, refl, ap, ◌∙◌, append_assoc, append-nil}
-use mathlib.Core.Option.{Option, some, none}
+use Rattle.std.specs.Prelude.{Option, Some, None}
 use Rattle.definition.specs.Base.{◌>>=◌, present}
 use Rattle.definition.specs.Answer.{row_meaning}
 use Rattle.definition.specs.Text.{Text}
@@ -37,19 +37,19 @@ by_means t n rate a m e = rw (m.planned_is, m.actual_is, m.remaining_is, e)
 
 -- ---- one that may be missing
 
-pub adds_none : {o : Option Assignment} {d : List ℕ} {r : Done} → o ≡ none → AddsAssignment o d r d r
+pub adds_none : {o : Option Assignment} {d : List ℕ} {r : Done} → o ≡ None → AddsAssignment o d r d r
 unfolding present
 adds_none e p = record { goes = λ d₀ xs u w. wrote_as (rw e (sym (append-nil xs))) w }
 
 adds_one : {x : Assignment} {d : List ℕ} {r : Done} {d' : List ℕ} {q : Place} {r' : Done} → Puts (whole assignment) x d r.next d' q
-    → (r'.count ≡ (r.count + 1) % 2 ^ 64) × (r'.next ≡ q) → AddsAssignment (some x) d r d' r'
+    → (r'.count ≡ (r.count + 1) % 2 ^ 64) × (r'.next ≡ q) → AddsAssignment (Some x) d r d' r'
 unfolding present
 adds_one h n p = record { goes = λ d₀ xs u w. wrote_more w h n }
 
 -- ---- by the rows that were found
 
 abbrev Rowed : Option ℕ → Option ℕ → Element → Option Assignment
-Rowed task row a = task >>= λ t. row >>= λ n. some (assignment_from t n a)
+Rowed task row a = task >>= λ t. row >>= λ n. Some (assignment_from t n a)
 
 module _ (task resource : RowAnswer) (a : Element) {d : List ℕ} {r : Done} where
   pub adds_no_task : task ≡ RowAnswer.Absent → AddsAssignment (Rowed (row_meaning task) (row_meaning resource) a) d r d r
@@ -60,9 +60,9 @@ module _ (task resource : RowAnswer) (a : Element) {d : List ℕ} {r : Done} whe
   unfolding row_meaning
   adds_no_row e = adds_none (rw e (by (row_meaning task)))
     where
-      by : (o : Option ℕ) → Rowed o none a ≡ none
-      by none = refl
-      by (some t) = refl
+      by : (o : Option ℕ) → Rowed o None a ≡ None
+      by None = refl
+      by (Some t) = refl
 
   pub adds_rows : {t m : ℕ} (w : Amounts) (rate : I64Answer) {d' : List ℕ} {q : Place} {r' : Done} → task ≡ RowAnswer.Is t → resource ≡ RowAnswer.Is m
       → Means w (hours_in a "Work") (hours_in a "ActualWork") (hours_in a "RemainingWork") → i64_of rate ≡ rate_of a
@@ -76,12 +76,12 @@ module _ (task resource : RowAnswer) (a : Element) {d : List ℕ} {r : Done} whe
 module _ (s : Text) {f : Found} (g : Finders) (a : Element) (e : found_meaning s f ≡ cost_by g a) where
   pub cost_wins : {q : ℕ} → f ≡ Found.At q → {d : List ℕ} {r : Done} → AddsAssignment (assignment_for g a) d r d r
   unfolding assignment_for found_meaning
-  cost_wins {q} z = let k : some (element_at s q) ≡ cost_by g a = sym (rw z) ∙ e in adds_none (rw (← k))
+  cost_wins {q} z = let k : Some (element_at s q) ≡ cost_by g a = sym (rw z) ∙ e in adds_none (rw (← k))
 
   pub no_cost : f ≡ Found.Nothing → {task work : Option ℕ} → task ≡ task_by g a → work ≡ work_by g a → {d : List ℕ} {r : Done} {d' : List ℕ} {r' : Done}
       → AddsAssignment (Rowed task work a) d r d' r' → AddsAssignment (assignment_for g a) d r d' r'
   unfolding assignment_for found_meaning
-  no_cost z t w h = let k : none ≡ cost_by g a = sym (rw z) ∙ e in rw (← k, ← t, ← w) h
+  no_cost z t w h = let k : None ≡ cost_by g a = sym (rw z) ∙ e in rw (← k, ← t, ← w) h
 
 -- ---- one after another
 
@@ -91,8 +91,8 @@ unfolding present
 more_assignments g e fs xs = by (assignment_for g e)
   where
     by : (o : Option Assignment) → xs ++ present (o ∷ map (assignment_for g) fs) ≡ (xs ++ present (o ∷ [])) ++ assignments_in g fs
-    by none = sym (ap (λ (ys : List Assignment). ys ++ assignments_in g fs) (append-nil xs))
-    by (some x) = sym (append_assoc xs (x ∷ []) (assignments_in g fs))
+    by None = sym (ap (λ (ys : List Assignment). ys ++ assignments_in g fs) (append-nil xs))
+    by (Some x) = sym (append_assoc xs (x ∷ []) (assignments_in g fs))
 
 no_assignments : (g : Finders) (xs : List Assignment) → xs ++ assignments_in g [] ≡ xs
 unfolding present

@@ -2,7 +2,7 @@
 use Rattle.std.specs.Prelude.{if◌then◌else◌}
 use Rattle.std.proofs.Common.{◌≡◌, ℕ, ◌+◌, ◌-◌, ◌%◌, ◌^◌, ◌<◌, ◌≤◌, Bool, true, false, ◌&&◌, ◌||◌, eqb, List, [], ◌∷◌, ◌++◌, map, length, drop, sym, refl, ap, ◌∙◌, append-nil, mod-eq_of_lt, arith, drop_of_length-le}
 use native.Mathlib.Nat.{sub-zero}
-use mathlib.Core.Option.{some}
+use Rattle.std.specs.Prelude.{Some}
 use Rattle.definition.specs.Base.{◌or◌, present, some?, same}
 use Rattle.definition.specs.Bits.{Bits}
 use Rattle.definition.specs.Text.{Text}
@@ -53,11 +53,11 @@ key_at {d} {p} {t} activity name h =
 -- ---- the search: those that are left answer for all
 
 pub record Seeks (d : List ℕ) (p : Place) (n activity : ℕ) (name : Text) (q : Place) (i : ℕ) : Type 0 where
-  pub seeks : (ts : List ExpenseFields) (end : Place) (l : Bits) → rest d end ≡ some l → Reads (times n plain_expenses) d p ts end
+  pub seeks : (ts : List ExpenseFields) (end : Place) (l : Bits) → rest d end ≡ Some l → Reads (times n plain_expenses) d p ts end
       → Reads (times (n - i) plain_expenses) d q (drop i ts) end × (some? (is_key activity name) ts ≡ some? (is_key activity name) (drop i ts))
 
 -- the first of those that are left
-one : (n i : ℕ) {d : List ℕ} {q r : Place} (ts : List ExpenseFields) {end : Place} {l : Bits} → i < n → Passes (record_of false Expenses) d q r → rest d end ≡ some l
+one : (n i : ℕ) {d : List ℕ} {q r : Place} (ts : List ExpenseFields) {end : Place} {l : Bits} → i < n → Passes (record_of false Expenses) d q r → rest d end ≡ Some l
     → Reads (times (n - i) plain_expenses) d q (drop i ts) end → Step plain_expenses d q r end n i ts
 one n i ts lt k e h = step (lax_like plain_expenses_lem.like (lax_same plain_expenses)) e h lt k
 
@@ -114,31 +114,31 @@ expense_is activity r a w e m h = rw (e, m.planned_is, m.actual_is, m.remaining_
 
 -- ---- the first of equal ones
 
-pub one_first : (xs : List Expense) (e : Expense) (t : Bool) → some? (same_expense e) xs ≡ t → firsts xs (present (some e ∷ [])) ≡ (if t then xs else xs ++ (e ∷ []))
+pub one_first : (xs : List Expense) (e : Expense) (t : Bool) → some? (same_expense e) xs ≡ t → firsts xs (present (Some e ∷ [])) ≡ (if t then xs else xs ++ (e ∷ []))
 unfolding firsts present
 one_first xs e t h = rw h
 
-one_more : (xs : List Expense) (e : Expense) → (ys : List Expense) × (firsts xs (present (some e ∷ [])) ≡ xs ++ ys)
+one_more : (xs : List Expense) (e : Expense) → (ys : List Expense) × (firsts xs (present (Some e ∷ [])) ≡ xs ++ ys)
 one_more xs e = by (some? (same_expense e) xs) refl
   where
-    by : (t : Bool) → some? (same_expense e) xs ≡ t → (ys : List Expense) × (firsts xs (present (some e ∷ [])) ≡ xs ++ ys)
+    by : (t : Bool) → some? (same_expense e) xs ≡ t → (ys : List Expense) × (firsts xs (present (Some e ∷ [])) ≡ xs ++ ys)
     by true h = ([], one_first xs e true h ∙ sym (append-nil xs))
     by false h = (e ∷ [], one_first xs e false h)
 
 module _ {start : Place} {d₀ d : List ℕ} {r : Done} {xs : List Expense} (e : Expense) {t : Bool} (h : inside (length d) r.next ≡ true → t ≡ some? (same_expense e) xs) where
   -- it is there
-  pub adds_known : t ≡ true → Wrote (whole expense) false xs d₀ start d r → Wrote (whole expense) false (firsts xs (present (some e ∷ []))) d₀ start d r
+  pub adds_known : t ≡ true → Wrote (whole expense) false xs d₀ start d r → Wrote (whole expense) false (firsts xs (present (Some e ∷ []))) d₀ start d r
   adds_known b w = by_end (inside (length d) r.next) refl
     where
-      by_end : (i : Bool) → inside (length d) r.next ≡ i → Wrote (whole expense) false (firsts xs (present (some e ∷ []))) d₀ start d r
+      by_end : (i : Bool) → inside (length d) r.next ≡ i → Wrote (whole expense) false (firsts xs (present (Some e ∷ []))) d₀ start d r
       by_end true i = wrote_as (sym (one_first xs e true (sym (h i) ∙ b))) w
       by_end false i = let (ys, z) = one_more xs e in wrote_as (sym z) (wrote_still i w ys)
 
   -- it is new
   pub adds_new : t ≡ false → Wrote (whole expense) false xs d₀ start d r → {d' : List ℕ} {q : Place} {r' : Done} → Puts (whole expense) e d r.next d' q
-      → (r'.count ≡ (r.count + 1) % 2 ^ 64) × (r'.next ≡ q) → Wrote (whole expense) false (firsts xs (present (some e ∷ []))) d₀ start d' r'
+      → (r'.count ≡ (r.count + 1) % 2 ^ 64) × (r'.next ≡ q) → Wrote (whole expense) false (firsts xs (present (Some e ∷ []))) d₀ start d' r'
   adds_new b w {d'} {q} {r'} x n = by_end (inside (length d) r.next) refl
     where
-      by_end : (i : Bool) → inside (length d) r.next ≡ i → Wrote (whole expense) false (firsts xs (present (some e ∷ []))) d₀ start d' r'
+      by_end : (i : Bool) → inside (length d) r.next ≡ i → Wrote (whole expense) false (firsts xs (present (Some e ∷ []))) d₀ start d' r'
       by_end true i = wrote_as (sym (one_first xs e false (sym (h i) ∙ b))) (wrote_more w x n)
       by_end false i = let (ys, z) = one_more xs e in wrote_as (sym z) (wrote_past i w ys x n.1)

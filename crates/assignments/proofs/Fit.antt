@@ -1,7 +1,7 @@
 -- What is made of a tree's elements fits its fields, so it is read back as it was put. Assumes nothing.
 use Rattle.std.specs.Prelude.{if◌then◌else◌}
 use Rattle.std.proofs.Common.{◌≡◌, ℕ, ◌+◌, ◌^◌, ◌<◌, ◌≤◌, Bool, true, false, List, [], ◌∷◌, ◌++◌, map, length, refl, arith, length-append}
-use mathlib.Core.Option.{Option, some, none}
+use Rattle.std.specs.Prelude.{Option, Some, None}
 use lib.ListN.{length-map}
 use Rattle.definition.specs.Ascii.{bytes}
 use Rattle.definition.specs.Base.{◌>>=◌, keep, present, some?}
@@ -43,15 +43,15 @@ module _ (s : Text) (b : Bytes s) (root : Root) (w : List ℕ) where
   cost_small NoRoom u = each_last (has_uid u) (each_keep is_cost (each_keep is_resource (holds_in (holds_child (small_root s root b) (bytes "Resources")) (bytes "Resource"))))
   cost_small (Ready t) u = perhaps_any {P = Small} (sought_in s w t u) (λ r. there (small_at s b (place_of w t r)))
 
-  pub expense_fits : (t : Tables) (a : Element) → ((e : Expense) → expense_for (finders_at s root w t) a ≡ some e → e.activity < 2 ^ 32) → Perhaps (FitsExpenseBy Short) (expense_for (finders_at s root w t) a)
+  pub expense_fits : (t : Tables) (a : Element) → ((e : Expense) → expense_for (finders_at s root w t) a ≡ Some e → e.activity < 2 ^ 32) → Perhaps (FitsExpenseBy Short) (expense_for (finders_at s root w t) a)
   unfolding expense_for expense_from
   expense_fits t a h = by (task_by (finders_at s root w t) a) (perhaps_any {P = Small} (text_in a "ResourceUID") (cost_small t.cost)) h
     where
-      by : (o : Option ℕ) {c : Option Element} → Perhaps Small c → ((e : Expense) → (o >>= λ n. c >>= λ r. some (expense_from n r a)) ≡ some e → e.activity < 2 ^ 32)
-          → Perhaps (FitsExpenseBy Short) (o >>= λ n. c >>= λ r. some (expense_from n r a))
-      by none k h = missing
-      by (some n) missing h = missing
-      by (some n) (there {a = r} k) h = there {a = expense_from n r a} (fit_expense slim_texts n a k (h (expense_from n r a) refl))
+      by : (o : Option ℕ) {c : Option Element} → Perhaps Small c → ((e : Expense) → (o >>= λ n. c >>= λ r. Some (expense_from n r a)) ≡ Some e → e.activity < 2 ^ 32)
+          → Perhaps (FitsExpenseBy Short) (o >>= λ n. c >>= λ r. Some (expense_from n r a))
+      by None k h = missing
+      by (Some n) missing h = missing
+      by (Some n) (there {a = r} k) h = there {a = expense_from n r a} (fit_expense slim_texts n a k (h (expense_from n r a) refl))
 
 -- those so far fit, and are not more than the bytes before
 pub record FineExpenses (s : Text) (at : ℕ) (xs : List Expense) : Type 0 where

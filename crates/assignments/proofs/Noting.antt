@@ -2,7 +2,7 @@
 use Rattle.std.specs.Prelude.{if◌then◌else◌}
 use Rattle.std.proofs.Common.{◌≡◌, ℕ, suc, ◌+◌, ◌*◌, ◌%◌, ◌^◌, ◌<◌, ◌≤◌, Bool, true, false, not, ◌&&◌, ◌||◌, eqb, ltb, leb, List, [], ◌∷◌, ◌++◌, map, length, get_or, take, drop, sym, refl, ap, ◌∙◌, subst, true≢false, mod-eq_of_lt, arith, length-append, ltb-false, ltb-true, le-ltb, lt-ltb, eq-eqb, eqb-true, leb-false}
 use mathlib.Core.List.{map-append}
-use mathlib.Core.Option.{Option, some, none}
+use Rattle.std.specs.Prelude.{Option, Some, None}
 use borrow.Author.Tests.{lt-leb, not-false}
 use lib.ListN.{get_or-append}
 use lib.Seq.{split_at, take-append-le, take-append_seam, get_or-append_seam}
@@ -48,14 +48,14 @@ use Rattle.assignments.proofs.Expenses.{key_at, told_of, one_first, adds_known, 
 -- ---- one of a list, and its last row
 
 given_else : {A : Type 0} (o : Option A) (b : Bool) (x : A) → given (o or_else when b x) ≡ (b || given o)
-given_else none true x = refl
-given_else none false x = refl
-given_else (some y) true x = refl
-given_else (some y) false x = refl
+given_else None true x = refl
+given_else None false x = refl
+given_else (Some y) true x = refl
+given_else (Some y) false x = refl
 
-given_then : {A B : Type 0} (o : Option A) (f : A → B) → given (o >>= λ y. some (f y)) ≡ given o
-given_then none f = refl
-given_then (some y) f = refl
+given_then : {A B : Type 0} (o : Option A) (f : A → B) → given (o >>= λ y. Some (f y)) ≡ given o
+given_then None f = refl
+given_then (Some y) f = refl
 
 module _ {A : Type 0} (q : A → Bool) where
   some_numbered : (a : ℕ) (l : List A) → some? q l ≡ given (find_last (λ (y : ℕ × A). q y.1) (numbered a l))
@@ -114,12 +114,12 @@ abbrev pub used_row : List ℕ → List ℕ → Table → ℕ → Text → Optio
 used_row d v t activity name = find (used_at d v t activity name) (chain_of v t (key_of activity name))
 
 as_given : (o : Option ℕ) {r : ℕ} → row.At r ≡ as_row o → true ≡ given o
-as_given none e = let y : ◌≡◌ {A = ℕ} 0 1 = cc in absurd (omega arith)
-as_given (some k) e = refl
+as_given None e = let y : ◌≡◌ {A = ℕ} 0 1 = cc in absurd (omega arith)
+as_given (Some k) e = refl
 
 as_none : (o : Option ℕ) → row.None ≡ as_row o → false ≡ given o
-as_none none e = refl
-as_none (some k) e = let y : ◌≡◌ {A = ℕ} 0 1 = cc in absurd (omega arith)
+as_none None e = refl
+as_none (Some k) e = let y : ◌≡◌ {A = ℕ} 0 1 = cc in absurd (omega arith)
 
 module _ (d : List ℕ) {v : List ℕ} {t : Table} (activity : ℕ) (name : Text) where
   pub used_first : {key : ℕ} {at : Row} → key ≡ key_of activity name → at ≡ first_of v t key → Seeks v t (used_at d v t activity name) (used_row d v t activity name) at
@@ -271,16 +271,16 @@ module _ (activity : ℕ) (r a : Element) {name : Text} (e : name ≡ (text_in r
 
 -- ---- one that may be missing
 
-pub notes_missing : {o : Option Expense} {start : Place} {d : List ℕ} {u : Used} {w : List ℕ} → o ≡ none → Notes start o d u w d u w
+pub notes_missing : {o : Option Expense} {start : Place} {d : List ℕ} {u : Used} {w : List ℕ} → o ≡ None → Notes start o d u w d u w
 unfolding present firsts
 notes_missing {w = w} e = rw e (record { wrote = λ d₀ xs ok h n. h; noting = λ d₀ xs ok h n. n; row = λ x z. never z; below = λ n h. below_refl n w; still = λ t z. z })
 
 module _ {start : Place} {d : List ℕ} {u : Used} {w : List ℕ} (e : Expense) (small : e.activity < 2 ^ 32) {t : Bool} (h : InUse start d u w e.activity e.name t) where
-  is_small : (x : Expense) → some e ≡ some x → x.activity < 2 ^ 32
+  is_small : (x : Expense) → Some e ≡ Some x → x.activity < 2 ^ 32
   is_small x z = let y : e ≡ x = cc in rw (← y) small
 
   -- it is there
-  pub notes_known : t ≡ true → Notes start (some e) d u w d u w
+  pub notes_known : t ≡ true → Notes start (Some e) d u w d u w
   notes_known b = record {
     wrote = λ d₀ xs ok k n. adds_known e (λ i. h.told d₀ xs ok k n i) b k;
     noting = λ d₀ xs ok k n. record { noted = λ t m i. rw (one_first xs e true (sym (h.told d₀ xs ok k n i) ∙ b)) (n.noted t m i) };
@@ -294,7 +294,7 @@ module _ {start : Place} {d : List ℕ} {u : Used} {w : List ℕ} (e : Expense) 
       {key : ℕ} (y : key ≡ key_of e.activity e.name) {m : Made} {w' : List ℕ}
       (z : (m ≡ (noted_by w u.made u.done.count u.done.next key).0) × (w' ≡ (noted_by w u.made u.done.count u.done.next key).1)) where
     now_noted : (d₀ : List ℕ) (xs : List Expense) → FewExpenses d₀ xs → Wrote (whole expense) false xs d₀ start d u.done → Noting start xs d u w → (v : Table) → m ≡ Ready v
-        → inside (length d) u.done.next ≡ true → Noted start (firsts xs (present (some e ∷ []))) w' v
+        → inside (length d) u.done.next ≡ true → Noted start (firsts xs (present (Some e ∷ []))) w' v
     now_noted d₀ xs ok k n v f i =
         let g = noted_in w u.done.count u.done.next key u.made (sym z.0 ∙ f) in
         let num : u.done.count ≡ length xs = number_is ok k i in
@@ -303,7 +303,7 @@ module _ {start : Place} {d : List ℕ} {u : Used} {w : List ℕ} (e : Expense) 
         let words : w' ≡ added w v (length xs) (key_of e.activity e.name) u.done.next.byte = rw (← num, ← y) (z.1 ∙ g.words) in
         rw (one_first xs e false (sym (h.told d₀ xs ok k n i) ∙ b)) (noted_more (n.noted v g.was i) few e u.done.next.byte end words)
 
-    pub notes_new : Notes start (some e) d u w d' (record { done = r; made = m }) w'
+    pub notes_new : Notes start (Some e) d u w d' (record { done = r; made = m }) w'
     notes_new = record {
       wrote = λ d₀ xs ok k n. adds_new e (λ i. h.told d₀ xs ok k n i) b k x c;
       noting = λ d₀ xs ok k n. record { noted = λ v f i. now_noted d₀ xs ok k n v f (put_began x (rw c.1 at i)) };

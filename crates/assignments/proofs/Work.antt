@@ -2,7 +2,7 @@
 use Rattle.std.specs.Prelude.{if◌then◌else◌}
 use Rattle.std.proofs.Common.{◌≡◌, ℕ, suc, ◌+◌, ◌%◌, ◌^◌, ◌<◌, ◌≤◌, min, Bool, true, false, not, ◌&&◌, leb, List, [], ◌∷◌, ◌++◌, map, length, ℤ, sym, refl, ap, ◌∙◌, subst, mod-eq_of_lt, zero-add, arith, length-append, le-leb, leb-false, leb-true}
 use mathlib.Core.Bool.{and-eq-true_iff}
-use mathlib.Core.Option.{Option, some, none}
+use Rattle.std.specs.Prelude.{Option, Some, None}
 use borrow.Author.Tests.{lt-leb, not-true, not-false}
 use Rattle.definition.specs.Base.{◌>>=◌, ◌or◌, keep}
 use Rattle.definition.specs.Ascii.{bytes}
@@ -153,8 +153,8 @@ resource_free x ids r h e = rw (h, e)
 
 -- the words say the name
 name_found_lem : (x : Context) {s : Text} {k : Made} {w : List ℕ} → Finds x s k w → (o : Option Text) → (o >>= named_in x s w k) ≡ (o >>= name_of x.built >>= unless_main x)
-name_found_lem x f none = refl
-name_found_lem x f (some u) = f.named u
+name_found_lem x f None = refl
+name_found_lem x f (Some u) = f.named u
 
 -- ---- one after another
 

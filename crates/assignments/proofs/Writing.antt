@@ -1,7 +1,7 @@
 -- The expenses of elements, one after another, with a table behind the tables of the section. Assumes nothing.
 use Rattle.std.proofs.Common.{◌≡◌, ℕ, suc, ◌+◌, ◌-◌, ◌%◌, ◌^◌, ◌<◌, ◌≤◌, min, max, Bool, true, false, leb, List, [], ◌∷◌, map, length, take, sym, refl, ap, ◌∙◌, mod-eq_of_lt, arith, take_all, leb-false, leb-true}
 use native.Mathlib.Nat.{mod-add-mod}
-use mathlib.Core.Option.{Option, some, none}
+use Rattle.std.specs.Prelude.{Option, Some, None}
 use lib.Seq.{take-length}
 use Rattle.definition.specs.Base.{present}
 use Rattle.definition.specs.Answer.{row_meaning}
@@ -42,21 +42,21 @@ use Rattle.assignments.proofs.Noting.{noted_none, notes_missing}
 module _ {task : RowAnswer} (f : Finders) (a : Element) (et : row_meaning task ≡ task_by f a) {start : Place} {d : List ℕ} {u : Used} {w : List ℕ} where
   pub no_task : task ≡ RowAnswer.Absent → Notes start (expense_for f a) d u w d u w
   unfolding row_meaning expense_for
-  no_task z = let k : none ≡ task_by f a = sym (rw z) ∙ et in notes_missing (rw (← k))
+  no_task z = let k : None ≡ task_by f a = sym (rw z) ∙ et in notes_missing (rw (← k))
 
   module _ (s : Text) {c : Found} (ec : found_meaning s c ≡ cost_by f a) {n : ℕ} (z : task ≡ RowAnswer.Is n) where
     pub no_cost_there : c ≡ Found.Nothing → Notes start (expense_for f a) d u w d u w
     unfolding row_meaning found_meaning expense_for
     no_cost_there y =
-        let k : some n ≡ task_by f a = sym (rw z) ∙ et in
-        let m : none ≡ cost_by f a = sym (rw y) ∙ ec in
+        let k : Some n ≡ task_by f a = sym (rw z) ∙ et in
+        let m : None ≡ cost_by f a = sym (rw y) ∙ ec in
         notes_missing (rw (← k, ← m))
 
-    pub cost_there : {q : ℕ} → c ≡ Found.At q → {d' : List ℕ} {u' : Used} {w' : List ℕ} → Notes start (some (expense_from n (element_at s q) a)) d u w d' u' w' → Notes start (expense_for f a) d u w d' u' w'
+    pub cost_there : {q : ℕ} → c ≡ Found.At q → {d' : List ℕ} {u' : Used} {w' : List ℕ} → Notes start (Some (expense_from n (element_at s q) a)) d u w d' u' w' → Notes start (expense_for f a) d u w d' u' w'
     unfolding row_meaning found_meaning expense_for
     cost_there {q} y h =
-        let k : some n ≡ task_by f a = sym (rw z) ∙ et in
-        let m : some (element_at s q) ≡ cost_by f a = sym (rw y) ∙ ec in
+        let k : Some n ≡ task_by f a = sym (rw z) ∙ et in
+        let m : Some (element_at s q) ≡ cost_by f a = sym (rw y) ∙ ec in
         rw (← k, ← m) h
 
 -- ---- one after another
@@ -66,8 +66,8 @@ unfolding present firsts
 more_expenses f e fs xs = by (expense_for f e)
   where
     by : (o : Option Expense) → firsts xs (present (o ∷ map (expense_for f) fs)) ≡ expenses_after f (firsts xs (present (o ∷ []))) fs
-    by none = refl
-    by (some x) = refl
+    by None = refl
+    by (Some x) = refl
 
 no_expenses : (f : Finders) (xs : List Expense) → expenses_after f xs [] ≡ xs
 unfolding present firsts

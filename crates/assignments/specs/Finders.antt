@@ -2,7 +2,7 @@
 use Rattle.std.specs.Prelude.{if◌then◌else◌, ◌≡◌, ℕ, ◌+◌, ◌%◌, ◌^◌, ◌≤◌, max, Bool, true, false, List, [], ◌∷◌, ◌++◌, map, length}
 use Rattle.std.proofs.Common.{arith, ◌∙◌}
 use Rattle.std.proofs.Math.Path.{refl, ap, fun_ext}
-use Rattle.std.proofs.Math.Option.{Option, some, none}
+use Rattle.std.specs.Prelude.{Option, Some, None}
 use Rattle.std.proofs.Math.ListN.{length-map}
 use Rattle.definition.specs.Base.{◌>>=◌, given, find_last, present}
 use Rattle.definition.specs.Bits.{Bits}
@@ -55,13 +55,13 @@ abbrev pub cost_by : Finders → Element → Option Element
 cost_by f a = text_in a "ResourceUID" >>= f.cost
 
 unfoldable pub assignment_for : Finders → Element → Option Assignment
-assignment_for f a = if given (cost_by f a) then none else (task_by f a >>= λ t. work_by f a >>= λ r. some (assignment_from t r a))
+assignment_for f a = if given (cost_by f a) then None else (task_by f a >>= λ t. work_by f a >>= λ r. Some (assignment_from t r a))
 
 unfoldable pub assignments_by : Finders → Element → List Assignment
 assignments_by f root = present (map (assignment_for f) (assignment_elements root))
 
 unfoldable pub expense_for : Finders → Element → Option Expense
-expense_for f a = task_by f a >>= λ t. cost_by f a >>= λ r. some (expense_from t r a)
+expense_for f a = task_by f a >>= λ t. cost_by f a >>= λ r. Some (expense_from t r a)
 
 unfoldable pub expenses_by : Finders → Element → List Expense
 expenses_by f root = firsts [] (present (map (expense_for f) (assignment_elements root)))
@@ -120,22 +120,22 @@ module _ {root : Element} {f : Finders} (h : Finds root f) where
   cost_is : f.cost ≡ λ u. find_last (has_uid u) (cost_resources root)
   cost_is = fun_ext h.cost
 
-  low_for : (a : Element) → assignment_for f a ≡ (assignment_of (context_of root) root a >>= λ x. some (low x))
+  low_for : (a : Element) → assignment_for f a ≡ (assignment_of (context_of root) root a >>= λ x. Some (low x))
   unfolding assignment_for assignment_of context_of assignment_from
   low_for a =
       rw (task_is, work_is, cost_is) (by (given (cost_of root a)) (text_in a "TaskUID" >>= row_of (kept_tasks root)) (text_in a "ResourceUID"))
     where
-      by_row : (t : ℕ) (o : Option ℕ) → ((o >>= λ n. some (n % 2 ^ 32)) >>= λ r. some (assignment_from t r a)) ≡ ((o >>= λ r. some (assignment_from t r a)) >>= λ x. some (low x))
-      by_row t none = refl
-      by_row t (some n) = refl
+      by_row : (t : ℕ) (o : Option ℕ) → ((o >>= λ n. Some (n % 2 ^ 32)) >>= λ r. Some (assignment_from t r a)) ≡ ((o >>= λ r. Some (assignment_from t r a)) >>= λ x. Some (low x))
+      by_row t None = refl
+      by_row t (Some n) = refl
 
       by : (b : Bool) (o : Option ℕ) (u : Option Text)
-          → (if b then none else (o >>= λ t. (u >>= row_in32 Listed.Work root) >>= λ r. some (assignment_from t r a)))
-          ≡ ((if b then none else (o >>= λ t. (u >>= row_of (work_resources root)) >>= λ r. some (assignment_from t r a))) >>= λ x. some (low x))
+          → (if b then None else (o >>= λ t. (u >>= row_in32 Listed.Work root) >>= λ r. Some (assignment_from t r a)))
+          ≡ ((if b then None else (o >>= λ t. (u >>= row_of (work_resources root)) >>= λ r. Some (assignment_from t r a))) >>= λ x. Some (low x))
       by true o u = refl
-      by false none u = refl
-      by false (some t) none = refl
-      by false (some t) (some u) = by_row t (row_of (work_resources root) u)
+      by false None u = refl
+      by false (Some t) None = refl
+      by false (Some t) (Some u) = by_row t (row_of (work_resources root) u)
 
   low_present : (es : List Element) → present (map (assignment_for f) es) ≡ map low (present (map (assignment_of (context_of root) root) es))
   unfolding present
@@ -143,9 +143,9 @@ module _ {root : Element} {f : Finders} (h : Finds root f) where
   low_present (e ∷ es) = ap (λ (o : Option Assignment). present (o ∷ map (assignment_for f) es)) (low_for e) ∙ by (assignment_of (context_of root) root e) (low_present es)
     where
       by : (o : Option Assignment) → present (map (assignment_for f) es) ≡ map low (present (map (assignment_of (context_of root) root) es))
-          → present ((o >>= λ x. some (low x)) ∷ map (assignment_for f) es) ≡ map low (present (o ∷ map (assignment_of (context_of root) root) es))
-      by none h = h
-      by (some x) h = ap (λ (l : List Assignment). low x ∷ l) h
+          → present ((o >>= λ x. Some (low x)) ∷ map (assignment_for f) es) ≡ map low (present (o ∷ map (assignment_of (context_of root) root) es))
+      by None h = h
+      by (Some x) h = ap (λ (l : List Assignment). low x ∷ l) h
 
   -- the assignments that are written are the definition's
   pub assignments_found : {d : List ℕ} {p : Place} {d' : List ℕ} {r : Records} → Writes (whole assignment) (assignments_by f root) d p d' r → Writes (whole assignment) (assignments (context_of root) root) d p d' r

@@ -1,7 +1,7 @@
 -- The expenses that were written, by a table in lent words: the activity and the name of each, and the byte of its record. Assumes nothing: these are
 -- definitions.
 use Rattle.std.specs.Prelude.{if◌then◌else◌, ◌≡◌, ℕ, ◌+◌, ◌*◌, ◌%◌, ◌^◌, ◌<◌, ◌≤◌, Bool, true, false, ◌&&◌, List, [], ◌∷◌, map, length, take, pos, ◌==◌, nat_lt, slice_index_or}
-use Rattle.std.proofs.Math.Option.{Option, some, none}
+use Rattle.std.specs.Prelude.{Option, Some, None}
 use Rattle.definition.specs.Base.{given, find, present, some?, same}
 use Rattle.definition.specs.Text.{Text}
 use Rattle.definition.specs.Format.{whole, put_all}
@@ -53,7 +53,7 @@ noted_by w (Ready t) row p key = if has_room t row p then (Ready t, added w t ro
 
 -- no expense at all
 abbrev pub no_expense : Expense
-no_expense = record { activity = 0; name = []; planned = pos 0; actual = pos 0; remaining = none; accrual = 0 }
+no_expense = record { activity = 0; name = []; planned = pos 0; actual = pos 0; remaining = None; accrual = 0 }
 
 abbrev pub key_in : List Expense → ℕ → ℕ
 key_in xs r = key_of (slice_index_or xs r no_expense).activity (slice_index_or xs r no_expense).name
@@ -91,7 +91,7 @@ pub record Notes (start : Place) (o : Option Expense) (d : List ℕ) (u : Used) 
       → Wrote (whole expense) false (firsts xs (present (o ∷ []))) d₀ start d' u'.done
   pub noting : (d₀ : List ℕ) (xs : List Expense) → FewExpenses d₀ xs → Wrote (whole expense) false xs d₀ start d u.done → Noting start xs d u w
       → Noting start (firsts xs (present (o ∷ []))) d' u' w'
-  pub row : (e : Expense) → o ≡ some e → e.activity < 2 ^ 32
+  pub row : (e : Expense) → o ≡ Some e → e.activity < 2 ^ 32
   pub below : (n : ℕ) → Behind n u.made → SameBelow n w w'
   pub still : (t : Table) → u'.made ≡ Ready t → u.made ≡ Ready t
 

@@ -1,6 +1,6 @@
 -- The records of some elements, behind those that were made before. Assumes nothing: these are definitions.
 use Rattle.std.specs.Prelude.{◌≡◌, ℕ, ◌^◌, ◌<◌, Bool, true, ◌&&◌, List, [], ◌∷◌, ◌++◌, map, length, ◌==◌}
-use Rattle.std.proofs.Math.Option.{Option, some}
+use Rattle.std.specs.Prelude.{Option, Some}
 use Rattle.definition.specs.Base.{◌or◌, present, some?, same}
 use Rattle.definition.specs.Text.{Text}
 use Rattle.definition.specs.Tree.{Element}
@@ -51,7 +51,7 @@ is_key activity name t = activity == t.0 && same name t.1.0
 
 -- where so many stand from a place on, t is whether one of them is
 pub record Tells (d : List ℕ) (p : Place) (n activity : ℕ) (name : Text) (t : Bool) : Type 0 where
-  pub tells : (ts : List ExpenseFields) (end : Place) (l : Bits) → rest d end ≡ some l → Reads (times n plain_expenses) d p ts end → t ≡ some? (is_key activity name) ts
+  pub tells : (ts : List ExpenseFields) (end : Place) (l : Bits) → rest d end ≡ Some l → Reads (times n plain_expenses) d p ts end → t ≡ some? (is_key activity name) ts
 
 abbrev pub FewExpenses : List ℕ → List Expense → Type 0
 FewExpenses d₀ xs = Each (FitsExpenseBy Short) xs × (length xs < 2 ^ 64)

@@ -1,6 +1,5 @@
 // The assignments. What is right is said in the crate definition, specs/Resource.antt.
 ghost use Rattle.std.specs.Prelude.{◌≡◌, true, ◌∷◌};
-ghost use Rattle.std.proofs.Math.Option.{some};
 ghost use Rattle.definition.specs.Ascii.{bytes};
 ghost use Rattle.definition.specs.Answer.{row_meaning};
 ghost use Rattle.definition.specs.Base.{◌>>=◌ as bind};
@@ -72,7 +71,7 @@ fn put_rows(
     task: RowAnswer,
     resource: RowAnswer,
 ) -> Done
-    ensures { AddsAssignment (bind (row_meaning task) (λ t. bind (row_meaning resource) (λ n. some (assignment_from t n (element_at s.now at))))) out.old done out.new result }
+    ensures { AddsAssignment (bind (row_meaning task) (λ t. bind (row_meaning resource) (λ n. Some (assignment_from t n (element_at s.now at))))) out.old done out.new result }
 {
     let RowAnswer::Is(task) = task else {
         return done;

@@ -1,6 +1,5 @@
 // The expenses: of two with equal activity and name the first is kept. What is right is said in the crate definition, specs/Resource.antt.
 ghost use Rattle.std.specs.Prelude.{◌≡◌, ◌%◌, ◌^◌, min, max, false, [], ◌∷◌, length};
-ghost use Rattle.std.proofs.Math.Option.{some};
 ghost use Rattle.definition.specs.Ascii.{bytes};
 ghost use Rattle.definition.specs.Format.{whole};
 ghost use Rattle.definition.specs.Pack.{expense};
@@ -172,7 +171,7 @@ fn put_new(
     resource: usize,
     words: &mut [u32],
 ) -> Used
-    ensures { Notes start (some (expense_from activity (element_at s.now resource) (element_at s.now at))) out.old used words.old out.new result words.new }
+    ensures { Notes start (Some (expense_from activity (element_at s.now resource) (element_at s.now at))) out.old used words.old out.new result words.new }
 {
     let name = tree::text_of(s, resource, b"Name");
     if in_use(out, start, used, words, activity, name) {

@@ -15,7 +15,7 @@ use Rattle.bits.specs.Places.{place_at_lem, at, place, inside, Fits, room_fits}
 use Rattle.definition.specs.Base.{◌>>=◌, when}
 use Rattle.definition.specs.Bits.{enc, bits_of, Bits, bytes_up_to}
 use Rattle.laws.specs.Bits.{bits_drop, length_enc, dec_enc_lt}
-use mathlib.Core.Option.{Option, some, none}
+use Rattle.std.specs.Prelude.{Option, Some, None}
 use Rattle.definition.specs.Text.{Text, is_utf8}
 use Rattle.definition.specs.Format.{whole, count, text}
 use Rattle.bits.specs.declared.Span.{Span}
@@ -42,22 +42,22 @@ span_fits m p n b h = rw (eq-eqb p.bit 0 b, le-leb (p.byte + n) m h)
 
 module _ {s : List ℕ} {p b : Place} {n : ℕ} (h : Reads (whole count) s p n b) where
   abbrev text_from_lem : ℕ × Bits → Option (Text × Bits)
-  text_from_lem x = if ltb (length x.1) (8 * x.0) then none else when (is_utf8 (bytes_up_to x.0 x.1)) (bytes_up_to x.0 x.1, drop (8 * x.0) x.1)
+  text_from_lem x = if ltb (length x.1) (8 * x.0) then None else when (is_utf8 (bytes_up_to x.0 x.1)) (bytes_up_to x.0 x.1, drop (8 * x.0) x.1)
 
   text_on : (rest s p >>= text.get) ≡ (rest s b >>= λ l. text_from_lem (n, l))
   unfolding text
   text_on = chain text_from_lem h
 
-  span_on : span_at s p ≡ span_of s (rest s b >>= λ l. some (n, l))
+  span_on : span_at s p ≡ span_of s (rest s b >>= λ l. Some (n, l))
   unfolding span_at
   span_on = ap (span_of s) h.reads
 
   -- no room for so many bytes
   module _ (w : b.bit % 8 ≡ 0) (k : b.bit ≡ 0 → length s < b.byte + n) where
-    text_short : (rest s p >>= text.get) ≡ none
+    text_short : (rest s p >>= text.get) ≡ None
     text_short = text_on ∙ short (inside (length s) b) refl
       where
-        short : (t : Bool) → inside (length s) b ≡ t → (rest s b >>= λ l. text_from_lem (n, l)) ≡ none
+        short : (t : Bool) → inside (length s) b ≡ t → (rest s b >>= λ l. text_from_lem (n, l)) ≡ None
         short false e = rw (rest_out s b e)
         short true e =
             let f = room_fits (length s) b 0 e in
@@ -67,7 +67,7 @@ module _ {s : List ℕ} {p b : Place} {n : ℕ} (h : Reads (whole count) s p n b
     span_none : span_at s p ≡ no_span
     span_none = span_on ∙ short (inside (length s) b) refl
       where
-        short : (t : Bool) → inside (length s) b ≡ t → span_of s (rest s b >>= λ l. some (n, l)) ≡ no_span
+        short : (t : Bool) → inside (length s) b ≡ t → span_of s (rest s b >>= λ l. Some (n, l)) ≡ no_span
         short false e = rw (rest_out s b e)
         short true e =
             let f = room_fits (length s) b 0 e in

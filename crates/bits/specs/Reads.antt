@@ -5,7 +5,7 @@ use Rattle.std.proofs.Math.Path.{refl, sym, ap}
 use Rattle.std.proofs.Common.{◌∙◌, arith, zero-add, suc-add, zero-mul, length-drop, drop-drop, pow_pos}
 use Rattle.std.proofs.Math.Bool.{Bool, true, false}
 use mathlib.Core.List.{List, [], ◌∷◌, ◌++◌}
-use Rattle.std.proofs.Math.Option.{Option, some, none}
+use Rattle.std.specs.Prelude.{Option, Some, None}
 use Prim.Native.Nat.{ℕ, zero, suc, ◌+◌, ◌-◌, ◌*◌, ◌%◌, ◌^◌, ◌≤◌, ◌<◌}
 use Rattle.std.proofs.Math.ListN.{length, drop}
 use Rattle.std.proofs.Math.Seq.{length-take-le}
@@ -36,8 +36,8 @@ spot s l = place (8 * length s - length l)
 
 -- a value and the next place; where nothing can be read, 0 and a place past every end
 abbrev pub field_of : List ℕ → Option (ℕ × Bits) → Field
-field_of s none = record { value = 0; next = past }
-field_of s (some x) = record { value = x.0; next = spot s x.1 }
+field_of s None = record { value = 0; next = past }
+field_of s (Some x) = record { value = x.0; next = spot s x.1 }
 
 -- the field of w bits at a place
 unfoldable pub taken_at : List ℕ → Place → ℕ → Field
@@ -53,8 +53,8 @@ int32_at s p = record { value = signed 32 (taken_at s p 32).value; next = (taken
 
 -- the place behind the zero bits up to a whole byte
 abbrev pub spot_of : List ℕ → Option Bits → Place
-spot_of s none = past
-spot_of s (some l) = spot s l
+spot_of s None = past
+spot_of s (Some l) = spot s l
 
 unfoldable pub pad_at : List ℕ → Place → Place
 pad_at s p = spot_of s (rest s p >>= get_pad)
@@ -64,8 +64,8 @@ abbrev pub no_span : Span
 no_span = record { start = 0; len = 0; next = past }
 
 abbrev pub span_of : List ℕ → Option (ℕ × Bits) → Span
-span_of s none = no_span
-span_of s (some x) = if ltb (length x.1) (8 * x.0) then no_span else record { start = (spot s x.1).byte; len = x.0; next = spot s (drop (8 * x.0) x.1) }
+span_of s None = no_span
+span_of s (Some x) = if ltb (length x.1) (8 * x.0) then no_span else record { start = (spot s x.1).byte; len = x.0; next = spot s (drop (8 * x.0) x.1) }
 
 unfoldable pub span_at : List ℕ → Place → Span
 span_at s p = span_of s (rest s p >>= (whole count).get)
@@ -76,21 +76,21 @@ span_in n p len = if eqb p.bit 0 && leb (p.byte + len) n then record { start = p
 
 -- ---- what is left from a place on
 
-pub rest_in : (s : List ℕ) (p : Place) {w : ℕ} → Fits (length s) p w → rest s p ≡ some (drop (at p) (bits_of s))
+pub rest_in : (s : List ℕ) (p : Place) {w : ℕ} → Fits (length s) p w → rest s p ≡ Some (drop (at p) (bits_of s))
 unfolding rest
 rest_in s p {w} f =
     let g : Fits (length s) p 0 = record { bit = f.bit; ends = omega (arith, f.ends) } in
     rw (fits_room g)
 
-pub rest_out : (s : List ℕ) (p : Place) → inside (length s) p ≡ false → rest s p ≡ none
+pub rest_out : (s : List ℕ) (p : Place) → inside (length s) p ≡ false → rest s p ≡ None
 unfolding rest
 rest_out s p h = rw h
 
 -- from a place past every end there is nothing
-pub far : (s : List ℕ) (p : Place) → 7 < p.bit → rest s p ≡ none
+pub far : (s : List ℕ) (p : Place) → 7 < p.bit → rest s p ≡ None
 far s p h = rest_out s p (room_short (length s) p 0 (λ b. absurd (omega arith)))
 
-pub rest_past : (s : List ℕ) → rest s past ≡ none
+pub rest_past : (s : List ℕ) → rest s past ≡ None
 unfolding rest room
 rest_past s = refl
 
@@ -106,18 +106,18 @@ spot_at s p {w} f =
 -- ---- a field
 
 module _ (s : List ℕ) (p : Place) (w : ℕ) where
-  get_cut : room (length s) p w ≡ false → (rest s p >>= (field w).get) ≡ none
+  get_cut : room (length s) p w ≡ false → (rest s p >>= (field w).get) ≡ None
   unfolding field
   get_cut h = cut (inside (length s) p) refl
     where
-      cut : (t : Bool) → inside (length s) p ≡ t → (rest s p >>= (field w).get) ≡ none
+      cut : (t : Bool) → inside (length s) p ≡ t → (rest s p >>= (field w).get) ≡ None
       cut false e = rw (rest_out s p e)
       cut true e =
           let f = room_fits (length s) p 0 e in
           let k : length (drop (at p) (bits_of s)) < w = omega (arith, length_rest s (at p), room_none (length s) p w h f.bit) in
           rw (rest_in s p f, lt-leb w (length (drop (at p) (bits_of s))) k)
 
-  get_whole : Fits (length s) p w → (rest s p >>= (field w).get) ≡ some (dec (take w (drop (at p) (bits_of s))), drop (at p + w) (bits_of s))
+  get_whole : Fits (length s) p w → (rest s p >>= (field w).get) ≡ Some (dec (take w (drop (at p) (bits_of s))), drop (at p + w) (bits_of s))
   unfolding field
   get_whole f =
       let k : w ≤ length (drop (at p) (bits_of s)) = omega (arith, length_rest s (at p), f.ends) in
@@ -138,11 +138,11 @@ module _ (s : List ℕ) (p : Place) (w : ℕ) where
 
 -- a reader answered the value a and the place q: a is what the format gives at p and q stands behind it; or the format gives nothing, and q is past
 pub record Reads {A : Type 0} (f : Format A) (s : List ℕ) (p : Place) (a : A) (q : Place) : Type 0 where
-  pub reads : (rest s p >>= f.get) ≡ (rest s q >>= λ l. some (a, l))
+  pub reads : (rest s p >>= f.get) ≡ (rest s q >>= λ l. Some (a, l))
 
 -- a format gives nothing at a place
 pub record Refuses {A : Type 0} (f : Format A) (s : List ℕ) (p : Place) : Type 0 where
-  pub gives : (rest s p >>= f.get) ≡ none
+  pub gives : (rest s p >>= f.get) ≡ None
 
 -- the bits to the next byte are zeros and q stands behind them; or they are not, and q is past
 pub record Skips (s : List ℕ) (p : Place) (q : Place) : Type 0 where
@@ -151,17 +151,17 @@ pub record Skips (s : List ℕ) (p : Place) (q : Place) : Type 0 where
 pub read_field : (s : List ℕ) (p : Place) (w : ℕ) {x : Field} → x ≡ taken_at s p w → Reads (field w) s p x.value x.next
 read_field s p w {x} ex = record { reads = read_if (room (length s) p w) refl }
   where
-    read_if : (t : Bool) → room (length s) p w ≡ t → (rest s p >>= (field w).get) ≡ (rest s x.next >>= λ l. some (x.value, l))
+    read_if : (t : Bool) → room (length s) p w ≡ t → (rest s p >>= (field w).get) ≡ (rest s x.next >>= λ l. Some (x.value, l))
     read_if false e = rw (ex, take_cut s p w e, rest_past) (get_cut s p w e)
     read_if true e =
         let f = room_fits (length s) p w e in
         rw (ex, take_whole s p w f, rest_in s (place (at p + w)) (next_fits f), at_place (at p + w)) (get_whole s p w f)
 
-chain_from : {A C : Type 0} (l m : Option Bits) (g : Bits → Option (A × Bits)) (a : A) (k : A × Bits → Option C) → (l >>= g) ≡ (m >>= λ r. some (a, r)) → (l >>= λ r. g r >>= k) ≡ (m >>= λ r. k (a, r))
-chain_from none none g a k e = refl
-chain_from none (some m) g a k e = cc
-chain_from (some l) none g a k e = rw e
-chain_from (some l) (some m) g a k e = rw e
+chain_from : {A C : Type 0} (l m : Option Bits) (g : Bits → Option (A × Bits)) (a : A) (k : A × Bits → Option C) → (l >>= g) ≡ (m >>= λ r. Some (a, r)) → (l >>= λ r. g r >>= k) ≡ (m >>= λ r. k (a, r))
+chain_from None None g a k e = refl
+chain_from None (Some m) g a k e = cc
+chain_from (Some l) None g a k e = rw e
+chain_from (Some l) (Some m) g a k e = rw e
 
 module _ {s : List ℕ} {p q : Place} where
   -- what is read goes on from the place behind
@@ -169,76 +169,76 @@ module _ {s : List ℕ} {p q : Place} where
   chain {f = f} {a = a} k h = chain_from (rest s p) (rest s q) f.get a k h.reads
 
   -- nothing there: any value, and past
-  pub read_nothing : {A : Type 0} {f : Format A} (a : A) → Refuses f s p → rest s q ≡ none → Reads f s p a q
+  pub read_nothing : {A : Type 0} {f : Format A} (a : A) → Refuses f s p → rest s q ≡ None → Reads f s p a q
   read_nothing a h e = record { reads = h.gives ∙ rw e }
 
-  pub refused : {A : Type 0} {f : Format A} {a : A} → Reads f s p a q → rest s q ≡ none → Refuses f s p
+  pub refused : {A : Type 0} {f : Format A} {a : A} → Reads f s p a q → rest s q ≡ None → Refuses f s p
   refused h e = record { gives = h.reads ∙ rw e }
 
-pub after_end : {A : Type 0} (f : Format A) {s : List ℕ} {p : Place} → rest s p ≡ none → Refuses f s p
+pub after_end : {A : Type 0} (f : Format A) {s : List ℕ} {p : Place} → rest s p ≡ None → Refuses f s p
 after_end f e = record { gives = rw e }
 
-nowhere : {A B : Type 0} (m : Option A) → ◌≡◌ {A = Option B} (m >>= λ r. none) none
-nowhere none = refl
-nowhere (some m) = refl
+nowhere : {A B : Type 0} (m : Option A) → ◌≡◌ {A = Option B} (m >>= λ r. None) None
+nowhere None = refl
+nowhere (Some m) = refl
 
 module _ {s : List ℕ} {p q : Place} where
   -- values that stand for others
-  pub read_via : {A B : Type 0} (to : A → Option B) (from : B → A) {f : Format A} {a : A} {b : B} → Reads f s p a q → to a ≡ some b → Reads (via to from f) s p b q
+  pub read_via : {A B : Type 0} (to : A → Option B) (from : B → A) {f : Format A} {a : A} {b : B} → Reads f s p a q → to a ≡ Some b → Reads (via to from f) s p b q
   unfolding via
   read_via {A} {B} to from h e =
-      let k : A × Bits → Option (B × Bits) = λ x. to x.0 >>= λ y. some (y, x.1) in
-      let o : Option B → Option (B × Bits) = λ y. rest s q >>= λ r. y >>= λ z. some (z, r) in
+      let k : A × Bits → Option (B × Bits) = λ x. to x.0 >>= λ y. Some (y, x.1) in
+      let o : Option B → Option (B × Bits) = λ y. rest s q >>= λ r. y >>= λ z. Some (z, r) in
       record { reads = chain k h ∙ ap o e }
 
-  pub refuse_via : {A B : Type 0} (to : A → Option B) (from : B → A) {f : Format A} {a : A} → Reads f s p a q → to a ≡ none → Refuses (via to from f) s p
+  pub refuse_via : {A B : Type 0} (to : A → Option B) (from : B → A) {f : Format A} {a : A} → Reads f s p a q → to a ≡ None → Refuses (via to from f) s p
   unfolding via
   refuse_via {A} {B} to from h e =
-      let k : A × Bits → Option (B × Bits) = λ x. to x.0 >>= λ y. some (y, x.1) in
-      let o : Option B → Option (B × Bits) = λ y. rest s q >>= λ r. y >>= λ z. some (z, r) in
+      let k : A × Bits → Option (B × Bits) = λ x. to x.0 >>= λ y. Some (y, x.1) in
+      let o : Option B → Option (B × Bits) = λ y. rest s q >>= λ r. y >>= λ z. Some (z, r) in
       record { gives = chain k h ∙ ap o e ∙ nowhere (rest s q) }
 
-given_from : {B C : Type 0} (l m : Option Bits) (g : Format B) (b : B) (k : Option B × Bits → Option C) → (l >>= g.get) ≡ (m >>= λ r. some (b, r)) → (l >>= λ r. get_given true g r >>= k) ≡ (m >>= λ r. k (some b, r))
-given_from none none g b k e = refl
-given_from none (some m) g b k e = cc
-given_from (some l) none g b k e = rw e
-given_from (some l) (some m) g b k e = rw e
+given_from : {B C : Type 0} (l m : Option Bits) (g : Format B) (b : B) (k : Option B × Bits → Option C) → (l >>= g.get) ≡ (m >>= λ r. Some (b, r)) → (l >>= λ r. get_given true g r >>= k) ≡ (m >>= λ r. k (Some b, r))
+given_from None None g b k e = refl
+given_from None (Some m) g b k e = cc
+given_from (Some l) None g b k e = rw e
+given_from (Some l) (Some m) g b k e = rw e
 
 skip_from : {C : Type 0} (l m : Option Bits) (k : Bits → Option C) → (l >>= get_pad) ≡ m → (l >>= λ x. get_pad x >>= k) ≡ (m >>= k)
-skip_from none m k e = rw (← e)
-skip_from (some l) m k e = rw e
+skip_from None m k e = rw (← e)
+skip_from (Some l) m k e = rw e
 
 module _ {s : List ℕ} {p q r : Place} where
   -- one and then another
   pub read-⊗ : {A B : Type 0} {f : Format A} {g : Format B} {a : A} {b : B} → Reads f s p a q → Reads g s q b r → Reads (f ⊗ g) s p (a, b) r
   unfolding ◌⊗◌
   read-⊗ {A} {B} {f} {g} {a} {b} h i =
-      let j : B × Bits → Option ((A × B) × Bits) = λ y. some ((a, y.0), y.1) in
-      let k : A × Bits → Option ((A × B) × Bits) = λ x. g.get x.1 >>= λ y. some ((x.0, y.0), y.1) in
+      let j : B × Bits → Option ((A × B) × Bits) = λ y. Some ((a, y.0), y.1) in
+      let k : A × Bits → Option ((A × B) × Bits) = λ x. g.get x.1 >>= λ y. Some ((x.0, y.0), y.1) in
       record { reads = chain k h ∙ chain j i }
 
   -- a value and another, and zero bits up to a whole byte
-  pub read_both : {A B : Type 0} {f : Format A} (test : A → Bool) {g : Format B} {a : A} {b : B} → Reads f s p a q → test a ≡ true → Reads g s q b r → Reads (depending f test g) s p (a, some b) r
+  pub read_both : {A B : Type 0} {f : Format A} (test : A → Bool) {g : Format B} {a : A} {b : B} → Reads f s p a q → test a ≡ true → Reads g s q b r → Reads (depending f test g) s p (a, Some b) r
   unfolding depending
   read_both {A} {B} {f} test {g} {a} {b} h e i =
-      let j : Option B × Bits → Option ((A × Option B) × Bits) = λ y. some ((a, y.0), y.1) in
-      let k : A × Bits → Option ((A × Option B) × Bits) = λ x. get_given (test x.0) g x.1 >>= λ y. some ((x.0, y.0), y.1) in
+      let j : Option B × Bits → Option ((A × Option B) × Bits) = λ y. Some ((a, y.0), y.1) in
+      let k : A × Bits → Option ((A × Option B) × Bits) = λ x. get_given (test x.0) g x.1 >>= λ y. Some ((x.0, y.0), y.1) in
       let o : Bool → Option ((A × Option B) × Bits) = λ t. rest s q >>= λ l. get_given t g l >>= j in
       record { reads = chain k h ∙ ap o e ∙ given_from (rest s q) (rest s r) g b j i.reads }
 
   pub read_whole : {A : Type 0} {f : Format A} {a : A} → Reads f s p a q → Skips s q r → Reads (whole f) s p a r
   unfolding whole
   read_whole {A} {f} {a} h i =
-      let j : Bits → Option (A × Bits) = λ l. some (a, l) in
-      let k : A × Bits → Option (A × Bits) = λ x. get_pad x.1 >>= λ l. some (x.0, l) in
+      let j : Bits → Option (A × Bits) = λ l. Some (a, l) in
+      let k : A × Bits → Option (A × Bits) = λ x. get_pad x.1 >>= λ l. Some (x.0, l) in
       record { reads = chain k h ∙ skip_from (rest s q) (rest s r) j i.skips }
 
 module _ {s : List ℕ} {p q : Place} where
-  pub read_alone : {A B : Type 0} {f : Format A} (test : A → Bool) (g : Format B) {a : A} → Reads f s p a q → test a ≡ false → Reads (depending f test g) s p (a, none) q
+  pub read_alone : {A B : Type 0} {f : Format A} (test : A → Bool) (g : Format B) {a : A} → Reads f s p a q → test a ≡ false → Reads (depending f test g) s p (a, None) q
   unfolding depending
   read_alone {A} {B} {f} test g {a} h e =
-      let k : A × Bits → Option ((A × Option B) × Bits) = λ x. get_given (test x.0) g x.1 >>= λ y. some ((x.0, y.0), y.1) in
-      let o : Bool → Option ((A × Option B) × Bits) = λ t. rest s q >>= λ l. get_given t g l >>= λ y. some ((a, y.0), y.1) in
+      let k : A × Bits → Option ((A × Option B) × Bits) = λ x. get_given (test x.0) g x.1 >>= λ y. Some ((x.0, y.0), y.1) in
+      let o : Bool → Option ((A × Option B) × Bits) = λ t. rest s q >>= λ l. get_given t g l >>= λ y. Some ((a, y.0), y.1) in
       record { reads = chain k h ∙ ap o e }
 
   -- the fields of document 01
@@ -262,11 +262,11 @@ module _ {s : List ℕ} {p q : Place} where
   unfolding time
   refuse_time {v} h e = refuse_via _ _ h (rw e)
 
-  pub read_date : {v : ℕ} {t : Date} → Reads (field 32) s p v q → from_days (signed 32 v) ≡ some t → Reads date s p t q
+  pub read_date : {v : ℕ} {t : Date} → Reads (field 32) s p v q → from_days (signed 32 v) ≡ Some t → Reads date s p t q
   unfolding date
   read_date h e = read_via _ _ h e
 
-  pub refuse_date : {v : ℕ} → Reads (field 32) s p v q → from_days (signed 32 v) ≡ none → Refuses date s p
+  pub refuse_date : {v : ℕ} → Reads (field 32) s p v q → from_days (signed 32 v) ≡ None → Refuses date s p
   unfolding date
   refuse_date h e = refuse_via _ _ h e
 
@@ -279,11 +279,11 @@ module _ {s : List ℕ} {p q : Place} where
   refuse_period h e = refuse_via _ _ h (rw e)
 
 -- a value that may be missing
-pub read_none : {s : List ℕ} {p q : Place} {A : Type 0} (f : Format A) → Reads flag s p false q → Reads (optional f) s p none q
+pub read_none : {s : List ℕ} {p q : Place} {A : Type 0} (f : Format A) → Reads flag s p false q → Reads (optional f) s p None q
 unfolding optional
 read_none f h = read_via _ _ (read_alone _ f h refl) refl
 
-pub read_some : {s : List ℕ} {p q r : Place} {A : Type 0} {f : Format A} {a : A} → Reads flag s p true q → Reads f s q a r → Reads (optional f) s p (some a) r
+pub read_some : {s : List ℕ} {p q r : Place} {A : Type 0} {f : Format A} {a : A} → Reads flag s p true q → Reads f s q a r → Reads (optional f) s p (Some a) r
 unfolding optional
 read_some h i = read_via _ _ (read_both _ h refl i) refl
 
@@ -294,57 +294,57 @@ one_answer {A} {f} {s} {p} {q} {r} {a} {b} h i k = one_if_lem (inside (length s)
     fq : Fits (length s) q 0
     fq = room_fits (length s) q 0 k
 
-    both : ◌≡◌ {A = Option (A × Bits)} (some (a, drop (at q) (bits_of s))) (rest s r >>= λ l. some (b, l))
+    both : ◌≡◌ {A = Option (A × Bits)} (Some (a, drop (at q) (bits_of s))) (rest s r >>= λ l. Some (b, l))
     both = rw (rest_in s q fq) at (sym h.reads ∙ i.reads)
 
     one_if_lem : (t : Bool) → inside (length s) r ≡ t → (a ≡ b) × (q ≡ r)
     one_if_lem false e =
-        let x : ◌≡◌ {A = Option (A × Bits)} (some (a, drop (at q) (bits_of s))) none = both ∙ rw (rest_out s r e) in
+        let x : ◌≡◌ {A = Option (A × Bits)} (Some (a, drop (at q) (bits_of s))) None = both ∙ rw (rest_out s r e) in
         let z : ◌≡◌ {A = ℕ} 0 1 = cc in
         absurd (omega arith)
     one_if_lem true e =
         let fr = room_fits (length s) r 0 e in
-        let x : ◌≡◌ {A = Option (A × Bits)} (some (a, drop (at q) (bits_of s))) (some (b, drop (at r) (bits_of s))) = both ∙ rw (rest_in s r fr) in
+        let x : ◌≡◌ {A = Option (A × Bits)} (Some (a, drop (at q) (bits_of s))) (Some (b, drop (at r) (bits_of s))) = both ∙ rw (rest_in s r fr) in
         let w : ◌≡◌ {A = A × Bits} (a, drop (at q) (bits_of s)) (b, drop (at r) (bits_of s)) = cc in
         (ap (λ (t : A × Bits). t.0) w, sym (spot_at s q fq) ∙ ap (λ (t : A × Bits). spot s t.1) w ∙ spot_at s r fr)
 
 -- ---- what refuses a part refuses the whole
 
-refuse_from : {A C : Type 0} {s : List ℕ} {p : Place} (f : Format A) (k : A × Bits → Option C) → Refuses f s p → (rest s p >>= λ r. f.get r >>= k) ≡ none
+refuse_from : {A C : Type 0} {s : List ℕ} {p : Place} (f : Format A) (k : A × Bits → Option C) → Refuses f s p → (rest s p >>= λ r. f.get r >>= k) ≡ None
 refuse_from {A} {C} {s} {p} f k h = sym (bind_assoc (rest s p) f.get k) ∙ ap (λ (o : Option (A × Bits)). o >>= k) h.gives
 
 module _ {A B : Type 0} {f : Format A} {s : List ℕ} {p : Place} where
   pub refuse_value : (to : A → Option B) (from : B → A) → Refuses f s p → Refuses (via to from f) s p
   unfolding via
   refuse_value to from h =
-      let k : A × Bits → Option (B × Bits) = λ x. to x.0 >>= λ y. some (y, x.1) in
+      let k : A × Bits → Option (B × Bits) = λ x. to x.0 >>= λ y. Some (y, x.1) in
       record { gives = refuse_from f k h }
 
   pub refuse_first : (g : Format B) → Refuses f s p → Refuses (f ⊗ g) s p
   unfolding ◌⊗◌
   refuse_first g h =
-      let k : A × Bits → Option ((A × B) × Bits) = λ x. g.get x.1 >>= λ y. some ((x.0, y.0), y.1) in
+      let k : A × Bits → Option ((A × B) × Bits) = λ x. g.get x.1 >>= λ y. Some ((x.0, y.0), y.1) in
       record { gives = refuse_from f k h }
 
   pub refuse_second : {q : Place} {g : Format B} {a : A} → Reads f s p a q → Refuses g s q → Refuses (f ⊗ g) s p
   unfolding ◌⊗◌
   refuse_second {q} {g} {a} h i =
-      let j : B × Bits → Option ((A × B) × Bits) = λ y. some ((a, y.0), y.1) in
-      let k : A × Bits → Option ((A × B) × Bits) = λ x. g.get x.1 >>= λ y. some ((x.0, y.0), y.1) in
+      let j : B × Bits → Option ((A × B) × Bits) = λ y. Some ((a, y.0), y.1) in
+      let k : A × Bits → Option ((A × B) × Bits) = λ x. g.get x.1 >>= λ y. Some ((x.0, y.0), y.1) in
       record { gives = chain k h ∙ refuse_from g j i }
 
   pub refuse_test : (test : A → Bool) (g : Format B) → Refuses f s p → Refuses (depending f test g) s p
   unfolding depending
   refuse_test test g h =
-      let k : A × Bits → Option ((A × Option B) × Bits) = λ x. get_given (test x.0) g x.1 >>= λ y. some ((x.0, y.0), y.1) in
+      let k : A × Bits → Option ((A × Option B) × Bits) = λ x. get_given (test x.0) g x.1 >>= λ y. Some ((x.0, y.0), y.1) in
       record { gives = refuse_from f k h }
 
   pub refuse_given : {q : Place} (test : A → Bool) {g : Format B} {a : A} → Reads f s p a q → test a ≡ true → Refuses g s q → Refuses (depending f test g) s p
   unfolding depending
   refuse_given {q} test {g} {a} h e i =
-      let j : Option B × Bits → Option ((A × Option B) × Bits) = λ y. some ((a, y.0), y.1) in
-      let u : B × Bits → Option (Option B × Bits) = λ y. some (some y.0, y.1) in
-      let k : A × Bits → Option ((A × Option B) × Bits) = λ x. get_given (test x.0) g x.1 >>= λ y. some ((x.0, y.0), y.1) in
+      let j : Option B × Bits → Option ((A × Option B) × Bits) = λ y. Some ((a, y.0), y.1) in
+      let u : B × Bits → Option (Option B × Bits) = λ y. Some (Some y.0, y.1) in
+      let k : A × Bits → Option ((A × Option B) × Bits) = λ x. get_given (test x.0) g x.1 >>= λ y. Some ((x.0, y.0), y.1) in
       let o : Bool → Option ((A × Option B) × Bits) = λ t. rest s q >>= λ l. get_given t g l >>= j in
       record { gives = chain k h ∙ ap o e ∙ sym (bind_assoc (rest s q) (λ l. g.get l >>= u) j) ∙ ap (λ (w : Option (Option B × Bits)). w >>= j) (refuse_from g u i) }
 
@@ -356,21 +356,21 @@ refuse_some h i = refuse_value _ _ (refuse_given _ h refl i)
 
 -- items before those that were read
 abbrev pub onto : {A : Type 0} → List A → List A × Bits → Option (List A × Bits)
-onto xs y = some (xs ++ y.0, y.1)
+onto xs y = Some (xs ++ y.0, y.1)
 
 module _ {A : Type 0} (f : Format A) where
   all_none : (m : ℕ) (l : Bits) → get_all f m l ≡ (get_all f m l >>= onto [])
   all_none m l = whole_if (get_all f m l)
     where
       whole_if : (o : Option (List A × Bits)) → o ≡ (o >>= onto [])
-      whole_if none = refl
-      whole_if (some y) = refl
+      whole_if None = refl
+      whole_if (Some y) = refl
 
   all_first : (k : ℕ) (l : Bits) → get_all f (suc k) l ≡ (f.get l >>= λ x. get_all f k x.1 >>= onto (x.0 ∷ []))
   unfolding get_all
   all_first k l = refl
 
-  all_zero : (l : Bits) → get_all f 0 l ≡ some ([], l)
+  all_zero : (l : Bits) → get_all f 0 l ≡ Some ([], l)
   unfolding get_all
   all_zero l = refl
 
@@ -387,8 +387,8 @@ module _ {A : Type 0} (f : Format A) where
     where
       turn : (x : A × Bits) (o : Option (List A × Bits))
           → (o >>= (λ z. get_all f m z.1 >>= onto z.0) >>= onto (x.0 ∷ [])) ≡ (o >>= onto (x.0 ∷ []) >>= λ z. get_all f m z.1 >>= onto z.0)
-      turn x none = refl
-      turn x (some z) = bind_assoc (get_all f m z.1) (onto z.0) (onto (x.0 ∷ []))
+      turn x None = refl
+      turn x (Some z) = bind_assoc (get_all f m z.1) (onto z.0) (onto (x.0 ∷ []))
 
   -- no items yet
   pub read_no : (s : List ℕ) (p : Place) → Reads (times 0 f) s p [] p
@@ -407,8 +407,8 @@ module _ {A : Type 0} (f : Format A) where
     pub read_more : (k : ℕ) {x : A} {r : Place} → Reads (times k f) s p xs q → Reads f s q x r → Reads (times (k + 1) f) s p (xs ++ (x ∷ [])) r
     unfolding get_all
     read_more k {x} {r} h i =
-        let g : A × Bits → Option (List A × Bits) = λ y. some (xs ++ (y.0 ∷ []), y.1) in
-        record { reads = read_on k 1 h ∙ bind_ext (rest s q) _ (λ l. f.get l >>= g) (λ l. bind_assoc (f.get l) (λ y. some (y.0 ∷ [], y.1)) (onto xs)) ∙ chain g i }
+        let g : A × Bits → Option (List A × Bits) = λ y. Some (xs ++ (y.0 ∷ []), y.1) in
+        record { reads = read_on k 1 h ∙ bind_ext (rest s q) _ (λ l. f.get l >>= g) (λ l. bind_assoc (f.get l) (λ y. Some (y.0 ∷ [], y.1)) (onto xs)) ∙ chain g i }
 
     -- an item that is refused refuses the list
     pub refuse_times : (k n : ℕ) → Reads (times k f) s p xs q → Refuses f s q → k < n → Refuses (times n f) s p
@@ -417,9 +417,9 @@ module _ {A : Type 0} (f : Format A) where
         let e : n ≡ k + suc m = omega arith in
         record { gives = rw e (read_on k (suc m) h ∙ each m (rest s q) i.gives) }
       where
-        each : (m : ℕ) (o : Option Bits) → (o >>= f.get) ≡ none → (o >>= λ l. get_all f (suc m) l >>= onto xs) ≡ none
-        each m none e = refl
-        each m (some l) e = rw (all_first m l, e)
+        each : (m : ℕ) (o : Option Bits) → (o >>= f.get) ≡ None → (o >>= λ l. get_all f (suc m) l >>= onto xs) ≡ None
+        each m None e = refl
+        each m (Some l) e = rw (all_first m l, e)
 
 -- a count, and so many items, which rise
 module _ {A : Type 0} (lt : A → A → Bool) (f : Format A) {s : List ℕ} {p q : Place} {n : ℕ} where
@@ -531,7 +531,7 @@ unfolding span_at
 span_ends s p {x} e = rw e (by_place (taken_at s p 32).value (pad_at s (taken_at s p 32).next) (read_whole (read_field s p 32 refl) (skip_pad s _ refl)))
   where
     by_room : (b : Place) (n : ℕ) → Fits (length s) b 0 → (t : Bool) → ltb (length (drop (at b) (bits_of s))) (8 * n) ≡ t
-        → (span_of s (some (n, drop (at b) (bits_of s)))).start + (span_of s (some (n, drop (at b) (bits_of s)))).len ≤ length s
+        → (span_of s (Some (n, drop (at b) (bits_of s)))).start + (span_of s (Some (n, drop (at b) (bits_of s)))).len ≤ length s
     by_room b n f true h = rw h (omega arith)
     by_room b n f false h =
         let l = ltb-false (length (drop (at b) (bits_of s))) (8 * n) h in
@@ -539,7 +539,7 @@ span_ends s p {x} e = rw e (by_place (taken_at s p 32).value (pad_at s (taken_at
         rw h (omega arith)
 
     by_inside : (b : Place) (n : ℕ) (t : Bool) → inside (length s) b ≡ t
-        → (span_of s (rest s b >>= λ l. some (n, l))).start + (span_of s (rest s b >>= λ l. some (n, l))).len ≤ length s
+        → (span_of s (rest s b >>= λ l. Some (n, l))).start + (span_of s (rest s b >>= λ l. Some (n, l))).len ≤ length s
     by_inside b n false h = rw (rest_out s b h) (omega arith)
     by_inside b n true h = rw (rest_in s b (room_fits (length s) b 0 h)) (by_room b n (room_fits (length s) b 0 h) (ltb (length (drop (at b) (bits_of s))) (8 * n)) refl)
 
@@ -558,11 +558,11 @@ unfolding flag_at
 read_bit s p e = rw e (read_flag (read_field s p 1 refl))
 
 module _ (s : List ℕ) (p : Place) {x : Int32} (e : x ≡ int32_at s p) where
-  pub read_int32 : {t : Date} → from_days x.value ≡ some t → Reads date s p t x.next
+  pub read_int32 : {t : Date} → from_days x.value ≡ Some t → Reads date s p t x.next
   unfolding int32_at
   read_int32 h = rw e (read_date (read_field s p 32 refl) (rw e at h))
 
-  pub refuse_int32 : from_days x.value ≡ none → Refuses date s p
+  pub refuse_int32 : from_days x.value ≡ None → Refuses date s p
   unfolding int32_at
   refuse_int32 h = refuse_date (read_field s p 32 refl) (rw e at h)
 

@@ -4,7 +4,7 @@ use Rattle.std.specs.Prelude.{if◌then◌else◌, ◌≡◌, Bool, List, [], �
 use Rattle.std.proofs.Math.Path.{refl}
 use Rattle.std.proofs.Common.{sym, ap, subst, ◌∙◌, append_assoc, append-nil, add_assoc, add-zero, arith, length-append, length-take-le, take-take}
 use Rattle.std.proofs.Math.Bool.{true, false}
-use Rattle.std.proofs.Math.Option.{Option, some, none}
+use Rattle.std.specs.Prelude.{Option, Some, None}
 use Rattle.std.proofs.Math.ListN.{length}
 use borrow.Author.Tests.{le-leb, lt-leb}
 use Rattle.definition.specs.Bits.{Bits, enc, bits_of, pad, twos}
@@ -230,13 +230,13 @@ module _ {d : List ℕ} {p : Place} {d' : List ℕ} {q : Place} {d'' : List ℕ}
 
   -- a value and another
   pub put_both : {A B : Type 0} {f : Format A} (test : A → Bool) {g : Format B} {a : A} {b : B}
-      → Puts f a d p d' q → Puts g b d' q d'' r → Puts (depending f test g) (a, some b) d p d'' r
+      → Puts f a d p d' q → Puts g b d' q d'' r → Puts (depending f test g) (a, Some b) d p d'' r
   unfolding depending
   put_both {f = f} test {g = g} {a = a} {b = b} x y = record { step = put_then f a (λ n. g.put n b) x.step y.step }
 
 module _ {d : List ℕ} {p : Place} {d' : List ℕ} {q : Place} where
   -- a value alone
-  pub put_alone : {A B : Type 0} {f : Format A} (test : A → Bool) (g : Format B) {a : A} → Puts f a d p d' q → Puts (depending f test g) (a, none) d p d' q
+  pub put_alone : {A B : Type 0} {f : Format A} (test : A → Bool) (g : Format B) {a : A} → Puts f a d p d' q → Puts (depending f test g) (a, None) d p d' q
   unfolding depending
   put_alone {f = f} test g {a = a} x = record { step = said x.step _ (sym (ap (λ (l : Bits). view d p ▷ l) (append-nil (f.put (size_of (view d p)) a)))) }
 

@@ -3,7 +3,7 @@ use Rattle.std.specs.Prelude.{if◌then◌else◌}
 use Rattle.std.proofs.Common.{◌≡◌, ℕ, ◌+◌, ◌%◌, not, List, [], ◌∷◌, ◌++◌, sym, refl, ap, ◌∙◌, zero-add, arith}
 use native.Mathlib.Nat.{zero-mod, mod-add-mod}
 use mathlib.Core.List.{flat_map}
-use mathlib.Core.Option.{Option, some, none}
+use Rattle.std.specs.Prelude.{Option, Some, None}
 use Rattle.definition.specs.Base.{◌>>=◌, given, keep}
 use Rattle.definition.specs.Tree.{Element}
 use Rattle.definition.specs.Recurrence as D
@@ -21,17 +21,17 @@ pub one_rule : (x : Element) (r : RuleAnswer) → r ≡ rule_by (rule_of x) → 
 unfolding recurrence_days
 one_rule x r e m k = by (rule_of x) (sym k ∙ e)
   where
-    by : (o : Option D.Rule) → RuleAnswer.Is m ≡ rule_by o → ◌≡◌ {A = ℕ} 0 (if not (given (o >>= λ r. some (days_of_rule r))) then 1 else 0)
-    by none e = let i : ◌≡◌ {A = ℕ} 0 1 = cc in absurd (omega arith)
-    by (some r) e = refl
+    by : (o : Option D.Rule) → RuleAnswer.Is m ≡ rule_by o → ◌≡◌ {A = ℕ} 0 (if not (given (o >>= λ r. Some (days_of_rule r))) then 1 else 0)
+    by None e = let i : ◌≡◌ {A = ℕ} 0 1 = cc in absurd (omega arith)
+    by (Some r) e = refl
 
 pub no_rule : (x : Element) (r : RuleAnswer) → r ≡ rule_by (rule_of x) → r ≡ RuleAnswer.Absent → 1 ≡ one_if x
 unfolding recurrence_days
 no_rule x r e k = by (rule_of x) (sym k ∙ e)
   where
-    by : (o : Option D.Rule) → RuleAnswer.Absent ≡ rule_by o → ◌≡◌ {A = ℕ} 1 (if not (given (o >>= λ r. some (days_of_rule r))) then 1 else 0)
-    by none e = refl
-    by (some r) e = let i : ◌≡◌ {A = ℕ} 0 1 = cc in absurd (omega arith)
+    by : (o : Option D.Rule) → RuleAnswer.Absent ≡ rule_by o → ◌≡◌ {A = ℕ} 1 (if not (given (o >>= λ r. Some (days_of_rule r))) then 1 else 0)
+    by None e = refl
+    by (Some r) e = let i : ◌≡◌ {A = ℕ} 0 1 = cc in absurd (omega arith)
 
 -- ---- sums, as so many bits hold them
 

@@ -1,6 +1,6 @@
 -- The flags of a word: one of them, and a word with one of them replaced, tried at all 128 words and seven places. Assumes nothing.
 use Rattle.std.proofs.Common.{◌≡◌, ℕ, zero, suc, ◌+◌, ◌-◌, ◌*◌, ◌/◌, ◌%◌, ◌^◌, ◌<◌, ◌≤◌, Bool, true, false, not, ◌&&◌, T, eqb, List, [], ◌∷◌, length, get_or, set, sym, refl, ap, ◌∙◌, subst, lt_of_le_of_lt, mod-lt, mod-eq_of_lt, zero-lt-suc, mul-le-mul, one-mul, div-le_self, div-one, arith, eqb→eq, pow_pos, pow_mono, eq-eqb, ne_eqb, eqb-true}
-use mathlib.Core.Option.{Option, some, none}
+use Rattle.std.specs.Prelude.{Option, Some, None}
 use lib.ListN.{get_or-eq_default}
 use lib.Bits.{bit_and, bit_or, and_mask, or_shifted}
 use lib.Pow.{pow-lt}
@@ -39,9 +39,9 @@ pub no_flag : (w k : ℕ) → 6 < k → false ≡ get_or (flags_in w) k false
 no_flag w k h = sym (get_or-eq_default (flags_in w) false (omega (arith, seven w)))
 
 -- a day's flag; none outside the years
-pub works_is : (week : List Bool) (o : Option Date) → flag_on week (o >>= λ d. some (weekday d)) ≡ (o >>= λ d. some (works week d)) or false
-works_is week none = refl
-works_is week (some d) = refl
+pub works_is : (week : List Bool) (o : Option Date) → flag_on week (o >>= λ d. Some (weekday d)) ≡ (o >>= λ d. Some (works week d)) or false
+works_is week None = refl
+works_is week (Some d) = refl
 
 pub set_past : {A : Type 0} (l : List A) (k : ℕ) (a : A) → length l ≤ k → l ≡ set l k a
 set_past [] k a h = refl

@@ -1,6 +1,6 @@
 -- A missing text is read as the empty one is. Assumes nothing.
 use Rattle.std.proofs.Common.{◌≡◌, [], refl, ap, ◌∙◌}
-use mathlib.Core.Option.{none}
+use Rattle.std.specs.Prelude.{None}
 use Rattle.definition.specs.Base.{◌or◌}
 use Rattle.definition.specs.Text.{Text, trim, trim_front, trim_back, strip, before, after, sign_of, digits, unsigned_of}
 use Rattle.definition.specs.Time.{time_of, time_parts}
@@ -10,11 +10,11 @@ use Rattle.definition.specs.Calendar.{day_type}
 use Rattle.laws.specs.Options.{bind_or}
 use Rattle.calendar.specs.Hours.{time_said}
 
-no_time : time_of [] ≡ none
+no_time : time_of [] ≡ None
 unfolding time_of time_parts trim trim_front trim_back strip before after unsigned_of sign_of digits
 no_time = refl
 
-no_type : unsigned_of 64 [] ≡ none
+no_type : unsigned_of 64 [] ≡ None
 unfolding unsigned_of sign_of digits
 no_type = refl
 

@@ -1,19 +1,19 @@
 -- Working times and places in the week, by the tests that the code makes. Assumes nothing.
 use Rattle.std.specs.Prelude.{if◌then◌else◌}
 use Rattle.std.proofs.Common.{◌≡◌, ℕ, ◌<◌, ◌≤◌, Bool, true, ◌&&◌, eqb, ltb, leb, sym, ap, ◌∙◌, le-ltb, lt-ltb, leb-true}
-use mathlib.Core.Option.{some, none}
+use Rattle.std.specs.Prelude.{Some, None}
 use Rattle.definition.specs.Base.{when}
 use Rattle.laws.specs.Bools.{and_right}
 use Rattle.calendar.specs.Hours.{time_by}
 
 module _ (from until to : ℕ) (e : to ≡ (if eqb until 0 then 1440 else until)) where
-  whole : when (ltb from to) (from, to) ≡ time_by (some from) (some until)
+  whole : when (ltb from to) (from, to) ≡ time_by (Some from) (Some until)
   whole = ap (λ (n : ℕ). when (ltb from n) (from, n)) e
 
-  pub rises : from < to → some (from, to) ≡ time_by (some from) (some until)
+  pub rises : from < to → Some (from, to) ≡ time_by (Some from) (Some until)
   rises h = sym (ap (λ (b : Bool). when b (from, to)) (lt-ltb from to h)) ∙ whole
 
-  pub falls : to ≤ from → none ≡ time_by (some from) (some until)
+  pub falls : to ≤ from → None ≡ time_by (Some from) (Some until)
   falls h = sym (ap (λ (b : Bool). when b (from, to)) (le-ltb from to h)) ∙ whole
 
 pub at_most_7 : (t : ℕ) → (leb 1 t && leb t 7) ≡ true → t ≤ 7

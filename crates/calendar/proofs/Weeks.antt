@@ -1,6 +1,6 @@
 -- The week as the WeekDays say, one after another. Assumes nothing.
 use Rattle.std.proofs.Common.{◌≡◌, Bool, List, [], ◌∷◌, sym, ap, ◌∙◌}
-use mathlib.Core.Option.{Option, some, none}
+use Rattle.std.specs.Prelude.{Option, Some, None}
 use Rattle.definition.specs.Ascii.{bytes}
 use Rattle.definition.specs.Tree.{Element, child, all, all_in}
 use Rattle.definition.specs.Calendar.{week_days, week_by}
@@ -19,9 +19,9 @@ pub no_days : (l : List Element) (week : List Bool) → l ≡ [] → week ≡ we
 unfolding week_by
 no_days l week z = sym (ap (λ (l : List Element). week_by l week) z)
 
-pub days_in_lem : (e c : Element) (week : List Bool) → child e (bytes "WeekDays") ≡ some c → week_by (all c (bytes "WeekDay")) week ≡ week_by (week_days e) week
+pub days_in_lem : (e c : Element) (week : List Bool) → child e (bytes "WeekDays") ≡ Some c → week_by (all c (bytes "WeekDay")) week ≡ week_by (week_days e) week
 days_in_lem e c week z = sym (ap (λ (o : Option Element). week_by (all_in o (bytes "WeekDay")) week) z)
 
-pub no_days_in : (e : Element) (week : List Bool) → child e (bytes "WeekDays") ≡ none → week ≡ week_by (week_days e) week
+pub no_days_in : (e : Element) (week : List Bool) → child e (bytes "WeekDays") ≡ None → week ≡ week_by (week_days e) week
 unfolding week_by
 no_days_in e week z = sym (ap (λ (o : Option Element). week_by (all_in o (bytes "WeekDay")) week) z)

@@ -1,6 +1,6 @@
 -- What a working time means. Assumes nothing.
 use Rattle.std.specs.Prelude.{if◌then◌else◌, ◌≡◌, ℕ, ◌==◌, nat_lt, refl}
-use Rattle.std.proofs.Math.Option.{Option, some, none}
+use Rattle.std.specs.Prelude.{Option, Some, None}
 use Rattle.definition.specs.Base.{◌>>=◌, when}
 use Rattle.definition.specs.Ascii.{bytes}
 use Rattle.definition.specs.Format.{Period}
@@ -11,8 +11,8 @@ use Rattle.definition.specs.Calendar.{working_time}
 use Rattle.calendar.specs.declared.hours.WorkingTimeAnswer.{WorkingTimeAnswer}
 
 unfoldable pub working_meaning : WorkingTimeAnswer → Option Period
-working_meaning (WorkingTimeAnswer.Is t) = some (t.from, t.to)
-working_meaning WorkingTimeAnswer.Absent = none
+working_meaning (WorkingTimeAnswer.Is t) = Some (t.from, t.to)
+working_meaning WorkingTimeAnswer.Absent = None
 
 -- the time in a child whose name is given by its bytes
 abbrev pub time_said : Element → Text → Option ℕ

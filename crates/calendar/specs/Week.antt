@@ -1,6 +1,6 @@
 -- A week as a word of seven flags, Monday's the most significant. Assumes nothing.
 use Rattle.std.specs.Prelude.{◌≡◌, ℕ, ◌+◌, ◌*◌, ◌/◌, ◌%◌, ◌^◌, Bool, false, List, map, ℤ, nat_eq, slice_index_or, slice_set, refl}
-use Rattle.std.proofs.Math.Option.{Option, some, none}
+use Rattle.std.specs.Prelude.{Option, Some, None}
 use Rattle.definition.specs.Base.{◌>>=◌, ◌or◌, when, within}
 use Rattle.definition.specs.Date.{from_days}
 use Rattle.definition.specs.Bits.{enc, dec}
@@ -17,8 +17,8 @@ abbrev pub place_by : Option ℕ → Option ℕ
 place_by o = o >>= λ t. when (within 1 7 t) ((t + 5) % 7)
 
 unfoldable pub place_meaning : PlaceAnswer → Option ℕ
-place_meaning (PlaceAnswer.Is k) = some k
-place_meaning PlaceAnswer.Absent = none
+place_meaning (PlaceAnswer.Is k) = Some k
+place_meaning PlaceAnswer.Absent = None
 
 -- ---- the flags
 
@@ -36,7 +36,7 @@ replaced w n on = (w / 2 ^ (n + 1) * 2 + bit_of on) * 2 ^ n + w % 2 ^ n
 
 -- a week with a flag replaced, if there is a place
 abbrev pub week_on : Option ℕ → Bool → List Bool → List Bool
-week_on place on week = (place >>= λ k. some (slice_set week k on)) or week
+week_on place on week = (place >>= λ k. Some (slice_set week k on)) or week
 
 -- a week with what a WeekDay says
 abbrev pub week_with : Element → List Bool → List Bool
@@ -44,11 +44,11 @@ week_with w week = week_on (place_of w) (yes_in w "DayWorking") week
 
 -- the flag of a weekday that may be missing
 abbrev pub flag_on : List Bool → Option ℕ → Bool
-flag_on week o = (o >>= λ k. some (slice_index_or week k false)) or false
+flag_on week o = (o >>= λ k. Some (slice_index_or week k false)) or false
 
 -- whether a week works on the day of a number
 abbrev pub works_on : List Bool → ℤ → Bool
-works_on week z = (from_days z >>= λ d. some (works week d)) or false
+works_on week z = (from_days z >>= λ d. Some (works week d)) or false
 
 -- the week of a calendar over its base
 pub calendar_week : (e : Element) (base : Calendar) → week_by (week_days e) base.week ≡ (calendar_of e base).week

@@ -1,6 +1,5 @@
 // The hours of a WorkingTime. What is right is said in the crate definition, specs/Calendar.antt.
 ghost use Rattle.std.specs.Prelude.{if◌then◌else◌, ◌≡◌, nat_eq};
-ghost use Rattle.std.proofs.Math.Option.{some, none};
 ghost use Rattle.definition.specs.Calendar.{working_time};
 ghost use Rattle.number.specs.Time.{meaning as time_means};
 ghost use Rattle.tree.specs.Place.{element_at};
@@ -38,7 +37,7 @@ fn end_of(t: u16) -> u16
 }
 
 fn time_from(from: u16, until: u16) -> WorkingTimeAnswer
-    ensures { working_meaning result ≡ (time_by (some from) (some until)) }
+    ensures { working_meaning result ≡ (time_by (Some from) (Some until)) }
 {
     let to = end_of(until);
     if from < to {
@@ -48,7 +47,7 @@ fn time_from(from: u16, until: u16) -> WorkingTimeAnswer
 }
 
 fn time_to(from: u16, until: TimeAnswer) -> WorkingTimeAnswer
-    ensures { working_meaning result ≡ (time_by (some from) (time_means until)) }
+    ensures { working_meaning result ≡ (time_by (Some from) (time_means until)) }
 {
     match until {
         TimeAnswer::Time(t) => time_from(from, t),

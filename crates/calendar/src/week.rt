@@ -1,6 +1,5 @@
 // The days of a week. What is right is said in the crate definition, specs/Calendar.antt. A week is a word: bit 6 for Monday, bit 0 for Sunday.
 ghost use Rattle.std.specs.Prelude.{◌≡◌, ◌+◌, ◌-◌, ◌*◌, ◌/◌, ◌%◌, ◌^◌, ◌<◌, ◌≤◌, false, ◌∷◌, set, ◌==◌, slice_index_or, slice_set};
-ghost use Rattle.std.proofs.Math.Option.{some};
 ghost use Rattle.definition.specs.Base.{◌or◌};
 ghost use Rattle.definition.specs.Ascii.{bytes};
 ghost use Rattle.definition.specs.Field.{yes_in};
@@ -32,7 +31,7 @@ fn day_type(s: &[u8], at: usize) -> U64Answer
 
 // Sunday is 1, and the week begins on Monday.
 fn place_at(t: u64) -> PlaceAnswer
-    ensures { place_meaning result ≡ place_by (some t) }
+    ensures { place_meaning result ≡ place_by (Some t) }
 {
     if (1 <= t) & (t <= 7) {
         return PlaceAnswer::Is(((t + 5) % 7) as u32);

@@ -1,7 +1,7 @@
 -- The days of a rule, one after the other, and the rule of days in a row. Assumes nothing.
 use Rattle.std.specs.Prelude.{if◌then◌else◌}
 use Rattle.std.proofs.Common.{◌≡◌, ℕ, zero, suc, ◌+◌, ◌-◌, ◌/◌, ◌%◌, ◌<◌, ◌≤◌, min, max, Bool, true, false, ◌&&◌, eqb, ltb, leb, List, [], ◌∷◌, length, take, pos, sym, refl, ap, ◌∙◌, subst, arith, lt-ltb, leb-true}
-use mathlib.Core.Option.{Option, some, none}
+use Rattle.std.specs.Prelude.{Option, Some, None}
 use Rattle.definition.specs.Base.{◌>>=◌, ◌or◌, when, within, keep, count}
 use Rattle.definition.specs.Ascii.{bytes}
 use Rattle.definition.specs.Date.{Date, day_number, first_date, last_date}
@@ -44,7 +44,7 @@ come_years r c = by_sound (sound (scaled_by r) && is_rule (as_rule (scaled_by r)
     m = as_rule (scaled_by r)
 
     by_sound : (t : Bool) → (sound (scaled_by r) && is_rule (as_rule (scaled_by r))) ≡ t
-        → Each InYears ((when t m >>= λ m. some (take c.left (from_on (fits m) m.last (max m.from (day_count c.at.0))))) or [])
+        → Each InYears ((when t m >>= λ m. Some (take c.left (from_on (fits m) m.last (max m.from (day_count c.at.0))))) or [])
     by_sound false e = empty
     by_sound true e =
         let (s, k) = both (sound (scaled_by r)) (is_rule m) e in
@@ -55,13 +55,13 @@ come_years r c = by_sound (sound (scaled_by r) && is_rule (as_rule (scaled_by r)
         let at = max m.from (day_count c.at.0) in
         each_take c.left (each_kept (fits m) (λ k u t. u) (each_count at (suc m.last - at) (λ k u v. (omega arith, omega arith))))
 
-fewer : (r : Rule) (c : Cursor) (x : Date) (l : List Date) → to_come r c ≡ some (x ∷ l) → 0 < c.left
+fewer : (r : Rule) (c : Cursor) (x : Date) (l : List Date) → to_come r c ≡ Some (x ∷ l) → 0 < c.left
 unfolding to_come
 fewer r c x l e = by_left c.left refl (meaning r) e
   where
-    by_left : (n : ℕ) → c.left ≡ n → (o : Option D.Rule) → (o >>= λ m. some (take c.left (from_on (fits m) m.last (max m.from (day_count c.at.0))))) ≡ some (x ∷ l) → 0 < c.left
-    by_left zero z none e = never e
-    by_left zero z (some m) e = let w : some [] ≡ some (x ∷ l) = sym (ap (λ (n : ℕ). some (take n (from_on (fits m) m.last (max m.from (day_count c.at.0))))) z) ∙ e in let n : ◌≡◌ {A = ℕ} 0 1 = cc in absurd (omega arith)
+    by_left : (n : ℕ) → c.left ≡ n → (o : Option D.Rule) → (o >>= λ m. Some (take c.left (from_on (fits m) m.last (max m.from (day_count c.at.0))))) ≡ Some (x ∷ l) → 0 < c.left
+    by_left zero z None e = never e
+    by_left zero z (Some m) e = let w : Some [] ≡ Some (x ∷ l) = sym (ap (λ (n : ℕ). Some (take n (from_on (fits m) m.last (max m.from (day_count c.at.0))))) z) ∙ e in let n : ◌≡◌ {A = ℕ} 0 1 = cc in absurd (omega arith)
     by_left (suc n) z o e = omega arith
 
 module _ (r : Rule) (c : Cursor) {s : Step} (h : (s ≡ step_of r c) × (said r s ≡ to_come r c)) where
@@ -70,9 +70,9 @@ module _ (r : Rule) (c : Cursor) {s : Step} (h : (s ≡ step_of r c) × (said r 
   next_day {d} {c'} e = by_come (to_come r c) refl (come_years r c)
     where
       by_come : (o : Option (List Date)) → to_come r c ≡ o → Each InYears (o or []) → Next r c d c'
-      by_come none z y = let w : Day d c' ≡ Skipped = sym e ∙ h.0 ∙ ap (step_by c) z in let n : ◌≡◌ {A = ℕ} 0 1 = cc in absurd (omega arith)
-      by_come (some []) z y = let w : Day d c' ≡ Done = sym e ∙ h.0 ∙ ap (step_by c) z in let n : ◌≡◌ {A = ℕ} 0 1 = cc in absurd (omega arith)
-      by_come (some (x ∷ l)) z (next yx ys) = by_rest (to_come r c') refl
+      by_come None z y = let w : Day d c' ≡ Skipped = sym e ∙ h.0 ∙ ap (step_by c) z in let n : ◌≡◌ {A = ℕ} 0 1 = cc in absurd (omega arith)
+      by_come (Some []) z y = let w : Day d c' ≡ Done = sym e ∙ h.0 ∙ ap (step_by c) z in let n : ◌≡◌ {A = ℕ} 0 1 = cc in absurd (omega arith)
+      by_come (Some (x ∷ l)) z (next yx ys) = by_rest (to_come r c') refl
         where
           w : Day d c' ≡ Day (day_date x) (after c x)
           w = sym e ∙ h.0 ∙ ap (step_by c) z
@@ -86,13 +86,13 @@ module _ (r : Rule) (c : Cursor) {s : Step} (h : (s ≡ step_of r c) × (said r 
           day : date_by d.0 ≡ x
           day = ap (λ (t : DateIs). date_by t.0) ed ∙ ap (λ (o : Option Date). o or 0) (days_day x yx)
 
-          told : (to_come r c' >>= λ l. some (day_count d.0 ∷ l)) ≡ some (x ∷ l)
+          told : (to_come r c' >>= λ l. Some (day_count d.0 ∷ l)) ≡ Some (x ∷ l)
           told = sym (ap (said r) e) ∙ h.1 ∙ z
 
           by_rest : (o : Option (List Date)) → to_come r c' ≡ o → Next r c d c'
-          by_rest none k = never (sym (ap (λ (o : Option (List Date)). o >>= λ l. some (day_count d.0 ∷ l)) k) ∙ told)
-          by_rest (some l') k =
-              let t : some (day_count d.0 ∷ l') ≡ some (x ∷ l) = sym (ap (λ (o : Option (List Date)). o >>= λ l. some (day_count d.0 ∷ l)) k) ∙ told in
+          by_rest None k = never (sym (ap (λ (o : Option (List Date)). o >>= λ l. Some (day_count d.0 ∷ l)) k) ∙ told)
+          by_rest (Some l') k =
+              let t : Some (day_count d.0 ∷ l') ≡ Some (x ∷ l) = sym (ap (λ (o : Option (List Date)). o >>= λ l. Some (day_count d.0 ∷ l)) k) ∙ told in
               let u : l' ≡ l = cc in
               let n : c'.left ≡ c.left - 1 = ap (λ (t : Cursor). t.left) ec in
               record {
@@ -106,9 +106,9 @@ module _ (r : Rule) (c : Cursor) {s : Step} (h : (s ≡ step_of r c) × (said r 
   no_day n = by_come (to_come r c) refl
     where
       by_come : (o : Option (List Date)) → to_come r c ≡ o → coming r c ≡ []
-      by_come none z = ap (λ (o : Option (List Date)). o or []) z
-      by_come (some []) z = ap (λ (o : Option (List Date)). o or []) z
-      by_come (some (x ∷ l)) z = absurd (n (day_date x) (after c x) (h.0 ∙ ap (step_by c) z))
+      by_come None z = ap (λ (o : Option (List Date)). o or []) z
+      by_come (Some []) z = ap (λ (o : Option (List Date)). o or []) z
+      by_come (Some (x ∷ l)) z = absurd (n (day_date x) (after c x) (h.0 ∙ ap (step_by c) z))
 
   -- the next day, or none
   pub day_follows : (d : DateIs) (c' : Cursor) → s ≡ Day d c' → Follows r c (DayAnswer.Is d c')
@@ -117,13 +117,13 @@ module _ (r : Rule) (c : Cursor) {s : Step} (h : (s ≡ step_of r c) × (said r 
         let ed : d ≡ d2 = cc in
         let ec : c' ≡ c2 = cc in
         subst (λ x. Next r c x c2) ed (subst (λ y. Next r c d y) ec (next_day e));
-    none = λ z. let n : ◌≡◌ {A = ℕ} 0 1 = cc in absurd (omega arith);
+    None = λ z. let n : ◌≡◌ {A = ℕ} 0 1 = cc in absurd (omega arith);
   }
 
   pub none_follows : {t : Step} → s ≡ t → ((d : DateIs) (c' : Cursor) → t ≡ Day d c' → ⊥) → Follows r c DayAnswer.Absent
   none_follows e n = record {
     day = λ d2 c2 z. let n : ◌≡◌ {A = ℕ} 0 1 = cc in absurd (omega arith);
-    none = λ z. no_day (λ d c' k. n d c' (sym e ∙ k));
+    None = λ z. no_day (λ d c' k. n d c' (sym e ∙ k));
   }
 
 pub no_done : (d : DateIs) (c' : Cursor) → Done ≡ Day d c' → ⊥
@@ -150,10 +150,10 @@ old_run w = by_child (child w (bytes "TimePeriod"))
     none_run : Run []
     none_run = record { years = empty; short = omega arith; rise = refl }
 
-    by_dates : (p : Element) (f t : Option Date) → date_in p "FromDate" ≡ f → Run ((f >>= λ from. t >>= λ to. some (keep (λ d. leb d last_date) (count from (suc (min (to - from) most_exception_days))))) or [])
-    by_dates p none t e = none_run
-    by_dates p (some a) none e = none_run
-    by_dates p (some a) (some b) e =
+    by_dates : (p : Element) (f t : Option Date) → date_in p "FromDate" ≡ f → Run ((f >>= λ from. t >>= λ to. Some (keep (λ d. leb d last_date) (count from (suc (min (to - from) most_exception_days))))) or [])
+    by_dates p None t e = none_run
+    by_dates p (Some a) None e = none_run
+    by_dates p (Some a) (Some b) e =
         let n = suc (min (b - a) most_exception_days) in
         let i = field_in p "FromDate" a e in
         record {
@@ -162,9 +162,9 @@ old_run w = by_child (child w (bytes "TimePeriod"))
           rise = rises_keep (λ d. leb d last_date) (count a n) (rises_count a n);
         }
 
-    by_child : (o : Option Element) → Run ((o >>= λ p. date_in p "FromDate" >>= λ from. date_in p "ToDate" >>= λ to. some (keep (λ d. leb d last_date) (count from (suc (min (to - from) most_exception_days))))) or [])
-    by_child none = none_run
-    by_child (some p) = by_dates p (date_in p "FromDate") (date_in p "ToDate") refl
+    by_child : (o : Option Element) → Run ((o >>= λ p. date_in p "FromDate" >>= λ from. date_in p "ToDate" >>= λ to. Some (keep (λ d. leb d last_date) (count from (suc (min (to - from) most_exception_days))))) or [])
+    by_child None = none_run
+    by_child (Some p) = by_dates p (date_in p "FromDate") (date_in p "ToDate") refl
 
 -- ---- days in a row as a rule
 
@@ -185,7 +185,7 @@ no_count : (a : ℕ) → count a 0 ≡ []
 unfolding count
 no_count a = refl
 
-days_are : (r : Rule) {m : D.Rule} → meaning r ≡ some m → days_in (RuleAnswer.Is r) ≡ days_of_rule m
+days_are : (r : Rule) {m : D.Rule} → meaning r ≡ Some m → days_in (RuleAnswer.Is r) ≡ days_of_rule m
 unfolding days_in rule_days days_by
 days_are r e = rw e
 
@@ -203,7 +203,7 @@ module _ (r : Range) where
       let y : (d - from) / 1 ≡ d - from = omega arith in
       rw (x, y, lt-ltb (d - from) 5000 (omega arith))
 
-  daily_is : InYears from → meaning (daily r) ≡ some rule
+  daily_is : InYears from → meaning (daily r) ≡ Some rule
   unfolding meaning month_meaning
   daily_is y = rw (last_day, is_within first_date last_date from (y.0, y.1))
 
@@ -253,6 +253,6 @@ days_rise true w = by_type (eqb (day_type w or 1) 0)
     by_type false = refl
 days_rise false x = by_rule (rule_of x)
   where
-    by_rule : (o : Option D.Rule) → rises ltb ((o >>= λ r. some (take r.most (keep (fits r) (count r.from (suc r.last - r.from))))) or []) ≡ true
-    by_rule none = refl
-    by_rule (some r) = let n = suc r.last - r.from in rises_take r.most _ (rises_keep (fits r) (count r.from n) (rises_count r.from n))
+    by_rule : (o : Option D.Rule) → rises ltb ((o >>= λ r. Some (take r.most (keep (fits r) (count r.from (suc r.last - r.from))))) or []) ≡ true
+    by_rule None = refl
+    by_rule (Some r) = let n = suc r.last - r.from in rises_take r.most _ (rises_keep (fits r) (count r.from n) (rises_count r.from n))

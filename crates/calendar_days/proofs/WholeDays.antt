@@ -1,6 +1,6 @@
 -- The three lists of a calendar's days over those of its base. Assumes nothing.
 use Rattle.std.proofs.Common.{◌≡◌, ℕ, ◌<◌, ◌≤◌, Bool, true, false, eqb, ltb, leb, List, length, drop, sym, refl, ap, ◌∙◌, subst, arith, ltb-false, ltb-true, eq-eqb, eqb-true, le-leb, leb-true}
-use mathlib.Core.Option.{Option, some}
+use Rattle.std.specs.Prelude.{Option, Some}
 use Rattle.definition.specs.Base.{◌>>=◌, ◌or◌, when}
 use Rattle.definition.specs.Bits.{Bits, bits_of}
 use Rattle.definition.specs.Date.{Date}
@@ -59,7 +59,7 @@ module _ {d : List ℕ} {from end : Place} (p : Place) {l : DayLists} (h : Reads
   unfolding lists_at
   lists_read =
       let f = room_fits (length d) end 0 i in
-      let z : (rest d from >>= day_lists.get) ≡ some (l, drop (at end) (bits_of d)) = h.reads ∙ rw (rest_in d end f) in
+      let z : (rest d from >>= day_lists.get) ≡ Some (l, drop (at end) (bits_of d)) = h.reads ∙ rw (rest_in d end f) in
       ap (λ (o : Option (DayLists × Bits)). (o >>= ended_by d p) or no_lists) z ∙ ap (λ (m : Place). when (not_behind m p) l or no_lists) (spot_at d end f)
 
 -- lists that stand before a place are those
@@ -86,7 +86,7 @@ lists_last from = record {
 -- ---- those of a base
 
 -- what is read where a place behind it is known
-read_told : {A : Type 0} {f : Format A} {s : List ℕ} {p q : Place} {l : Bits} → rest s q ≡ some l → Passes f s p q → (a : A) × Reads f s p a q
+read_told : {A : Type 0} {f : Format A} {s : List ℕ} {p q : Place} {l : Bits} → rest s q ≡ Some l → Passes f s p q → (a : A) × Reads f s p a q
 read_told {A} {f} {s} {p} {q} {l} z h = by_told (told h)
   where
     by_told : Told f s p q → (a : A) × Reads f s p a q

@@ -1,7 +1,7 @@
 -- A calendar's lists of days: holidays, extra days and days with hours; those of its base, which stand in a buffer before a place. Assumes nothing.
 use Rattle.std.specs.Prelude.{◌≡◌, ℕ, ◌≤◌, Bool, true, ◌&&◌, ◌||◌, ltb, List, [], length, ◌==◌, nat_le, nat_lt}
 use mathlib.Core.List.{flat_map}
-use Rattle.std.proofs.Math.Option.{Option}
+use Rattle.std.specs.Prelude.{Option}
 use Rattle.definition.specs.Base.{◌>>=◌, ◌or◌, when}
 use Rattle.definition.specs.Bits.{Bits}
 use Rattle.definition.specs.Date.{Date}

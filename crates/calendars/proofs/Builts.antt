@@ -2,9 +2,10 @@
 use Rattle.std.specs.Prelude.{if◌then◌else◌}
 use Rattle.std.proofs.Common.{◌≡◌, ℕ, suc, ◌+◌, ◌%◌, ◌^◌, ◌<◌, ◌≤◌, Bool, true, false, not, ◌&&◌, eqb, leb, List, [], ◌∷◌, ◌++◌, map, length, take, drop, sym, refl, ap, ◌∙◌, subst, true≢false, append_assoc, append-nil, arith, length-append, eqb-true, leb-true}
 use mathlib.Core.List.{map-append}
-use mathlib.Core.Option.{Option, some, none}
+use Rattle.std.specs.Prelude.{Option, Some, None}
 use borrow.Author.Tests.{not-false}
-use lib.ListN.{get_elem?, length-map}
+use Rattle.std.specs.Prelude.{slice_get}
+use lib.ListN.{length-map}
 use Rattle.definition.specs.Base.{◌>>=◌, ◌or◌, ◌or_else◌, given, keep, first, same, some?}
 use Rattle.definition.specs.Bits.{pad}
 use Rattle.definition.specs.Text.{Text}
@@ -323,7 +324,7 @@ built_put {root = root} {at = at} {d} {p} b a f = (
 abbrev main_first : Element → List Calendar
 main_first root = main_calendar root (built_calendars root) ∷ keep (λ (c : Calendar). not (same c.name (main_calendar root (built_calendars root)).name)) (calendars_in (built_calendars root))
 
-or_same : (cs : List Calendar) (row : ℕ) (c : Calendar) → get_elem? cs row ≡ some c → or_default cs ≡ cs
+or_same : (cs : List Calendar) (row : ℕ) (c : Calendar) → slice_get cs row ≡ Some c → or_default cs ≡ cs
 or_same [] row c g = let z : ◌≡◌ {A = ℕ} 0 1 = cc in absurd (omega arith)
 or_same (x ∷ cs) row c g = refl
 
@@ -335,9 +336,9 @@ main_default : (root : Element) → main_calendar root [] ≡ default_calendar
 unfolding main_calendar first keep
 main_default root = by_uid (text_in root "CalendarUID")
   where
-    by_uid : (o : Option Text) → (((o >>= λ u. with_uid u []) or_else none) or default_calendar) ≡ default_calendar
-    by_uid none = refl
-    by_uid (some u) = refl
+    by_uid : (o : Option Text) → (((o >>= λ u. with_uid u []) or_else None) or default_calendar) ≡ default_calendar
+    by_uid None = refl
+    by_uid (Some u) = refl
 
 pub main_first_lem : (s : Text) (root : Element) (found : CalendarAnswer) → calendar_meaning s found ≡ main_in root → Small root → length (in_order root) ≤ most_elements → {d₀ : List ℕ} {start : Place} {d : List ℕ} {r : Records} {d' : List ℕ}
     → start.bit % 8 ≡ 0 → Stand (or_default (calendars_in (built_calendars root))) d₀ start d r → TurnsMain found start d d' → Stand (main_first root) d₀ start d' r
@@ -346,7 +347,7 @@ main_first_lem s root (Is row x) m small few {d₀} {start} {d} {r} {d'} b st t 
     let w : built_calendars root ≡ build [] (in_order root) = built_in_order root in
     let cs = calendars_in (built_calendars root) in
     let c = main_calendar root (built_calendars root) in
-    let g : get_elem? cs row ≡ some c = rw w (main_row_lem root row _ (sym m)) in
+    let g : slice_get cs row ≡ Some c = rw w (main_row_lem root row _ (sym m)) in
     let fit : Each (FitsCalendarBy Short) cs = rw w (fits_done root (in_order root) [] small few (sym (append-nil (in_order root)))) in
     let o : keep (λ (x : Calendar). not (same x.name c.name)) cs ≡ take row cs ++ drop (suc row) cs = others cs row c (subst Distinct (sym (names_are (built_calendars root))) (built_distinct root)) g in
     let few'' : length cs ≤ 5000000 = rw w (omega (arith, of_length (in_order root))) in

@@ -1,8 +1,9 @@
 -- The record of a row before those that stand before it: from a whole byte on, a record's bits are the same wherever it stands. Assumes nothing.
 use Rattle.std.proofs.Common.{◌≡◌, ℕ, zero, suc, ◌+◌, ◌*◌, ◌%◌, ◌<◌, ◌≤◌, Bool, true, false, List, [], ◌∷◌, ◌++◌, map, length, take, drop, sym, refl, ap, ◌∙◌, true≢false, append_assoc, append-nil, arith, length-append, take_at}
 use mathlib.Core.List.{map-append}
-use mathlib.Core.Option.{some}
-use lib.ListN.{get_elem?, length-map}
+use Rattle.std.specs.Prelude.{Some}
+use Rattle.std.specs.Prelude.{slice_get}
+use lib.ListN.{length-map}
 use Rattle.definition.specs.Bits.{Bits, bits_of}
 use Rattle.definition.specs.Format.{◌⊗◌, via, whole, times, put_all, text}
 use Rattle.definition.specs.Model.{Calendar}
@@ -54,22 +55,22 @@ recs_both [] ys = refl
 recs_both (x ∷ xs) ys = recs_cons x (xs ++ ys) ∙ ap (λ (b : Bits). rec x ++ b) (recs_both xs ys) ∙ sym (append_assoc (rec x) (recs xs) (recs ys)) ∙ ap (λ (b : Bits). b ++ recs ys) (sym (recs_cons x xs))
 
 -- the item of a row between the others
-split_row : {A : Type 0} (l : List A) (k : ℕ) (x : A) → get_elem? l k ≡ some x → l ≡ take k l ++ (x ∷ drop (suc k) l)
+split_row : {A : Type 0} (l : List A) (k : ℕ) (x : A) → slice_get l k ≡ Some x → l ≡ take k l ++ (x ∷ drop (suc k) l)
 split_row [] k x e = let z : ◌≡◌ {A = ℕ} 0 1 = cc in absurd (omega arith)
 split_row {A} (y ∷ l) zero x e = let z : y ≡ x = cc in ap (λ (t : A). t ∷ l) z
 split_row {A} (y ∷ l) (suc k) x e = ap (λ (t : List A). y ∷ t) (split_row l k x e)
 
-row_below : {A : Type 0} (l : List A) (k : ℕ) (x : A) → get_elem? l k ≡ some x → k < length l
+row_below : {A : Type 0} (l : List A) (k : ℕ) (x : A) → slice_get l k ≡ Some x → k < length l
 row_below [] k x e = let z : ◌≡◌ {A = ℕ} 0 1 = cc in absurd (omega arith)
 row_below (y ∷ l) zero x e = omega arith
 row_below (y ∷ l) (suc k) x e = let h = row_below l k x e in omega arith
 
-front_length : {A : Type 0} (l : List A) (k : ℕ) (x : A) → get_elem? l k ≡ some x → length (take k l) ≡ k
+front_length : {A : Type 0} (l : List A) (k : ℕ) (x : A) → slice_get l k ≡ Some x → length (take k l) ≡ k
 front_length [] k x e = let z : ◌≡◌ {A = ℕ} 0 1 = cc in absurd (omega arith)
 front_length (y ∷ l) zero x e = refl
 front_length (y ∷ l) (suc k) x e = ap suc (front_length l k x e)
 
-pub turned_length : (cs : List Calendar) (row : ℕ) (c : Calendar) → get_elem? cs row ≡ some c → length (turned cs row c) ≡ length cs
+pub turned_length : (cs : List Calendar) (row : ℕ) (c : Calendar) → slice_get cs row ≡ Some c → length (turned cs row c) ≡ length cs
 turned_length cs row c g =
     let a = ap length (split_row cs row c g) in
     let b = length-append (take row cs) (c ∷ drop (suc row) cs) in
@@ -117,7 +118,7 @@ stand_step {d₀} {p} f rest {d'} {q} b same are ends =
       onward = rw (ends, before_in (length d₀) p b, before_in (length d') (place (at p + length f)) fq) (omega arith);
     }
 
-module _ (cs : List Calendar) (row : ℕ) (c : Calendar) (g : get_elem? cs row ≡ some c) where
+module _ (cs : List Calendar) (row : ℕ) (c : Calendar) (g : slice_get cs row ≡ Some c) where
   abbrev front : Bits
   front = recs (take row cs)
 
@@ -144,7 +145,7 @@ size_at : (d₀ : List ℕ) (p : Place) {w : ℕ} → Fits (length d₀) p w →
 size_at d₀ p f = ap size_of (view_in d₀ p f) ∙ length_before d₀ (at p) (omega (arith, f.ends))
 
 module _ (k row : ℕ) {cs : List Calendar} {d₀ : List ℕ} {p : Place} {d : List ℕ} {q : Place} (h : Puts (times k (whole calendar)) cs d₀ p d q) (fit : Each (FitsCalendarBy Short) cs) (begins : p.bit % 8 ≡ 0)
-    {c : Calendar} (g : get_elem? cs row ≡ some c) {d' : List ℕ} (t : Rotates p (place_of_row Calendars d p row) (place_of_row Calendars d p (suc row)) d d') where
+    {c : Calendar} (g : slice_get cs row ≡ Some c) {d' : List ℕ} (t : Rotates p (place_of_row Calendars d p row) (place_of_row Calendars d p (suc row)) d d') where
   turned_in : inside (length d) q ≡ true → Puts (times k (whole calendar)) (turned cs row c) d₀ p d' q
   unfolding times
   turned_in i =
@@ -230,6 +231,6 @@ turns row start {d} {d'} {m} {e} em ee t = record { turns = λ b d₀ cs c r few
     t' : Rotates start (place_of_row Calendars d start row) (place_of_row Calendars d start (suc row)) d d'
     t' = let z : row + 1 ≡ suc row = omega arith in rw (em, ee, z) at t
 
-    stand : start.bit % 8 ≡ 0 → (d₀ : List ℕ) (cs : List Calendar) (c : Calendar) (r : Records) → Each (FitsCalendarBy Short) cs → get_elem? cs row ≡ some c → Stand cs d₀ start d r → (t : Bool) → inside (length d) r.next ≡ t → Stand (turned cs row c) d₀ start d' r
+    stand : start.bit % 8 ≡ 0 → (d₀ : List ℕ) (cs : List Calendar) (c : Calendar) (r : Records) → Each (FitsCalendarBy Short) cs → slice_get cs row ≡ Some c → Stand cs d₀ start d r → (t : Bool) → inside (length d) r.next ≡ t → Stand (turned cs row c) d₀ start d' r
     stand b d₀ cs c r fit g s true i = record { puts = put_times (length cs) (length (turned cs row c)) (whole calendar) (turned_in (length cs) row s.puts fit b g t' i); counts = s.counts ∙ sym (turned_length cs row c g) }
     stand b d₀ cs c r fit g s false i = record { puts = put_times (length cs) (length (turned cs row c)) (whole calendar) (turned_out (length cs) row s.puts fit b g t' i); counts = s.counts ∙ sym (turned_length cs row c g) }

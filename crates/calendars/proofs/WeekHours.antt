@@ -1,7 +1,7 @@
 -- The week and the hours of a calendar over its base's; the record from its parts. Assumes nothing.
 use Rattle.std.specs.Prelude.{if◌then◌else◌}
 use Rattle.std.proofs.Common.{◌≡◌, ℕ, suc, ◌+◌, ◌-◌, ◌<◌, ◌≤◌, Bool, true, false, eqb, List, [], ◌∷◌, ◌++◌, map, length, get_or, take, drop, set, sym, refl, ap, ◌∙◌, arith, length-set, get_or-drop, take_all, get_or-set_other, take-suc, get_or-set_same, take_at, eqb-true}
-use mathlib.Core.Option.{Option, some, none}
+use Rattle.std.specs.Prelude.{Option, Some, None}
 use borrow.Author.Tests.{eqb-false}
 use lib.ListN.{length-map, get_or-replicate}
 use Rattle.definition.specs.Base.{◌>>=◌, ◌or◌, ◌or_else◌, when, find_last}
@@ -118,8 +118,8 @@ module _ (s : Text) (at day : ℕ) (found : Found) (a : PlaceAnswer) {t : Bool} 
 
 pub last_start : (s : Text) (o : Option Element) → o ≡ (o or_else found_meaning s Nothing)
 unfolding found_meaning
-last_start s none = refl
-last_start s (some e) = refl
+last_start s None = refl
+last_start s (Some e) = refl
 
 module _ (test : Element → Bool) (e : Element) {l : List Element} (m : Option Element) {all n : Option Element} (inv : all ≡ (find_last test (e ∷ l) or_else m)) (h : n ≡ later_found (test e) e m) where
   pub last_more : {k : List Element} → l ≡ k → all ≡ (find_last test k or_else n)
@@ -127,9 +127,9 @@ module _ (test : Element → Bool) (e : Element) {l : List Element} (m : Option 
   last_more {k} z = inv ∙ rw (z, h) (by_later (find_last test k) (test e))
     where
       by_later : (o : Option Element) (t : Bool) → ((o or_else when t e) or_else m) ≡ (o or_else later_found t e m)
-      by_later (some v) t = refl
-      by_later none true = refl
-      by_later none false = refl
+      by_later (Some v) t = refl
+      by_later None true = refl
+      by_later None false = refl
 
   pub last_done : l ≡ [] → n ≡ all
   unfolding find_last
@@ -142,35 +142,35 @@ unfolding hours_by
 hours_length [] hours = refl
 hours_length (w ∷ ws) hours = hours_length ws _ ∙ by_place (place_of w)
   where
-    by_place : (o : Option ℕ) → length ((o >>= λ k. some (set hours k (hours_of w))) or hours) ≡ length hours
-    by_place none = refl
-    by_place (some k) = length-set hours k (hours_of w)
+    by_place : (o : Option ℕ) → length ((o >>= λ k. Some (set hours k (hours_of w))) or hours) ≡ length hours
+    by_place None = refl
+    by_place (Some k) = length-set hours k (hours_of w)
 
 -- of a day, as one WeekDay says
 abbrev hours_with : Element → List (List Period) → Option ℕ → List (List Period)
-hours_with w hours o = (o >>= λ k. some (set hours k (hours_of w))) or hours
+hours_with w hours o = (o >>= λ k. Some (set hours k (hours_of w))) or hours
 
 with_length : (w : Element) (hours : List (List Period)) (o : Option ℕ) → length (hours_with w hours o) ≡ length hours
-with_length w hours none = refl
-with_length w hours (some k) = length-set hours k (hours_of w)
+with_length w hours None = refl
+with_length w hours (Some k) = length-set hours k (hours_of w)
 
-one_day : (w : Element) (hours : List (List Period)) (day : ℕ) → day < length hours → (o : Option ℕ) → get_or (hours_with w hours o) day [] ≡ (when (is_place day o) w >>= λ v. some (hours_of v)) or get_or hours day []
-one_day w hours day h none = refl
-one_day w hours day h (some k) = by_place (eqb k day) refl
+one_day : (w : Element) (hours : List (List Period)) (day : ℕ) → day < length hours → (o : Option ℕ) → get_or (hours_with w hours o) day [] ≡ (when (is_place day o) w >>= λ v. Some (hours_of v)) or get_or hours day []
+one_day w hours day h None = refl
+one_day w hours day h (Some k) = by_place (eqb k day) refl
   where
-    by_place : (t : Bool) → eqb k day ≡ t → get_or (set hours k (hours_of w)) day [] ≡ (when (eqb k day) w >>= λ v. some (hours_of v)) or get_or hours day []
+    by_place : (t : Bool) → eqb k day ≡ t → get_or (set hours k (hours_of w)) day [] ≡ (when (eqb k day) w >>= λ v. Some (hours_of v)) or get_or hours day []
     by_place true e = let z = eqb-true k day e in rw (e, z) (get_or-set_same hours day (hours_of w) [] h)
     by_place false e = rw e (get_or-set_other hours k day (hours_of w) [] (λ z. eqb-false k day e (sym z)))
 
 -- the last WeekDay of a day decides
-day_hours_lem : (ws : List Element) (hours : List (List Period)) (day : ℕ) → day < length hours → get_or (hours_by ws hours) day [] ≡ (find_last (on_place day) ws >>= λ w. some (hours_of w)) or get_or hours day []
+day_hours_lem : (ws : List Element) (hours : List (List Period)) (day : ℕ) → day < length hours → get_or (hours_by ws hours) day [] ≡ (find_last (on_place day) ws >>= λ w. Some (hours_of w)) or get_or hours day []
 unfolding hours_by find_last
 day_hours_lem [] hours day h = refl
 day_hours_lem (w ∷ ws) hours day h = day_hours_lem ws (hours_with w hours (place_of w)) day (rw (with_length w hours (place_of w)) h) ∙ by_later (find_last (on_place day) ws)
   where
-    by_later : (o : Option Element) → (o >>= λ v. some (hours_of v)) or get_or (hours_with w hours (place_of w)) day [] ≡ (o or_else when (on_place day w) w >>= λ v. some (hours_of v)) or get_or hours day []
-    by_later none = one_day w hours day h (place_of w)
-    by_later (some v) = refl
+    by_later : (o : Option Element) → (o >>= λ v. Some (hours_of v)) or get_or (hours_with w hours (place_of w)) day [] ≡ (o or_else when (on_place day w) w >>= λ v. Some (hours_of v)) or get_or hours day []
+    by_later None = one_day w hours day h (place_of w)
+    by_later (Some v) = refl
 
 hours_seven : (b : Base) (d : List ℕ) (p : Place) (c : Calendar) → BaseIs b d p c → length c.hours ≡ 7
 unfolding BaseIs default_calendar
@@ -213,12 +213,12 @@ module _ {day : ℕ} {d : List ℕ} {p : Place} {d' : List ℕ} {q : Place} wher
   base_hours_default h = record { puts = λ lt. over_as (λ c. get_or c.hours day []) (λ c i. rw i (sym (get_or-replicate 7 day [] [] lt))) (over_plain h) }
 
   module _ (ws : List Element) where
-    pub hours_of_base : {b : Base} → find_last (on_place day) ws ≡ none → BaseHours b day d p d' q → PutsHours ws day b d p d' q
+    pub hours_of_base : {b : Base} → find_last (on_place day) ws ≡ None → BaseHours b day d p d' q → PutsHours ws day b d p d' q
     hours_of_base {b} e h = record {
       puts = λ lt. over_as (day_hours ws day) (λ c i. let n = hours_seven b d p c i in sym (day_hours_lem ws c.hours day (omega arith) ∙ rw e)) (h.puts lt);
     }
 
-    pub hours_of_day : (b : Base) {w : Element} → find_last (on_place day) ws ≡ some w → Puts periods (hours_of w) d p d' q → PutsHours ws day b d p d' q
+    pub hours_of_day : (b : Base) {w : Element} → find_last (on_place day) ws ≡ Some w → Puts periods (hours_of w) d p d' q → PutsHours ws day b d p d' q
     hours_of_day b e h = record {
       puts = λ lt. over_as (day_hours ws day) (λ c i. let n = hours_seven b d p c i in sym (day_hours_lem ws c.hours day (omega arith) ∙ rw e)) (over_plain h);
     }

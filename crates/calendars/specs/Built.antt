@@ -1,7 +1,7 @@
 -- Calendars built one after another behind each other in a buffer; the main one turned to the front. Assumes nothing.
 use Rattle.std.specs.Prelude.{if◌then◌else◌, ◌≡◌, ℕ, suc, ◌%◌, ◌≤◌, true, List, [], ◌∷◌, ◌++◌, length, take, drop}
-use Rattle.std.proofs.Math.Option.{some}
-use Rattle.std.proofs.Math.ListN.{get_elem?}
+use Rattle.std.specs.Prelude.{Some}
+use Rattle.std.specs.Prelude.{slice_get}
 use Rattle.definition.specs.Base.{◌>>=◌, ◌or◌, some?}
 use Rattle.definition.specs.Text.{Text}
 use Rattle.definition.specs.Tree.{Element}
@@ -44,7 +44,7 @@ built_of es = calendars_in (build [] es)
 
 -- that of a row, if it is built, else the default one
 abbrev pub row_or : List Calendar → ℕ → Calendar
-row_or cs row = get_elem? cs row or default_calendar
+row_or cs row = slice_get cs row or default_calendar
 
 abbrev pub found_or : List Calendar → CalendarAnswer → Calendar
 found_or cs (Is row at) = row_or cs row
@@ -124,7 +124,7 @@ abbrev pub turned : List Calendar → ℕ → Calendar → List Calendar
 turned cs row c = c ∷ (take row cs ++ drop (suc row) cs)
 
 pub record Turns (row : ℕ) (start : Place) (d d' : List ℕ) : Type 0 where
-  pub turns : start.bit % 8 ≡ 0 → (d₀ : List ℕ) (cs : List Calendar) (c : Calendar) (r : Records) → length cs ≤ 5000000 → Each (FitsCalendarBy Short) cs → get_elem? cs row ≡ some c → Stand cs d₀ start d r
+  pub turns : start.bit % 8 ≡ 0 → (d₀ : List ℕ) (cs : List Calendar) (c : Calendar) (r : Records) → length cs ≤ 5000000 → Each (FitsCalendarBy Short) cs → slice_get cs row ≡ Some c → Stand cs d₀ start d r
       → Stand (turned cs row c) d₀ start d' r
 
 unfoldable pub TurnsMain : CalendarAnswer → Place → List ℕ → List ℕ → Type 0

@@ -1,6 +1,6 @@
 -- One calendar over its base, part by part. Assumes nothing.
 use Rattle.std.specs.Prelude.{if◌then◌else◌, ◌≡◌, ℕ, ◌<◌, ◌≤◌, Bool, true, false, List, [], length, get_or, ◌==◌, slice_index_or}
-use Rattle.std.proofs.Math.Option.{Option, some}
+use Rattle.std.specs.Prelude.{Option, Some}
 use Rattle.definition.specs.Base.{◌>>=◌, ◌or◌}
 use Rattle.definition.specs.Tree.{Element}
 use Rattle.definition.specs.Field.{yes_in}
@@ -26,7 +26,7 @@ pub record WeekRead (b : Base) (d : List ℕ) (w : ℕ) : Type 0 where
 -- ---- the hours
 
 abbrev pub is_place : ℕ → Option ℕ → Bool
-is_place day o = (o >>= λ k. some (k == day)) or false
+is_place day o = (o >>= λ k. Some (k == day)) or false
 
 -- a WeekDay is of a day
 abbrev pub on_place : ℕ → Element → Bool
@@ -34,7 +34,7 @@ on_place day w = is_place day (place_of w)
 
 -- an element, or the one before it
 abbrev pub later_found : Bool → Element → Option Element → Option Element
-later_found t e o = if t then some e else o
+later_found t e o = if t then Some e else o
 
 -- its hours, none where it is not worked
 abbrev pub hours_of : Element → List Period

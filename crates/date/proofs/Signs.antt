@@ -5,7 +5,7 @@ use native.Mathlib.Omega.{arith}
 use native.Mathlib.Nat.{add_comm}
 use mathlib.Core.Path.{◌≡◌, refl, sym, ap, ◌∙◌, subst}
 use mathlib.Core.Bool.{Bool, true, false, cond, ◌&&◌, and-true}
-use mathlib.Core.Option.{Option, some, none}
+use Rattle.std.specs.Prelude.{Option, Some, None}
 use lib.Dec.{leb, ltb}
 use lib.IntN.{ℤ, pos, negsuc, ◌+ℤ◌, ◌-ℤ◌}
 use lib.Signed.{mag}
@@ -124,7 +124,7 @@ module _ (from first last : ℕ) (one_le : 1 ≤ first) where
       let c : k - 2 ^ 31 ≡ p = omega arith in
       rw (a, b, c)
 
-  negative : (n k : ℕ) (t : Bool) → ltb n from ≡ t → n < 2 ^ 31 → k ≡ 2 ^ 31 - suc n + from → (if t then when (within first last (from - suc n)) (from - suc n) else none) ≡ raised_place k
+  negative : (n k : ℕ) (t : Bool) → ltb n from ≡ t → n < 2 ^ 31 → k ≡ 2 ^ 31 - suc n + from → (if t then when (within first last (from - suc n)) (from - suc n) else None) ≡ raised_place k
   negative n k true e h f = same_place (from - suc n) k (omega (arith, ltb-true n from e))
   negative n k false e h f = simp (lt-leb (2 ^ 31 + first) k (omega (arith, ltb-false n from e)))
 
@@ -139,7 +139,7 @@ days_placed (pos n) = refl
 days_placed (negsuc n) = refl
 
 year_below : (y : ℕ) (t : Bool) → ltb y 10000 ≡ t
-    → when (ltb y 9999) (9999 - y) ≡ (if t then when (within 1 19999 (10000 - suc y)) (10000 - suc y) else none)
+    → when (ltb y 9999) (9999 - y) ≡ (if t then when (within 1 19999 (10000 - suc y)) (10000 - suc y) else None)
 year_below y true e =
     let l : y < 10000 = ltb-true y 10000 e in
     let a : leb (suc y) 9999 ≡ leb 1 (10000 - suc y) = same_leb (suc y) 9999 1 (10000 - suc y) (λ h. omega arith) (λ h. omega arith) in
@@ -157,13 +157,13 @@ year_placed (negsuc y) = year_below y (ltb y 10000) refl
 -- ---- what is placed, and what is not
 
 -- n is 0 where nothing is placed, and else what is
-none_placed : (o : Option ℕ) (n : ℕ) → n ≡ o or 0 → n ≡ 0 → (o ≡ some 0 → ⊥) → o ≡ none
-none_placed none n e z f = refl
-none_placed (some k) n e z f = absurd (f (ap some (sym e ∙ z)))
+none_placed : (o : Option ℕ) (n : ℕ) → n ≡ o or 0 → n ≡ 0 → (o ≡ Some 0 → ⊥) → o ≡ None
+none_placed None n e z f = refl
+none_placed (Some k) n e z f = absurd (f (ap Some (sym e ∙ z)))
 
-pub some_placed : (o : Option ℕ) (n : ℕ) → n ≡ o or 0 → (n ≡ 0 → ⊥) → o ≡ some n
-some_placed none n e f = absurd (f e)
-some_placed (some k) n e f = ap some (sym e)
+pub some_placed : (o : Option ℕ) (n : ℕ) → n ≡ o or 0 → (n ≡ 0 → ⊥) → o ≡ Some n
+some_placed None n e f = absurd (f e)
+some_placed (Some k) n e f = ap Some (sym e)
 
 -- d stands for the number z, counted from `from` below 0 on
 pub record Counted (from first last d : ℕ) (z : ℤ) : Type 0 where
@@ -176,7 +176,7 @@ record Kept (first last d p : ℕ) : Type 0 where
   low : first ≤ d
   high : d ≤ last
 
-kept : (first last d p : ℕ) (a b : Bool) → leb first p ≡ a → leb p last ≡ b → when (a && b) p ≡ some d → Kept first last d p
+kept : (first last d p : ℕ) (a b : Bool) → leb first p ≡ a → leb p last ≡ b → when (a && b) p ≡ Some d → Kept first last d p
 kept first last d p true true u v e =
     let g : p ≡ d = cc in
     record { is = g; low = omega (arith, leb-true first p u); high = omega (arith, leb-true p last v) }
@@ -189,7 +189,7 @@ counted_pos f first last d n k =
     record { low = k.low; high = k.high; number = simp (le-ltb d (suc f) (omega arith)) (ap pos (omega arith)) }
 
 counted_neg : (f first last d n : ℕ) (t : Bool) → ltb n (suc f) ≡ t
-    → (if t then when (within first last (suc f - suc n)) (suc f - suc n) else none) ≡ some d → Counted (suc f) first last d (negsuc n)
+    → (if t then when (within first last (suc f - suc n)) (suc f - suc n) else None) ≡ Some d → Counted (suc f) first last d (negsuc n)
 counted_neg f first last d n true u e =
     let p = suc f - suc n in
     let k = kept first last d p (leb first p) (leb p last) refl refl e in
@@ -199,7 +199,7 @@ counted_neg f first last d n true u e =
 counted_neg f first last d n false u e = let z : ◌≡◌ {A = ℕ} 0 1 = cc in absurd (omega arith)
 
 -- `from` is f + 1
-pub counted : (f first last d : ℕ) (z : ℤ) → placed (suc f) first last z ≡ some d → Counted (suc f) first last d z
+pub counted : (f first last d : ℕ) (z : ℤ) → placed (suc f) first last z ≡ Some d → Counted (suc f) first last d z
 unfolding placed
 counted f first last d (pos n) e =
     counted_pos f first last d n (kept first last d (n + suc f) (leb first (n + suc f)) (leb (n + suc f) last) refl refl e)
@@ -207,16 +207,16 @@ counted f first last d (negsuc n) e = counted_neg f first last d n (ltb n (suc f
 
 -- ---- days and years
 
-pub days_counted : (z : ℤ) (d : ℕ) → from_days z ≡ some d → Counted epoch first_date last_date d z
+pub days_counted : (z : ℤ) (d : ℕ) → from_days z ≡ Some d → Counted epoch first_date last_date d z
 days_counted z d e = counted 4371952 first_date last_date d z (sym (days_placed z) ∙ e)
 
-pub year_counted : (z : ℤ) (y : ℕ) → year_at z ≡ some y → Counted 10000 1 19999 y z
+pub year_counted : (z : ℤ) (y : ℕ) → year_at z ≡ Some y → Counted 10000 1 19999 y z
 year_counted z y e = counted 9999 1 19999 y z (sym (year_placed z) ∙ e)
 
-pub no_day : (z : ℤ) (n : ℕ) → n ≡ from_days z or 0 → n ≡ 0 → from_days z ≡ none
+pub no_day : (z : ℤ) (n : ℕ) → n ≡ from_days z or 0 → n ≡ 0 → from_days z ≡ None
 no_day z n e g = none_placed (from_days z) n e g (λ s. omega (arith, (days_counted z 0 s).low))
 
-pub no_year : (z : ℤ) (n : ℕ) → n ≡ year_at z or 0 → n ≡ 0 → year_at z ≡ none
+pub no_year : (z : ℤ) (n : ℕ) → n ≡ year_at z or 0 → n ≡ 0 → year_at z ≡ None
 no_year z n e g = none_placed (year_at z) n e g (λ s. omega (arith, (year_counted z 0 s).low))
 
 -- ---- from one number to another

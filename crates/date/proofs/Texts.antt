@@ -3,7 +3,7 @@ use Prim.Native.Nat.{ℕ, ◌+◌, ◌-◌, ◌≤◌, ◌<◌}
 use native.Mathlib.Omega.{arith}
 use mathlib.Core.Path.{◌≡◌, refl, sym, ap, ◌∙◌}
 use mathlib.Core.Bool.{true, false}
-use mathlib.Core.Option.{Option, some, none}
+use Rattle.std.specs.Prelude.{Option, Some, None}
 use lib.ListN.{length, take, drop, get_or, get_or-eq_default}
 use lib.Seq.{take_all}
 use Rattle.definition.specs.Base.{◌>>=◌, within}
@@ -32,9 +32,9 @@ ten_first s e = rw e
 abbrev pub rest_of : ℕ → Text → Text
 rest_of k s = take (length s - (k + 1)) (drop (k + 1) s)
 
-nothing : {A : Type 0} (o : Option A) → ◌>>=◌ {B = Date} o (λ a. none) ≡ none
-nothing none = refl
-nothing (some a) = refl
+nothing : {A : Type 0} (o : Option A) → ◌>>=◌ {B = Date} o (λ a. None) ≡ None
+nothing None = refl
+nothing (Some a) = refl
 
 module _ {A : Type 0} (number : Text → Option A) (rest : A → Text → Option Date) (s : Text) (k : ℕ) (place : k ≡ place_of dash s) where
   abbrev pub cut_date : Option Date
@@ -43,13 +43,13 @@ module _ {A : Type 0} (number : Text → Option A) (rest : A → Text → Option
   head : before dash s ≡ take k s
   head = before_take dash s ∙ ap (λ (n : ℕ). take n s) (sym place)
 
-  pub cut_none : length s ≤ k → cut_date ≡ none
+  pub cut_none : length s ≤ k → cut_date ≡ None
   cut_none h = rw (after_none dash s (omega arith)) (nothing (number (before dash s)))
 
-  pub cut_absent : number (take k s) ≡ none → cut_date ≡ none
+  pub cut_absent : number (take k s) ≡ None → cut_date ≡ None
   cut_absent e = rw (ap number head ∙ e)
 
-  pub cut_on : (a : A) → k < length s → number (take k s) ≡ some a → cut_date ≡ rest a (rest_of k s)
+  pub cut_on : (a : A) → k < length s → number (take k s) ≡ Some a → cut_date ≡ rest a (rest_of k s)
   cut_on a h e =
-      let t : after dash s ≡ some (drop (k + 1) s) = after_some dash s (omega arith) ∙ ap (λ (n : ℕ). some (drop (n + 1) s)) (sym place) in
+      let t : after dash s ≡ Some (drop (k + 1) s) = after_some dash s (omega arith) ∙ ap (λ (n : ℕ). Some (drop (n + 1) s)) (sym place) in
       rw (ap number head ∙ e, t, all_of (k + 1) s)

@@ -1,6 +1,6 @@
 -- What the answers of this crate mean. Assumes nothing.
 use Rattle.std.specs.Prelude.{if◌then◌else◌, ℕ, suc, ◌+◌, ◌-◌, ◌^◌, Bool, ◌&&◌, ltb, ℤ, pos, negsuc, ◌-ℤ◌}
-use Rattle.std.proofs.Math.Option.{Option, some, none}
+use Rattle.std.specs.Prelude.{Option, Some, None}
 use Rattle.definition.specs.Base.{◌>>=◌, when, within}
 use Rattle.definition.specs.Date.{Date, month_length, year_of, month_of, day_of, weekday, from_days, year_at, ymd_of, from_ymd, dash}
 use Rattle.definition.specs.Text.{Text, before, after, unsigned_of}
@@ -11,16 +11,16 @@ use Rattle.date.specs.declared.WeekdayAnswer.{WeekdayAnswer}
 use Rattle.date.specs.declared.LengthAnswer.{LengthAnswer}
 
 unfoldable pub ymd_meaning : YmdAnswer → Option Ymd
-ymd_meaning (YmdAnswer.Is c) = some c
-ymd_meaning YmdAnswer.Absent = none
+ymd_meaning (YmdAnswer.Is c) = Some c
+ymd_meaning YmdAnswer.Absent = None
 
 unfoldable pub weekday_meaning : WeekdayAnswer → Option ℕ
-weekday_meaning (WeekdayAnswer.Is n) = some n
-weekday_meaning WeekdayAnswer.Absent = none
+weekday_meaning (WeekdayAnswer.Is n) = Some n
+weekday_meaning WeekdayAnswer.Absent = None
 
 unfoldable pub length_meaning : LengthAnswer → Option ℕ
-length_meaning (LengthAnswer.Is n) = some n
-length_meaning LengthAnswer.Absent = none
+length_meaning (LengthAnswer.Is n) = Some n
+length_meaning LengthAnswer.Absent = None
 
 -- year, month and day of a date
 abbrev pub civil_of : Date → Civil
@@ -40,7 +40,7 @@ raised_of (negsuc n) = 2 ^ 31 - suc n
 -- a number counted from `from` below 0 on, where that lies between the first and the last
 unfoldable pub placed : ℕ → ℕ → ℕ → ℤ → Option ℕ
 placed from first last (pos n) = when (within first last (n + from)) (n + from)
-placed from first last (negsuc n) = if ltb n from then when (within first last (from - suc n)) (from - suc n) else none
+placed from first last (negsuc n) = if ltb n from then when (within first last (from - suc n)) (from - suc n) else None
 
 -- ---- by a year and a day number as they are written
 
@@ -49,10 +49,10 @@ unfoldable pub length_at : ℤ → ℕ → Option ℕ
 length_at year m = year_at year >>= λ y. when (within 1 12 m) (month_length y m)
 
 unfoldable pub weekday_at : ℤ → Option ℕ
-weekday_at n = from_days n >>= λ d. some (weekday d)
+weekday_at n = from_days n >>= λ d. Some (weekday d)
 
 unfoldable pub ymd_at : ℤ → Option Ymd
-ymd_at n = from_days n >>= λ d. some (ymd_of d)
+ymd_at n = from_days n >>= λ d. Some (ymd_of d)
 
 -- ---- from one day to another
 

@@ -3,7 +3,7 @@ use Rattle.std.specs.Prelude.{if◌then◌else◌}
 use mathlib.Core.Path.{◌≡◌, refl, sym, ap, ◌∙◌}
 use mathlib.Core.Bool.{Bool, true, false, ◌||◌}
 use mathlib.Core.List.{List, [], ◌∷◌}
-use mathlib.Core.Option.{Option, some, none}
+use Rattle.std.specs.Prelude.{Option, Some, None}
 use Prim.Native.Nat.{ℕ, suc, ◌+◌, ◌-◌, ◌≤◌, ◌<◌}
 use native.Mathlib.Omega.{arith}
 use borrow.Author.Tests.{eq-eqb, ne_eqb, eqb-true, eqb-false, ltb-true, ltb-false}
@@ -91,16 +91,16 @@ days_dated = record { begins = λ h. stands_first periods h }
 
 -- none of the first i is of the day z
 pub record Unmet {A : Type 0} (f : Format A) (date_of : A → Date) (s : List ℕ) (z : ℤ) (q₀ : Place) (n : ℕ) (q : Place) (i : ℕ) : Type 0 where
-  pub left : (d : Date) → from_days z ≡ some d → (l : List A) → Ahead f s q₀ n 0 l → Ahead f s q n i l × (find (λ (a : A). eqb (date_of a) d) l ≡ find (λ (a : A). eqb (date_of a) d) (drop i l))
+  pub left : (d : Date) → from_days z ≡ Some d → (l : List A) → Ahead f s q₀ n 0 l → Ahead f s q n i l × (find (λ (a : A). eqb (date_of a) d) l ≡ find (λ (a : A). eqb (date_of a) d) (drop i l))
 
 -- the first that is
 pub record Met {A : Type 0} (f : Format A) (date_of : A → Date) (s : List ℕ) (d : Date) (q : Place) (l : List A) : Type 0 where
   pub item : A
-  pub is : find (λ (a : A). eqb (date_of a) d) l ≡ some item
+  pub is : find (λ (a : A). eqb (date_of a) d) l ≡ Some item
   pub stands : Stands f s q item
 
 module _ {A : Type 0} (p : A → Bool) where
-  find_here : (x : A) (xs : List A) → p x ≡ true → find p (x ∷ xs) ≡ some x
+  find_here : (x : A) (xs : List A) → p x ≡ true → find p (x ∷ xs) ≡ Some x
   unfolding keep first
   find_here x xs e = rw e
 
@@ -108,7 +108,7 @@ module _ {A : Type 0} (p : A → Bool) where
   unfolding keep first
   find_later x xs e = rw e
 
-  find_none : find p [] ≡ none
+  find_none : find p [] ≡ None
   unfolding keep first
   find_none = refl
 
@@ -117,13 +117,13 @@ unmet f date_of s z q n = record { left = λ d e l a. (a, refl) }
 
 module _ {A : Type 0} {f : Format A} {date_of : A → Date} (dt : Dated f date_of) {s : List ℕ} {z : ℤ} {n i : ℕ} {q₀ q : Place} (u : Unmet f date_of s z q₀ n q i) where
   module _ {x : Option ℤ × Place} (lt : i < n) (e : x ≡ date_at s q) {b : Bool} (t : b ≡ is_on x.0 z) where
-    on_day_lem : (d : Date) → from_days z ≡ some d → {a : A} → Stands f s q a → b ≡ eqb (date_of a) d
+    on_day_lem : (d : Date) → from_days z ≡ Some d → {a : A} → Stands f s q a → b ≡ eqb (date_of a) d
     unfolding day_number_of
     on_day_lem d k {a} h =
-        let y : x.0 ≡ some (day_number (date_of a)) = ap (λ (x : Option ℤ × Place). x.0) e ∙ ap day_number_of (stands_read (dt.begins h)) in
+        let y : x.0 ≡ Some (day_number (date_of a)) = ap (λ (x : Option ℤ × Place). x.0) e ∙ ap day_number_of (stands_read (dt.begins h)) in
         t ∙ ap (λ (o : Option ℤ). is_on o z) y ∙ ap (same_day (day_number (date_of a))) (sym (day_days z d k).0) ∙ same_number (date_of a) d
 
-    pub met : b ≡ true → (d : Date) → from_days z ≡ some d → (l : List A) → Ahead f s q₀ n 0 l → Met f date_of s d q l
+    pub met : b ≡ true → (d : Date) → from_days z ≡ Some d → (l : List A) → Ahead f s q₀ n 0 l → Met f date_of s d q l
     met h d k l a =
         let (c, w) = u.left d k l a in
         let y = ahead_item c lt in
@@ -141,7 +141,7 @@ module _ {A : Type 0} {f : Format A} {date_of : A → Date} (dt : Dated f date_o
           (ahead_more c lt p, w ∙ ap (find (λ (a : A). eqb (date_of a) d)) y.is ∙ find_later (λ (a : A). eqb (date_of a) d) y.item _ (sym (on_day_lem d k y.stands) ∙ h));
     }
 
-  pub unmet_all : n ≤ i → (d : Date) → from_days z ≡ some d → (l : List A) → Ahead f s q₀ n 0 l → find (λ (a : A). eqb (date_of a) d) l ≡ none
+  pub unmet_all : n ≤ i → (d : Date) → from_days z ≡ Some d → (l : List A) → Ahead f s q₀ n 0 l → find (λ (a : A). eqb (date_of a) d) l ≡ None
   unmet_all le d k l a =
       let (c, w) = u.left d k l a in
       w ∙ ap (find (λ (a : A). eqb (date_of a) d)) (drop_of_length-le l {i = i} (omega (arith, c.count))) ∙ find_none (λ (a : A). eqb (date_of a) d)
@@ -168,10 +168,10 @@ some_find d (x ∷ l) = by_same (some_find d l) (eqb x d) refl
     by_same ih true h = rw (turned, h)
     by_same ih false h = rw (turned, h) ih
 
-pub date_found : (d : Date) (l : List Date) {x : Date} → find (λ (a : Date). eqb a d) l ≡ some x → true ≡ some? (eqb d) l
+pub date_found : (d : Date) (l : List Date) {x : Date} → find (λ (a : Date). eqb a d) l ≡ Some x → true ≡ some? (eqb d) l
 date_found d l e = sym (some_find d l ∙ rw e)
 
-pub date_missing : (d : Date) (l : List Date) → find (λ (a : Date). eqb a d) l ≡ none → false ≡ some? (eqb d) l
+pub date_missing : (d : Date) (l : List Date) → find (λ (a : Date). eqb a d) l ≡ None → false ≡ some? (eqb d) l
 date_missing d l e = sym (some_find d l ∙ rw e)
 
 -- ---- exceptions
@@ -186,7 +186,7 @@ listed s p h = ahead_list earlier s p refl h
 pub hours_found : {s : List ℕ} {d : Date} {q r : Place} {l : List (Date × List Period)} → Met (date ⊗ periods) (λ x. x.0) s d q l → Passes date s q r → Listed s r (hours_on l d)
 hours_found {s} {r = r} m p = rw m.is (listed s r (stands_pass m.stands p))
 
-pub hours_missing : (s : List ℕ) (d : Date) (l : List (Date × List Period)) → find (λ (x : Date × List Period). eqb x.0 d) l ≡ none → Listed s past (hours_on l d)
+pub hours_missing : (s : List ℕ) (d : Date) (l : List (Date × List Period)) → find (λ (x : Date × List Period). eqb x.0 d) l ≡ None → Listed s past (hours_on l d)
 hours_missing s d l e = rw e (ahead_none period s refl)
 
 -- ---- the list that counts

@@ -2,14 +2,15 @@
 use mathlib.Core.Path.{◌≡◌, refl, sym, ap, ◌∙◌}
 use mathlib.Core.Bool.{true, false, ◌&&◌}
 use mathlib.Core.List.{List, [], ◌∷◌}
-use mathlib.Core.Option.{Option, some, none}
+use Rattle.std.specs.Prelude.{Option, Some, None}
 use Prim.Native.Nat.{ℕ, zero, suc, ◌+◌, ◌*◌, ◌/◌, ◌%◌, ◌≤◌, ◌<◌}
 use native.Mathlib.Nat.{add-zero}
 use native.Mathlib.Omega.{arith}
 use borrow.Author.Tests.{le-leb, lt-leb, lt-ltb, ltb-true}
 use lib.Dec.{ltb}
 use lib.IntN.{ℤ}
-use lib.ListN.{length, take, drop, get_or, get_elem?, replicate, length-append, length-replicate}
+use Rattle.std.specs.Prelude.{slice_get}
+use lib.ListN.{length, take, drop, get_or, replicate, length-append, length-replicate}
 use lib.Seq.{get_or-drop, length-take-le}
 use Rattle.definition.specs.Base.{◌>>=◌, ◌or◌}
 use Rattle.definition.specs.Text.{Text}
@@ -130,13 +131,13 @@ sheet_is : {s : List ℕ} {c : Calendar} {d : Date} {r : Day} → DayIs s c d r
 unfolding day_sheet day_periods
 sheet_is {c = c} {d = d} h = rw (h.weekday, h.holiday, h.extra, or_or (hours_on c.exceptions d) (get_or c.hours (weekday d) []) default_periods)
 
-element_at_lem : {A : Type 0} (xs : List A) (i : ℕ) {x : A} {ys : List A} → drop i xs ≡ x ∷ ys → get_elem? xs i ≡ some x
+element_at_lem : {A : Type 0} (xs : List A) (i : ℕ) {x : A} {ys : List A} → drop i xs ≡ x ∷ ys → slice_get xs i ≡ Some x
 element_at_lem [] zero e = cc
 element_at_lem [] (suc i) e = cc
 element_at_lem (y ∷ xs) zero e = cc
 element_at_lem (y ∷ xs) (suc i) e = element_at_lem xs i e
 
-element_in : {A : Type 0} (xs : List A) (i : ℕ) {x : A} → get_elem? xs i ≡ some x → i < length xs
+element_in : {A : Type 0} (xs : List A) (i : ℕ) {x : A} → slice_get xs i ≡ Some x → i < length xs
 element_in [] zero e = absurd (never e)
 element_in [] (suc i) e = absurd (never e)
 element_in (y ∷ xs) zero e = omega arith
@@ -147,19 +148,19 @@ module _ {s : Text} (row : ℕ) (z : ℤ) (room : ℕ) {o : Opened} (h : Opens s
   unfolding day_sheet_answer
   no_model e = rw (h.refused e)
 
-  module _ {r : Sections} (ok : o ≡ Opened.Model r) {w : ℕ} (is : w ≡ ((from_days z >>= λ d. some (weekday d)) or 7)) where
+  module _ {r : Sections} (ok : o ≡ Opened.Model r) {w : ℕ} (is : w ≡ ((from_days z >>= λ d. Some (weekday d)) or 7)) where
     model_of : Sectioned s r
     model_of = h.model r ok
 
     -- the row or the date is none
     pub outside : (ltb row r.calendars.count && ltb w 7) ≡ false → day_sheet_answer s row z room ≡ refused 8
     unfolding day_sheet_answer
-    outside k = let m = model_of in rw m.decodes (by_parts m.model m.sections.calendars.count (get_elem? m.model.calendars row) (from_days z) refl refl)
+    outside k = let m = model_of in rw m.decodes (by_parts m.model m.sections.calendars.count (slice_get m.model.calendars row) (from_days z) refl refl)
       where
-        by_parts : (m : Model) → length m.calendars ≡ r.calendars.count → (c : Option Calendar) (d : Option Date) → get_elem? m.calendars row ≡ c → from_days z ≡ d → sheet_on c d room ≡ refused 8
-        by_parts m n none d i j = refl
-        by_parts m n (some c) none i j = refl
-        by_parts m n (some c) (some d) i j =
+        by_parts : (m : Model) → length m.calendars ≡ r.calendars.count → (c : Option Calendar) (d : Option Date) → slice_get m.calendars row ≡ c → from_days z ≡ d → sheet_on c d room ≡ refused 8
+        by_parts m n None d i j = refl
+        by_parts m n (Some c) None i j = refl
+        by_parts m n (Some c) (Some d) i j =
             let lt : row < r.calendars.count = omega (arith, element_in m.calendars row i) in
             let eq : w ≡ weekday d = is ∙ rw j in
             let l7 : w < 7 = omega (arith, weekday_lt d) in
@@ -171,16 +172,16 @@ module _ {s : Text} (row : ℕ) (z : ℤ) (room : ℕ) {o : Opened} (h : Opens s
       pub value : Calendar
       pub date : Date
       pub stands : Stands (whole calendar) s p value
-      pub is_date : from_days z ≡ some date
+      pub is_date : from_days z ≡ Some date
       pub on : w ≡ weekday date
       pub answers : day_sheet_answer s row z room ≡ in_room room (day_sheet value date)
 
-    dated : w < 7 → (d : Date) × (from_days z ≡ some d) × (w ≡ weekday d)
+    dated : w < 7 → (d : Date) × (from_days z ≡ Some d) × (w ≡ weekday d)
     dated l = by_date_lem (from_days z) refl
       where
-        by_date_lem : (o : Option Date) → from_days z ≡ o → (d : Date) × (from_days z ≡ some d) × (w ≡ weekday d)
-        by_date_lem none j = let e : w ≡ 7 = is ∙ rw j in absurd (omega arith)
-        by_date_lem (some d) j = (d, j, is ∙ rw j)
+        by_date_lem : (o : Option Date) → from_days z ≡ o → (d : Date) × (from_days z ≡ Some d) × (w ≡ weekday d)
+        by_date_lem None j = let e : w ≡ 7 = is ∙ rw j in absurd (omega arith)
+        by_date_lem (Some d) j = (d, j, is ∙ rw j)
 
     pub sheet_at : {p : Place} → (ltb row r.calendars.count && ltb w 7) ≡ true → Passes (times row (record_of false Calendars)) s (byte_at r.calendars.at) p → SheetAt p
     unfolding day_sheet_answer

@@ -1,6 +1,6 @@
 -- What stands at the places that are looked up: a list of periods, and what a calendar says of a date. Assumes nothing.
 use Rattle.std.specs.Prelude.{◌≡◌, Bool, false, ℤ, pos, negsuc, List, [], ℕ, eqb, get_or}
-use Rattle.std.proofs.Math.Option.{Option, some, none}
+use Rattle.std.specs.Prelude.{Option, Some, None}
 use Rattle.definition.specs.Base.{◌>>=◌, ◌or◌, some?}
 use Rattle.definition.specs.Date.{Date, weekday as weekday_of, from_days}
 use Rattle.definition.specs.Format.{Format, ◌⊗◌, Period, period, periods, date, list_of}
@@ -17,7 +17,7 @@ exceptions = list_of by_date (date ⊗ periods)
 
 -- the weekday of a day by document 01's number; 7 outside the years
 abbrev pub weekday_on : ℤ → ℕ
-weekday_on z = (from_days z >>= λ d. some (weekday_of d)) or 7
+weekday_on z = (from_days z >>= λ d. Some (weekday_of d)) or 7
 
 -- whether a date that may be missing is a day, both by document 01's numbers
 abbrev pub same_day : ℤ → ℤ → Bool
@@ -27,8 +27,8 @@ same_day (negsuc a) (pos b) = false
 same_day (negsuc a) (negsuc b) = eqb a b
 
 abbrev pub is_on : Option ℤ → ℤ → Bool
-is_on none z = false
-is_on (some y) z = same_day y z
+is_on None z = false
+is_on (Some y) z = same_day y z
 
 -- a count and so many periods stand at p; or nothing does, and there are none
 abbrev pub Listed : List ℕ → Place → List Period → Type 0

@@ -2,7 +2,6 @@
 #![tactic(auto)]
 
 ghost use Rattle.std.specs.Prelude.{◌≡◌, List, eqb, length};
-ghost use Rattle.std.proofs.Math.Option.{some};
 ghost use Rattle.definition.specs.Base.{◌or◌, some?};
 ghost use Rattle.definition.specs.Answer.{date_meaning};
 ghost use Rattle.definition.specs.Date.{Date as DateOf, weekday as weekday_of, from_days};
@@ -61,7 +60,7 @@ fn is_on(d: DateAnswer, day: Date) -> bool
 
 // Whether a list of dates has a day.
 fn has_date(s: &[u8], p: Place, day: Date) -> bool
-    ensures { (d : DateOf) → from_days day.0 ≡ some d → (l : List DateOf) → Stands dates s.now p l → result ≡ some? (eqb d) l }
+    ensures { (d : DateOf) → from_days day.0 ≡ Some d → (l : List DateOf) → Stands dates s.now p l → result ≡ some? (eqb d) l }
 {
     let n = bits::take(s, p, 32);
     let count = n.value;
@@ -81,7 +80,7 @@ fn has_date(s: &[u8], p: Place, day: Date) -> bool
 
 // Where the periods of a day stand among the exceptions; past every end if it has none.
 fn exception_place(s: &[u8], p: Place, day: Date) -> Place
-    ensures { (d : DateOf) → from_days day.0 ≡ some d → (l : List (DateOf × List PeriodOf)) → Stands exceptions s.now p l → Listed s.now result (hours_on l d) }
+    ensures { (d : DateOf) → from_days day.0 ≡ Some d → (l : List (DateOf × List PeriodOf)) → Stands exceptions s.now p l → Listed s.now result (hours_on l d) }
 {
     let n = bits::take(s, p, 32);
     let count = n.value;
@@ -122,7 +121,7 @@ struct Day {
 
 // Of the calendar whose record stands at a place.
 fn day_of(s: &[u8], p: Place, day: Date, weekday: u32) -> Day
-    ensures { (d : DateOf) → from_days day.0 ≡ some d → weekday ≡ weekday_of d → (c : Calendar) → Stands (whole calendar_format) s.now p c → DayIs s.now c d result }
+    ensures { (d : DateOf) → from_days day.0 ≡ Some d → weekday ≡ weekday_of d → (c : Calendar) → Stands (whole calendar_format) s.now p c → DayIs s.now c d result }
 {
     let c = calendar_places(s, p);
     let holiday = has_date(s, c.holidays, day);

@@ -1,6 +1,6 @@
 -- The small words in which the other files are written. Assumes nothing.
 use Rattle.std.specs.Prelude.{if◌then◌else◌, ℕ, zero, suc, Bool, true, false, ◌&&◌, ◌||◌, List, [], ◌∷◌, leb, eqb}
-use Rattle.std.proofs.Math.Option.{Option, some, none}
+use Rattle.std.specs.Prelude.{Option, Some, None}
 
 -- lo ≤ n ≤ hi
 abbrev pub within : ℕ → ℕ → ℕ → Bool
@@ -10,29 +10,29 @@ within lo hi n = leb lo n && leb n hi
 
 infixl 12 ◌>>=◌
 abbrev pub ◌>>=◌ : {A B : Type 0} → Option A → (A → Option B) → Option B
-none >>= f = none
-some a >>= f = f a
+None >>= f = None
+Some a >>= f = f a
 
 infixl 14 ◌or◌
 -- the value, or what stands for a missing one
 abbrev pub ◌or◌ : {A : Type 0} → Option A → A → A
-none or d = d
-some a or d = a
+None or d = d
+Some a or d = a
 
 -- the first that is there
 infixl 14 ◌or_else◌
 abbrev pub ◌or_else◌ : {A : Type 0} → Option A → Option A → Option A
-none or_else o = o
-some a or_else o = some a
+None or_else o = o
+Some a or_else o = Some a
 
 abbrev pub given : {A : Type 0} → Option A → Bool
-given none = false
-given (some a) = true
+given None = false
+given (Some a) = true
 
 -- a where the test holds
 abbrev pub when : {A : Type 0} → Bool → A → Option A
-when true a = some a
-when false a = none
+when true a = Some a
+when false a = None
 
 -- ---- lists
 
@@ -41,15 +41,15 @@ keep p [] = []
 keep p (x ∷ xs) = if p x then x ∷ keep p xs else keep p xs
 
 unfoldable pub first : {A : Type 0} → List A → Option A
-first [] = none
-first (x ∷ xs) = some x
+first [] = None
+first (x ∷ xs) = Some x
 
 -- the first of a list that passes a test, and the last
 abbrev pub find : {A : Type 0} → (A → Bool) → List A → Option A
 find p l = first (keep p l)
 
 unfoldable pub find_last : {A : Type 0} → (A → Bool) → List A → Option A
-find_last p [] = none
+find_last p [] = None
 find_last p (x ∷ xs) = find_last p xs or_else when (p x) x
 
 unfoldable pub some? : {A : Type 0} → (A → Bool) → List A → Bool
@@ -63,8 +63,8 @@ every? p (x ∷ xs) = p x && every? p xs
 -- the values that are there
 unfoldable pub present : {A : Type 0} → List (Option A) → List A
 present [] = []
-present (none ∷ xs) = present xs
-present (some x ∷ xs) = x ∷ present xs
+present (None ∷ xs) = present xs
+present (Some x ∷ xs) = x ∷ present xs
 
 -- n numbers from a number on
 unfoldable pub count : ℕ → ℕ → List ℕ

@@ -5,7 +5,7 @@
 -- last one given counts. ToTime `00:00` means 1440. Assumes nothing.
 use Rattle.std.specs.Prelude.{if◌then◌else◌, ℕ, zero, suc, ◌+◌, ◌%◌, Bool, true, false, ◌&&◌, not, length, get_or, set, replicate, ltb, eqb}
 use mathlib.Core.List.{List, [], ◌∷◌, ◌++◌, map, flat_map}
-use Rattle.std.proofs.Math.Option.{Option, some}
+use Rattle.std.specs.Prelude.{Option, Some}
 use Rattle.definition.specs.Base.{◌>>=◌, ◌or◌, ◌or_else◌, when, given, within, keep, first, find, present, some?, same}
 use Rattle.definition.specs.Ascii.{bytes}
 use Rattle.definition.specs.Text.{Text, unsigned_of}
@@ -54,7 +54,7 @@ or_hours [] other = other
 or_hours (p ∷ l) other = p ∷ l
 
 abbrev pub hours_on : List (Date × List Period) → Date → List Period
-hours_on l d = (find (λ (x : Date × List Period). eqb x.0 d) l >>= λ x. some x.1) or []
+hours_on l d = (find (λ (x : Date × List Period). eqb x.0 d) l >>= λ x. Some x.1) or []
 
 -- the hours of a date: its own, else its weekday's, else the default ones
 unfoldable pub day_periods : Calendar → Date → List Period
@@ -87,12 +87,12 @@ place_of w = day_type w >>= λ t. when (within 1 7 t) ((t + 5) % 7)
 -- the week and the hours as the WeekDays say, one after another
 unfoldable pub week_by : List Element → List Bool → List Bool
 week_by [] week = week
-week_by (w ∷ ws) week = week_by ws ((place_of w >>= λ k. some (set week k (yes_in w "DayWorking"))) or week)
+week_by (w ∷ ws) week = week_by ws ((place_of w >>= λ k. Some (set week k (yes_in w "DayWorking"))) or week)
 
 unfoldable pub hours_by : List Element → List (List Period) → List (List Period)
 hours_by [] hours = hours
 hours_by (w ∷ ws) hours =
-    hours_by ws ((place_of w >>= λ k. some (set hours k (if yes_in w "DayWorking" then periods_of w else []))) or hours)
+    hours_by ws ((place_of w >>= λ k. Some (set hours k (if yes_in w "DayWorking" then periods_of w else []))) or hours)
 
 -- days, whether they are worked, and their hours
 pub record Exception : Type 0 where
@@ -111,7 +111,7 @@ recurring e = all_in (child e (bytes "Exceptions")) (bytes "Exception")
 
 -- the old form's first
 unfoldable pub exceptions_of : Element → List Exception
-exceptions_of e = old_exceptions e ++ present (map (λ x. recurrence_days x >>= λ days. some (exception_on x days)) (recurring e))
+exceptions_of e = old_exceptions e ++ present (map (λ x. recurrence_days x >>= λ days. Some (exception_on x days)) (recurring e))
 
 abbrev pub works : List Bool → Date → Bool
 works week d = get_or week (weekday d) false
@@ -156,10 +156,10 @@ abbrev pub Named : Type 0
 Named = Text × Calendar
 
 abbrev pub with_uid : Text → List Named → Option Calendar
-with_uid u built = find (λ (x : Named). same x.0 u) built >>= λ x. some x.1
+with_uid u built = find (λ (x : Named). same x.0 u) built >>= λ x. Some x.1
 
 abbrev pub name_of : List Named → Text → Option Text
-name_of built u = with_uid u built >>= λ c. some c.name
+name_of built u = with_uid u built >>= λ c. Some c.name
 
 abbrev pub base_of : Element → Option Text
 base_of e = text_in e "BaseCalendarUID" >>= λ u. when (not (same u (bytes "-1"))) u
@@ -184,7 +184,7 @@ built_calendars root =
 
 unfoldable pub main_calendar : Element → List Named → Calendar
 main_calendar root built =
-    ((text_in root "CalendarUID" >>= λ u. with_uid u built) or_else (first built >>= λ x. some x.1)) or default_calendar
+    ((text_in root "CalendarUID" >>= λ u. with_uid u built) or_else (first built >>= λ x. Some x.1)) or default_calendar
 
 -- how many exceptions give no rule
 unfoldable pub skipped : Element → ℕ

@@ -2,7 +2,7 @@
 -- name used is some calendar's; no two expenses with equal activity and name. A row is in range when it is below the count of what it
 -- points into. Assumes nothing.
 use Rattle.std.specs.Prelude.{ℕ, Bool, true, ◌&&◌, not, List, [], ◌∷◌, map, length, ltb}
-use Rattle.std.proofs.Math.Option.{Option, some, none}
+use Rattle.std.specs.Prelude.{Option, Some, None}
 use Rattle.definition.specs.Base.{some?, every?, numbered, same}
 use Rattle.definition.specs.Text.{Text}
 use Rattle.definition.specs.Model.{Calendar, Activity, Link, Resource, Assignment, Expense, Model}
@@ -14,8 +14,8 @@ distinct eq [] = true
 distinct eq (x ∷ l) = not (some? (eq x) l) && distinct eq l
 
 abbrev pub if_given : {A : Type 0} → (A → Bool) → Option A → Bool
-if_given p none = true
-if_given p (some a) = p a
+if_given p None = true
+if_given p (Some a) = p a
 
 unfoldable pub is_calendar : Model → Text → Bool
 is_calendar m n = some? (λ (c : Calendar). same c.name n) m.calendars

@@ -5,7 +5,7 @@
 -- Here a date is counted in days from 1 January of the year -10000, and a year in years from that one. No date lies that early, so nothing
 -- is negative; and 10000 is a multiple of 400, so the leap rule stays as it is. `day_number` gives document 01's number. Assumes nothing.
 use Rattle.std.specs.Prelude.{if◌then◌else◌, ℕ, zero, suc, ◌+◌, ◌-◌, ◌*◌, ◌/◌, ◌%◌, Bool, ◌&&◌, ◌||◌, not, take, get_or, leb, ltb, eqb, ℤ, pos, negsuc, ◌-ℤ◌}
-use Rattle.std.proofs.Math.Option.{Option, none}
+use Rattle.std.specs.Prelude.{Option, None}
 use Rattle.definition.specs.Base.{◌>>=◌, when, within}
 use Rattle.definition.specs.Text.{Text, trim, before, after, signed_of, unsigned_of}
 use Rattle.definition.specs.declared.Ymd.{Ymd}
@@ -98,7 +98,7 @@ in_years d = when (within first_date last_date d) d
 -- the date of a day number; none outside the years -9999 to 9999
 unfoldable pub from_days : ℤ → Option Date
 from_days (pos n) = in_years (n + epoch)
-from_days (negsuc n) = if ltb n epoch then in_years (epoch - suc n) else none
+from_days (negsuc n) = if ltb n epoch then in_years (epoch - suc n) else None
 
 -- a year as it is written, counted from the year -10000; none outside -9999 to 9999
 unfoldable pub year_at : ℤ → Option ℕ

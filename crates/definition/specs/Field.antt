@@ -1,7 +1,7 @@
 -- What an element says in a child: a text, a yes, a whole number, a number, a date, a duration. MSPDI's fields are such children. What is
 -- missing or cannot be read is absent. Assumes nothing.
 use Rattle.std.specs.Prelude.{ℕ, min, max, Bool, false, not, [], ℤ, pos, negsuc, Float}
-use Rattle.std.proofs.Math.Option.{Option, some, none}
+use Rattle.std.specs.Prelude.{Option, Some, None}
 use Prim.Native.String.{String}
 use Rattle.definition.specs.Base.{◌>>=◌, ◌or◌}
 use Rattle.definition.specs.Ascii.{bytes}
@@ -31,12 +31,12 @@ duration_in e name = text_in e name >>= λ s. found (duration_of s)
 
 -- for what asks for the minutes and not whether they were whole
 abbrev pub minutes_alone : Option Duration → Option ℕ
-minutes_alone o = o >>= λ d. some d.minutes
+minutes_alone o = o >>= λ d. Some d.minutes
 
 -- there are minutes, and the sum was not whole
 abbrev pub not_whole : Option Duration → Bool
-not_whole none = false
-not_whole (some d) = not d.whole
+not_whole None = false
+not_whole (Some d) = not d.whole
 
 unfoldable pub minutes_in : Element → String → Option ℕ
 minutes_in e name = minutes_alone (duration_in e name)

@@ -4,7 +4,7 @@
 -- unknown code, a time over 1440, a date outside the years, a list that does not rise, a period not from below to, bad UTF-8.
 -- Assumes nothing.
 use Rattle.std.specs.Prelude.{if◌then◌else◌, ℕ, zero, suc, ◌+◌, ◌*◌, ◌%◌, Bool, true, false, ◌&&◌, ◌||◌, List, [], ◌∷◌, ◌++◌, length, take, drop, replicate, leb, ltb, eqb, ℤ}
-use Rattle.std.proofs.Math.Option.{Option, some, none}
+use Rattle.std.specs.Prelude.{Option, Some, None}
 use Rattle.definition.specs.Base.{◌>>=◌, when, given, same, within}
 use Rattle.definition.specs.Bits.{Bits, enc, dec, bits_of, bytes_up_to, pad, twos, signed}
 use Rattle.definition.specs.Text.{Text, is_utf8}
@@ -27,26 +27,26 @@ infixr 20 ◌⊗◌
 unfoldable pub ◌⊗◌ : {A B : Type 0} → Format A → Format B → Format (A × B)
 f ⊗ g = record {
   put = λ n p. f.put n p.0 ++ g.put (n + length (f.put n p.0)) p.1;
-  get = λ l. f.get l >>= λ x. g.get x.1 >>= λ y. some ((x.0, y.0), y.1);
+  get = λ l. f.get l >>= λ x. g.get x.1 >>= λ y. Some ((x.0, y.0), y.1);
 }
 
 -- values that stand for others: each has one, and not each is one
 unfoldable pub via : {A B : Type 0} → (A → Option B) → (B → A) → Format A → Format B
-via to from f = record { put = λ n b. f.put n (from b); get = λ l. f.get l >>= λ x. to x.0 >>= λ b. some (b, x.1) }
+via to from f = record { put = λ n b. f.put n (from b); get = λ l. f.get l >>= λ x. to x.0 >>= λ b. Some (b, x.1) }
 
 abbrev pub put_given : {B : Type 0} → Format B → ℕ → Option B → Bits
-put_given g n none = []
-put_given g n (some b) = g.put n b
+put_given g n None = []
+put_given g n (Some b) = g.put n b
 
 abbrev pub get_given : {B : Type 0} → Bool → Format B → Bits → Option (Option B × Bits)
-get_given false g l = some (none, l)
-get_given true g l = g.get l >>= λ y. some (some y.0, y.1)
+get_given false g l = Some (None, l)
+get_given true g l = g.get l >>= λ y. Some (Some y.0, y.1)
 
 -- a value, and another where a test of the first says so
 unfoldable pub depending : {A B : Type 0} → Format A → (A → Bool) → Format B → Format (A × Option B)
 depending f test g = record {
   put = λ n p. f.put n p.0 ++ put_given g (n + length (f.put n p.0)) p.1;
-  get = λ l. f.get l >>= λ x. get_given (test x.0) g x.1 >>= λ y. some ((x.0, y.0), y.1);
+  get = λ l. f.get l >>= λ x. get_given (test x.0) g x.1 >>= λ y. Some ((x.0, y.0), y.1);
 }
 
 -- so many, one after another
@@ -55,8 +55,8 @@ put_all f n [] = []
 put_all f n (x ∷ xs) = f.put n x ++ put_all f (n + length (f.put n x)) xs
 
 unfoldable pub get_all : {A : Type 0} → Format A → ℕ → Bits → Option (List A × Bits)
-get_all f zero l = some ([], l)
-get_all f (suc k) l = f.get l >>= λ x. get_all f k x.1 >>= λ y. some (x.0 ∷ y.0, y.1)
+get_all f zero l = Some ([], l)
+get_all f (suc k) l = f.get l >>= λ x. get_all f k x.1 >>= λ y. Some (x.0 ∷ y.0, y.1)
 
 unfoldable pub times : {A : Type 0} → ℕ → Format A → Format (List A)
 times k f = record { put = put_all f; get = get_all f k }
@@ -69,7 +69,7 @@ get_pad l = when (same (take (length l % 8) l) (replicate (length l % 8) 0)) (dr
 unfoldable pub whole : {A : Type 0} → Format A → Format A
 whole f = record {
   put = λ n a. f.put n a ++ pad (n + length (f.put n a));
-  get = λ l. f.get l >>= λ x. get_pad x.1 >>= λ rest. some (x.0, rest);
+  get = λ l. f.get l >>= λ x. get_pad x.1 >>= λ rest. Some (x.0, rest);
 }
 
 -- ---- the fields
@@ -92,7 +92,7 @@ bit true = 1
 bit false = 0
 
 unfoldable pub flag : Format Bool
-flag = via (λ v. some (eqb v 1)) bit (field 1)
+flag = via (λ v. Some (eqb v 1)) bit (field 1)
 
 -- a code from lo to hi
 unfoldable pub code : ℕ → ℕ → Format ℕ
@@ -102,7 +102,7 @@ unfoldable pub time : Format ℕ
 time = via (λ v. when (leb v most_time) v) (λ v. v) (field 11)
 
 unfoldable pub number : Format ℤ
-number = via (λ v. some (signed number_width v)) (twos number_width) (field number_width)
+number = via (λ v. Some (signed number_width v)) (twos number_width) (field number_width)
 
 unfoldable pub date : Format Date
 date = via (λ v. from_days (signed 32 v)) (λ d. twos 32 (day_number d)) (field 32)
@@ -118,12 +118,12 @@ text = record {
   put = λ n s. (whole count).put n (length s) ++ bits_of s;
   get = λ l. (whole count).get l >>= λ x.
       let s = bytes_up_to x.0 x.1 in
-      if ltb (length x.1) (8 * x.0) then none else
+      if ltb (length x.1) (8 * x.0) then None else
       when (is_utf8 s) (s, drop (8 * x.0) x.1);
 }
 
 unfoldable pub optional : {A : Type 0} → Format A → Format (Option A)
-optional f = via (λ p. some p.1) (λ o. (given o, o)) (depending flag (λ b. b) f)
+optional f = via (λ p. Some p.1) (λ o. (given o, o)) (depending flag (λ b. b) f)
 
 -- each item below the next
 unfoldable pub rises : {A : Type 0} → (A → A → Bool) → List A → Bool

@@ -4,7 +4,7 @@
 -- tested for whole days: a lag of -15 tenths is -1 minute, so lag 0 and minutes -1. The day is always MinutesPerDay. Assumes nothing.
 use Rattle.std.specs.Prelude.{if◌then◌else◌, ℕ, suc, ◌/◌, ◌%◌, ◌*◌, min, Bool, true, false, not, eqb, ℤ, pos, negsuc, neg_ℤ, nat_abs}
 use mathlib.Core.List.{List, [], ◌∷◌, flat_map, map}
-use Rattle.std.proofs.Math.Option.{Option, some, none}
+use Rattle.std.specs.Prelude.{Option, Some, None}
 use Rattle.definition.specs.Base.{◌>>=◌, ◌or◌, when, numbered, some?}
 use Rattle.definition.specs.Ascii.{bytes}
 use Rattle.definition.specs.Tree.{Element, all}
@@ -36,13 +36,13 @@ pub record Lag : Type 0 where
 abbrev pub working_lag : ℕ → ℤ → Lag
 working_lag per_day minutes =
     let whole = eqb (nat_abs minutes % per_day) 0 in
-    record { days = if whole then cut minutes per_day else pos 0; minutes = when (not whole) minutes; kind = (0, none) }
+    record { days = if whole then cut minutes per_day else pos 0; minutes = when (not whole) minutes; kind = (0, None) }
 
 abbrev pub elapsed_lag : ℤ → Lag
-elapsed_lag minutes = record { days = pos 0; minutes = some minutes; kind = (1, none) }
+elapsed_lag minutes = record { days = pos 0; minutes = Some minutes; kind = (1, None) }
 
 abbrev pub percent_lag : ℤ → Lag
-percent_lag tenths = record { days = pos 0; minutes = none; kind = (2, some (held_by 10000000 (tenfold tenths))) }
+percent_lag tenths = record { days = pos 0; minutes = None; kind = (2, Some (held_by 10000000 (tenfold tenths))) }
 
 unfoldable pub lag_of : ℕ → ℕ → ℤ → Lag
 lag_of per_day format tenths =
@@ -82,8 +82,8 @@ pub data Fate : Type 0 where
   kept : Link → Fate
 
 abbrev pub fate_by : Context → ℕ → Element → Option ℕ → Fate
-fate_by x successor l none = dangling
-fate_by x successor l (some p) = kept (link_of x p successor l)
+fate_by x successor l None = dangling
+fate_by x successor l (Some p) = kept (link_of x p successor l)
 
 unfoldable pub fate_of : Context → ℕ → Element → Fate
 fate_of x successor l =

@@ -1,7 +1,7 @@
 -- The model's records, as document 01 lists them; the fourth count of a project is document 02's (E2). A kind is its code, from 0 in the order of the
 -- Rust's enum. Rows count from 0. Assumes nothing.
 use Rattle.std.specs.Prelude.{ℕ, Bool, List, ℤ}
-use Rattle.std.proofs.Math.Option.{Option}
+use Rattle.std.specs.Prelude.{Option}
 use Rattle.definition.specs.Text.{Text}
 use Rattle.definition.specs.Date.{Date}
 use Rattle.definition.specs.Format.{Period}

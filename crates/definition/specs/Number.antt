@@ -4,7 +4,7 @@
 -- digits are 0. Its value is the f64 nearest to the decimal, ties to even, as IEEE 754 has it. Amounts are rounded to whole numbers, a half
 -- away from zero; and which f64 are whole. Assumes nothing.
 use Rattle.std.specs.Prelude.{if◌then◌else◌, ℕ, ◌+◌, ◌*◌, ◌/◌, ◌%◌, ◌^◌, Bool, true, false, ◌&&◌, ◌||◌, [], ◌++◌, length, drop, leb, ltb, eqb, ℤ, pos, neg_ℤ, Float}
-use Rattle.std.proofs.Math.Option.{Option, some, none}
+use Rattle.std.specs.Prelude.{Option, Some, None}
 use Rattle.std.specs.Float.{nan, inf, fin, binary64}
 use Rattle.std.specs.Float.Ieee.{up, down, round, neg, le, mul}
 use Rattle.definition.specs.Base.{◌>>=◌, ◌or◌}
@@ -43,8 +43,8 @@ unsigned bare s = s
 
 -- what follows the `e`, none where there is no `e`
 abbrev pub powered : ℕ → ℕ → Option Text → Option Decimal
-powered v places none = some (record { digits = v; up = 0; down = places })
-powered v places (some s) = digits (unsigned (sign_of s) s) >>= λ n. some (scaled (sign_of s) v places n)
+powered v places None = Some (record { digits = v; up = 0; down = places })
+powered v places (Some s) = digits (unsigned (sign_of s) s) >>= λ n. Some (scaled (sign_of s) v places n)
 
 -- a decimal with no sign
 unfoldable pub decimal_of : Text → Option Decimal
@@ -74,8 +74,8 @@ unfoldable pub nearest : Decimal → Float
 nearest d = if eqb d.digits 0 then zero_float else round binary64 false (d.digits * 10 ^ d.up) (10 ^ d.down)
 
 abbrev pub magnitude : Option Decimal → Reading Float
-magnitude none = absent
-magnitude (some d) = if short? d then value (nearest d) else long
+magnitude None = absent
+magnitude (Some d) = if short? d then value (nearest d) else long
 
 abbrev pub negated : Reading Float → Reading Float
 negated absent = absent
@@ -92,9 +92,9 @@ number_of s = number_by (sign_of s) s
 
 -- the number where there is one; a tree with a long one is refused as a whole
 abbrev pub found : {A : Type 0} → Reading A → Option A
-found absent = none
-found long = none
-found (value x) = some x
+found absent = None
+found long = None
+found (value x) = Some x
 
 -- ---- whole numbers
 

@@ -4,26 +4,26 @@
 -- all below it. Assumes nothing.
 use Rattle.std.specs.Prelude.{ℕ, zero, suc, Bool, true, false, ◌&&◌, not, length, get_or, ltb, eqb}
 use mathlib.Core.List.{List, [], ◌∷◌, map, flat_map}
-use Rattle.std.proofs.Math.Option.{Option, some, none}
+use Rattle.std.specs.Prelude.{Option, Some, None}
 use Rattle.definition.specs.Base.{keep, count}
 use Rattle.definition.specs.Model.{Activity, Model}
 
 -- the parent that counts: another row in range
 abbrev pub parent_in : ℕ → ℕ → Option ℕ → Option ℕ
-parent_in n row none = none
-parent_in n row (some p) = elim (ltb p n && not (eqb p row)) [ true ↦ some p | false ↦ none ]
+parent_in n row None = None
+parent_in n row (Some p) = elim (ltb p n && not (eqb p row)) [ true ↦ Some p | false ↦ None ]
 
 abbrev pub is_top : Option ℕ → Bool
-is_top none = true
-is_top (some p) = false
+is_top None = true
+is_top (Some p) = false
 
 abbrev pub is_under : ℕ → Option ℕ → Bool
-is_under row none = false
-is_under row (some p) = eqb p row
+is_under row None = false
+is_under row (Some p) = eqb p row
 
 -- parents: the parent that each activity names
 unfoldable pub parent_at : List (Option ℕ) → ℕ → Option ℕ
-parent_at parents row = parent_in (length parents) row (get_or parents row none)
+parent_at parents row = parent_in (length parents) row (get_or parents row None)
 
 unfoldable pub top_rows : List (Option ℕ) → List ℕ
 top_rows parents = keep (λ row. is_top (parent_at parents row)) (count 0 (length parents))

@@ -2,7 +2,7 @@
 -- then the rest in that order, each record from a whole byte. What does not decode is refused with 6. Document 02, E2: a project has a fourth count, and
 -- every model is decoded as one with it, whatever wrote it. Assumes nothing.
 use Rattle.std.specs.Prelude.{ℕ, not, List, [], ◌∷◌, ◌++◌, length, eqb, ℤ}
-use Rattle.std.proofs.Math.Option.{Option, some, none}
+use Rattle.std.specs.Prelude.{Option, Some, None}
 use Rattle.definition.specs.Base.{◌>>=◌}
 use Rattle.definition.specs.Text.{Text}
 use Rattle.definition.specs.Date.{Date}
@@ -13,7 +13,7 @@ use Rattle.definition.specs.Calendar.{by_date}
 
 -- the same values under names
 abbrev pub named : {A B : Type 0} → (A → B) → (B → A) → Format A → Format B
-named to from f = via (λ a. some (to a)) from f
+named to from f = via (λ a. Some (to a)) from f
 
 -- name, start, currency, counts skipped, dangling, across, fractional, optional data date
 unfoldable pub project : Format Project
@@ -162,7 +162,7 @@ model_from b =
 unfoldable pub model : Format Model
 model = record {
   put = λ n m. counts.put n (counts_of m) ++ (body (counts_of m)).put n (body_of m);
-  get = λ l. counts.get l >>= λ k. (body k.0).get k.1 >>= λ b. some (model_from b.0, b.1);
+  get = λ l. counts.get l >>= λ k. (body k.0).get k.1 >>= λ b. Some (model_from b.0, b.1);
 }
 
 unfoldable pub encode : Model → Text
@@ -170,9 +170,9 @@ encode m = bytes_of (model.put 0 m)
 
 -- all bytes are used
 abbrev pub at_end : {A : Type 0} → Option (A × Bits) → Option A
-at_end none = none
-at_end (some (a, [])) = some a
-at_end (some (a, (b ∷ l))) = none
+at_end None = None
+at_end (Some (a, [])) = Some a
+at_end (Some (a, (b ∷ l))) = None
 
 unfoldable pub decode : Text → Option Model
 decode s = at_end (model.get (bits_of s))

@@ -5,8 +5,8 @@
 -- in 2 and 3, a bad Month gives no rule. A WeekDay of DayType 0 is an exception whose range ends at most 3,660 days after its first day; a
 -- reversed range is its first day alone. Assumes nothing.
 use Rattle.std.specs.Prelude.{if◌then◌else◌, ℕ, suc, ◌+◌, ◌-◌, ◌*◌, ◌/◌, ◌%◌, ◌^◌, min, Bool, true, false, ◌&&◌, ◌||◌, not, List, [], take, leb, ltb, eqb, ℤ, pos, negsuc}
-use Rattle.std.proofs.Math.Option.{Option, some, none}
-use Rattle.std.proofs.Math.ListN.{get_elem?}
+use Rattle.std.specs.Prelude.{Option, Some, None}
+use Rattle.std.specs.Prelude.{slice_get}
 use Rattle.definition.specs.Base.{◌>>=◌, ◌or◌, when, given, within, keep, find_last, count}
 use Rattle.definition.specs.Ascii.{bytes}
 use Rattle.definition.specs.Bits.{twos}
@@ -38,7 +38,7 @@ century = 36600
 -- MSPDI counts months from 0
 abbrev pub month_from : ℤ → Option ℕ
 month_from (pos n) = when (ltb n 12) (n + 1)
-month_from (negsuc n) = none
+month_from (negsuc n) = None
 
 -- 1 to 6, and 0 for any other type
 abbrev pub type_from : ℤ → ℕ
@@ -85,21 +85,21 @@ item_fits (pos n) d =
 
 -- position 0 to 3 counts from the first, 4 is the last
 abbrev pub at_position : ℤ → List Date → Option Date
-at_position (negsuc n) l = none
-at_position (pos n) l = if eqb n 4 then find_last (λ d. true) l else if ltb n 4 then get_elem? l n else none
+at_position (negsuc n) l = None
+at_position (pos n) l = if eqb n 4 then find_last (λ d. true) l else if ltb n 4 then slice_get l n else None
 
 -- the item at the position of a month; December 9999, of the year 19999 as counted here, has no position
 unfoldable pub nth_in_month : ℕ → ℕ → ℤ → ℤ → Option Date
 nth_in_month y m item position =
-    if eqb y 19999 && eqb m 12 then none else at_position position (keep (item_fits item) (count (date_at y m 1) (month_length y m)))
+    if eqb y 19999 && eqb m 12 then None else at_position position (keep (item_fits item) (count (date_at y m 1) (month_length y m)))
 
 abbrev pub is_date : Option Date → Date → Bool
-is_date none d = false
-is_date (some x) d = eqb x d
+is_date None d = false
+is_date (Some x) d = eqb x d
 
 abbrev pub is_month : Option ℕ → ℕ → Bool
-is_month none m = false
-is_month (some x) m = eqb x m
+is_month None m = false
+is_month (Some x) m = eqb x m
 
 abbrev pub is_number : ℤ → ℕ → Bool
 is_number (pos n) m = eqb n m
@@ -149,7 +149,7 @@ days_of_rule r = take r.most (keep (fits r) (count r.from (suc r.last - r.from))
 
 -- the days of an Exception; none counts as skipped
 unfoldable pub recurrence_days : Element → Option (List Date)
-recurrence_days x = rule_of x >>= λ r. some (days_of_rule r)
+recurrence_days x = rule_of x >>= λ r. Some (days_of_rule r)
 
 -- ---- the old form: a WeekDay of DayType 0
 
@@ -161,4 +161,4 @@ days_of w =
     (child w (bytes "TimePeriod") >>= λ p.
     date_in p "FromDate" >>= λ from.
     date_in p "ToDate" >>= λ to.
-    some (keep (λ d. leb d last_date) (count from (suc (min (to - from) most_exception_days))))) or []
+    Some (keep (λ d. leb d last_date) (count from (suc (min (to - from) most_exception_days))))) or []

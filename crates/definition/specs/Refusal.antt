@@ -5,8 +5,8 @@
 -- work slice below what the outline needs. Assumes nothing.
 use Rattle.std.specs.Prelude.{if◌then◌else◌, ℕ, ◌-◌, ◌*◌, ◌/◌, Bool, true, false, ◌&&◌, ◌||◌, not, length, replicate, leb, ltb, ℤ, pos, negsuc}
 use mathlib.Core.List.{List, [], ◌∷◌, ◌++◌, flat_map}
-use Rattle.std.proofs.Math.Option.{Option, some, none}
-use Rattle.std.proofs.Math.ListN.{get_elem?}
+use Rattle.std.specs.Prelude.{Option, Some, None}
+use Rattle.std.specs.Prelude.{slice_get}
 use Rattle.definition.specs.Base.{some?, every?, same}
 use Rattle.definition.specs.Ascii.{bytes}
 use Rattle.definition.specs.Text.{Text, is_utf8, trim}
@@ -106,8 +106,8 @@ read_answer tree room = unless (tree_refusal tree) (in_room room (encode (model_
 
 -- the number that the check of a model's bytes returns
 abbrev pub check_of : Option Model → ℕ
-check_of none = 6
-check_of (some m) = if keeps_list m then 0 else 7
+check_of None = 6
+check_of (Some m) = if keeps_list m then 0 else 7
 
 unfoldable pub check_answer : Text → ℕ
 check_answer s = check_of (decode s)
@@ -117,8 +117,8 @@ abbrev pub row_words : List (ℕ × ℕ) → List ℕ
 row_words = flat_map (λ (x : ℕ × ℕ). x.0 ∷ x.1 ∷ [])
 
 abbrev pub outline_by : Option Model → ℕ → ℕ → Answer
-outline_by none rows work = refused 6
-outline_by (some m) rows work =
+outline_by None rows work = refused 6
+outline_by (Some m) rows work =
     if ltb rows (2 * length m.activities) || ltb work (4 * length m.activities) then refused 9 else gives (row_words (outline m))
 
 -- how many rows
@@ -130,13 +130,13 @@ outline_answer s rows work = outline_by (decode s) rows work
 
 -- the sheet of a date in the calendar of a row
 abbrev pub sheet_on : Option Calendar → Option Date → ℕ → Answer
-sheet_on none d room = refused 8
-sheet_on (some c) none room = refused 8
-sheet_on (some c) (some d) room = in_room room (day_sheet c d)
+sheet_on None d room = refused 8
+sheet_on (Some c) None room = refused 8
+sheet_on (Some c) (Some d) room = in_room room (day_sheet c d)
 
 abbrev pub sheet_by : Option Model → ℕ → ℤ → ℕ → Answer
-sheet_by none row day room = refused 6
-sheet_by (some m) row day room = sheet_on (get_elem? m.calendars row) (from_days day) room
+sheet_by None row day room = refused 6
+sheet_by (Some m) row day room = sheet_on (slice_get m.calendars row) (from_days day) room
 
 unfoldable pub day_sheet_answer : Text → ℕ → ℤ → ℕ → Answer
 day_sheet_answer s row day room = sheet_by (decode s) row day room

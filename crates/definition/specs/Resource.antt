@@ -5,7 +5,7 @@
 -- remaining that equals planned less actual, at least 0, is dropped, as is a rate of 100; of two expenses with equal activity and name the
 -- first is kept. Assumes nothing.
 use Rattle.std.specs.Prelude.{if◌then◌else◌, ℕ, ◌*◌, ◌/◌, ◌^◌, Bool, false, ◌&&◌, not, List, [], ◌∷◌, ◌++◌, map, eqb, ℤ, pos, negsuc, ◌-ℤ◌, Float}
-use Rattle.std.proofs.Math.Option.{Option, some, none}
+use Rattle.std.specs.Prelude.{Option, Some, None}
 use Prim.Native.String.{String}
 use Rattle.std.specs.Float.Ieee.{lt, neg}
 use Rattle.definition.specs.Base.{◌>>=◌, ◌or◌, ◌or_else◌, when, given, keep, find_last, present, some?, same}
@@ -19,9 +19,9 @@ use Rattle.definition.specs.Calendar.{name_of, free}
 use Rattle.definition.specs.Task.{Context, not_below0, own_uid, row_of, unless_main}
 
 abbrev pub is_int : Option ℤ → ℕ → Bool
-is_int none m = false
-is_int (some (pos n)) m = eqb n m
-is_int (some (negsuc n)) m = false
+is_int None m = false
+is_int (Some (pos n)) m = eqb n m
+is_int (Some (negsuc n)) m = false
 
 -- ---- resources
 
@@ -110,7 +110,7 @@ unless_left planned actual r = other_than (left_of planned actual) r
 
 -- minutes in hundredths of an hour
 abbrev pub hours_from : ℕ → Option ℤ
-hours_from m = some (pos (m * 100 / 60))
+hours_from m = Some (pos (m * 100 / 60))
 
 abbrev pub hours_in : Element → String → Option ℤ
 hours_in a name = minutes_in a name >>= hours_from
@@ -133,8 +133,8 @@ assignment_from activity resource a =
 
 unfoldable pub assignment_of : Context → Element → Element → Option Assignment
 assignment_of x root a =
-    if given (cost_of root a) then none else
-    (task_row x a >>= λ t. resource_row root a >>= λ r. some (assignment_from t r a))
+    if given (cost_of root a) then None else
+    (task_row x a >>= λ t. resource_row root a >>= λ r. Some (assignment_from t r a))
 
 unfoldable pub assignments : Context → Element → List Assignment
 assignments x root = present (map (assignment_of x root) (assignment_elements root))
@@ -165,7 +165,7 @@ expense_from activity r a =
     }
 
 unfoldable pub expense_of : Context → Element → Element → Option Expense
-expense_of x root a = task_row x a >>= λ t. cost_of root a >>= λ r. some (expense_from t r a)
+expense_of x root a = task_row x a >>= λ t. cost_of root a >>= λ r. Some (expense_from t r a)
 
 abbrev pub same_expense : Expense → Expense → Bool
 same_expense e f = eqb e.activity f.activity && same e.name f.name

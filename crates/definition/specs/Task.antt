@@ -4,7 +4,7 @@
 -- are elapsed time, where a day has 1440 minutes and not MinutesPerDay; 32 more means estimated. Document 02, E2: which tasks have a duration that was
 -- not whole minutes. Assumes nothing.
 use Rattle.std.specs.Prelude.{if◌then◌else◌, ℕ, ◌+◌, ◌-◌, ◌/◌, ◌%◌, Bool, ◌&&◌, ◌||◌, not, List, [], ◌∷◌, ◌++◌, map, length, take, leb, ltb, eqb, ℤ, pos, negsuc, Float}
-use Rattle.std.proofs.Math.Option.{Option, some, none}
+use Rattle.std.specs.Prelude.{Option, Some, None}
 use Prim.Native.String.{String}
 use Rattle.std.specs.Float.Ieee.{le, lt}
 use Rattle.definition.specs.Base.{◌>>=◌, ◌or◌, ◌or_else◌, when, given, within, keep, find_last, numbered, same}
@@ -42,7 +42,7 @@ kept_tasks root = keep is_kept (take most_tasks (all_in (child root (bytes "Task
 
 -- the row of the last of some elements with a UID
 unfoldable pub row_of : List Element → Text → Option ℕ
-row_of es u = find_last (λ (x : ℕ × Element). same (text_in x.1 "UID" or []) u) (numbered 0 es) >>= λ x. some x.0
+row_of es u = find_last (λ (x : ℕ × Element). same (text_in x.1 "UID" or []) u) (numbered 0 es) >>= λ x. Some x.0
 
 -- ---- what the whole file says for each task
 
@@ -102,21 +102,21 @@ wanted_id e = (text_in e "WBS" or_else text_in e "ID" or_else text_in e "UID") o
 
 -- the last earlier row of a lower level
 unfoldable pub parent_of : List ℕ → ℕ → Option ℕ
-parent_of levels l = find_last (λ (x : ℕ × ℕ). ltb x.1 l) (numbered 0 levels) >>= λ x. some x.0
+parent_of levels l = find_last (λ (x : ℕ × ℕ). ltb x.1 l) (numbered 0 levels) >>= λ x. Some x.0
 
 -- 1 is as late as possible and has no date; 2 to 7 need theirs
 abbrev pub constraint_from : {D : Type 0} → ℕ → Option D → Option (ℕ × Option D)
-constraint_from kind none = when (eqb kind 1) (1, none)
-constraint_from kind (some d) = if eqb kind 1 then some (1, none) else when (within 2 7 kind) (kind, some d)
+constraint_from kind None = when (eqb kind 1) (1, None)
+constraint_from kind (Some d) = if eqb kind 1 then Some (1, None) else when (within 2 7 kind) (kind, Some d)
 
 abbrev pub constraint_of : Element → Option (ℕ × Option Date)
 constraint_of t = constraint_from (not_below0 (int_in t "ConstraintType" or pos 0)) (date_in t "ConstraintDate")
 
 -- MSPDI's task types: 0 fixed units, 1 fixed duration, 2 fixed work
 abbrev pub duration_type_from : Option ℤ → ℕ
-duration_type_from none = 0
-duration_type_from (some (negsuc n)) = 0
-duration_type_from (some (pos n)) = if eqb n 0 then 2 else if eqb n 2 then 3 else 0
+duration_type_from None = 0
+duration_type_from (Some (negsuc n)) = 0
+duration_type_from (Some (pos n)) = if eqb n 0 then 2 else if eqb n 2 then 3 else 0
 
 abbrev pub duration_type_of : Element → ℕ
 duration_type_of t = duration_type_from (int_in t "Type")
@@ -130,7 +130,7 @@ duration_minutes minutes day = when (not (eqb (minutes % day) 0)) (pos minutes)
 
 abbrev pub calendar_name_of : Context → Element → Option Text
 calendar_name_of x t =
-    if is_elapsed t then some elapsed_name else
+    if is_elapsed t then Some elapsed_name else
     (text_in t "CalendarUID" >>= λ u. when (not (same u (bytes "-1"))) u >>= name_of x.built)
 
 -- begun and not ended
@@ -139,7 +139,7 @@ under_way t = given (date_in t "ActualStart") && not (given (date_in t "ActualFi
 
 -- the minutes left, of a task that is under way
 abbrev pub remaining_of : Element → Option ℤ
-remaining_of t = if under_way t then (minutes_in t "RemainingDuration" >>= λ m. some (pos m)) else none
+remaining_of t = if under_way t then (minutes_in t "RemainingDuration" >>= λ m. Some (pos m)) else None
 
 -- hundredths of PhysicalPercentComplete, above 0 and up to 100
 abbrev pub percent_from : Float → Option ℤ

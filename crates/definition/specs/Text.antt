@@ -2,7 +2,7 @@
 -- away at both ends. Whole numbers as Rust's `parse` reads them: a sign or none (`-` for signed types only), digits, one at least, and
 -- nothing else; out of the type's range is absent. Document 02, E1: a yes is the text `1` or `true`, as xsd:boolean writes it. Assumes nothing.
 use Rattle.std.specs.Prelude.{if◌then◌else◌, ℕ, zero, suc, ◌+◌, ◌-◌, ◌*◌, ◌^◌, Bool, true, false, ◌&&◌, ◌||◌, List, [], ◌∷◌, reverse, length, drop, get_or, leb, ltb, eqb, ℤ, pos, neg_ℤ}
-use Rattle.std.proofs.Math.Option.{Option, some, none}
+use Rattle.std.specs.Prelude.{Option, Some, None}
 use Rattle.definition.specs.Base.{◌>>=◌, when, within, same}
 use Rattle.definition.specs.Ascii.{bytes}
 
@@ -17,28 +17,28 @@ tail_byte = (0x80, 0xBF)
 -- the ranges in which the bytes after a first byte lie, a row of the table each; none for a byte that begins nothing
 unfoldable pub following : ℕ → Option (List (ℕ × ℕ))
 following b =
-    if within 0x00 0x7F b then some [] else
-    if within 0xC2 0xDF b then some (tail_byte ∷ []) else
-    if eqb b 0xE0 then some ((0xA0, 0xBF) ∷ tail_byte ∷ []) else
-    if within 0xE1 0xEC b then some (tail_byte ∷ tail_byte ∷ []) else
-    if eqb b 0xED then some ((0x80, 0x9F) ∷ tail_byte ∷ []) else
-    if within 0xEE 0xEF b then some (tail_byte ∷ tail_byte ∷ []) else
-    if eqb b 0xF0 then some ((0x90, 0xBF) ∷ tail_byte ∷ tail_byte ∷ []) else
-    if within 0xF1 0xF3 b then some (tail_byte ∷ tail_byte ∷ tail_byte ∷ []) else
-    if eqb b 0xF4 then some ((0x80, 0x8F) ∷ tail_byte ∷ tail_byte ∷ []) else
-    none
+    if within 0x00 0x7F b then Some [] else
+    if within 0xC2 0xDF b then Some (tail_byte ∷ []) else
+    if eqb b 0xE0 then Some ((0xA0, 0xBF) ∷ tail_byte ∷ []) else
+    if within 0xE1 0xEC b then Some (tail_byte ∷ tail_byte ∷ []) else
+    if eqb b 0xED then Some ((0x80, 0x9F) ∷ tail_byte ∷ []) else
+    if within 0xEE 0xEF b then Some (tail_byte ∷ tail_byte ∷ []) else
+    if eqb b 0xF0 then Some ((0x90, 0xBF) ∷ tail_byte ∷ tail_byte ∷ []) else
+    if within 0xF1 0xF3 b then Some (tail_byte ∷ tail_byte ∷ tail_byte ∷ []) else
+    if eqb b 0xF4 then Some ((0x80, 0x8F) ∷ tail_byte ∷ tail_byte ∷ []) else
+    None
 
 -- the text goes on well after a character that still lacks bytes in these ranges; none: after one that is not well-formed
 unfoldable pub utf8_after : Text → Option (List (ℕ × ℕ)) → Bool
-utf8_after [] none = false
-utf8_after [] (some []) = true
-utf8_after [] (some (r ∷ rs)) = false
-utf8_after (b ∷ s) none = false
-utf8_after (b ∷ s) (some []) = utf8_after s (following b)
-utf8_after (b ∷ s) (some (r ∷ rs)) = utf8_after s (when (within r.0 r.1 b) rs)
+utf8_after [] None = false
+utf8_after [] (Some []) = true
+utf8_after [] (Some (r ∷ rs)) = false
+utf8_after (b ∷ s) None = false
+utf8_after (b ∷ s) (Some []) = utf8_after s (following b)
+utf8_after (b ∷ s) (Some (r ∷ rs)) = utf8_after s (when (within r.0 r.1 b) rs)
 
 unfoldable pub is_utf8 : Text → Bool
-is_utf8 s = utf8_after s (some [])
+is_utf8 s = utf8_after s (Some [])
 
 -- ---- White_Space, by the bytes of its characters in UTF-8
 
@@ -87,8 +87,8 @@ before p [] = []
 before p (b ∷ s) = if p b then [] else b ∷ before p s
 
 unfoldable pub after : (ℕ → Bool) → Text → Option Text
-after p [] = none
-after p (b ∷ s) = if p b then some s else after p s
+after p [] = None
+after p (b ∷ s) = if p b then Some s else after p s
 
 -- ---- whole numbers
 
@@ -97,11 +97,11 @@ is_digit b = within 48 57 b
 
 -- the digits of a text written after those of the number v
 unfoldable pub digits_after : ℕ → Text → Option ℕ
-digits_after v [] = some v
-digits_after v (b ∷ s) = if is_digit b then digits_after (v * 10 + (b - 48)) s else none
+digits_after v [] = Some v
+digits_after v (b ∷ s) = if is_digit b then digits_after (v * 10 + (b - 48)) s else None
 
 unfoldable pub digits : Text → Option ℕ
-digits [] = none
+digits [] = None
 digits (b ∷ s) = digits_after 0 (b ∷ s)
 
 -- a sign in front: `+`, `-` or none
@@ -115,7 +115,7 @@ sign_of (b ∷ s) = if eqb b 43 then plus else if eqb b 45 then minus else bare
 -- an unsigned type of w bits, and a signed one
 abbrev pub unsigned_by : Sign → ℕ → Text → Option ℕ
 unsigned_by plus w s = digits (drop 1 s) >>= λ n. when (ltb n (2 ^ w)) n
-unsigned_by minus w s = none
+unsigned_by minus w s = None
 unsigned_by bare w s = digits s >>= λ n. when (ltb n (2 ^ w)) n
 
 abbrev pub signed_by : Sign → ℕ → Text → Option ℤ

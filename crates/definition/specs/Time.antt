@@ -1,7 +1,7 @@
 -- Times of day. ISO 8601: hours and minutes from 00:00 to 24:00. Document 01, `time_of`: hours to 24, minutes below 60, total to 1440,
 -- missing minutes 0; the rest after the second colon is unread. Assumes nothing.
 use Rattle.std.specs.Prelude.{ℕ, ◌+◌, ◌*◌, ◌/◌, ◌%◌, Bool, ◌&&◌, [], ◌∷◌, ◌++◌, leb, ltb, eqb}
-use Rattle.std.proofs.Math.Option.{Option}
+use Rattle.std.specs.Prelude.{Option}
 use Rattle.definition.specs.Base.{◌>>=◌, ◌or◌, when}
 use Rattle.definition.specs.Ascii.{bytes}
 use Rattle.definition.specs.Text.{Text, trim, before, after, unsigned_of}

@@ -3,7 +3,7 @@
 -- 65 has no text. `child`, `all` and `text_of` look only at direct children. `text_of` takes the first child of that name, trims, and empty
 -- counts as absent. From the second depth-1 record on, records are not read. Assumes nothing.
 use Rattle.std.specs.Prelude.{if◌then◌else◌, ℕ, zero, suc, ◌+◌, ◌/◌, Bool, true, ◌&&◌, ◌||◌, List, [], ◌∷◌, ◌++◌, length, take, drop, leb, ltb, eqb}
-use Rattle.std.proofs.Math.Option.{Option, some, none}
+use Rattle.std.specs.Prelude.{Option, Some, None}
 use Rattle.definition.specs.Base.{◌>>=◌, when, first, keep, same, within}
 use Rattle.definition.specs.Bits.{enc, dec, bits_of, bytes_of}
 use Rattle.definition.specs.Text.{Text, trim}
@@ -44,12 +44,12 @@ body_of depth n t s =
 unfoldable pub record_of : Text → Option (Rec × Text)
 record_of s =
     let h = bits_of (take head_bytes s) in
-    if ltb (length s) head_bytes then none else
+    if ltb (length s) head_bytes then None else
     body_of (dec (take depth_width h)) (dec (take name_width (drop depth_width h))) (dec (drop (depth_width + name_width) h)) (drop head_bytes s)
 
 abbrev pub and_then : Option (Rec × Text) → (Text → List Rec) → List Rec
-and_then none go = []
-and_then (some (r, rest)) go = r ∷ go rest
+and_then None go = []
+and_then (Some (r, rest)) go = r ∷ go rest
 
 -- the records as far as they are whole; the number bounds how many
 unfoldable pub records_up_to : ℕ → Text → List Rec
@@ -116,16 +116,16 @@ unfoldable pub child : Element → Text → Option Element
 child e n = first (all e n)
 
 abbrev pub non_empty : Text → Option Text
-non_empty [] = none
-non_empty (b ∷ s) = some (b ∷ s)
+non_empty [] = None
+non_empty (b ∷ s) = Some (b ∷ s)
 
 unfoldable pub text_of : Element → Text → Option Text
 text_of e n = child e n >>= λ c. non_empty (trim c.text)
 
 -- all elements of a name in an element; none where that one is missing
 abbrev pub all_in : Option Element → Text → List Element
-all_in none n = []
-all_in (some e) n = all e n
+all_in None n = []
+all_in (Some e) n = all e n
 
 -- the records up to the next of depth 1, and those below the root
 unfoldable pub deeper : List Rec → List Rec

@@ -1,7 +1,7 @@
 -- Document 02, E2: durations that were not whole minutes. Which texts are such, and which tasks are counted. Assumes nothing.
 use Rattle.std.specs.Prelude.{ℕ, ◌+◌, ◌^◌, ◌≡◌, refl, List, [], ◌∷◌, ◌++◌, take, drop, replicate}
 use Prim.Native.String.{String}
-use Rattle.std.proofs.Math.Option.{Option, some, none}
+use Rattle.std.specs.Prelude.{Option, Some, None}
 use Rattle.definition.specs.Base.{◌>>=◌}
 use Rattle.definition.specs.Ascii.{bytes}
 use Rattle.definition.specs.Text.{Text}
@@ -70,7 +70,7 @@ bytes_are = refl
 abbrev counts : Project → List ℕ × Option Date
 counts p = (p.skipped ∷ p.dangling ∷ p.across ∷ p.fractional ∷ [], p.data_date)
 
-pub counts_are : (decode model >>= λ m. some (counts m.project)) ≡ some (0 ∷ 0 ∷ 1 ∷ 2 ∷ [], date_of (bytes "2026-03-02"))
+pub counts_are : (decode model >>= λ m. Some (counts m.project)) ≡ Some (0 ∷ 0 ∷ 1 ∷ 2 ∷ [], date_of (bytes "2026-03-02"))
 unfolding opened
 counts_are = refl
 
@@ -86,6 +86,6 @@ unfolding opened
 refused_now = refl
 
 -- flag 1 and 20514, which is 2026-03-02, and seven zero bits
-pub other_now : (decode (before (0x80 ∷ 0x00 ∷ 0x28 ∷ 0x11 ∷ 0x00 ∷ [])) >>= λ m. some (counts m.project)) ≡ some (0 ∷ 0 ∷ 0 ∷ (2 ^ 31 + 10257) ∷ [], none)
+pub other_now : (decode (before (0x80 ∷ 0x00 ∷ 0x28 ∷ 0x11 ∷ 0x00 ∷ [])) >>= λ m. Some (counts m.project)) ≡ Some (0 ∷ 0 ∷ 0 ∷ (2 ^ 31 + 10257) ∷ [], None)
 unfolding opened
 other_now = refl

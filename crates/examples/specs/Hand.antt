@@ -2,7 +2,7 @@
 use Rattle.std.specs.Prelude.{ℕ, ◌≡◌, refl, true, false, ℤ, pos, negsuc}
 use Prim.Native.String.{String}
 use mathlib.Core.List.{List, [], ◌∷◌, map, flat_map}
-use Rattle.std.proofs.Math.Option.{Option, some, none}
+use Rattle.std.specs.Prelude.{Option, Some, None}
 use Rattle.definition.specs.Base.{present}
 use Rattle.definition.specs.Ascii.{bytes}
 use Rattle.definition.specs.Date.{date_of}
@@ -75,7 +75,7 @@ Holds (levels ls ps os) =
     (map (λ (x : ℕ × ℕ). x.1) (outline_of (parents_of (activities_of (with_levels ls)))) ≡ os)
 Holds (lag tenths l m) =
     (map (λ (x : Link). x.lag) (links_of (with_lag tenths)) ≡ l ∷ []) × (map (λ (x : Link). x.minutes) (links_of (with_lag tenths)) ≡ m ∷ [])
-Holds (days rs ds) = recurrence_days (element rs) ≡ some (present (map (λ s. date_of (bytes s)) ds))
+Holds (days rs ds) = recurrence_days (element rs) ≡ Some (present (map (λ s. date_of (bytes s)) ds))
 
 abbrev pub AllHold : List Row → Type 0
 AllHold [] = Unit
@@ -88,11 +88,11 @@ table =
     duration "PT1H2H" (whole 120) ∷
     duration "PT16666666H40M" (whole 1000000000) ∷
     duration "PT16666666H41M" absent ∷
-    time "24:00" (some 1440) ∷
-    time "24:01" none ∷
-    levels ("1" ∷ "3" ∷ "2" ∷ "1" ∷ []) (none ∷ some 0 ∷ some 0 ∷ none ∷ []) (1 ∷ 2 ∷ 2 ∷ 1 ∷ []) ∷
-    lag "-15" (pos 0) (some (negsuc 0)) ∷
-    lag "-4801" (negsuc 0) none ∷
+    time "24:00" (Some 1440) ∷
+    time "24:01" None ∷
+    levels ("1" ∷ "3" ∷ "2" ∷ "1" ∷ []) (None ∷ Some 0 ∷ Some 0 ∷ None ∷ []) (1 ∷ 2 ∷ 2 ∷ 1 ∷ []) ∷
+    lag "-15" (pos 0) (Some (negsuc 0)) ∷
+    lag "-4801" (negsuc 0) None ∷
     days (exception_on "5" "2026-01-01" "2026-03-31" (element_at_lem 2 "MonthItem" "4" ∷ element_at_lem 2 "MonthPosition" "0" ∷ []))
     ("2026-01-05" ∷ "2026-02-02" ∷ "2026-03-02" ∷ []) ∷
     days (exception_on "6" "2026-01-01" "2026-01-31" (element_at_lem 2 "DaysOfWeek" "2" ∷ element_at_lem 2 "Period" "2" ∷ []))

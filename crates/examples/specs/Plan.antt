@@ -2,7 +2,7 @@
 -- dangling and one across projects. Assumes nothing.
 use Rattle.std.specs.Prelude.{ℕ, ◌≡◌, refl, List, [], ◌∷◌, ◌++◌, map}
 use Prim.Native.String.{String}
-use Rattle.std.proofs.Math.Option.{Option, some, none}
+use Rattle.std.specs.Prelude.{Option, Some, None}
 use Rattle.definition.specs.Base.{◌>>=◌}
 use Rattle.definition.specs.Ascii.{bytes}
 use Rattle.definition.specs.Text.{Text}
@@ -45,9 +45,9 @@ view_of m = record {
 }
 
 -- the second of one WBS gains a star, and the last of one UID is meant
-pub small_plan : (decode (output (read_answer (packed plan) 1000)) >>= λ m. some (view_of m)) ≡ some (record {
+pub small_plan : (decode (output (read_answer (packed plan) 1000)) >>= λ m. Some (view_of m)) ≡ Some (record {
   ids = bytes "A" ∷ bytes "B" ∷ bytes "B*" ∷ bytes "C" ∷ [];
-  parents = none ∷ some 0 ∷ some 0 ∷ none ∷ [];
+  parents = None ∷ Some 0 ∷ Some 0 ∷ None ∷ [];
   rows = (0, 1) ∷ (1, 2) ∷ (2, 2) ∷ (3, 1) ∷ [];
   ends = (2, 3) ∷ [];
   dangling = 1;

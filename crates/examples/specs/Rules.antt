@@ -1,7 +1,7 @@
 -- The worked examples of docs/RECURRENCE.md. Assumes nothing.
 use Prim.Native.String.{String}
 use Rattle.std.specs.Prelude.{◌≡◌, refl, List, [], ◌∷◌}
-use Rattle.std.proofs.Math.Option.{none}
+use Rattle.std.specs.Prelude.{None}
 use Rattle.definition.specs.Base.{present}
 use Rattle.definition.specs.Ascii.{bytes}
 use Rattle.definition.specs.Date.{date_of}
@@ -77,11 +77,11 @@ unfolding opened
 second_weeks_lem = (refl, tt)
 
 -- any other type, and a yearly rule with a bad month
-pub type_unknown : recurrence_days (element (exception_on "7" "2026-01-30" "2026-02-10" [])) ≡ none
+pub type_unknown : recurrence_days (element (exception_on "7" "2026-01-30" "2026-02-10" [])) ≡ None
 unfolding opened
 type_unknown = refl
 
-pub month_unknown : recurrence_days (element (exception_on "2" "2026-01-30" "2026-02-10" (field "Month" "12" ∷ []))) ≡ none
+pub month_unknown : recurrence_days (element (exception_on "2" "2026-01-30" "2026-02-10" (field "Month" "12" ∷ []))) ≡ None
 unfolding opened
 month_unknown = refl
 

@@ -5,7 +5,7 @@ use borrow.Author.Tests.{ne_eqb}
 use mathlib.Core.Path.{◌≡◌, refl, ap, ◌∙◌}
 use mathlib.Core.Bool.{not}
 use mathlib.Core.List.{[], ◌∷◌}
-use mathlib.Core.Option.{Option, some, none}
+use Rattle.std.specs.Prelude.{Option, Some, None}
 use lib.Dec.{eqb}
 use lib.Ieee.{Float}
 use lib.ListN.{length}
@@ -19,23 +19,23 @@ use Rattle.laws.specs.Options.{bind_or}
 
 -- ---- read as the empty text
 
-no_whole : signed_of 64 [] ≡ none
+no_whole : signed_of 64 [] ≡ None
 unfolding signed_of sign_of digits
 no_whole = refl
 
-no_date : date_of [] ≡ none
+no_date : date_of [] ≡ None
 unfolding date_of date_parts first_ten trim trim_front trim_back strip before signed_of sign_of digits
 no_date = refl
 
-no_number : found (number_of []) ≡ none
+no_number : found (number_of []) ≡ None
 unfolding number_of sign_of decimal_of before after digits
 no_number = refl
 
-no_duration : found (duration_of []) ≡ none
+no_duration : found (duration_of []) ≡ None
 unfolding duration_of figures_of trim trim_front trim_back strip
 no_duration = refl
 
-read_or : {A : Type 0} (f : Text → Reading A) → found (f []) ≡ none → (o : Option Text) {t : Text} → t ≡ (o or []) → {a : Reading A} → a ≡ f t → found a ≡ (o >>= λ t. found (f t))
+read_or : {A : Type 0} (f : Text → Reading A) → found (f []) ≡ None → (o : Option Text) {t : Text} → t ≡ (o or []) → {a : Reading A} → a ≡ f t → found a ≡ (o >>= λ t. found (f t))
 read_or {A} f z o e h =
     ap (λ (a : Reading A). found a) h ∙ ap (λ (t : Text). found (f t)) e ∙ bind_or (λ (t : Text). found (f t)) z o
 
@@ -65,5 +65,5 @@ unfolding text_of
 length_given e n = by (child e n)
   where
     by : (o : Option Element) → not (eqb (length ((o >>= λ c. non_empty (trim c.text)) or [])) 0) ≡ given (o >>= λ c. non_empty (trim c.text))
-    by none = refl
-    by (some c) = filled (trim c.text)
+    by None = refl
+    by (Some c) = filled (trim c.text)

@@ -1,7 +1,7 @@
 -- Hundredths of a number that is kept, where it lies from -10 ^ 13 to 10 ^ 13; the size of a number with a sign. Assumes nothing.
 use Rattle.std.specs.Prelude.{ℕ, zero, suc, ◌^◌, ◌≡◌, refl, Bool, true, false, T, nat_abs, Float}
 use Rattle.std.proofs.Common.{ap, ◌∙◌}
-use Rattle.std.proofs.Math.Option.{some}
+use Rattle.std.specs.Prelude.{Some}
 use Rattle.std.specs.Float.{binary64}
 use Rattle.std.specs.Float.Ieee.{neg, le, mul}
 use Rattle.definition.specs.Base.{when}
@@ -18,7 +18,7 @@ module _ (x : Float) where
   hundredths_kept {t} {u} e h = ap (λ (t : Bool). when t (whole_within (mul binary64 x (float 100)))) e ∙ by u h
     where
       by : (u : Bool) → (T u → Bounded x) → when u (whole_within (mul binary64 x (float 100))) ≡ when u (hundredths x)
-      by true h = let b = h tt in ap some (hundredths_same x b.0 b.1)
+      by true h = let b = h tt in ap Some (hundredths_same x b.0 b.1)
       by false h = refl
 
 pub size_sign : (b : Bool) (n : ℕ) → nat_abs (with_sign b n) ≡ n

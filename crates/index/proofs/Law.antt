@@ -1,7 +1,7 @@
 -- THE LAW of the chains: one row more, and the rows that a chain gives. Assumes nothing.
 use Rattle.std.specs.Prelude.{◌≡◌, refl, Bool, true, false, List, ◌∷◌, ℕ, zero, suc, ◌+◌, ◌%◌, ◌≤◌, ◌<◌, eqb, length, get_or}
 use Rattle.std.proofs.Common.{sym, ap, ◌∙◌, add-one, mod-lt, arith, eqb-true, eq-eqb}
-use Rattle.std.proofs.Math.Option.{Option, some, none}
+use Rattle.std.specs.Prelude.{Option, Some, None}
 use Rattle.std.proofs.lemmas.Bool.{eqb-false}
 use Rattle.definition.specs.Base.{keep, find}
 use Rattle.index.specs.declared.Table.{Table}
@@ -106,8 +106,8 @@ pub last_small : (p : ℕ → Bool) (n : ℕ) → word_of (last_below p n) ≤ n
 last_small p n = go (last_below p n) refl
   where
     go : (o : Option ℕ) → last_below p n ≡ o → word_of o ≤ n
-    go none e = omega arith
-    go (some r) e = omega (arith, (last_in p n e).0)
+    go None e = omega arith
+    go (Some r) e = omega (arith, (last_in p n e).0)
 
 module _ {t : Table} {f g : ℕ → ℕ} {n : ℕ} {w : List ℕ} (x : Indexed t f g n w) where
   pub first_is : (h : ℕ) → first_of w t h ≡ as_row (last_below (in_bucket t f (h % t.rows)) n)

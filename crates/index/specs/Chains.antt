@@ -1,6 +1,6 @@
 -- The words of a table, and what each call makes of them. Words past the end read as 0 and store nothing. Assumes nothing.
 use Rattle.std.specs.Prelude.{if◌then◌else◌, ℕ, zero, suc, ◌+◌, ◌-◌, ◌*◌, ◌%◌, ◌&&◌, List, [], ◌∷◌, get_or, set, ltb, leb}
-use Rattle.std.proofs.Math.Option.{Option, some, none}
+use Rattle.std.specs.Prelude.{Option, Some, None}
 use Rattle.index.specs.declared.Table.{Table}
 use Rattle.index.specs.declared.Row.{Row}
 use Rattle.index.specs.declared.Row.TheVariants.{At, None}
@@ -53,8 +53,8 @@ place_of w t row = get_or w (place_at t row) 0
 -- ---- walks
 
 abbrev pub as_row : Option ℕ → Row
-as_row none = None
-as_row (some r) = At r
+as_row None = None
+as_row (Some r) = At r
 
 -- the rows of a walk from a row on, k at most
 unfoldable pub walk : List ℕ → Table → ℕ → Row → List ℕ

@@ -1,6 +1,6 @@
 -- The periods and the exceptions that are read from the texts of an element fit. Assumes nothing.
 use Rattle.std.specs.Prelude.{eqb}
-use Rattle.std.proofs.Math.Option.{some}
+use Rattle.std.specs.Prelude.{Some}
 use Rattle.definition.specs.Base.{◌>>=◌, ◌or◌, keep}
 use Rattle.definition.specs.Ascii.{bytes}
 use Rattle.definition.specs.Tree.{Element, child, all_in}
@@ -32,5 +32,5 @@ exceptions_of_lem e =
     each_append
     (each_map_any (λ w. exception_on w (days_of w)) (λ w. record { days = days_of_lem w; periods = periods_of_lem w }) (keep (λ w. eqb (day_type w or 1) 0) (week_days e)))
     (each_present
-    (each_map_any (λ x. recurrence_days x >>= λ days. some (exception_on x days))
+    (each_map_any (λ x. recurrence_days x >>= λ days. Some (exception_on x days))
     (λ x. perhaps_bind (recurrence_days_lem x) (λ days h. there (record { days = h; periods = periods_of_lem x }))) (recurring e)))

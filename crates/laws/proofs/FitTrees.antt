@@ -1,7 +1,7 @@
 -- The texts of a tree that is made of bytes are short. Assumes nothing.
 use Rattle.std.specs.Prelude.{if◌then◌else◌, ◌≡◌, refl, Bool, ℕ, zero, suc, ◌+◌, ◌^◌, ◌≤◌, ◌<◌, ltb, length, take, drop}
 use Rattle.std.proofs.Math.Bool.{true, false}
-use Rattle.std.proofs.Math.Option.{Option, none}
+use Rattle.std.specs.Prelude.{Option, None}
 use Rattle.std.proofs.Common.{arith, ltb-false, length-take, length-drop}
 use Rattle.definition.specs.Bits.{Bits, dec, bits_of}
 use Rattle.definition.specs.Text.{Text}
@@ -22,7 +22,7 @@ slim_record {s} b = by (ltb (length s) head_bytes) refl
 
     by : (u : Bool) → ltb (length s) head_bytes ≡ u
         → Perhaps Taken
-        (if u then none else body_of (dec (take depth_width h)) (dec (take name_width (drop depth_width h))) (dec (drop (depth_width + name_width) h)) (drop head_bytes s))
+        (if u then None else body_of (dec (take depth_width h)) (dec (take name_width (drop depth_width h))) (dec (drop (depth_width + name_width) h)) (drop head_bytes s))
     by true e = missing
     by false e =
         let l : 4 ≤ length s = ltb-false (length s) head_bytes e in

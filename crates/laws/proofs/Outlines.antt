@@ -1,7 +1,7 @@
 -- An outline has at most as many rows as there are activities. Assumes nothing.
 use Rattle.std.specs.Prelude.{length}
 use mathlib.Core.List.{List}
-use Rattle.std.proofs.Math.Option.{Option}
+use Rattle.std.specs.Prelude.{Option}
 use Prim.Native.Nat.{ℕ, ◌≤◌}
 use native.Mathlib.Omega.{arith}
 use Rattle.definition.specs.Outline.{outline_of}

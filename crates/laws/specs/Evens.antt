@@ -2,7 +2,7 @@
 -- same. Assumes nothing.
 use Rattle.std.specs.Prelude.{◌≡◌, refl, Bool, List, [], ◌∷◌, ◌++◌, ℕ, ◌+◌, ◌%◌, length, replicate}
 use Rattle.std.proofs.Common.{ap, ◌∙◌, arith}
-use Rattle.std.proofs.Math.Option.{Option, some, none}
+use Rattle.std.specs.Prelude.{Option, Some, None}
 use Rattle.definition.specs.Bits.{Bits, bits_of, gap, pad}
 use Rattle.definition.specs.Format.{Format, field, ◌⊗◌, via, put_given, depending, put_all, times, whole, count, flag, code, time, number, date, period, text, optional, list_of, periods, dates}
 use Rattle.definition.specs.Pack.{Counts, project, calendar, constraint, activity, link, resource, assignment, expense, body}
@@ -35,8 +35,8 @@ unfolding ◌⊗◌
 }
 
 even_given : {B : Type 0} {g : Format B} → Even g → (n m : ℕ) (o : Option B) → n % 8 ≡ m % 8 → put_given g n o ≡ put_given g m o
-even_given e n m none h = refl
-even_given e n m (some b) h = e.even n m b h
+even_given e n m None h = refl
+even_given e n m (Some b) h = e.even n m b h
 
 even_depending : {A B : Type 0} {f : Format A} (test : A → Bool) {g : Format B} → Even f → Even g → Even (depending f test g)
 unfolding depending

@@ -3,7 +3,7 @@ use Rattle.std.specs.Prelude.{if◌then◌else◌, ◌≡◌, Bool, leb, eqb, �
 use Rattle.std.proofs.Math.Path.{refl}
 use Rattle.std.proofs.Common.{ap, ◌∙◌, subst}
 use Rattle.std.proofs.Math.Bool.{true, false}
-use Rattle.std.proofs.Math.Option.{some, none}
+use Rattle.std.specs.Prelude.{Some, None}
 use Prim.Native.Nat.{ℕ, zero, suc, ◌+◌, ◌-◌, ◌^◌, ◌≤◌, ◌<◌}
 use native.Mathlib.Omega.{arith}
 use borrow.Author.Tests.{leb-true, ltb-true, ltb-false, le-leb, lt-ltb, le-ltb}
@@ -38,7 +38,7 @@ good_flag = good_via (record { fits = fits; there = there; back = back }) (good_
     fits true h = omega arith
     fits false h = omega arith
 
-    there : (b : Bool) → Unit {0} → some (eqb (bit b) 1) ≡ some b
+    there : (b : Bool) → Unit {0} → Some (eqb (bit b) 1) ≡ Some b
     there true h = refl
     there false h = refl
 
@@ -47,7 +47,7 @@ good_flag = good_via (record { fits = fits; there = there; back = back }) (good_
     again (suc zero) h = refl
     again (suc (suc v)) h = absurd (omega arith)
 
-    back : (v : ℕ) (b : Bool) → v < 2 → some (eqb v 1) ≡ some b → (bit b ≡ v) × Unit {0}
+    back : (v : ℕ) (b : Bool) → v < 2 → Some (eqb v 1) ≡ Some b → (bit b ≡ v) × Unit {0}
     back v b h e = got (λ b. (bit b ≡ v) × Unit {0}) e (again v h, tt)
 
 -- a code in its range
@@ -112,7 +112,7 @@ good_number =
     good_via
     (record {
       fits = twos_fits 64 refl;
-      there = λ z h. ap some (signed_twos 64 refl z h);
+      there = λ z h. ap Some (signed_twos 64 refl z h);
       back = λ v z h e. got (λ z. (twos 64 z ≡ v) × Signed 64 z) e (twos_signed 64 refl v h);
     })
     (good_field 64)
@@ -139,23 +139,23 @@ by_epoch P late early d = go (ltb d epoch) refl
     go true e = early d (ltb-true d epoch e)
     go false e = late d (ltb-false d epoch e)
 
-pub days_day : (d : Date) → InYears d → from_days (day_number d) ≡ some d
+pub days_day : (d : Date) → InYears d → from_days (day_number d) ≡ Some d
 unfolding from_days
 days_day =
-    by_epoch (λ d. InYears d → from_days (day_number d) ≡ some d)
+    by_epoch (λ d. InYears d → from_days (day_number d) ≡ Some d)
     (λ d k h. let e : d - epoch + epoch ≡ d = omega arith in rw (day_late d k, e, is_within first_date last_date d h))
     (λ d k h.
     let e : epoch - suc (epoch - suc d) ≡ d = omega arith in
     rw (day_early d k, lt-ltb (epoch - suc d) epoch (omega arith), e, is_within first_date last_date d h))
 
-pub day_days : (z : ℤ) (d : Date) → from_days z ≡ some d → (day_number d ≡ z) × InYears d
+pub day_days : (z : ℤ) (d : Date) → from_days z ≡ Some d → (day_number d ≡ z) × InYears d
 unfolding from_days
 day_days (pos n) d h =
     let (p, q) = when_is (within first_date last_date (n + epoch)) (n + epoch) d h in
     subst (λ d. (day_number d ≡ pos n) × InYears d) q (day_late (n + epoch) (omega arith) ∙ ap pos (omega arith), within_is first_date last_date (n + epoch) p)
 day_days (negsuc n) d h = go (ltb n epoch) refl h
   where
-    go : (t : Bool) → ltb n epoch ≡ t → (if t then when (within first_date last_date (epoch - suc n)) (epoch - suc n) else none) ≡ some d
+    go : (t : Bool) → ltb n epoch ≡ t → (if t then when (within first_date last_date (epoch - suc n)) (epoch - suc n) else None) ≡ Some d
         → (day_number d ≡ negsuc n) × InYears d
     go true e h =
         let k = ltb-true n epoch e in

@@ -1,7 +1,7 @@
 -- The activities and the links that the definition makes of a tree fit, by what a text is. Assumes nothing.
 use Rattle.std.specs.Prelude.{if◌then◌else◌, ◌≡◌, refl, Bool, true, false, not, List, [], ℕ, ◌%◌, ◌^◌, ◌≤◌, ◌<◌, ltb, eqb, ℤ, negsuc, nat_abs, length}
 use Rattle.std.proofs.Common.{sym, ap, arith}
-use Rattle.std.proofs.Math.Option.{Option, some, none}
+use Rattle.std.specs.Prelude.{Option, Some, None}
 use Prim.Native.String.{String}
 use Rattle.std.proofs.Math.IntN.{pos}
 use Rattle.definition.specs.Base.{◌>>=◌, ◌or◌, when, within, every?, same}
@@ -33,9 +33,9 @@ activity_kind true false = (omega arith, omega arith)
 activity_kind false b = (omega arith, omega arith)
 
 type_kind : (o : Option ℤ) → Within 0 3 (duration_type_from o)
-type_kind none = (omega arith, omega arith)
-type_kind (some (negsuc n)) = (omega arith, omega arith)
-type_kind (some (pos n)) = by (eqb n 0) (eqb n 2)
+type_kind None = (omega arith, omega arith)
+type_kind (Some (negsuc n)) = (omega arith, omega arith)
+type_kind (Some (pos n)) = by (eqb n 0) (eqb n 2)
   where
     by : (t u : Bool) → Within 0 3 (if t then 2 else if u then 3 else 0)
     by true u = (omega arith, omega arith)
@@ -45,13 +45,13 @@ type_kind (some (pos n)) = by (eqb n 0) (eqb n 2)
 -- ---- a constraint
 
 constraint_in : (k : ℕ) {o : Option Date} → Perhaps InYears o → Perhaps IsConstraint (constraint_from k o)
-constraint_in k missing = perhaps_when (eqb k 1) (1, none) (λ e. ((omega arith, omega arith), (refl, tt)))
+constraint_in k missing = perhaps_when (eqb k 1) (1, None) (λ e. ((omega arith, omega arith), (refl, tt)))
 constraint_in k (there {a = d} h) = by (eqb k 1) refl
   where
-    by : (t : Bool) → eqb k 1 ≡ t → Perhaps IsConstraint (if t then some (1, none) else when (within 2 7 k) (k, some d))
-    by true e = there {a = (1, none)} ((omega arith, omega arith), (refl, tt))
+    by : (t : Bool) → eqb k 1 ≡ t → Perhaps IsConstraint (if t then Some (1, None) else when (within 2 7 k) (k, Some d))
+    by true e = there {a = (1, None)} ((omega arith, omega arith), (refl, tt))
     by false e =
-        perhaps_when (within 2 7 k) (k, some d)
+        perhaps_when (within 2 7 k) (k, Some d)
         (λ w. let (p, q) = within_is 2 7 k w in ((omega arith, omega arith), (sym (ap not e), h)))
 
 -- ---- a parent's row
@@ -163,7 +163,7 @@ module _ (z : ℤ) (h : UpTo 100000000000 z) where
   pub working_in : (per_day : ℕ) → FitsLag (working_lag per_day z)
   working_in per_day = by (eqb (nat_abs z % per_day) 0)
     where
-      by : (t : Bool) → FitsLag (record { days = if t then cut z per_day else pos 0; minutes = when (not t) z; kind = (0, none) })
+      by : (t : Bool) → FitsLag (record { days = if t then cut z per_day else pos 0; minutes = when (not t) z; kind = (0, None) })
       by true =
           record { days = up_to_number 100000000000 (cut z per_day) (cut_up_to 100000000000 z per_day h) (omega arith); minutes = tt; kind = ((omega arith, omega arith), (refl, tt)) }
       by false = record { days = omega arith; minutes = minutes_in_lem; kind = ((omega arith, omega arith), (refl, tt)) }

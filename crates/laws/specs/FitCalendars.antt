@@ -4,7 +4,7 @@ use Rattle.std.proofs.Math.Path.{refl}
 use Rattle.std.proofs.Common.{sym, ◌∙◌, subst, arith, ltb-true, length-set}
 use Rattle.std.proofs.Math.Bool.{not}
 use mathlib.Core.List.{List, [], ◌∷◌, append-nil}
-use Rattle.std.proofs.Math.Option.{Option, some, none}
+use Rattle.std.specs.Prelude.{Option, Some, None}
 use Rattle.std.proofs.Math.Dec.{ltb}
 use Rattle.definition.specs.Base.{◌>>=◌, ◌or◌, every?, same}
 use Rattle.definition.specs.Ascii.{bytes}
@@ -49,9 +49,9 @@ unfolding week_by
 week_length [] week = refl
 week_length (w ∷ ws) week = week_length ws _ ∙ by (place_of w)
   where
-    by : (o : Option ℕ) → length ((o >>= λ k. some (set week k (yes_in w "DayWorking"))) or week) ≡ length week
-    by none = refl
-    by (some k) = length-set week k (yes_in w "DayWorking")
+    by : (o : Option ℕ) → length ((o >>= λ k. Some (set week k (yes_in w "DayWorking"))) or week) ≡ length week
+    by None = refl
+    by (Some k) = length-set week k (yes_in w "DayWorking")
 
 pub hours_if : (t : Bool) {l : List Period} → ArePeriods l → ArePeriods (if t then l else [])
 hours_if true h = h

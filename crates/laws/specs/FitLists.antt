@@ -5,7 +5,7 @@ use Rattle.std.proofs.Math.Path.{refl}
 use Rattle.std.proofs.Common.{sym, ◌∙◌, subst, arith}
 use Rattle.std.proofs.Math.Bool.{true, false}
 use mathlib.Core.List.{List, [], ◌∷◌, map, flat_map}
-use Rattle.std.proofs.Math.Option.{Option, some, none}
+use Rattle.std.specs.Prelude.{Option, Some, None}
 use borrow.Author.Tests.{leb-true, ltb-true, ltb-false, lt-ltb, le-ltb, eqb-true, eqb-false}
 use Rattle.std.proofs.Math.Dec.{ltb}
 use Rattle.definition.specs.Base.{◌>>=◌, ◌or◌, ◌or_else◌, when, keep, first, find_last, present, count, numbered}
@@ -47,8 +47,8 @@ module _ {A : Type 0} {P : A → Type 0} where
 -- ---- a value that may be missing
 
 pub data Perhaps {A : Type 0} (P : A → Type 0) : Option A → Type 0 where
-  missing : Perhaps P none
-  there : {a : A} → P a → Perhaps P (some a)
+  missing : Perhaps P None
+  there : {a : A} → P a → Perhaps P (Some a)
 
 module _ {A : Type 0} {P : A → Type 0} where
   pub is_given_lem : {o : Option A} → Perhaps P o → IfGiven P o
@@ -77,8 +77,8 @@ module _ {A : Type 0} {P : A → Type 0} where
 
   -- whatever was there
   pub perhaps_any : {B : Type 0} {f : B → Option A} (o : Option B) → ((b : B) → Perhaps P (f b)) → Perhaps P (o >>= f)
-  perhaps_any none g = missing
-  perhaps_any (some b) g = g b
+  perhaps_any None g = missing
+  perhaps_any (Some b) g = g b
 
   pub perhaps_less : {Q : A → Type 0} {o : Option A} → ((a : A) → P a → Q a) → Perhaps P o → Perhaps Q o
   perhaps_less f missing = missing
@@ -131,7 +131,7 @@ each_row {A} n (x ∷ l) =
     next {x = (n, x)} (omega arith) (subst (λ (m : ℕ). Each (λ (y : ℕ × A). y.0 < m) (numbered (suc n) l)) e (each_row (suc n) l))
 
 -- the row of the last that passes a test
-pub last_row : {A : Type 0} (test : ℕ × A → Bool) (l : List A) → Perhaps (λ n. n < length l) (find_last test (numbered 0 l) >>= λ x. some x.0)
+pub last_row : {A : Type 0} (test : ℕ × A → Bool) (l : List A) → Perhaps (λ n. n < length l) (find_last test (numbered 0 l) >>= λ x. Some x.0)
 last_row test l = perhaps_bind (each_last test (each_row 0 l)) (λ x h. there (row x.0 h))
   where
     row : (n : ℕ) → n < 0 + length l → n < length l

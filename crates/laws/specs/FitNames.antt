@@ -2,9 +2,9 @@
 -- the front. Assumes nothing.
 use Rattle.std.specs.Prelude.{if◌then◌else◌, ◌≡◌, refl, Bool, true, false, ◌||◌, not, List, [], ◌∷◌, ◌++◌, map, ℕ, zero, suc, ◌+◌, ◌≤◌, ◌<◌, leb, length, take, drop, replicate}
 use Rattle.std.proofs.Common.{sym, ap, ◌∙◌, subst, true≢false, append-nil, append_assoc, arith, leb-true, le-leb, length-append}
-use Rattle.std.proofs.Math.Option.{some}
+use Rattle.std.specs.Prelude.{Some}
 use Rattle.std.proofs.lemmas.Bool.{lt-leb}
-use Rattle.std.proofs.Math.ListN.{get_elem?}
+use Rattle.std.specs.Prelude.{slice_get}
 use Rattle.definition.specs.Base.{◌>>=◌, ◌or◌, given, keep, some?, same}
 use Rattle.definition.specs.Ascii.{bytes}
 use Rattle.definition.specs.Text.{Text}
@@ -193,7 +193,7 @@ keep_others n (c ∷ l) h =
     let (u, v) = neither (same n c.name) (some? (same n) (map name_in l)) h in
     rw (same_turned c.name n, u) (ap (λ (t : List Calendar). c ∷ t) (keep_others n l v))
 
-at_other : (n : Text) (l : List Calendar) (m : ℕ) (c : Calendar) → Fresh n (map name_in l) → get_elem? l m ≡ some c → same n c.name ≡ false
+at_other : (n : Text) (l : List Calendar) (m : ℕ) (c : Calendar) → Fresh n (map name_in l) → slice_get l m ≡ Some c → same n c.name ≡ false
 unfolding some?
 at_other n [] m c h e = never e
 at_other n (d ∷ l) zero c h e =
@@ -204,7 +204,7 @@ at_other n (d ∷ l) (suc m) c h e =
     at_other n l m c v e
 
 -- without the mth
-pub others : (cs : List Calendar) (m : ℕ) (c : Calendar) → Distinct (map name_in cs) → get_elem? cs m ≡ some c
+pub others : (cs : List Calendar) (m : ℕ) (c : Calendar) → Distinct (map name_in cs) → slice_get cs m ≡ Some c
     → keep (λ (d : Calendar). not (same d.name c.name)) cs ≡ take m cs ++ drop (suc m) cs
 unfolding keep
 others [] m c d e = never e
@@ -213,7 +213,7 @@ others (x ∷ l) zero c (next h d) e =
 others (x ∷ l) (suc m) c (next h d) e =
     rw (at_other x.name l m c h e) (ap (λ (t : List Calendar). x ∷ t) (others l m c d e))
 
-pub calendars_turned : (x : Context) (m : ℕ) → Distinct (names_in x.built) → get_elem? (calendars_in x.built) m ≡ some x.main
+pub calendars_turned : (x : Context) (m : ℕ) → Distinct (names_in x.built) → slice_get (calendars_in x.built) m ≡ Some x.main
     → calendars_of x ≡ (x.main ∷ (take m (calendars_in x.built) ++ drop (suc m) (calendars_in x.built))) ++ (if some? is_elapsed x.tasks then elapsed_calendar ∷ [] else [])
 unfolding calendars_of
 calendars_turned x m d e = rw (others (calendars_in x.built) m x.main (subst Distinct (sym (names_are x.built)) d) e)

@@ -2,7 +2,7 @@
 -- fits. Assumes nothing.
 use Rattle.std.specs.Prelude.{if◌then◌else◌, ◌≡◌, refl, Bool, true, false, not, List, [], ◌∷◌, ◌++◌, ℕ, ◌+◌, ◌*◌, ◌^◌, ◌<◌, ltb, eqb, ℤ, length, drop}
 use Rattle.std.proofs.Common.{sym, ap, ◌∙◌, arith, ltb-false, le-ltb, length-append, drop_at}
-use Rattle.std.proofs.Math.Option.{Option, some, none}
+use Rattle.std.specs.Prelude.{Option, Some, None}
 use Rattle.definition.specs.Base.{◌>>=◌}
 use Rattle.definition.specs.Bits.{Bits, bits_of, bytes_up_to}
 use Rattle.definition.specs.Text.{Text}
@@ -27,14 +27,14 @@ Short s = (length s < 2 ^ 32) × Bytes s
 unfoldable pub any_text : Format Text
 any_text = record {
   put = λ n s. (whole count).put n (length s) ++ bits_of s;
-  get = λ l. (whole count).get l >>= λ x. if ltb (length x.1) (8 * x.0) then none else some (bytes_up_to x.0 x.1, drop (8 * x.0) x.1);
+  get = λ l. (whole count).get l >>= λ x. if ltb (length x.1) (8 * x.0) then None else Some (bytes_up_to x.0 x.1, drop (8 * x.0) x.1);
 }
 
 -- so many bytes
 any_bytes : ℕ → Format Text
 any_bytes k = record {
   put = λ n s. bits_of s;
-  get = λ l. if ltb (length l) (8 * k) then none else some (bytes_up_to k l, drop (8 * k) l);
+  get = λ l. if ltb (length l) (8 * k) then None else Some (bytes_up_to k l, drop (8 * k) l);
 }
 
 abbrev SoMany : ℕ → Text → Type 0
@@ -48,14 +48,14 @@ good_bytes k = record {
   exact = λ n l x b e h. exact n l x b (ltb (length l) (8 * k)) refl h;
 }
   where
-    back : (s : Text) (rest : Bits) → length s ≡ k → Bytes s → (any_bytes k).get (bits_of s ++ rest) ≡ some (s, rest)
+    back : (s : Text) (rest : Bits) → length s ≡ k → Bytes s → (any_bytes k).get (bits_of s ++ rest) ≡ Some (s, rest)
     back s rest h u =
         let m : length (bits_of s) ≡ 8 * k = length_bits s ∙ ap (λ (i : ℕ). 8 * i) h in
         let e : bytes_up_to k (bits_of s ++ rest) ≡ s = rw (← h) (bytes_bits rest u) in
         rw (le-ltb (length (bits_of s ++ rest)) (8 * k) (rw (length-append, m) (omega arith)), e, drop_at (bits_of s) rest (8 * k) m)
 
     exact : (n : ℕ) (l : Bits) (x : Text × Bits) → Binary l → (t : Bool) → ltb (length l) (8 * k) ≡ t
-        → (if t then none else some (bytes_up_to k l, drop (8 * k) l)) ≡ some x → Begins (any_bytes k) (SoMany k) n l x
+        → (if t then None else Some (bytes_up_to k l, drop (8 * k) l)) ≡ Some x → Begins (any_bytes k) (SoMany k) n l x
     exact n l x b true e h = never h
     exact n l x b false e h =
         let u = ltb-false (length l) (8 * k) e in
@@ -76,7 +76,7 @@ good_named to from {F = F} left right g =
     good_via
     (record {
       fits = λ b h. h;
-      there = λ b h. ap some (left b);
+      there = λ b h. ap Some (left b);
       back = λ a b h e. got (λ b. (from b ≡ a) × F (from b)) e (right a, rw (right a) h);
     })
     g

@@ -1,7 +1,7 @@
 -- The resources, the assignments and the expenses that the definition makes of a tree fit, by what a text is. Assumes nothing.
 use Rattle.std.specs.Prelude.{if◌then◌else◌, Bool, true, false, not, ℕ, ◌^◌, ◌≤◌, ◌<◌, ℤ, length}
 use mathlib.Core.List.{List, []}
-use Rattle.std.proofs.Math.Option.{Option}
+use Rattle.std.specs.Prelude.{Option}
 use Rattle.std.proofs.Common.{arith}
 use Rattle.std.proofs.Math.IntN.{pos}
 use Rattle.definition.specs.Base.{◌or◌, ◌or_else◌}

@@ -2,7 +2,8 @@
 use Rattle.std.specs.Prelude.{if◌then◌else◌, ◌≡◌, refl, Bool, true, false, List, [], ◌∷◌, ◌++◌, ℕ, zero, suc, ◌+◌, ◌*◌, ◌%◌, ◌^◌, ◌≤◌, ◌<◌, leb, ltb, eqb, length, take, drop, replicate}
 use Rattle.std.proofs.Common.{sym, ap, ◌∙◌, subst, true≢false, append_assoc, add-zero, add_assoc, arith, leb-true, ltb-true, ltb-false, le-leb, le-ltb, ne_eqb, length-append, take-append-drop, take_at, drop_at}
 use Rattle.std.proofs.Math.Bool.{and-false, and-eq-true_iff}
-use Rattle.std.proofs.Math.Option.{Option, some, none, some-injective}
+use Rattle.std.specs.Prelude.{Option, Some, None}
+use Rattle.laws.specs.Options.{Some-injective}
 use Rattle.std.proofs.lemmas.Bool.{lt-leb}
 use Rattle.std.proofs.lemmas.List.{length-replicate}
 use Rattle.definition.specs.Base.{◌>>=◌, when, given, same, within}
@@ -17,8 +18,8 @@ use Rattle.laws.specs.Bits.{Binary, Bytes, length_enc, enc_binary, dec_enc_lt, t
 -- ---- the promises
 
 -- what came out is this
-pub got : {A : Type 0} {x y : A} (P : A → Type 0) → some x ≡ some y → P x → P y
-got {x = x} {y = y} P h p = subst P (some-injective x y h) p
+pub got : {A : Type 0} {x y : A} (P : A → Type 0) → Some x ≡ Some y → P x → P y
+got {x = x} {y = y} P h p = subst P (Some-injective x y h) p
 
 -- bits that stand behind n others end at a byte
 abbrev pub Ends : ℕ → Bits → Type 0
@@ -38,8 +39,8 @@ Begins f Fits n l x = (l ≡ f.put n x.0 ++ x.1) × Fits x.0
 -- binary: bits are put. back: what fits is got back. exact: what is got is what was put, and fits
 pub record Good {A : Type 0} (f : Format A) (Fits : A → Type 0) : Type 0 where
   pub binary : (n : ℕ) (a : A) → Binary (f.put n a)
-  pub back : (n : ℕ) (a : A) (rest : Bits) → Fits a → Ends n (f.put n a ++ rest) → f.get (f.put n a ++ rest) ≡ some (a, rest)
-  pub exact : (n : ℕ) (l : Bits) (x : A × Bits) → Binary l → Ends n l → f.get l ≡ some x → Begins f Fits n l x
+  pub back : (n : ℕ) (a : A) (rest : Bits) → Fits a → Ends n (f.put n a ++ rest) → f.get (f.put n a ++ rest) ≡ Some (a, rest)
+  pub exact : (n : ℕ) (l : Bits) (x : A × Bits) → Binary l → Ends n l → f.get l ≡ Some x → Begins f Fits n l x
 
 -- the same promises in other words
 pub regard : {A : Type 0} {f : Format A} {F G : A → Type 0} → ((a : A) → F a → G a) → ((a : A) → G a → F a) → Good f F → Good f G
@@ -98,15 +99,15 @@ good_lead {f = f} key at {g = g} {F = F} {G = G} place says gf gg = record {
 
 -- behind a known value, another
 keyed : {A B : Type 0} → A → Format B → Format (A × B)
-keyed a g = record { put = λ n p. g.put n p.1; get = λ l. g.get l >>= λ y. some ((a, y.0), y.1) }
+keyed a g = record { put = λ n p. g.put n p.1; get = λ l. g.get l >>= λ y. Some ((a, y.0), y.1) }
 
 good_keyed : {A B : Type 0} (a : A) {g : Format B} {G : B → Type 0} → Good g G → Good (keyed a g) (λ p. (p.0 ≡ a) × G p.1)
 unfolding keyed
 good_keyed {A} {B} a {g} {G} gg = record {
   binary = λ n p. gg.binary n p.1;
-  back = λ n p rest h e. rw (gg.back n p.1 rest h.1 e) (ap (λ (x : A). some ((x, p.1), rest)) (sym h.0));
+  back = λ n p rest h e. rw (gg.back n p.1 rest h.1 e) (ap (λ (x : A). Some ((x, p.1), rest)) (sym h.0));
   exact = λ n l z b e h.
-      let (y, p, q) = some_is (g.get l) (λ y. some ((a, y.0), y.1)) z h in
+      let (y, p, q) = some_is (g.get l) (λ y. Some ((a, y.0), y.1)) z h in
       let (u, v) = gg.exact n l y b e p in
       got (Begins (keyed a g) (λ p. (p.0 ≡ a) × G p.1) n l) q (u, (refl, v));
 }
@@ -139,8 +140,8 @@ gf & gg = good_chain gf (λ a. gg)
 
 -- what is given fits
 abbrev pub IfGiven : {B : Type 0} → (B → Type 0) → Option B → Type 0
-IfGiven G none = Unit {0}
-IfGiven G (some b) = G b
+IfGiven G None = Unit {0}
+IfGiven G (Some b) = G b
 
 -- the first fits, and the other is given exactly where the test says, and fits
 abbrev pub Depends : {A B : Type 0} → (A → Type 0) → (A → Bool) → (B → Type 0) → A × Option B → Type 0
@@ -158,21 +159,21 @@ good_perhaps {B} t {g} {G} gg = record {
 }
   where
     binary : (n : ℕ) (o : Option B) → Binary (put_given g n o)
-    binary n none = empty
-    binary n (some b) = gg.binary n b
+    binary n None = empty
+    binary n (Some b) = gg.binary n b
 
     back : (t : Bool) (n : ℕ) (o : Option B) (rest : Bits) → (given o ≡ t) × IfGiven G o → Ends n (put_given g n o ++ rest)
-        → get_given t g (put_given g n o ++ rest) ≡ some (o, rest)
-    back true n none rest h e = absurd (true≢false (sym h.0))
-    back false n none rest h e = refl
-    back true n (some b) rest h e = rw (gg.back n b rest h.1 e)
-    back false n (some b) rest h e = absurd (true≢false h.0)
+        → get_given t g (put_given g n o ++ rest) ≡ Some (o, rest)
+    back true n None rest h e = absurd (true≢false (sym h.0))
+    back false n None rest h e = refl
+    back true n (Some b) rest h e = rw (gg.back n b rest h.1 e)
+    back false n (Some b) rest h e = absurd (true≢false h.0)
 
-    exact : (t : Bool) (n : ℕ) (l : Bits) (x : Option B × Bits) → Binary l → Ends n l → get_given t g l ≡ some x
+    exact : (t : Bool) (n : ℕ) (l : Bits) (x : Option B × Bits) → Binary l → Ends n l → get_given t g l ≡ Some x
         → Begins (perhaps t g) (λ o. (given o ≡ t) × IfGiven G o) n l x
     exact false n l x b e h = got (Begins (perhaps false g) (λ o. (given o ≡ false) × IfGiven G o) n l) h (refl, (refl, tt))
     exact true n l x b e h =
-        let (y, p, q) = some_is (g.get l) (λ y. some (some y.0, y.1)) x h in
+        let (y, p, q) = some_is (g.get l) (λ y. Some (Some y.0, y.1)) x h in
         let (u, v) = gg.exact n l y b e p in
         got (Begins (perhaps true g) (λ o. (given o ≡ true) × IfGiven G o) n l) q (u, (refl, v))
 
@@ -186,8 +187,8 @@ good_depending test gf gg = good_chain gf (λ a. good_perhaps (test a) gg)
 -- fits: what fits stands for what fits. there: it is found from that. back: what is found fits, and stands for what it was found from
 pub record Stands {A B : Type 0} (to : A → Option B) (from : B → A) (F : A → Type 0) (G : B → Type 0) : Type 0 where
   pub fits : (b : B) → G b → F (from b)
-  pub there : (b : B) → G b → to (from b) ≡ some b
-  pub back : (a : A) (b : B) → F a → to a ≡ some b → (from b ≡ a) × G b
+  pub there : (b : B) → G b → to (from b) ≡ Some b
+  pub back : (a : A) (b : B) → F a → to a ≡ Some b → (from b ≡ a) × G b
 
 pub good_via : {A B : Type 0} {to : A → Option B} {from : B → A} {f : Format A} {F : A → Type 0} {G : B → Type 0}
     → Stands to from F G → Good f F → Good (via to from f) G
@@ -196,8 +197,8 @@ good_via {A} {to = to} {from = from} {f = f} {G = G} s g = record {
   binary = λ n b. g.binary n (from b);
   back = λ n b rest h e. rw (g.back n (from b) rest (s.fits b h) e, s.there b h);
   exact = λ n l z b e h.
-      let (x, p, q) = some_is (f.get l) (λ x. to x.0 >>= λ b. some (b, x.1)) z h in
-      let (y, t, r) = some_is (to x.0) (λ b. some (b, x.1)) z q in
+      let (x, p, q) = some_is (f.get l) (λ x. to x.0 >>= λ b. Some (b, x.1)) z h in
+      let (y, t, r) = some_is (to x.0) (λ b. Some (b, x.1)) z q in
       let (u, v) = g.exact n l x b e p in
       let (w, k) = s.back x.0 y v t in
       got (Begins (via to from f) G n l) r (u ∙ ap (λ (a : A). f.put n a ++ x.1) (sym w), k);
@@ -220,7 +221,7 @@ all_binary g n [] = empty
 all_binary {f = f} g n (x ∷ l) = each_append (g.binary n x) (all_binary g (n + length (f.put n x)) l)
 
 all_back : {A : Type 0} {f : Format A} {F : A → Type 0} → Good f F → (n : ℕ) {l : List A} (rest : Bits) → Each F l
-    → Ends n (put_all f n l ++ rest) → get_all f (length l) (put_all f n l ++ rest) ≡ some (l, rest)
+    → Ends n (put_all f n l ++ rest) → get_all f (length l) (put_all f n l ++ rest) ≡ Some (l, rest)
 unfolding put_all get_all
 all_back g n rest empty e = refl
 all_back {f = f} g n rest (next {x = x} {l = l} h hs) e =
@@ -230,7 +231,7 @@ all_back {f = f} g n rest (next {x = x} {l = l} h hs) e =
     rw (append_assoc s t rest, g.back n x (t ++ rest) h e', all_back g (n + length s) rest hs (ends_after n (n + length s) s (t ++ rest) refl e'))
 
 all_more : {A : Type 0} (f : Format A) (F : A → Type 0) (k n : ℕ) (l : Bits) (x : A × Bits) (y z : List A × Bits) → Begins f F n l x
-    → Begins (times k f) (Times F k) (n + length (f.put n x.0)) x.1 y → some (x.0 ∷ y.0, y.1) ≡ some z
+    → Begins (times k f) (Times F k) (n + length (f.put n x.0)) x.1 y → Some (x.0 ∷ y.0, y.1) ≡ Some z
     → Begins (times (suc k) f) (Times F (suc k)) n l z
 unfolding times put_all
 all_more f F k n l x y z (u, v) (w, a) t =
@@ -240,12 +241,12 @@ all_more f F k n l x y z (u, v) (w, a) t =
     (joined l s x.1 m y.1 u w, record { many = ap suc a.many; each = next v a.each })
 
 all_exact : {A : Type 0} {f : Format A} {F : A → Type 0} → Good f F → (k n : ℕ) (l : Bits) (y : List A × Bits) → Binary l → Ends n l
-    → get_all f k l ≡ some y → Begins (times k f) (Times F k) n l y
+    → get_all f k l ≡ Some y → Begins (times k f) (Times F k) n l y
 unfolding times get_all put_all
 all_exact {f = f} {F = F} g zero n l y b e h = got (Begins (times zero f) (Times F zero) n l) h (refl, record { many = refl; each = empty })
 all_exact {f = f} {F = F} g (suc k) n l z b e h =
-    let (x, p, q) = some_is (f.get l) (λ x. get_all f k x.1 >>= λ y. some (x.0 ∷ y.0, y.1)) z h in
-    let (y, r, t) = some_is (get_all f k x.1) (λ y. some (x.0 ∷ y.0, y.1)) z q in
+    let (x, p, q) = some_is (f.get l) (λ x. get_all f k x.1 >>= λ y. Some (x.0 ∷ y.0, y.1)) z h in
+    let (y, r, t) = some_is (get_all f k x.1) (λ y. Some (x.0 ∷ y.0, y.1)) z q in
     let s = f.put n x.0 in
     let m = n + length s in
     let u = g.exact n l x b e p in
@@ -264,12 +265,12 @@ good_times k {f} g = record {
 
 -- zero bits, and the value that stands before them
 padding : {A : Type 0} → A → Format A
-padding a = record { put = λ n b. pad n; get = λ l. get_pad l >>= λ rest. some (a, rest) }
+padding a = record { put = λ n b. pad n; get = λ l. get_pad l >>= λ rest. Some (a, rest) }
 
 pad_length : (n r : ℕ) → (n + (gap n + r)) % 8 ≡ 0 → (gap n + r) % 8 ≡ gap n
 pad_length n r h = omega arith
 
-pad_back : (n : ℕ) (rest : Bits) → Ends n (pad n ++ rest) → get_pad (pad n ++ rest) ≡ some rest
+pad_back : (n : ℕ) (rest : Bits) → Ends n (pad n ++ rest) → get_pad (pad n ++ rest) ≡ Some rest
 unfolding get_pad
 pad_back n rest e =
     let g : length (pad n) ≡ gap n = length-replicate (gap n) 0 in
@@ -277,7 +278,7 @@ pad_back n rest e =
     let m : length (pad n ++ rest) % 8 ≡ gap n = rw k (pad_length n (length rest) (rw k at e)) in
     rw (m, take_at (pad n) rest (gap n) g, drop_at (pad n) rest (gap n) g, same_refl (pad n))
 
-pad_exact : (n : ℕ) (l rest : Bits) → Ends n l → get_pad l ≡ some rest → l ≡ pad n ++ rest
+pad_exact : (n : ℕ) (l rest : Bits) → Ends n l → get_pad l ≡ Some rest → l ≡ pad n ++ rest
 unfolding get_pad
 pad_exact n l rest e h =
     let m = length l % 8 in
@@ -289,9 +290,9 @@ good_padding : {A : Type 0} (a : A) → Good (padding a) (λ b. b ≡ a)
 unfolding padding
 good_padding {A} a = record {
   binary = λ n b. each_replicate (gap n) 0 (omega arith);
-  back = λ n b rest h e. rw (pad_back n rest e) (ap (λ (x : A). some (x, rest)) (sym h));
+  back = λ n b rest h e. rw (pad_back n rest e) (ap (λ (x : A). Some (x, rest)) (sym h));
   exact = λ n l z b e h.
-      let (rest, p, q) = some_is (get_pad l) (λ rest. some (a, rest)) z h in
+      let (rest, p, q) = some_is (get_pad l) (λ rest. Some (a, rest)) z h in
       got (Begins (padding a) (λ b. b ≡ a) n l) q (pad_exact n l rest e p, refl);
 }
 
@@ -305,8 +306,8 @@ good_whole {A} {f} {F} g =
 
 -- UTF-8 has bytes below 256 only: the ranges of the bytes to come end there
 data Low : Option (List (ℕ × ℕ)) → Type 0 where
-  bare : Low none
-  low : {rs : List (ℕ × ℕ)} → Each (λ r. r.1 < 256) rs → Low (some rs)
+  bare : Low None
+  low : {rs : List (ℕ × ℕ)} → Each (λ r. r.1 < 256) rs → Low (Some rs)
 
 low_if : (t : Bool) {o p : Option (List (ℕ × ℕ))} → Low o → Low p → Low (if t then o else p)
 low_if true h k = h
@@ -331,7 +332,7 @@ low_following b =
     (low_if (within 0xF1 0xF3 b) (low (low_tail (low_tail (low_tail empty))))
     (low_if (eqb b 0xF4) (low (low_range 0x80 0x8F (omega arith) (low_tail (low_tail empty)))) bare))))))))
 
-high_following : (b : ℕ) → 256 ≤ b → following b ≡ none
+high_following : (b : ℕ) → 256 ≤ b → following b ≡ None
 unfolding following
 high_following b h =
     let over : (c : ℕ) → c < 256 → leb b c ≡ false = λ c k. lt-leb b c (omega arith) in
@@ -349,7 +350,7 @@ high_following b h =
       and-false,
     )
 
-utf8_none : (s : Text) → utf8_after s none ≡ false
+utf8_none : (s : Text) → utf8_after s None ≡ false
 unfolding utf8_after
 utf8_none [] = refl
 utf8_none (b ∷ s) = refl
@@ -357,21 +358,21 @@ utf8_none (b ∷ s) = refl
 utf8_after_lem : (s : Text) (o : Option (List (ℕ × ℕ))) → Low o → utf8_after s o ≡ true → Bytes s
 unfolding utf8_after
 utf8_after_lem [] o l h = empty
-utf8_after_lem (b ∷ s) none l h = absurd (true≢false (sym h))
-utf8_after_lem (b ∷ s) (some []) l h = next (byte (ltb b 256) refl) (utf8_after_lem s (following b) (low_following b) h)
+utf8_after_lem (b ∷ s) None l h = absurd (true≢false (sym h))
+utf8_after_lem (b ∷ s) (Some []) l h = next (byte (ltb b 256) refl) (utf8_after_lem s (following b) (low_following b) h)
   where
     byte : (t : Bool) → ltb b 256 ≡ t → b < 256
     byte true e = ltb-true b 256 e
     byte false e = absurd (true≢false (sym h ∙ ap (utf8_after s) (high_following b (ltb-false b 256 e)) ∙ utf8_none s))
-utf8_after_lem (b ∷ s) (some ((a, z) ∷ rs)) (low (next k l)) h = go (within a z b) refl (utf8_after_lem s) h
+utf8_after_lem (b ∷ s) (Some ((a, z) ∷ rs)) (low (next k l)) h = go (within a z b) refl (utf8_after_lem s) h
   where
     go : (t : Bool) → within a z b ≡ t → ((o : Option (List (ℕ × ℕ))) → Low o → utf8_after s o ≡ true → Bytes s) → utf8_after s (when t rs) ≡ true → Bytes (b ∷ s)
-    go true e f h = let m = leb-true b z ((and-eq-true_iff (leb a b) (leb b z)).0 e).1 in next {x = b} (omega arith) (f (some rs) (low l) h)
+    go true e f h = let m = leb-true b z ((and-eq-true_iff (leb a b) (leb b z)).0 e).1 in next {x = b} (omega arith) (f (Some rs) (low l) h)
     go false e f h = absurd (true≢false (sym h ∙ utf8_none s))
 
 pub utf8_bytes : (s : Text) → is_utf8 s ≡ true → Bytes s
 unfolding is_utf8
-utf8_bytes s h = utf8_after_lem s (some []) (low empty) h
+utf8_bytes s h = utf8_after_lem s (Some []) (low empty) h
 
 -- UTF-8, and a length that fits a count
 abbrev pub IsText : Text → Type 0
@@ -381,7 +382,7 @@ IsText s = (length s < 2 ^ 32) × (is_utf8 s ≡ true)
 raw : ℕ → Format Text
 raw k = record {
   put = λ n s. bits_of s;
-  get = λ l. let s = bytes_up_to k l in if ltb (length l) (8 * k) then none else when (is_utf8 s) (s, drop (8 * k) l);
+  get = λ l. let s = bytes_up_to k l in if ltb (length l) (8 * k) then None else when (is_utf8 s) (s, drop (8 * k) l);
 }
 
 good_raw : (k : ℕ) → Good (raw k) (λ s. (length s ≡ k) × (is_utf8 s ≡ true))
@@ -392,14 +393,14 @@ good_raw k = record {
   exact = λ n l x b e h. exact n l x b (ltb (length l) (8 * k)) refl h;
 }
   where
-    back : (s : Text) (rest : Bits) → length s ≡ k → is_utf8 s ≡ true → (raw k).get (bits_of s ++ rest) ≡ some (s, rest)
+    back : (s : Text) (rest : Bits) → length s ≡ k → is_utf8 s ≡ true → (raw k).get (bits_of s ++ rest) ≡ Some (s, rest)
     back s rest h u =
         let m : length (bits_of s) ≡ 8 * k = length_bits s ∙ ap (λ (i : ℕ). 8 * i) h in
         let e : bytes_up_to k (bits_of s ++ rest) ≡ s = rw (← h) (bytes_bits rest (utf8_bytes s u)) in
         rw (le-ltb (length (bits_of s ++ rest)) (8 * k) (rw (length-append, m) (omega arith)), e, u, drop_at (bits_of s) rest (8 * k) m)
 
     exact : (n : ℕ) (l : Bits) (x : Text × Bits) → Binary l → (t : Bool) → ltb (length l) (8 * k) ≡ t
-        → (if t then none else when (is_utf8 (bytes_up_to k l)) (bytes_up_to k l, drop (8 * k) l)) ≡ some x
+        → (if t then None else when (is_utf8 (bytes_up_to k l)) (bytes_up_to k l, drop (8 * k) l)) ≡ Some x
         → Begins (raw k) (λ s. (length s ≡ k) × (is_utf8 s ≡ true)) n l x
     exact n l x b true e h = never h
     exact n l x b false e h =

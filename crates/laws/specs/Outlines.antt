@@ -5,7 +5,7 @@ use Rattle.std.proofs.Math.Path.{refl, sym, ap}
 use Rattle.std.proofs.Common.{◌∙◌, ltb-true, ltb-false, eqb-true, eq-eqb, ne_eqb}
 use Rattle.std.proofs.Math.Bool.{true, false}
 use mathlib.Core.List.{List, [], ◌∷◌, ◌++◌, flat_map, append_assoc}
-use Rattle.std.proofs.Math.Option.{Option, some, none}
+use Rattle.std.specs.Prelude.{Option, Some, None}
 use Prim.Native.Nat.{ℕ, zero, suc, ◌+◌, ◌≤◌, ◌<◌}
 use native.Mathlib.Omega.{arith}
 use Rattle.std.proofs.lemmas.Bool.{eqb-false}
@@ -86,11 +86,11 @@ count_in c a (suc m) h k = go (eqb c a) refl (count_in c (suc a) m)
 
 -- ---- parents
 
-pub parent_out : (ps : List (Option ℕ)) (c : ℕ) → length ps ≤ c → parent_at ps c ≡ none
+pub parent_out : (ps : List (Option ℕ)) (c : ℕ) → length ps ≤ c → parent_at ps c ≡ None
 unfolding parent_at
-parent_out ps c h = ap (parent_in (length ps) c) (get_or-eq_default ps none h)
+parent_out ps c h = ap (parent_in (length ps) c) (get_or-eq_default ps None h)
 
-pub row_in : (ps : List (Option ℕ)) (c p : ℕ) → parent_at ps c ≡ some p → c < length ps
+pub row_in : (ps : List (Option ℕ)) (c p : ℕ) → parent_at ps c ≡ Some p → c < length ps
 row_in ps c p h = go (ltb c (length ps)) refl
   where
     go : (t : Bool) → ltb c (length ps) ≡ t → c < length ps
@@ -98,30 +98,30 @@ row_in ps c p h = go (ltb c (length ps)) refl
     go false e = never (sym (parent_out ps c (ltb-false c (length ps) e)) ∙ h)
 
 -- a parent is in range
-pub parent_in_lem : (ps : List (Option ℕ)) (c p : ℕ) → parent_at ps c ≡ some p → p < length ps
+pub parent_in_lem : (ps : List (Option ℕ)) (c p : ℕ) → parent_at ps c ≡ Some p → p < length ps
 unfolding parent_at
-parent_in_lem ps c p h = given (get_or ps c none) h
+parent_in_lem ps c p h = given (get_or ps c None) h
   where
-    test : (q : ℕ) (t u : Bool) → ltb q (length ps) ≡ t → elim (t && u) [ true ↦ some q | false ↦ none ] ≡ some p → p < length ps
+    test : (q : ℕ) (t u : Bool) → ltb q (length ps) ≡ t → elim (t && u) [ true ↦ Some q | false ↦ None ] ≡ Some p → p < length ps
     test q true true e k = let z : q ≡ p = cc in omega (arith, ltb-true q (length ps) e)
     test q true false e k = never k
     test q false true e k = never k
     test q false false e k = never k
 
-    given : (o : Option ℕ) → parent_in (length ps) c o ≡ some p → p < length ps
-    given none k = never k
-    given (some q) k = test q (ltb q (length ps)) (not (eqb q c)) refl k
+    given : (o : Option ℕ) → parent_in (length ps) c o ≡ Some p → p < length ps
+    given None k = never k
+    given (Some q) k = test q (ltb q (length ps)) (not (eqb q c)) refl k
 
 module _ (ps : List (Option ℕ)) where
   -- the children of some rows
   abbrev kids : List ℕ → List ℕ
   kids = flat_map (child_rows ps)
 
-  pub top_times : (c : ℕ) → c < length ps → parent_at ps c ≡ none → times c (top_rows ps) ≡ 1
+  pub top_times : (c : ℕ) → c < length ps → parent_at ps c ≡ None → times c (top_rows ps) ≡ 1
   unfolding top_rows
   top_times c l h = keep_all (λ row. is_top (parent_at ps row)) c (ap is_top h) (count 0 (length ps)) ∙ count_in c 0 (length ps) (omega arith) (omega arith)
 
-  pub top_none : (c p : ℕ) → parent_at ps c ≡ some p → times c (top_rows ps) ≡ 0
+  pub top_none : (c p : ℕ) → parent_at ps c ≡ Some p → times c (top_rows ps) ≡ 0
   unfolding top_rows
   top_none c p h = keep_none (λ row. is_top (parent_at ps row)) c (ap is_top h) (count 0 (length ps))
 
@@ -129,7 +129,7 @@ module _ (ps : List (Option ℕ)) where
   unfolding top_rows
   top_out c l = keep_all (λ row. is_top (parent_at ps row)) c (ap is_top (parent_out ps c l)) (count 0 (length ps)) ∙ count_past c 0 (length ps) (omega arith)
 
-  pub child_times : (c p x : ℕ) → parent_at ps c ≡ some p → times c (child_rows ps x) ≡ bit (eqb p x)
+  pub child_times : (c p x : ℕ) → parent_at ps c ≡ Some p → times c (child_rows ps x) ≡ bit (eqb p x)
   unfolding child_rows
   child_times c p x h = go (eqb p x) refl
     where
@@ -139,17 +139,17 @@ module _ (ps : List (Option ℕ)) where
           ∙ count_in c 0 (length ps) (omega arith) (omega (arith, row_in ps c p h))
       go false e = keep_none (λ y. is_under x (parent_at ps y)) c (ap (is_under x) h ∙ e) (count 0 (length ps))
 
-  child_none : (c x : ℕ) → parent_at ps c ≡ none → times c (child_rows ps x) ≡ 0
+  child_none : (c x : ℕ) → parent_at ps c ≡ None → times c (child_rows ps x) ≡ 0
   unfolding child_rows
   child_none c x h = keep_none (λ y. is_under x (parent_at ps y)) c (ap (is_under x) h) (count 0 (length ps))
 
   -- a row stands among the children of some rows as often as its parent among them
-  kids_times : (c p : ℕ) → parent_at ps c ≡ some p → (l : List ℕ) → times c (kids l) ≡ times p l
+  kids_times : (c p : ℕ) → parent_at ps c ≡ Some p → (l : List ℕ) → times c (kids l) ≡ times p l
   unfolding flat_map times
   kids_times c p h [] = refl
   kids_times c p h (x ∷ l) = omega (arith, times_append c (child_rows ps x) (kids l), child_times c p x h, kids_times c p h l)
 
-  kids_none : (c : ℕ) → parent_at ps c ≡ none → (l : List ℕ) → times c (kids l) ≡ 0
+  kids_none : (c : ℕ) → parent_at ps c ≡ None → (l : List ℕ) → times c (kids l) ≡ 0
   unfolding flat_map times
   kids_none c h [] = refl
   kids_none c h (x ∷ l) = omega (arith, times_append c (child_rows ps x) (kids l), child_none c x h, kids_none c h l)
@@ -178,22 +178,22 @@ module _ (ps : List (Option ℕ)) where
         one_level c k level l,
       )
 
-  below_parent : (c p : ℕ) → parent_at ps c ≡ some p → (k level : ℕ) (l : List ℕ) → stands c (all k level (kids l)) ≡ stands p (all k level l)
+  below_parent : (c p : ℕ) → parent_at ps c ≡ Some p → (k level : ℕ) (l : List ℕ) → stands c (all k level (kids l)) ≡ stands p (all k level l)
   unfolding stands
   below_parent c p h zero level l = ap (stands c) (no_levels level (kids l)) ∙ sym (ap (stands p) (no_levels level l))
   below_parent c p h (suc k) level l =
       omega (arith, one_level c k level (kids l), one_level p k level l, kids_times c p h l, below_parent c p h k (suc level) (kids l))
 
-  below_none : (c : ℕ) → parent_at ps c ≡ none → (k level : ℕ) (l : List ℕ) → stands c (all k level (kids l)) ≡ 0
+  below_none : (c : ℕ) → parent_at ps c ≡ None → (k level : ℕ) (l : List ℕ) → stands c (all k level (kids l)) ≡ 0
   unfolding stands
   below_none c h zero level l = ap (stands c) (no_levels level (kids l))
   below_none c h (suc k) level l = omega (arith, one_level c k level (kids l), kids_none c h l, below_none c h k (suc level) (kids l))
 
   -- below the top a row stands as often as its parent one level higher, and a row at the top once
-  pub as_parent : (c p k level : ℕ) → parent_at ps c ≡ some p → stands c (all (suc k) level (top_rows ps)) ≡ stands p (all k (suc level) (top_rows ps))
+  pub as_parent : (c p k level : ℕ) → parent_at ps c ≡ Some p → stands c (all (suc k) level (top_rows ps)) ≡ stands p (all k (suc level) (top_rows ps))
   as_parent c p k level h = omega (arith, one_level c k level (top_rows ps), top_none c p h, below_parent c p h k (suc level) (top_rows ps))
 
-  pub at_top : (c k level : ℕ) → c < length ps → parent_at ps c ≡ none → stands c (all (suc k) level (top_rows ps)) ≡ 1
+  pub at_top : (c k level : ℕ) → c < length ps → parent_at ps c ≡ None → stands c (all (suc k) level (top_rows ps)) ≡ 1
   at_top c k level l h = omega (arith, one_level c k level (top_rows ps), top_times c l h, below_none c h k (suc level) (top_rows ps))
 
   out : (c k level : ℕ) → length ps ≤ c → stands c (all k level (top_rows ps)) ≡ 0
@@ -209,10 +209,10 @@ module _ (ps : List (Option ℕ)) where
     where
       go : (t : Bool) → ltb c (length ps) ≡ t → (o : Option ℕ) → parent_at ps c ≡ o → ((p : ℕ) → stands p (all k (suc level) (top_rows ps)) ≤ 1)
           → stands c (all (suc k) level (top_rows ps)) ≤ 1
-      go false e none h f = omega (arith, out c (suc k) level (ltb-false c (length ps) e))
-      go true e none h f = omega (arith, at_top c k level (ltb-true c (length ps) e) h)
-      go false e (some p) h f = omega (arith, out c (suc k) level (ltb-false c (length ps) e))
-      go true e (some p) h f = omega (arith, as_parent c p k level h, f p)
+      go false e None h f = omega (arith, out c (suc k) level (ltb-false c (length ps) e))
+      go true e None h f = omega (arith, at_top c k level (ltb-true c (length ps) e) h)
+      go false e (Some p) h f = omega (arith, out c (suc k) level (ltb-false c (length ps) e))
+      go true e (Some p) h f = omega (arith, as_parent c p k level h, f p)
 
 -- no row stands twice
 pub outline_once : (ps : List (Option ℕ)) (c : ℕ) → stands c (outline_of ps) ≤ 1

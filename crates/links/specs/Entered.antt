@@ -6,7 +6,7 @@ use Rattle.std.proofs.Math.Path.{refl, sym, ap}
 use Rattle.std.proofs.Common.{◌∙◌, eq-eqb, ne_eqb}
 use Rattle.std.proofs.Math.Bool.{or-false}
 use mathlib.Core.List.{flat_map}
-use Rattle.std.proofs.Math.Option.{Option, some, none}
+use Rattle.std.specs.Prelude.{Option, Some, None}
 use Rattle.definition.specs.Base.{◌>>=◌, numbered, some?}
 use Rattle.definition.specs.Ascii.{bytes}
 use Rattle.definition.specs.Field.{text_in, yes_in}
@@ -45,8 +45,8 @@ fate_is find x row l = by (yes_in l "CrossProject") (text_in l "PredecessorUID" 
   where
     by : (t : Bool) (o : Option ℕ) → (if t then Fate.across else fate_by x row l o) ≡ fate_with x row l (if t then Across else fate_by_row o)
     by true o = refl
-    by false none = refl
-    by false (some p) = refl
+    by false None = refl
+    by false (Some p) = refl
 
 pub kept_is : (find : Finder) (l : Element) → is_kept_link find l ≡ kept_fate (fate_for find l)
 unfolding is_kept_link fate_for
@@ -54,8 +54,8 @@ kept_is find l = by (yes_in l "CrossProject") (text_in l "PredecessorUID" >>= fi
   where
     by : (t : Bool) (o : Option ℕ) → yes_in l "CrossProject" ≡ t → (text_in l "PredecessorUID" >>= find) ≡ o → is_kept_link find l ≡ kept_fate (fate_for find l)
     by true o e f = rw e
-    by false none e f = rw (e, f)
-    by false (some p) e f = rw (e, f)
+    by false None e f = rw (e, f)
+    by false (Some p) e f = rw (e, f)
 
 -- ---- the kept links, task by task
 

@@ -2,7 +2,7 @@
 -- definitions.
 use Rattle.std.specs.Prelude.{if◌then◌else◌, ◌≡◌, ℕ, ◌+◌, ◌%◌, ◌^◌, Bool, true, false, List, [], ◌∷◌, ◌++◌, map, length}
 use mathlib.Core.List.{flat_map}
-use Rattle.std.proofs.Math.Option.{Option, some, none}
+use Rattle.std.specs.Prelude.{Option, Some, None}
 use Rattle.definition.specs.Base.{◌>>=◌, keep, numbered, some?}
 use Rattle.definition.specs.Ascii.{bytes}
 use Rattle.definition.specs.Text.{Text}
@@ -43,8 +43,8 @@ links_by find x = kept_of (fates_by find x)
 
 -- by the row of its predecessor
 abbrev pub fate_by_row : Option ℕ → LinkFate
-fate_by_row none = Dangling
-fate_by_row (some n) = Kept n
+fate_by_row None = Dangling
+fate_by_row (Some n) = Kept n
 
 unfoldable pub fate_for : Finder → Element → LinkFate
 fate_for find l = if yes_in l "CrossProject" then Across else fate_by_row (text_in l "PredecessorUID" >>= find)
@@ -59,8 +59,8 @@ unfoldable pub is_kept_link : Finder → Element → Bool
 is_kept_link find l = if yes_in l "CrossProject" then false else present (text_in l "PredecessorUID" >>= find)
   where
     present : Option ℕ → Bool
-    present none = false
-    present (some n) = true
+    present None = false
+    present (Some n) = true
 
 -- a kept link enters a task
 unfoldable pub is_entered : Finder → Element → Bool

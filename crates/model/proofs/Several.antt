@@ -2,7 +2,7 @@
 use mathlib.Core.Path.{◌≡◌, refl, sym, ap, ◌∙◌}
 use mathlib.Core.Bool.{Bool, true, false}
 use mathlib.Core.List.{List, [], ◌∷◌}
-use mathlib.Core.Option.{Option, some}
+use Rattle.std.specs.Prelude.{Option, Some}
 use Prim.Native.Nat.{ℕ, zero, suc, ◌<◌}
 use native.Mathlib.Omega.{arith}
 use lib.ListN.{length, take, drop}
@@ -40,7 +40,7 @@ bit_by_bit : (n : ℕ) (l : Bits) → when (leb n (length l)) (drop n l) ≡ lef
 bit_by_bit zero l = rw (le-leb 0 (length l) (omega arith)) (sym (left_zero (field 1) l))
 bit_by_bit (suc n) [] = rw (lt-leb (suc n) 0 (omega arith)) (sym (left_suc (field 1) n [] ∙ rw (left_field 1 [])))
 bit_by_bit (suc n) (b ∷ l) =
-    let e : left (field 1) (b ∷ l) ≡ some l = left_field 1 (b ∷ l) ∙ rw (le-leb 1 (suc (length l)) (omega arith)) in
+    let e : left (field 1) (b ∷ l) ≡ Some l = left_field 1 (b ∷ l) ∙ rw (le-leb 1 (suc (length l)) (omega arith)) in
     sym (left_suc (field 1) n (b ∷ l) ∙ ap (λ (o : Option Bits). o >>= left (times n (field 1))) e ∙ sym (bit_by_bit n l) ∙ one_more n b l)
 
 like_flags : (n : ℕ) → Like (field n) (times n flag)

@@ -3,7 +3,7 @@ use Rattle.std.specs.Prelude.{if◌then◌else◌}
 use mathlib.Core.Path.{◌≡◌, refl, sym, ap, ◌∙◌}
 use mathlib.Core.Bool.{Bool, true, false, ◌&&◌, not, and-false, false≢true}
 use mathlib.Core.List.{List}
-use mathlib.Core.Option.{Option, some, none}
+use Rattle.std.specs.Prelude.{Option, Some, None}
 use Prim.Native.Nat.{ℕ, suc, ◌+◌, ◌-◌, ◌*◌, ◌/◌, ◌%◌, ◌^◌, ◌≤◌, ◌<◌}
 use native.Mathlib.Omega.{arith}
 use lib.ListN.{length, take, drop}
@@ -100,21 +100,21 @@ pass_optional_number h = pass_like (like_optional (like_named _ _ _)) h
 
 -- any bytes
 abbrev behind_bytes : ℕ × Bits → Option Bits
-behind_bytes x = if ltb (length x.1) (8 * x.0) then none else some (drop (8 * x.0) x.1)
+behind_bytes x = if ltb (length x.1) (8 * x.0) then None else Some (drop (8 * x.0) x.1)
 
 left_raw : (l : Bits) → left raw l ≡ ((whole count).get l >>= behind_bytes)
 unfolding raw
 left_raw l = by_count ((whole count).get l)
   where
-    by_room : (x : ℕ × Bits) (t : Bool) → behind {A = Text} (if t then none else some (bytes_up_to x.0 x.1, drop (8 * x.0) x.1)) ≡ (if t then none else some (drop (8 * x.0) x.1))
+    by_room : (x : ℕ × Bits) (t : Bool) → behind {A = Text} (if t then None else Some (bytes_up_to x.0 x.1, drop (8 * x.0) x.1)) ≡ (if t then None else Some (drop (8 * x.0) x.1))
     by_room x true = refl
     by_room x false = refl
 
-    by_count : (o : Option (ℕ × Bits)) → behind {A = Text} (o >>= λ x. if ltb (length x.1) (8 * x.0) then none else some (bytes_up_to x.0 x.1, drop (8 * x.0) x.1)) ≡ (o >>= behind_bytes)
-    by_count none = refl
-    by_count (some x) = by_room x (ltb (length x.1) (8 * x.0))
+    by_count : (o : Option (ℕ × Bits)) → behind {A = Text} (o >>= λ x. if ltb (length x.1) (8 * x.0) then None else Some (bytes_up_to x.0 x.1, drop (8 * x.0) x.1)) ≡ (o >>= behind_bytes)
+    by_count None = refl
+    by_count (Some x) = by_room x (ltb (length x.1) (8 * x.0))
 
-rest_place : (s : List ℕ) (n : ℕ) → n ≤ 8 * length s → rest s (place n) ≡ some (drop n (bits_of s))
+rest_place : (s : List ℕ) (n : ℕ) → n ≤ 8 * length s → rest s (place n) ≡ Some (drop n (bits_of s))
 rest_place s n h =
     let f : Fits (length s) (place n) 0 = record { bit = omega arith; ends = omega arith } in
     rest_in s (place n) f ∙ rw (at_place n)
@@ -124,7 +124,7 @@ unfolding span_at
 pass_raw s p {x} e = record { passes = bind_ext (rest s p) (left raw) (λ l. (whole count).get l >>= behind_bytes) left_raw ∙ by_place _ _ (read_whole (read_field s p 32 refl) (skip_pad s _ refl)) }
   where
     by_room : (b : Place) (n : ℕ) → Fits (length s) b 0 → (t : Bool) → ltb (length (drop (at b) (bits_of s))) (8 * n) ≡ t
-        → behind_bytes (n, drop (at b) (bits_of s)) ≡ rest s (span_of s (some (n, drop (at b) (bits_of s)))).next
+        → behind_bytes (n, drop (at b) (bits_of s)) ≡ rest s (span_of s (Some (n, drop (at b) (bits_of s)))).next
     by_room b n f true h = rw h (sym (rest_past s))
     by_room b n f false h =
         let l = ltb-false (length (drop (at b) (bits_of s))) (8 * n) h in
@@ -133,7 +133,7 @@ pass_raw s p {x} e = record { passes = bind_ext (rest s p) (left raw) (λ l. (wh
         let w : 8 * length s - length (drop (at b + 8 * n) (bits_of s)) ≡ at b + 8 * n = omega (arith, f.ends) in
         rw (h, drop-drop, w) (sym (rest_place s (at b + 8 * n) (omega (arith, f.ends))))
 
-    by_inside : (b : Place) (n : ℕ) (t : Bool) → inside (length s) b ≡ t → (rest s b >>= λ l. behind_bytes (n, l)) ≡ rest s (span_of s (rest s b >>= λ l. some (n, l))).next
+    by_inside : (b : Place) (n : ℕ) (t : Bool) → inside (length s) b ≡ t → (rest s b >>= λ l. behind_bytes (n, l)) ≡ rest s (span_of s (rest s b >>= λ l. Some (n, l))).next
     by_inside b n false h = rw (rest_out s b h) (sym (rest_past s))
     by_inside b n true h = rw (rest_in s b (room_fits (length s) b 0 h)) (by_room b n (room_fits (length s) b 0 h) (ltb (length (drop (at b) (bits_of s))) (8 * n)) refl)
 
@@ -171,11 +171,11 @@ unfolding signed from_days
 date_after v h = rw (lt-ltb v 2147483648 h)
 
 module _ (v : ℕ) (h : 2147483648 ≤ v) (k : v < 2 ^ 32) where
-  date_negative : from_days (signed 32 v) ≡ (if ltb (4294967296 - suc v) epoch then in_years (epoch - suc (4294967296 - suc v)) else none)
+  date_negative : from_days (signed 32 v) ≡ (if ltb (4294967296 - suc v) epoch then in_years (epoch - suc (4294967296 - suc v)) else None)
   unfolding signed from_days
   date_negative = rw (le-ltb v 2147483648 h)
 
-  pub date_early : v + epoch < 4294967296 → from_days (signed 32 v) ≡ none
+  pub date_early : v + epoch < 4294967296 → from_days (signed 32 v) ≡ None
   date_early l = date_negative ∙ rw (le-ltb (4294967296 - suc v) epoch (omega arith))
 
   pub date_before : 4294967296 ≤ v + epoch → from_days (signed 32 v) ≡ in_years (v + epoch - 4294967296)
@@ -183,29 +183,29 @@ module _ (v : ℕ) (h : 2147483648 ≤ v) (k : v < 2 ^ 32) where
       let e : epoch - suc (4294967296 - suc v) ≡ v + epoch - 4294967296 = omega arith in
       date_negative ∙ rw (lt-ltb (4294967296 - suc v) epoch (omega arith), e)
 
-years_none : (d : ℕ) → (in_years d or 0) ≡ 0 → in_years d ≡ none
+years_none : (d : ℕ) → (in_years d or 0) ≡ 0 → in_years d ≡ None
 years_none d = by_low (leb first_date d) refl
   where
-    by_high : first_date ≤ d → (t : Bool) → (when t d or 0) ≡ 0 → when t d ≡ none
+    by_high : first_date ≤ d → (t : Bool) → (when t d or 0) ≡ 0 → when t d ≡ None
     by_high l true h = absurd (omega arith)
     by_high l false h = refl
 
-    by_low : (t : Bool) → leb first_date d ≡ t → (when (t && leb d last_date) d or 0) ≡ 0 → when (t && leb d last_date) d ≡ none
+    by_low : (t : Bool) → leb first_date d ≡ t → (when (t && leb d last_date) d or 0) ≡ 0 → when (t && leb d last_date) d ≡ None
     by_low false e h = refl
     by_low true e h = by_high (leb-true first_date d e) (leb d last_date) h
 
-date_none : (z : ℤ) → (from_days z or 0) ≡ 0 → from_days z ≡ none
+date_none : (z : ℤ) → (from_days z or 0) ≡ 0 → from_days z ≡ None
 unfolding from_days
 date_none (pos n) h = years_none (n + epoch) h
 date_none (negsuc n) h = by_year (ltb n epoch) h
   where
-    by_year : (t : Bool) → ((if t then in_years (epoch - suc n) else none) or 0) ≡ 0 → (if t then in_years (epoch - suc n) else none) ≡ none
+    by_year : (t : Bool) → ((if t then in_years (epoch - suc n) else None) or 0) ≡ 0 → (if t then in_years (epoch - suc n) else None) ≡ None
     by_year true h = years_none (epoch - suc n) h
     by_year false h = refl
 
-given_some : (o : Option ℕ) {d : ℕ} → d ≡ (o or 0) → (d ≡ 0 → ⊥) → o ≡ some d
-given_some none e h = absurd (h e)
-given_some (some a) e h = ap some (sym e)
+given_some : (o : Option ℕ) {d : ℕ} → d ≡ (o or 0) → (d ≡ 0 → ⊥) → o ≡ Some d
+given_some None e h = absurd (h e)
+given_some (Some a) e h = ap Some (sym e)
 
 module _ (s : List ℕ) (p : Place) {x : Field} (e : x ≡ taken_at s p 32) {d : ℕ} (ed : d ≡ (from_days (signed 32 x.value) or 0)) where
   pub date_refused : d ≡ 0 → Finds date (DayKey false) s p (record { value = 0; next = past })
@@ -298,20 +298,20 @@ module _ (s : List ℕ) (p : Place) {x : Field} (e : x ≡ taken_at s p 4) where
 
 -- the place behind a field: past, or inside
 module _ (s : List ℕ) (p : Place) (w : ℕ) {x : Field} (e : x ≡ taken_at s p w) where
-  take_cases : (room (length s) p w ≡ false → x.next ≡ past) × (room (length s) p w ≡ true → rest s x.next ≡ some (drop (at p + w) (bits_of s)))
+  take_cases : (room (length s) p w ≡ false → x.next ≡ past) × (room (length s) p w ≡ true → rest s x.next ≡ Some (drop (at p + w) (bits_of s)))
   take_cases = (
     λ h. ap (λ (y : Field). y.next) (e ∙ take_cut s p w h),
     λ h. let f = room_fits (length s) p w h in ap (λ (y : Field). rest s y.next) (e ∙ take_whole s p w f) ∙ rest_place s (at p + w) f.ends,
   )
 
-  pub take_there : x.next.bit ≤ 7 → (l : Bits) × (rest s x.next ≡ some l)
+  pub take_there : x.next.bit ≤ 7 → (l : Bits) × (rest s x.next ≡ Some l)
   take_there h = by_room (room (length s) p w) refl
     where
-      by_room : (t : Bool) → room (length s) p w ≡ t → (l : Bits) × (rest s x.next ≡ some l)
+      by_room : (t : Bool) → room (length s) p w ≡ t → (l : Bits) × (rest s x.next ≡ Some l)
       by_room true r = (_, take_cases.1 r)
       by_room false r = let z = ap (λ (q : Place). q.bit) (take_cases.0 r) in absurd (omega arith)
 
-  take_past : rest s x.next ≡ none → x.next ≡ past
+  take_past : rest s x.next ≡ None → x.next ≡ past
   take_past h = by_room (room (length s) p w) refl
     where
       by_room : (t : Bool) → room (length s) p w ≡ t → x.next ≡ past
@@ -332,28 +332,28 @@ module _ (s : List ℕ) (p : Place) {x : Flag} (e : x ≡ flag_at s p) where
   pub flag_as : {b : Bool} → x.value ≡ b → Reads flag s p b x.next
   flag_as h = rw (← h) (read_bit s p e)
 
-  flag_past : rest s x.next ≡ none → x.next ≡ past
+  flag_past : rest s x.next ≡ None → x.next ≡ past
   unfolding flag_at
   flag_past h = let z : x.next ≡ (taken_at s p 1).next = ap (λ (y : Flag). y.next) e in z ∙ take_past s p 1 refl (ap (rest s) (sym z) ∙ h)
 
   -- ---- rows
 
-  pub row_missing : x.value ≡ false → (none, x.next) ≡ row_at s p
+  pub row_missing : x.value ≡ false → (None, x.next) ≡ row_at s p
   row_missing h = by_rest (rest s x.next) refl
     where
-      r : Reads (optional row) s p none x.next
+      r : Reads (optional row) s p None x.next
       r = read_none row (flag_as h)
 
-      by_rest : (o : Option Bits) → rest s x.next ≡ o → (none, x.next) ≡ row_at s p
-      by_rest none z = ap (λ (q : Place). (none, q)) (flag_past z) ∙ sym (or_nowhere none (refused r z))
-      by_rest (some l) z = sym (or_there none z r)
+      by_rest : (o : Option Bits) → rest s x.next ≡ o → (None, x.next) ≡ row_at s p
+      by_rest None z = ap (λ (q : Place). (None, q)) (flag_past z) ∙ sym (or_nowhere None (refused r z))
+      by_rest (Some l) z = sym (or_there None z r)
 
   module _ {v : Field} (h : x.value ≡ true) (ev : v ≡ taken_at s x.next 32) where
-    pub row_cut : 7 < v.next.bit → (none, past) ≡ row_at s p
-    row_cut b = sym (or_nowhere none (refuse_some (flag_as h) (refused (read_field s x.next 32 ev) (far s v.next b))))
+    pub row_cut : 7 < v.next.bit → (None, past) ≡ row_at s p
+    row_cut b = sym (or_nowhere None (refuse_some (flag_as h) (refused (read_field s x.next 32 ev) (far s v.next b))))
 
-    pub row_given : v.next.bit ≤ 7 → (some v.value, v.next) ≡ row_at s p
-    row_given b = sym (or_there none (take_there s x.next 32 ev b).1 (read_some (flag_as h) (read_field s x.next 32 ev)))
+    pub row_given : v.next.bit ≤ 7 → (Some v.value, v.next) ≡ row_at s p
+    row_given b = sym (or_there None (take_there s x.next 32 ev b).1 (read_some (flag_as h) (read_field s x.next 32 ev)))
 
   -- ---- names
 
@@ -361,7 +361,7 @@ module _ (s : List ℕ) (p : Place) {x : Flag} (e : x ≡ flag_at s p) where
   unfolding name_at name_meaning
   name_missing h =
       record {
-        is = let z : (flag_at s p).value ≡ false = ap (λ (y : Flag). y.value) (sym e) ∙ h in rw z (ap (λ (y : Flag). (none, y.next)) e);
+        is = let z : (flag_at s p).value ≡ false = ap (λ (y : Flag). y.value) (sym e) ∙ h in rw z (ap (λ (y : Flag). (None, y.next)) e);
         within = λ start len z. absurd (no_name z);
         text = λ o k. sym (stands_is k (read_none text (flag_as h)));
       }
@@ -438,38 +438,38 @@ module _ (s : List ℕ) {a b c d e f : Field} (ea : a ≡ taken_at s start 32) (
 
 -- ---- dates
 
-pub date_missing : {s : List ℕ} {p : Place} → Refuses date s p → (none, past) ≡ date_at s p
+pub date_missing : {s : List ℕ} {p : Place} → Refuses date s p → (None, past) ≡ date_at s p
 unfolding day_number_of
 date_missing h = rw (read_nowhere h)
 
 module _ (s : List ℕ) (p : Place) {x : Int32} (e : x ≡ int32_at s p) where
-  pub date_cut : 7 < x.next.bit → (none, past) ≡ date_at s p
+  pub date_cut : 7 < x.next.bit → (None, past) ≡ date_at s p
   date_cut h = date_missing (by_date_lem (from_days x.value) refl)
     where
       by_date_lem : (o : Option Date) → from_days x.value ≡ o → Refuses date s p
-      by_date_lem none z = refuse_int32 s p e z
-      by_date_lem (some d) z = refused (read_int32 s p e z) (far s x.next h)
+      by_date_lem None z = refuse_int32 s p e z
+      by_date_lem (Some d) z = refused (read_int32 s p e z) (far s x.next h)
 
-  pub date_outside : given (from_days x.value) ≡ false → (none, past) ≡ date_at s p
+  pub date_outside : given (from_days x.value) ≡ false → (None, past) ≡ date_at s p
   date_outside h = by_date_lem (from_days x.value) refl h
     where
-      by_date_lem : (o : Option Date) → from_days x.value ≡ o → given o ≡ false → (none, past) ≡ date_at s p
-      by_date_lem none z k = date_missing (refuse_int32 s p e z)
-      by_date_lem (some d) z k = absurd (false≢true (sym k))
+      by_date_lem : (o : Option Date) → from_days x.value ≡ o → given o ≡ false → (None, past) ≡ date_at s p
+      by_date_lem None z k = date_missing (refuse_int32 s p e z)
+      by_date_lem (Some d) z k = absurd (false≢true (sym k))
 
-  pub date_given_lem : x.next.bit ≤ 7 → given (from_days x.value) ≡ true → (some x.value, x.next) ≡ date_at s p
+  pub date_given_lem : x.next.bit ≤ 7 → given (from_days x.value) ≡ true → (Some x.value, x.next) ≡ date_at s p
   unfolding day_number_of int32_at
   date_given_lem b h = by_date_lem (from_days x.value) refl h
     where
-      there : (l : Bits) × (rest s x.next ≡ some l)
+      there : (l : Bits) × (rest s x.next ≡ Some l)
       there =
           let z : x.next ≡ (taken_at s p 32).next = ap (λ (y : Int32). y.next) e in
           rw z (take_there s p 32 refl (rw z at b))
 
-      by_date_lem : (o : Option Date) → from_days x.value ≡ o → given o ≡ true → (some x.value, x.next) ≡ date_at s p
-      by_date_lem none z k = absurd (false≢true k)
-      by_date_lem (some d) z k =
-          let r : read_at date s p ≡ (some d, x.next) = read_there there.1 (read_int32 s p e z) in
+      by_date_lem : (o : Option Date) → from_days x.value ≡ o → given o ≡ true → (Some x.value, x.next) ≡ date_at s p
+      by_date_lem None z k = absurd (false≢true k)
+      by_date_lem (Some d) z k =
+          let r : read_at date s p ≡ (Some d, x.next) = read_there there.1 (read_int32 s p e z) in
           rw (r, (day_days x.value d z).0)
 
 -- the years of dates by document 01's numbers
@@ -482,11 +482,11 @@ years_by (pos n) = sym (by_late (leb n 2932896) refl)
     by_late false h = let l = leb-false n 2932896 h in rw (le-leb first_date (n + epoch) (omega arith), lt-leb (n + epoch) last_date (omega arith))
 years_by (negsuc n) = by_early (leb n 4371586) refl
   where
-    early : 4371586 < n → (t : Bool) → ltb n epoch ≡ t → given (if t then in_years (epoch - suc n) else none) ≡ false
+    early : 4371586 < n → (t : Bool) → ltb n epoch ≡ t → given (if t then in_years (epoch - suc n) else None) ≡ false
     early l true h = let k = ltb-true n epoch h in rw (lt-leb first_date (epoch - suc n) (omega arith))
     early l false h = refl
 
-    by_early : (t : Bool) → leb n 4371586 ≡ t → (t && true) ≡ given (if ltb n epoch then in_years (epoch - suc n) else none)
+    by_early : (t : Bool) → leb n 4371586 ≡ t → (t && true) ≡ given (if ltb n epoch then in_years (epoch - suc n) else None)
     by_early true h =
         let l = leb-true n 4371586 h in
         rw (lt-ltb n epoch (omega arith), le-leb first_date (epoch - suc n) (omega arith), le-leb (epoch - suc n) last_date (omega arith))
@@ -494,15 +494,15 @@ years_by (negsuc n) = by_early (leb n 4371586) refl
 
 -- ---- periods
 
-pub period_missing : {s : List ℕ} {p : Place} → Refuses period s p → (none, past) ≡ read_at period s p
+pub period_missing : {s : List ℕ} {p : Place} → Refuses period s p → (None, past) ≡ read_at period s p
 period_missing h = sym (read_nowhere h)
 
 module _ (s : List ℕ) (p : Place) {a b : Field} (ea : a ≡ taken_at s p 11) (eb : b ≡ taken_at s a.next 11) where
-  pub no_level : b.value ≤ a.value → (none, past) ≡ read_at period s p
+  pub no_level : b.value ≤ a.value → (None, past) ≡ read_at period s p
   no_level h = period_missing (level s p ea eb h (leb a.value most_time) refl)
 
-  pub no_late : most_time < b.value → (none, past) ≡ read_at period s p
+  pub no_late : most_time < b.value → (None, past) ≡ read_at period s p
   no_late h = period_missing (to_late s p ea eb h (leb a.value most_time) refl)
 
-  pub period_given : a.value < b.value → b.value ≤ most_time → (some (a.value, b.value), b.next) ≡ read_at period s p
+  pub period_given : a.value < b.value → b.value ≤ most_time → (Some (a.value, b.value), b.next) ≡ read_at period s p
   period_given h k = sym (read_there (take_there s a.next 11 eb (take_above s a.next 11 eb (omega arith))).1 (period_read s p ea eb h k))

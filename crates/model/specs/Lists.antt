@@ -3,7 +3,7 @@ use Rattle.std.specs.Prelude.{◌≡◌, Bool, true, false, length, drop}
 use Rattle.std.proofs.Math.Path.{refl, sym, ap}
 use Rattle.std.proofs.Common.{◌∙◌, arith, drop-drop}
 use mathlib.Core.List.{List, [], ◌∷◌}
-use Rattle.std.proofs.Math.Option.{Option, some, none}
+use Rattle.std.specs.Prelude.{Option, Some, None}
 use Prim.Native.Nat.{ℕ, zero, suc, ◌+◌, ◌-◌, ◌<◌}
 use Rattle.std.proofs.Math.Nat.{sub-zero}
 use Rattle.laws.specs.Options.{bind_assoc, bind_ext, never}
@@ -20,12 +20,12 @@ use Rattle.model.specs.Rising.{Finds}
 use Rattle.model.specs.Splits.{Stands, not_refused, stands_is, stands_first, stands_pass, read_stands, read_length, later, size, sized}
 
 -- from a place at which something stands there are bits
-pub stands_rest : {A : Type 0} {f : Format A} {s : List ℕ} {p : Place} {a : A} → Stands f s p a → (l : Bits) × (rest s p ≡ some l)
+pub stands_rest : {A : Type 0} {f : Format A} {s : List ℕ} {p : Place} {a : A} → Stands f s p a → (l : Bits) × (rest s p ≡ Some l)
 stands_rest {A} {f} {s} {p} {a} h = from (rest s p) refl
   where
-    from : (o : Option Bits) → rest s p ≡ o → (l : Bits) × (rest s p ≡ some l)
-    from none z = absurd (never (sym (ap (λ (o : Option Bits). o >>= f.get) z) ∙ h.gives))
-    from (some l) z = (l, z)
+    from : (o : Option Bits) → rest s p ≡ o → (l : Bits) × (rest s p ≡ Some l)
+    from None z = absurd (never (sym (ap (λ (o : Option Bits). o >>= f.get) z) ∙ h.gives))
+    from (Some l) z = (l, z)
 
 -- what a reader of items found is the item that stands there
 pub found_is : {A : Type 0} {f : Format A} {K : A → ℕ → Type 0} {s : List ℕ} {p : Place} {a : A} {x : Field} → Stands f s p a → Finds f K s p x → K a x.value
@@ -52,19 +52,19 @@ module _ {A : Type 0} (f : Format A) {s : List ℕ} {p : Place} {xs : List A} wh
       (bind_assoc (rest s p) (f ⊗ times n f).get consed ∙ bind_ext (rest s p) _ (get_all f (suc n)) (λ l. each (f.get l) ∙ sym (all_suc f n l)) ∙ h.gives)
     where
       consed : (A × List A) × Bits → Option (List A × Bits)
-      consed z = some (z.0.0 ∷ z.0.1, z.1)
+      consed z = Some (z.0.0 ∷ z.0.1, z.1)
 
-      inner : (a : A) (o : Option (List A × Bits)) → ◌≡◌ {A = Option (List A × Bits)} (o >>= (λ y. some ((a, y.0), y.1)) >>= consed) (o >>= λ y. some (a ∷ y.0, y.1))
-      inner a none = refl
-      inner a (some y) = refl
+      inner : (a : A) (o : Option (List A × Bits)) → ◌≡◌ {A = Option (List A × Bits)} (o >>= (λ y. Some ((a, y.0), y.1)) >>= consed) (o >>= λ y. Some (a ∷ y.0, y.1))
+      inner a None = refl
+      inner a (Some y) = refl
 
-      each : (o : Option (A × Bits)) → ◌≡◌ {A = Option (List A × Bits)} (o >>= (λ x. get_all f n x.1 >>= λ y. some ((x.0, y.0), y.1)) >>= consed) (o >>= λ x. get_all f n x.1 >>= λ y. some (x.0 ∷ y.0, y.1))
-      each none = refl
-      each (some x) = inner x.0 (get_all f n x.1)
+      each : (o : Option (A × Bits)) → ◌≡◌ {A = Option (List A × Bits)} (o >>= (λ x. get_all f n x.1 >>= λ y. Some ((x.0, y.0), y.1)) >>= consed) (o >>= λ x. get_all f n x.1 >>= λ y. Some (x.0 ∷ y.0, y.1))
+      each None = refl
+      each (Some x) = inner x.0 (get_all f n x.1)
 
-      by_value : (o : Option ((A × List A) × Bits)) → (rest s p >>= (f ⊗ times n f).get) ≡ o → (o >>= consed) ≡ some (xs, h.left_over) → First f s p n xs
-      by_value none z e = absurd (never e)
-      by_value (some x) z e =
+      by_value : (o : Option ((A × List A) × Bits)) → (rest s p >>= (f ⊗ times n f).get) ≡ o → (o >>= consed) ≡ Some (xs, h.left_over) → First f s p n xs
+      by_value None z e = absurd (never e)
+      by_value (Some x) z e =
           let w : ◌≡◌ {A = List A × Bits} (x.0.0 ∷ x.0.1, x.1) (xs, h.left_over) = cc in
           record { item = x.0.0; others = x.0.1; is = sym (ap (λ t. t.0) w); both = record { left_over = x.1; gives = z } }
 
@@ -73,8 +73,8 @@ module _ {A : Type 0} (f : Format A) {s : List ℕ} {p : Place} {xs : List A} wh
   unfolding times
   stands_length n h =
       let (l, z) = stands_rest h in
-      let g : get_all f n l ≡ some (xs, h.left_over) = sym (ap (λ (o : Option Bits). o >>= get_all f n) z) ∙ h.gives in
-      let w : some (length xs) ≡ some n = sym (ap (λ (o : Option (List A × Bits)). o >>= size) g) ∙ sized f n l ∙ ap (λ (o : Option (List A × Bits)). o >>= λ y. some n) g in
+      let g : get_all f n l ≡ Some (xs, h.left_over) = sym (ap (λ (o : Option Bits). o >>= get_all f n) z) ∙ h.gives in
+      let w : Some (length xs) ≡ Some n = sym (ap (λ (o : Option (List A × Bits)). o >>= size) g) ∙ sized f n l ∙ ap (λ (o : Option (List A × Bits)). o >>= λ y. Some n) g in
       cc
 
   -- the items behind the count
@@ -87,13 +87,13 @@ module _ {A : Type 0} (f : Format A) {s : List ℕ} {p : Place} {xs : List A} wh
       risen : List A × Bits → Option (List A × Bits)
       risen y = when (rises lt y.0) y
 
-      by_test : (t : Bool) (y : List A × Bits) → (rest s q >>= get_all f n) ≡ some y → when t y ≡ some (xs, h.left_over) → Stands (times n f) s q xs
+      by_test : (t : Bool) (y : List A × Bits) → (rest s q >>= get_all f n) ≡ Some y → when t y ≡ Some (xs, h.left_over) → Stands (times n f) s q xs
       by_test false y z e = absurd (never e)
       by_test true y z e = record { left_over = h.left_over; gives = z ∙ e }
 
-      by_items : (o : Option (List A × Bits)) → (rest s q >>= get_all f n) ≡ o → (o >>= risen) ≡ some (xs, h.left_over) → Stands (times n f) s q xs
-      by_items none z e = absurd (never e)
-      by_items (some y) z e = by_test (rises lt y.0) y z e
+      by_items : (o : Option (List A × Bits)) → (rest s q >>= get_all f n) ≡ o → (o >>= risen) ≡ Some (xs, h.left_over) → Stands (times n f) s q xs
+      by_items None z e = absurd (never e)
+      by_items (Some y) z e = by_test (rises lt y.0) y z e
 
 -- ---- a walk over a list's items
 
@@ -134,6 +134,6 @@ module _ {A : Type 0} {f : Format A} {s : List ℕ} {q : Place} {n i : ℕ} {xs 
   ahead_more {r} p = record { count = h.count; items = λ l. rw (← others) (stands_pass parted.both p) }
 
 -- the list was read, and the first i were passed over
-pub ahead_later : {A B : Type 0} {f : Format A} {g : Format B} {s : List ℕ} {p q end : Place} {l : Bits} {xs : List A} (n i : ℕ) → Lax g f → rest s end ≡ some l → Reads (times n f) s p xs end
+pub ahead_later : {A B : Type 0} {f : Format A} {g : Format B} {s : List ℕ} {p q end : Place} {l : Bits} {xs : List A} (n i : ℕ) → Lax g f → rest s end ≡ Some l → Reads (times n f) s p xs end
     → Passes (times i g) s p q → Ahead f s q n i xs
 ahead_later {f = f} n i a e h k = record { count = read_length f n e h; items = λ lt. read_stands e (later i a e h (omega arith) k) }

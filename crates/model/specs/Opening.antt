@@ -2,7 +2,7 @@
 use Rattle.std.specs.Prelude.{if◌then◌else◌, ◌≡◌, refl, Bool, true, false, ◌&&◌, List, [], ◌∷◌, ℕ, ◌-◌, ◌*◌, ◌%◌, length, drop, eqb}
 use Rattle.std.proofs.Common.{sym, ap, ◌∙◌, arith, eqb-true, eq-eqb}
 use Rattle.std.proofs.lemmas.Bool.{false≢true}
-use Rattle.std.proofs.Math.Option.{Option, some, none}
+use Rattle.std.specs.Prelude.{Option, Some, None}
 use Rattle.laws.specs.Bools.{both}
 use Rattle.laws.specs.Options.{bind_assoc, never}
 use Rattle.definition.specs.Base.{◌>>=◌}
@@ -28,35 +28,35 @@ no_bits : (l : Bits) → length l ≡ 0 → l ≡ []
 no_bits [] e = refl
 no_bits (b ∷ l) e = absurd (omega arith)
 
-rest_length : (s : List ℕ) (q : Place) {l : Bits} → rest s q ≡ some l → length l ≡ 8 * length s - at q
+rest_length : (s : List ℕ) (q : Place) {l : Bits} → rest s q ≡ Some l → length l ≡ 8 * length s - at q
 rest_length s q {l} e =
-    let z : some (drop (at q) (bits_of s)) ≡ some l = sym (rest_in s q (rest_fits s q e)) ∙ e in
+    let z : Some (drop (at q) (bits_of s)) ≡ Some l = sym (rest_in s q (rest_fits s q e)) ∙ e in
     let w : drop (at q) (bits_of s) ≡ l = cc in
     ap length (sym w) ∙ length_rest s (at q)
 
 -- nothing is left at the end alone
 module _ (s : List ℕ) (q : Place) where
-  pub end_bit : rest s q ≡ some [] → q.bit ≡ 0
+  pub end_bit : rest s q ≡ Some [] → q.bit ≡ 0
   end_bit e = let f = rest_fits s q e in let n = rest_length s q e in omega (arith, f.bit, f.ends)
 
-  pub end_byte : rest s q ≡ some [] → q.byte ≡ length s
+  pub end_byte : rest s q ≡ Some [] → q.byte ≡ length s
   end_byte e = let f = rest_fits s q e in let n = rest_length s q e in omega (arith, f.bit, f.ends)
 
-  pub at_end_lem : q.bit ≡ 0 → q.byte ≡ length s → rest s q ≡ some []
+  pub at_end_lem : q.bit ≡ 0 → q.byte ≡ length s → rest s q ≡ Some []
   at_end_lem b e =
       let f : Fits (length s) q 0 = record { bit = omega arith; ends = omega arith } in
-      rest_in s q f ∙ ap some (no_bits (drop (at q) (bits_of s)) (length_rest s (at q) ∙ omega arith))
+      rest_in s q f ∙ ap Some (no_bits (drop (at q) (bits_of s)) (length_rest s (at q) ∙ omega arith))
 
 -- a place where whole bytes are left
-bytewise_place : (s : List ℕ) (q : Place) {l : Bits} → rest s q ≡ some l → Bytewise s q → q ≡ byte_at q.byte
+bytewise_place : (s : List ℕ) (q : Place) {l : Bits} → rest s q ≡ Some l → Bytewise s q → q ≡ byte_at q.byte
 bytewise_place s q {l} e b = let f = rest_fits s q e in byte_place s q e (omega (arith, rest_length s q e, b l e, f.bit, f.ends))
 
 -- ---- the model
 
 abbrev to_model : Body × Bits → Option (Model × Bits)
-to_model b = some (model_from b.0, b.1)
+to_model b = Some (model_from b.0, b.1)
 
-start_rest : (s : List ℕ) → rest s start ≡ some (bits_of s)
+start_rest : (s : List ℕ) → rest s start ≡ Some (bits_of s)
 start_rest s = rest_in s start {w = 0} (record { bit = omega arith; ends = omega arith })
 
 decode_on : {s : List ℕ} {k : CountsOf} {q : Place} → Reads counts s start k q → decode s ≡ at_end (rest s q >>= λ l. (body k).get l >>= to_model)
@@ -75,19 +75,19 @@ module _ {s : List ℕ} {n : Counts} {w : Places} (k : (counts_in n, n.next) ≡
 
   -- ---- it does not end where the bytes end
 
-  unended : (rest s w.end ≡ some [] → ⊥) → decode s ≡ none
+  unended : (rest s w.end ≡ Some [] → ⊥) → decode s ≡ None
   unended n-end = decode_on c ∙ by_body (told passes_body)
     where
-      left_over : (b : Body) (l : Bits) → rest s w.end ≡ some l → at_end {A = Model} (some (model_from b, l)) ≡ none
+      left_over : (b : Body) (l : Bits) → rest s w.end ≡ Some l → at_end {A = Model} (Some (model_from b, l)) ≡ None
       left_over b [] e = absurd (n-end e)
       left_over b (x ∷ l) e = refl
 
-      by_body : Told (body (counts_in n)) s n.next w.end → at_end (rest s n.next >>= λ l. (body (counts_in n)).get l >>= to_model) ≡ none
+      by_body : Told (body (counts_in n)) s n.next w.end → at_end (rest s n.next >>= λ l. (body (counts_in n)).get l >>= to_model) ≡ None
       by_body (refusing r z) = ap at_end (sym (bind_assoc (rest s n.next) (body (counts_in n)).get to_model) ∙ ap (λ (o : Option (Body × Bits)). o >>= to_model) r.gives)
       by_body (reading b l e r) =
           ap at_end (chain {f = body (counts_in n)} to_model r ∙ ap (λ (o : Option Bits). o >>= λ m. to_model (b, m)) e) ∙ left_over b l e
 
-  open_refused : (rest s w.end ≡ some [] → ⊥) → Opens s Opened.NoModel
+  open_refused : (rest s w.end ≡ Some [] → ⊥) → Opens s Opened.NoModel
   open_refused n-end =
       let e = unended n-end in
       record { number = rw e; model = λ r z. absurd (never_model z); refused = λ z. e }
@@ -112,11 +112,11 @@ module _ {s : List ℕ} {n : Counts} {w : Places} (k : (counts_in n, n.next) ≡
   bytes_assignments : Bytewise s w.assignments
   bytes_assignments = bytewise_all resource n.resources bytes_resources h.resources
 
-  holds : {A : Type 0} (f : Format A) {p q : Place} {l : Bits} {xs : List A} (k : ℕ) → rest s q ≡ some l → p ≡ byte_at p.byte → q ≡ byte_at q.byte
+  holds : {A : Type 0} (f : Format A) {p q : Place} {l : Bits} {xs : List A} (k : ℕ) → rest s q ≡ Some l → p ≡ byte_at p.byte → q ≡ byte_at q.byte
       → Reads (times k (whole f)) s p xs q → Holds f s (record { count = k; at = p.byte }) xs q.byte
   holds f {q = q} k e ep eq r = record { count = read_length (whole f) k e r; reads = rw (← ep, ← eq) r; ends = omega (arith, (rest_fits s q e).ends) }
 
-  parts : (b : Body) → rest s w.end ≡ some [] → Reads (body (counts_in n)) s n.next b w.end → Decoded s (model_from b) (sections_of n w)
+  parts : (b : Body) → rest s w.end ≡ Some [] → Reads (body (counts_in n)) s n.next b w.end → Decoded s (model_from b) (sections_of n w)
   unfolding body
   parts b e r =
       let t0 = split-⊗ e r h.project in
@@ -151,7 +151,7 @@ module _ {s : List ℕ} {n : Counts} {w : Places} (k : (counts_in n, n.next) ≡
   open_done : w.end.bit ≡ 0 → w.end.byte ≡ length s → Opens s (Opened.Model (sections_of n w))
   open_done b y = by_body (told passes_body)
     where
-      e : rest s w.end ≡ some []
+      e : rest s w.end ≡ Some []
       e = at_end_lem s w.end b y
 
       never_none : Opened.Model (sections_of n w) ≡ Opened.NoModel → ⊥
@@ -160,7 +160,7 @@ module _ {s : List ℕ} {n : Counts} {w : Places} (k : (counts_in n, n.next) ≡
       by_body : Told (body (counts_in n)) s n.next w.end → Opens s (Opened.Model (sections_of n w))
       by_body (refusing r z) = absurd (never (sym z ∙ e))
       by_body (reading b l z r) =
-          let d : decode s ≡ some (model_from b) =
+          let d : decode s ≡ Some (model_from b) =
           decode_on c ∙ ap at_end (chain {f = body (counts_in n)} to_model r ∙ ap (λ (o : Option Bits). o >>= λ m. to_model (b, m)) e) in
           record {
             number = rw d;
@@ -170,7 +170,7 @@ module _ {s : List ℕ} {n : Counts} {w : Places} (k : (counts_in n, n.next) ≡
 
   -- ---- either way
 
-  ended : (eqb w.end.bit 0 && eqb w.end.byte (length s)) ≡ true → rest s w.end ≡ some []
+  ended : (eqb w.end.bit 0 && eqb w.end.byte (length s)) ≡ true → rest s w.end ≡ Some []
   ended e =
       let k = both (eqb w.end.bit 0) (eqb w.end.byte (length s)) e in
       at_end_lem s w.end (eqb-true w.end.bit 0 k.0) (eqb-true w.end.byte (length s) k.1)

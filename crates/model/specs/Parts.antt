@@ -1,7 +1,7 @@
 -- The records' formats by their parts, as the functions go over them: with texts that are tested for UTF-8, or with any bytes for texts, since a
 -- model that was decoded needs no test again. Assumes nothing.
 use Rattle.std.specs.Prelude.{if◌then◌else◌, ◌≡◌, Bool, true, false, List, ◌++◌, ℕ, ◌*◌, ltb, ℤ, length, drop}
-use Rattle.std.proofs.Math.Option.{Option, some, none}
+use Rattle.std.specs.Prelude.{Option, Some, None}
 use Rattle.definition.specs.Base.{◌>>=◌, when}
 use Rattle.definition.specs.Bits.{Bits, bits_of, bytes_up_to}
 use Rattle.definition.specs.Text.{Text, is_utf8}
@@ -17,7 +17,7 @@ use Rattle.model.specs.declared.records.Kind.TheVariants.{Calendars, Activities,
 unfoldable pub raw : Format Text
 raw = record {
   put = λ n s. (whole count).put n (length s) ++ bits_of s;
-  get = λ l. (whole count).get l >>= λ x. if ltb (length x.1) (8 * x.0) then none else some (bytes_up_to x.0 x.1, drop (8 * x.0) x.1);
+  get = λ l. (whole count).get l >>= λ x. if ltb (length x.1) (8 * x.0) then None else Some (bytes_up_to x.0 x.1, drop (8 * x.0) x.1);
 }
 
 unfoldable pub text_by : Bool → Format Text
@@ -77,21 +77,21 @@ lax_raw : Lax raw text
 unfolding raw text
 lax_raw = record { lax = λ l m e. by_count ((whole count).get l) m e }
   where
-    by_utf8 : (s : Text) (l : Bits) (t : Bool) (m : Bits) → behind {A = Text} (when t (s, l)) ≡ some m → some l ≡ some m
+    by_utf8 : (s : Text) (l : Bits) (t : Bool) (m : Bits) → behind {A = Text} (when t (s, l)) ≡ Some m → Some l ≡ Some m
     by_utf8 s l true m e = e
     by_utf8 s l false m e = cc
 
     by_room : (x : ℕ × Bits) (t : Bool) (m : Bits)
-        → behind {A = Text} (if t then none else when (is_utf8 (bytes_up_to x.0 x.1)) (bytes_up_to x.0 x.1, drop (8 * x.0) x.1)) ≡ some m
-        → behind {A = Text} (if t then none else some (bytes_up_to x.0 x.1, drop (8 * x.0) x.1)) ≡ some m
+        → behind {A = Text} (if t then None else when (is_utf8 (bytes_up_to x.0 x.1)) (bytes_up_to x.0 x.1, drop (8 * x.0) x.1)) ≡ Some m
+        → behind {A = Text} (if t then None else Some (bytes_up_to x.0 x.1, drop (8 * x.0) x.1)) ≡ Some m
     by_room x true m e = e
     by_room x false m e = by_utf8 (bytes_up_to x.0 x.1) (drop (8 * x.0) x.1) (is_utf8 (bytes_up_to x.0 x.1)) m e
 
     by_count : (o : Option (ℕ × Bits)) (m : Bits)
-        → behind {A = Text} (o >>= λ x. if ltb (length x.1) (8 * x.0) then none else when (is_utf8 (bytes_up_to x.0 x.1)) (bytes_up_to x.0 x.1, drop (8 * x.0) x.1)) ≡ some m
-        → behind {A = Text} (o >>= λ x. if ltb (length x.1) (8 * x.0) then none else some (bytes_up_to x.0 x.1, drop (8 * x.0) x.1)) ≡ some m
-    by_count none m e = e
-    by_count (some x) m e = by_room x (ltb (length x.1) (8 * x.0)) m e
+        → behind {A = Text} (o >>= λ x. if ltb (length x.1) (8 * x.0) then None else when (is_utf8 (bytes_up_to x.0 x.1)) (bytes_up_to x.0 x.1, drop (8 * x.0) x.1)) ≡ Some m
+        → behind {A = Text} (o >>= λ x. if ltb (length x.1) (8 * x.0) then None else Some (bytes_up_to x.0 x.1, drop (8 * x.0) x.1)) ≡ Some m
+    by_count None m e = e
+    by_count (Some x) m e = by_room x (ltb (length x.1) (8 * x.0)) m e
 
 pub lax_text : (check : Bool) → Lax (text_by check) text
 unfolding text_by

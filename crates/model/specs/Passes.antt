@@ -3,7 +3,7 @@
 use Rattle.std.specs.Prelude.{◌≡◌, refl, Bool, true, false, List, [], ℕ, ◌+◌, ◌-◌, ◌%◌, ◌≤◌, length}
 use Rattle.std.proofs.Math.Path.{sym, ap}
 use Rattle.std.proofs.Common.{◌∙◌, arith}
-use Rattle.std.proofs.Math.Option.{Option, some, none}
+use Rattle.std.specs.Prelude.{Option, Some, None}
 use Rattle.laws.specs.Options.{bind_assoc, bind_ext, bind_some, some_is}
 use Rattle.definition.specs.Base.{◌>>=◌}
 use Rattle.definition.specs.Bits.{Bits}
@@ -18,16 +18,16 @@ pub record Passes {A : Type 0} (f : Format A) (s : List ℕ) (p q : Place) : Typ
 
 module _ {A : Type 0} {f : Format A} {s : List ℕ} {p q : Place} where
   pub pass_read : {a : A} → Reads f s p a q → Passes f s p q
-  pass_read h = record { passes = chain {f = f} (λ x. some x.1) h ∙ bind_some (rest s q) }
+  pass_read h = record { passes = chain {f = f} (λ x. Some x.1) h ∙ bind_some (rest s q) }
 
-  pub pass_refused : Refuses f s p → rest s q ≡ none → Passes f s p q
+  pub pass_refused : Refuses f s p → rest s q ≡ None → Passes f s p q
   pass_refused h e =
-      let k : A × Bits → Option Bits = λ x. some x.1 in
+      let k : A × Bits → Option Bits = λ x. Some x.1 in
       record { passes = sym (bind_assoc (rest s p) f.get k) ∙ ap (λ (o : Option (A × Bits)). o >>= k) h.gives ∙ sym e }
 
   forgotten : Passes f s p q → Reads (passed f) s p tt q
   unfolding passed
-  forgotten h = record { reads = sym (bind_assoc (rest s p) (left f) (λ r. some (tt, r))) ∙ ap (λ (o : Option Bits). o >>= λ r. some (tt, r)) h.passes }
+  forgotten h = record { reads = sym (bind_assoc (rest s p) (left f) (λ r. Some (tt, r))) ∙ ap (λ (o : Option Bits). o >>= λ r. Some (tt, r)) h.passes }
 
 pub pass_like : {A B : Type 0} {f : Format A} {g : Format B} {s : List ℕ} {p q : Place} → Like f g → Passes f s p q → Passes g s p q
 pass_like {f = f} {g = g} {s} {p} k h = record { passes = bind_ext (rest s p) (left g) (left f) (λ l. sym (k.like l)) ∙ h.passes }
@@ -38,18 +38,18 @@ pass_as {f = f} e h = rw e (pass_like (like_back (like_passed f)) h)
 -- ---- what a place behind a value tells
 
 pub data Told {A : Type 0} (f : Format A) (s : List ℕ) (p q : Place) : Type 0 where
-  refusing : Refuses f s p → rest s q ≡ none → Told f s p q
-  reading : (a : A) (l : Bits) → rest s q ≡ some l → Reads f s p a q → Told f s p q
+  refusing : Refuses f s p → rest s q ≡ None → Told f s p q
+  reading : (a : A) (l : Bits) → rest s q ≡ Some l → Reads f s p a q → Told f s p q
 
 pub told : {A : Type 0} {f : Format A} {s : List ℕ} {p q : Place} → Passes f s p q → Told f s p q
 told {A} {f} {s} {p} {q} h = told_if (rest s p >>= f.get) refl
   where
-    ends : (o : Option (A × Bits)) → (rest s p >>= f.get) ≡ o → rest s q ≡ (o >>= λ x. some x.1)
-    ends o e = sym h.passes ∙ sym (bind_assoc (rest s p) f.get (λ x. some x.1)) ∙ ap (λ (o : Option (A × Bits)). o >>= λ x. some x.1) e
+    ends : (o : Option (A × Bits)) → (rest s p >>= f.get) ≡ o → rest s q ≡ (o >>= λ x. Some x.1)
+    ends o e = sym h.passes ∙ sym (bind_assoc (rest s p) f.get (λ x. Some x.1)) ∙ ap (λ (o : Option (A × Bits)). o >>= λ x. Some x.1) e
 
     told_if : (o : Option (A × Bits)) → (rest s p >>= f.get) ≡ o → Told f s p q
-    told_if none e = refusing (record { gives = e }) (ends none e)
-    told_if (some x) e = let z : rest s q ≡ some x.1 = ends (some x) e in reading x.0 x.1 z (record { reads = e ∙ rw z })
+    told_if None e = refusing (record { gives = e }) (ends None e)
+    told_if (Some x) e = let z : rest s q ≡ Some x.1 = ends (Some x) e in reading x.0 x.1 z (record { reads = e ∙ rw z })
 
 -- ---- the readers' laws, with the values forgotten
 
@@ -96,7 +96,7 @@ module _ {A : Type 0} (f : Format A) where
         by_told (reading a l z t) = pass_read (read_more f k (items k h).1 t)
 
     -- nothing stands behind an item that is refused
-    pub pass_cut : (k n : ℕ) → k ≤ n → Passes (times k f) s p q → rest s q ≡ none → Passes (times n f) s p q
+    pub pass_cut : (k n : ℕ) → k ≤ n → Passes (times k f) s p q → rest s q ≡ None → Passes (times n f) s p q
     pass_cut k n le h e =
         let m = n - k in
         let z : n ≡ k + m = omega arith in
@@ -106,19 +106,19 @@ module _ {A : Type 0} (f : Format A) where
 pub lax_pass : {A B : Type 0} {f : Format A} {g : Format B} {s : List ℕ} {p q : Place} → Lax g f → (Refuses f s p → ⊥) → Passes g s p q → Passes f s p q
 lax_pass {A} {f = f} {g = g} {s} {p} {q} a n h = by_start (rest s p) refl
   where
-    none_there : (o : Option Bits) → rest s p ≡ o → (o >>= f.get) ≡ none → ⊥
+    none_there : (o : Option Bits) → rest s p ≡ o → (o >>= f.get) ≡ None → ⊥
     none_there o z e = n (record { gives = ap (λ (o : Option Bits). o >>= f.get) z ∙ e })
 
-    by_value : (l : Bits) → rest s p ≡ some l → (o : Option (A × Bits)) → f.get l ≡ o → Passes f s p q
-    by_value l z none e = absurd (none_there (some l) z e)
-    by_value l z (some x) e =
-        let u : left f l ≡ some x.1 = ap (λ (o : Option (A × Bits)). o >>= λ y. some y.1) e in
-        let v : left g l ≡ some x.1 = a.lax l x.1 u in
+    by_value : (l : Bits) → rest s p ≡ Some l → (o : Option (A × Bits)) → f.get l ≡ o → Passes f s p q
+    by_value l z None e = absurd (none_there (Some l) z e)
+    by_value l z (Some x) e =
+        let u : left f l ≡ Some x.1 = ap (λ (o : Option (A × Bits)). o >>= λ y. Some y.1) e in
+        let v : left g l ≡ Some x.1 = a.lax l x.1 u in
         record { passes = ap (λ (o : Option Bits). o >>= left f) z ∙ u ∙ sym v ∙ ap (λ (o : Option Bits). o >>= left g) (sym z) ∙ h.passes }
 
     by_start : (o : Option Bits) → rest s p ≡ o → Passes f s p q
-    by_start none z = absurd (none_there none z refl)
-    by_start (some l) z = by_value l z (f.get l) refl
+    by_start None z = absurd (none_there None z refl)
+    by_start (Some l) z = by_value l z (f.get l) refl
 
 -- ---- a whole is made of the parts that stand between its places
 
@@ -126,19 +126,19 @@ pub same_rest : {A : Type 0} {f : Format A} {s : List ℕ} {p q r : Place} → P
 same_rest h i = sym h.passes ∙ i.passes
 
 -- nothing stands behind nothing
-pub stood : {A : Type 0} {f : Format A} {s : List ℕ} {p q : Place} {l : Bits} → rest s q ≡ some l → Passes f s p q → (m : Bits) × (rest s p ≡ some m)
+pub stood : {A : Type 0} {f : Format A} {s : List ℕ} {p q : Place} {l : Bits} → rest s q ≡ Some l → Passes f s p q → (m : Bits) × (rest s p ≡ Some m)
 stood {f = f} {s} {p} {q} {l} e h = from (rest s p) refl
   where
-    from : (o : Option Bits) → rest s p ≡ o → (m : Bits) × (rest s p ≡ some m)
-    from none z =
-        let x : none ≡ some l = sym (ap (λ (o : Option Bits). o >>= left f) z) ∙ h.passes ∙ e in
+    from : (o : Option Bits) → rest s p ≡ o → (m : Bits) × (rest s p ≡ Some m)
+    from None z =
+        let x : None ≡ Some l = sym (ap (λ (o : Option Bits). o >>= left f) z) ∙ h.passes ∙ e in
         let n : ◌≡◌ {A = ℕ} 0 1 = cc in
         absurd (omega arith)
-    from (some m) z = (m, z)
+    from (Some m) z = (m, z)
 
 -- a place behind whole records, if it is one: whole bytes are left there
 abbrev pub Bytewise : List ℕ → Place → Type 0
-Bytewise s p = (l : Bits) → rest s p ≡ some l → length l % 8 ≡ 0
+Bytewise s p = (l : Bits) → rest s p ≡ Some l → length l % 8 ≡ 0
 
 module _ {A : Type 0} (f : Format A) {s : List ℕ} {p q : Place} where
   pub bytewise : Passes (whole f) s p q → Bytewise s q

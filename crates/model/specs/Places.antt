@@ -2,7 +2,7 @@
 -- reader answered there, to the field of the record. Assumes nothing.
 use Rattle.std.specs.Prelude.{◌≡◌, refl, Bool, true, false, List, ℕ, ◌+◌, ◌%◌, ◌≤◌, length, take, drop}
 use Rattle.std.proofs.Common.{sym, ap, ◌∙◌}
-use Rattle.std.proofs.Math.Option.{Option, some}
+use Rattle.std.specs.Prelude.{Option, Some}
 use Rattle.definition.specs.Base.{◌>>=◌}
 use Rattle.definition.specs.Text.{Text, is_utf8}
 use Rattle.definition.specs.Calendar.{by_date}
@@ -30,7 +30,7 @@ abbrev pub text_in : List ℕ → ℕ × ℕ → Text
 text_in s x = take x.1 (drop x.0 s)
 
 abbrev pub name_in : List ℕ → Option (ℕ × ℕ) → Option Text
-name_in s o = o >>= λ x. some (text_in s x)
+name_in s o = o >>= λ x. Some (text_in s x)
 
 -- a flag, and where the text behind it stands if it is set; where an optional text stands, it is that
 pub record NameTaken (s : List ℕ) (p : Place) (r : NameField) : Type 0 where
@@ -55,10 +55,10 @@ text_is {s} {p} {x} {t} h i = by_utf8 (is_utf8 (text_in s (x.start, x.len))) ref
     by_utf8 false e = absurd (not_refused h (i.refuses e))
 
 -- an optional text whose flag is set
-pub name_is : {s : List ℕ} {p q : Place} {x : Span} {o : Option Text} → Stands (optional text) s p o → Reads flag s p true q → Spans s q x → o ≡ some (text_in s (x.start, x.len))
+pub name_is : {s : List ℕ} {p q : Place} {x : Span} {o : Option Text} → Stands (optional text) s p o → Reads flag s p true q → Spans s q x → o ≡ Some (text_in s (x.start, x.len))
 name_is {s} {p} {q} {x} {o} h f i = by_utf8 (is_utf8 (text_in s (x.start, x.len))) refl
   where
-    by_utf8 : (b : Bool) → is_utf8 (text_in s (x.start, x.len)) ≡ b → o ≡ some (text_in s (x.start, x.len))
+    by_utf8 : (b : Bool) → is_utf8 (text_in s (x.start, x.len)) ≡ b → o ≡ Some (text_in s (x.start, x.len))
     by_utf8 true e = sym (stands_is h (read_some f (i.reads e)))
     by_utf8 false e = absurd (not_refused h (refuse_some f (i.refuses e)))
 

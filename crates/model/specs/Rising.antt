@@ -4,7 +4,7 @@ use Rattle.std.proofs.Math.Path.{refl, sym, ap}
 use Rattle.std.proofs.Common.{◌∙◌, lt-ltb, le-ltb, ltb-true, ltb-false, eqb-true}
 use Rattle.std.proofs.Math.Bool.{true, false, and-true, and_assoc}
 use mathlib.Core.List.{List, [], ◌∷◌, ◌++◌, append_assoc}
-use Rattle.std.proofs.Math.Option.{Option, some, none}
+use Rattle.std.specs.Prelude.{Option, Some, None}
 use Prim.Native.Nat.{ℕ, zero, suc, ◌+◌, ◌-◌, ◌/◌, ◌%◌, ◌≤◌, ◌<◌}
 use native.Mathlib.Omega.{arith}
 use Rattle.std.proofs.lemmas.Bool.{eqb-false}
@@ -29,7 +29,7 @@ pub record Found {A : Type 0} (f : Format A) (K : A → ℕ → Type 0) (s : Lis
 pub record Finds {A : Type 0} (f : Format A) (K : A → ℕ → Type 0) (s : List ℕ) (p : Place) (x : Field) : Type 0 where
   pub found : 0 < x.value → Found f K s p x.value x.next
   pub refuses : x.value ≡ 0 → Refuses f s p
-  pub past : x.value ≡ 0 → rest s x.next ≡ none
+  pub past : x.value ≡ 0 → rest s x.next ≡ None
 
 -- ---- the items: periods, by from and then by to; days, with their periods or without
 
@@ -102,13 +102,13 @@ module _ {A : Type 0} (lt : A → A → Bool) where
       let o : Option (List A × Bits) → Option (List A × Bits) = λ o. o >>= j in
       record { gives = chain {f = count} g h ∙ sym (bind_assoc (rest s q) (get_all f n) j) ∙ ap (λ (n : ℕ). rest s q >>= get_all f n >>= j) z ∙ ap o (read_on f k m i) ∙ falls m (rest s r) }
     where
-      more : (o : Option (List A × Bits)) → (o >>= onto xs >>= λ y. when (rises lt y.0) y) ≡ none
-      more none = refl
-      more (some y) = rw (rises_not xs y.0 e)
+      more : (o : Option (List A × Bits)) → (o >>= onto xs >>= λ y. when (rises lt y.0) y) ≡ None
+      more None = refl
+      more (Some y) = rw (rises_not xs y.0 e)
 
-      falls : (m : ℕ) (o : Option Bits) → (o >>= (λ l. get_all f m l >>= onto xs) >>= λ y. when (rises lt y.0) y) ≡ none
-      falls m none = refl
-      falls m (some l) = more (get_all f m l)
+      falls : (m : ℕ) (o : Option Bits) → (o >>= (λ l. get_all f m l >>= onto xs) >>= λ y. when (rises lt y.0) y) ≡ None
+      falls m None = refl
+      falls m (Some l) = more (get_all f m l)
 
 -- k items were read from q₀ on and rise; the next one rises too if its number is above `last`
 pub record Rose {A : Type 0} (lt : A → A → Bool) (f : Format A) (K : A → ℕ → Type 0) (s : List ℕ) (q₀ : Place) (k last : ℕ) (q : Place) : Type 0 where

@@ -1,7 +1,7 @@
 -- What the decoding pass answers: whether the bytes are a model, and where its sections stand. Assumes nothing.
 use Rattle.std.specs.Prelude.{if◌then◌else◌, ◌≡◌, true, ◌&&◌, List, ℕ, ◌+◌, ◌-◌, ◌*◌, ◌%◌, ◌≤◌, ◌<◌, length, drop, eqb, ltb}
 use Rattle.std.proofs.Common.{◌∙◌, arith}
-use Rattle.std.proofs.Math.Option.{some, none}
+use Rattle.std.specs.Prelude.{Some, None}
 use Rattle.std.proofs.Math.Nat.{sub-zero}
 use Rattle.definition.specs.Base.{given}
 use Rattle.definition.specs.Bits.{Bits, bits_of}
@@ -119,26 +119,26 @@ opened_number Opened.NoModel = 6
 -- bytes that decode, and the sections of the model
 pub record Sectioned (s : List ℕ) (r : Sections) : Type 0 where
   pub model : Model
-  pub decodes : decode s ≡ some model
+  pub decodes : decode s ≡ Some model
   pub sections : Decoded s model r
 
 -- the answer: the sections if the bytes decode; else that they do not
 pub record Opens (s : List ℕ) (o : Opened) : Type 0 where
   pub number : opened_number o ≡ (if given (decode s) then 0 else 6)
   pub model : (r : Sections) → o ≡ Opened.Model r → Sectioned s r
-  pub refused : o ≡ Opened.NoModel → decode s ≡ none
+  pub refused : o ≡ Opened.NoModel → decode s ≡ None
 
 -- ---- laws for who walks a section
 
 -- a place of a record that is there is a whole byte
-pub byte_place : (s : List ℕ) (q : Place) {l : Bits} → rest s q ≡ some l → q.bit % 8 ≡ 0 → q ≡ byte_at q.byte
+pub byte_place : (s : List ℕ) (q : Place) {l : Bits} → rest s q ≡ Some l → q.bit % 8 ≡ 0 → q ≡ byte_at q.byte
 byte_place s q e h =
     let f = rest_fits s q e in
     let z : q.bit ≡ 0 = omega (arith, f.bit) in
     rw z
 
 -- a byte up to the end is a place
-pub byte_rest : (s : List ℕ) (n : ℕ) → n ≤ length s → rest s (byte_at n) ≡ some (drop (8 * n) (bits_of s))
+pub byte_rest : (s : List ℕ) (n : ℕ) → n ≤ length s → rest s (byte_at n) ≡ Some (drop (8 * n) (bits_of s))
 byte_rest s n h =
     let f : Fits (length s) (byte_at n) 0 = record { bit = omega arith; ends = omega arith } in
     let e : 8 * n + 0 ≡ 8 * n = omega arith in

@@ -2,7 +2,7 @@
 use mathlib.Core.Path.{◌≡◌, refl, sym, ap, ◌∙◌}
 use mathlib.Core.Bool.{Bool, false}
 use mathlib.Core.List.{List}
-use mathlib.Core.Option.{Option, some, none}
+use Rattle.std.specs.Prelude.{Option, Some, None}
 use Prim.Native.Nat.{ℕ, ◌≤◌}
 use native.Mathlib.Omega.{arith}
 use lib.ListN.{length}
@@ -26,7 +26,7 @@ use Rattle.model.specs.declared.records.Kind.TheVariants.{Calendars, Activities,
 use Rattle.model_check.specs.Keys.{Key, same_key, lead_of, KeyAt, Keyed}
 
 -- no bits
-no_bits : (l : Bits) → (field 0).get l ≡ some (0, l)
+no_bits : (l : Bits) → (field 0).get l ≡ Some (0, l)
 unfolding field dec
 no_bits l = rw (le-leb 0 (length l) (omega arith))
 
@@ -35,11 +35,11 @@ pub led : {s : List ℕ} {p : Place} {t : Text} → Stands text s p t → KeyAt 
 led {s} {p} {t} h = record { row = by_rest (rest s p) refl; name = λ i. record { left_over = h.left_over; gives = ap (λ (o : Option Bits). o >>= text.get) (sym (stays i)) ∙ h.gives } }
   where
     stays : {q : Place} → Passes (field 0) s p q → rest s p ≡ rest s q
-    stays {q} i = sym (bind_some (rest s p)) ∙ bind_ext (rest s p) (λ l. some l) (left (field 0)) (λ l. rw (no_bits l)) ∙ i.passes
+    stays {q} i = sym (bind_some (rest s p)) ∙ bind_ext (rest s p) (λ l. Some l) (left (field 0)) (λ l. rw (no_bits l)) ∙ i.passes
 
     by_rest : (o : Option Bits) → rest s p ≡ o → Stands (field 0) s p 0
-    by_rest none e = absurd (not_refused h (after_end text e))
-    by_rest (some l) e = record { left_over = l; gives = rw e (no_bits l) }
+    by_rest None e = absurd (not_refused h (after_end text e))
+    by_rest (Some l) e = record { left_over = l; gives = rw e (no_bits l) }
 
 module _ {s : List ℕ} where
   pub calendar_key : Keyed Calendars s (λ (c : Calendar). (0, c.name))

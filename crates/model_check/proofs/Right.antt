@@ -2,7 +2,7 @@
 use mathlib.Core.Path.{◌≡◌, refl, ap, ◌∙◌}
 use mathlib.Core.Bool.{Bool, true, not}
 use mathlib.Core.List.{List, [], ◌∷◌, map}
-use mathlib.Core.Option.{Option, none}
+use Rattle.std.specs.Prelude.{Option, None}
 use Prim.Native.Nat.{ℕ}
 use Rattle.definition.specs.Base.{some?}
 use Rattle.definition.specs.Text.{Text}
@@ -28,7 +28,7 @@ use Rattle.model_check.specs.Rules.{rows_below, right_of}
 -- ---- a parent's row
 
 pub parent_right : {s : List ℕ} {p : Place} {x : Option ℕ × Place} {o : Option ℕ} → Stands (optional row) s p o → x ≡ row_at s p → x.0 ≡ o
-parent_right h e = ap (λ (x : Option ℕ × Place). x.0) e ∙ stands_or h none
+parent_right h e = ap (λ (x : Option ℕ × Place). x.0) e ∙ stands_or h None
 
 -- ---- a calendar's name
 

@@ -4,7 +4,7 @@ use Rattle.std.specs.Prelude.{if◌then◌else◌}
 use mathlib.Core.Path.{◌≡◌, refl, sym, ap, ◌∙◌}
 use mathlib.Core.Bool.{Bool, true, false, ◌&&◌, ◌||◌, not}
 use mathlib.Core.List.{List, [], ◌∷◌}
-use mathlib.Core.Option.{Option, some, none}
+use Rattle.std.specs.Prelude.{Option, Some, None}
 use Prim.Native.Nat.{ℕ, suc, ◌+◌, ◌-◌, ◌≤◌, ◌<◌}
 use native.Mathlib.Nat.{sub-zero}
 use native.Mathlib.Numerals.{add-one}
@@ -92,27 +92,27 @@ record Headed {A : Type 0} (f : Format A) (s : List ℕ) (p : Place) (xs : List 
   stands : Stands f s p item
 
 -- the first of the records that were read
-first : {A : Type 0} {f : Format A} {s : List ℕ} {p r : Place} {xs : List A} {l : Bits} (n : ℕ) → rest s r ≡ some l → Reads (times (suc n) f) s p xs r → Headed f s p xs
+first : {A : Type 0} {f : Format A} {s : List ℕ} {p r : Place} {xs : List A} {l : Bits} (n : ℕ) → rest s r ≡ Some l → Reads (times (suc n) f) s p xs r → Headed f s p xs
 unfolding times
 first {A} {f} {s} {p} {r} {xs} {l} n e h =
     by_item (rest s p >>= f.get) refl
     (bind_assoc (rest s p) f.get k ∙ bind_ext (rest s p) (λ m. f.get m >>= k) (get_all f (suc n)) (λ m. sym (all_suc f n m)) ∙ h.reads ∙ rw e)
   where
     onto : A → List A × Bits → Option (List A × Bits)
-    onto a y = some (a ∷ y.0, y.1)
+    onto a y = Some (a ∷ y.0, y.1)
 
     k : A × Bits → Option (List A × Bits)
     k x = get_all f n x.1 >>= onto x.0
 
-    by_rest : (x : A × Bits) → (rest s p >>= f.get) ≡ some x → (o : Option (List A × Bits)) → (o >>= onto x.0) ≡ some (xs, l) → Headed f s p xs
-    by_rest x z none y = absurd (never y)
-    by_rest x z (some t) y =
+    by_rest : (x : A × Bits) → (rest s p >>= f.get) ≡ Some x → (o : Option (List A × Bits)) → (o >>= onto x.0) ≡ Some (xs, l) → Headed f s p xs
+    by_rest x z None y = absurd (never y)
+    by_rest x z (Some t) y =
         let w : ◌≡◌ {A = List A × Bits} (x.0 ∷ t.0, t.1) (xs, l) = cc in
         record { item = x.0; others = t.0; is = ap (λ (u : List A × Bits). u.0) (sym w); stands = record { left_over = x.1; gives = z } }
 
-    by_item : (o : Option (A × Bits)) → (rest s p >>= f.get) ≡ o → (o >>= k) ≡ some (xs, l) → Headed f s p xs
-    by_item none z y = absurd (never y)
-    by_item (some x) z y = by_rest x z (get_all f n x.1) y
+    by_item : (o : Option (A × Bits)) → (rest s p >>= f.get) ≡ o → (o >>= k) ≡ Some (xs, l) → Headed f s p xs
+    by_item None z y = absurd (never y)
+    by_item (Some x) z y = by_rest x z (get_all f n x.1) y
 
 next_items : {A : Type 0} {x : A} {l : List A} (xs : List A) (i : ℕ) → drop i xs ≡ x ∷ l → drop i xs ≡ x ∷ drop (i + 1) xs
 next_items {A} {x} xs i e = e ∙ ap (λ (ys : List A). x ∷ ys) (sym (sym (drop-drop 1 i xs) ∙ ap (drop 1) e))

@@ -3,7 +3,7 @@ use Rattle.std.specs.Prelude.{if◌then◌else◌}
 use mathlib.Core.Path.{◌≡◌, refl, sym, ap, subst, ◌∙◌}
 use mathlib.Core.Bool.{Bool, true, false}
 use mathlib.Core.List.{List, [], ◌∷◌, map}
-use mathlib.Core.Option.{Option, some, none}
+use Rattle.std.specs.Prelude.{Option, Some, None}
 use Prim.Native.Nat.{ℕ, zero, suc, ◌+◌, ◌%◌, ◌^◌, ◌≤◌, ◌<◌}
 use native.Mathlib.Nat.{mod-eq_of_lt}
 use native.Mathlib.Omega.{arith}
@@ -130,8 +130,8 @@ is_row None = false
 is_row (At r) = true
 
 row_given : (o : Option ℕ) → is_row (as_row o) ≡ given o
-row_given none = refl
-row_given (some r) = refl
+row_given None = refl
+row_given (Some r) = refl
 
 module _ {w : List ℕ} {t : Table} {p : ℕ → Bool} {o : Option ℕ} {at : Row} (s : Seeks w t p o at) where
   pub walk_ends : at ≡ None → false ≡ given o

@@ -3,7 +3,7 @@ use Rattle.std.specs.Prelude.{if◌then◌else◌}
 use mathlib.Core.Path.{◌≡◌, refl, sym, ap, subst, ◌∙◌}
 use mathlib.Core.Bool.{Bool, true, false, ◌&&◌}
 use mathlib.Core.List.{List, [], map}
-use mathlib.Core.Option.{none}
+use Rattle.std.specs.Prelude.{None}
 use Prim.Native.Nat.{ℕ, ◌+◌, ◌%◌, ◌≤◌, ◌<◌, min}
 use native.Mathlib.Numerals.{add-one}
 use native.Mathlib.Omega.{arith}
@@ -90,7 +90,7 @@ pub record Judging (s : List ℕ) (n : ℕ) (m : Model) (end : ℕ) (right : Boo
   pub along : Along Activities s n m.activities end never true i q
   pub same : every? (activity_right m) (numbered 0 m.activities) ≡ right && every? (activity_right m) (numbered i (drop i m.activities))
 
-pub far : (s : List ℕ) (q : Place) → 7 < q.bit → rest s q ≡ none
+pub far : (s : List ℕ) (q : Place) → 7 < q.bit → rest s q ≡ None
 far s q h = rest_out s q (room_short (length s) q 0 (λ b. absurd (omega arith)))
 
 module _ {s : List ℕ} {n : ℕ} {xs : List Activity} {end i : ℕ} {q : Place} (a : Along Activities s n xs end never true i q) where

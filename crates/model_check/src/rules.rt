@@ -1,6 +1,6 @@
 // The rules that each record keeps by itself: rows in range, a parent's row below its own, names of calendars.
 ghost use Rattle.std.specs.Prelude.{◌≡◌, List, ℕ, ltb};
-ghost use Rattle.std.proofs.Math.Option.{Option};
+ghost use Rattle.std.specs.Prelude.{Option};
 ghost use Rattle.definition.specs.Base.{every?, numbered};
 ghost use Rattle.definition.specs.Answer.{row_meaning};
 ghost use Rattle.definition.specs.Text.{Text};

@@ -3,7 +3,7 @@ use Prim.Native.Nat.{ℕ, zero, suc, ◌+◌, ◌-◌, ◌*◌}
 use native.Mathlib.Omega.{arith}
 use mathlib.Core.Path.{◌≡◌, refl, sym, ap, ◌∙◌}
 use mathlib.Core.List.{List}
-use mathlib.Core.Option.{Option, some, none}
+use Rattle.std.specs.Prelude.{Option, Some, None}
 use lib.ListN.{get_or}
 use Rattle.definition.specs.Answer.{row_meaning}
 use Rattle.definition.specs.Base.{◌>>=◌}
@@ -36,7 +36,7 @@ word_none e text = rw e
 pub word_some : (word : ℕ) → (word ≡ 0 → ⊥) → (text : Text) → name_meaning text (name.Starred (word - 1)) ≡ name_by text word
 unfolding name_meaning name_by
 word_some zero h text = absurd (h refl)
-word_some (suc k) h text = let z : suc k - 1 ≡ k = omega arith in ap (λ (n : ℕ). some (starred_by text n)) z
+word_some (suc k) h text = let z : suc k - 1 ≡ k = omega arith in ap (λ (n : ℕ). Some (starred_by text n)) z
 
 -- ---- a row
 
@@ -54,12 +54,12 @@ module _ (s : Text) (w : List ℕ) (t : Table) {row : RowAnswer} where
 -- ---- by a look at all calendars
 
 module _ (d : List ℕ) (c : Place) (root : Element) (u : Text) where
-  pub scan_there : (row : ℕ) (e : Element) (r : NameAnswer) → with_uid_in root u ≡ some (row, e) → name_meaning (wanted_name e) r ≡ unless_main (context_at d c root) (starred_by (wanted_name e) (stars_in d c root row e))
+  pub scan_there : (row : ℕ) (e : Element) (r : NameAnswer) → with_uid_in root u ≡ Some (row, e) → name_meaning (wanted_name e) r ≡ unless_main (context_at d c root) (starred_by (wanted_name e) (stars_in d c root row e))
       → name_meaning (wanted_name e) r ≡ named_by (context_at d c root) u
   scan_there row e r h k =
       k ∙ sym (named_by_lem d c root u ∙ ap (λ (o : Option (ℕ × Element)). o >>= λ y. unless_main (context_at d c root) (name_in d c root y)) h)
 
-  pub scan_absent : (text : Text) → with_uid_in root u ≡ none → name_meaning text name.Absent ≡ named_by (context_at d c root) u
+  pub scan_absent : (text : Text) → with_uid_in root u ≡ None → name_meaning text name.Absent ≡ named_by (context_at d c root) u
   unfolding name_meaning
   scan_absent text h = sym (named_by_lem d c root u ∙ ap (λ (o : Option (ℕ × Element)). o >>= λ y. unless_main (context_at d c root) (name_in d c root y)) h)
 

@@ -3,7 +3,7 @@ use Rattle.std.specs.Prelude.{if◌then◌else◌}
 use mathlib.Core.Path.{◌≡◌, refl, sym, ap, ◌∙◌}
 use mathlib.Core.Bool.{Bool, true, false, true≢false, not, ◌&&◌, ◌||◌}
 use mathlib.Core.List.{List}
-use mathlib.Core.Option.{Option, some, none}
+use Rattle.std.specs.Prelude.{Option, Some, None}
 use Prim.Native.Nat.{ℕ, ◌+◌, ◌*◌, ◌≤◌, ◌<◌, min}
 use native.Mathlib.Numerals.{add-one}
 use native.Mathlib.Omega.{arith}
@@ -33,13 +33,13 @@ use Rattle.names.proofs.Starred.{seen_text}
 
 -- ---- what was found
 
-is_none : (o : Option ℕ) → None ≡ as_row o → o ≡ none
-is_none none e = refl
-is_none (some r) e = let z : ◌≡◌ {A = ℕ} 0 1 = cc in absurd (omega arith)
+is_none : (o : Option ℕ) → None ≡ as_row o → o ≡ None
+is_none None e = refl
+is_none (Some r) e = let z : ◌≡◌ {A = ℕ} 0 1 = cc in absurd (omega arith)
 
-is_some : (o : Option ℕ) {r : ℕ} → At r ≡ as_row o → o ≡ some r
-is_some none e = let z : ◌≡◌ {A = ℕ} 0 1 = cc in absurd (omega arith)
-is_some (some s) {r} e = let z : s ≡ r = cc in ap some z
+is_some : (o : Option ℕ) {r : ℕ} → At r ≡ as_row o → o ≡ Some r
+is_some None e = let z : ◌≡◌ {A = ℕ} 0 1 = cc in absurd (omega arith)
+is_some (Some s) {r} e = let z : s ≡ r = cc in ap Some z
 
 module _ {w : List ℕ} {t : Table} {p : ℕ → Bool} {o : Option ℕ} {at : Row} (s : Seeks w t p o at) where
   pub not_given : at ≡ None → false ≡ given o
@@ -49,11 +49,11 @@ module _ {w : List ℕ} {t : Table} {p : ℕ → Bool} {o : Option ℕ} {at : Ro
   is_given_lem e h = sym (ap given (is_some o (seeks_here s e h)))
 
   -- a number of the row
-  pub no_number : (f : ℕ → ℕ) → at ≡ None → 0 ≡ ((o >>= λ r. some (f r)) or 0)
-  no_number f e = sym (ap (λ (o : Option ℕ). (o >>= λ r. some (f r)) or 0) (is_none o (seeks_none s e)))
+  pub no_number : (f : ℕ → ℕ) → at ≡ None → 0 ≡ ((o >>= λ r. Some (f r)) or 0)
+  no_number f e = sym (ap (λ (o : Option ℕ). (o >>= λ r. Some (f r)) or 0) (is_none o (seeks_none s e)))
 
-  pub its_number : (f : ℕ → ℕ) {r : ℕ} → at ≡ At r → p r ≡ true → f r ≡ ((o >>= λ r. some (f r)) or 0)
-  its_number f e h = sym (ap (λ (o : Option ℕ). (o >>= λ r. some (f r)) or 0) (is_some o (seeks_here s e h)))
+  pub its_number : (f : ℕ → ℕ) {r : ℕ} → at ≡ At r → p r ≡ true → f r ≡ ((o >>= λ r. Some (f r)) or 0)
+  its_number f e h = sym (ap (λ (o : Option ℕ). (o >>= λ r. Some (f r)) or 0) (is_some o (seeks_here s e h)))
 
 -- a text was compared with an id, which has no `*` more
 pub seen_id : (t : Text) {x y : Text} {r b : Bool} → r ≡ same t (starred_by x 0) → x ≡ y → r ≡ b → same t y ≡ b

@@ -2,7 +2,7 @@
 use mathlib.Core.Path.{◌≡◌, refl, sym, ap, ◌∙◌}
 use mathlib.Core.Bool.{Bool, true, false, ◌&&◌}
 use mathlib.Core.List.{List, [], ◌∷◌}
-use mathlib.Core.Option.{Option, some, none}
+use Rattle.std.specs.Prelude.{Option, Some, None}
 use Prim.Native.Nat.{ℕ, ◌+◌, ◌*◌, ◌-◌, ◌/◌, ◌^◌, ◌≤◌, ◌<◌}
 use native.Mathlib.Omega.{arith}
 use lib.Dec.{leb, ltb}
@@ -34,11 +34,11 @@ use Rattle.names.specs.Context.{main_row, section_row, wanted_name, stars_by, st
 -- ---- what a look-up answered
 
 module _ (s : Text) (r : CalendarAnswer) {o : Option (ℕ × Element)} (h : calendar_meaning s r ≡ o) where
-  pub is_there : {row p : ℕ} → r ≡ Is row p → o ≡ some (row, element_at s p)
+  pub is_there : {row p : ℕ} → r ≡ Is row p → o ≡ Some (row, element_at s p)
   unfolding calendar_meaning
   is_there e = sym h ∙ rw e
 
-  pub is_absent : r ≡ Absent → o ≡ none
+  pub is_absent : r ≡ Absent → o ≡ None
   unfolding calendar_meaning
   is_absent e = sym h ∙ rw e
 
@@ -55,15 +55,15 @@ module _ (e : Element) (n other : Text) {t : Text} (h : t ≡ (text_of e n or []
       by_text (b ∷ s) z = absurd (omega arith)
 
       by_child : (o : Option Element) → length ((o >>= λ c. non_empty (trim c.text)) or []) ≡ 0 → other ≡ ((o >>= λ c. non_empty (trim c.text)) or other)
-      by_child none z = refl
-      by_child (some c) z = by_text (trim c.text) z
+      by_child None z = refl
+      by_child (Some c) z = by_text (trim c.text) z
 
   pub wanted_given : (length t ≡ 0 → ⊥) → t ≡ (text_of e n or other)
   wanted_given z = by_text (text_of e n) h
     where
       by_text : (o : Option Text) → t ≡ (o or []) → t ≡ (o or other)
-      by_text none k = absurd (z (ap length k))
-      by_text (some s) k = k
+      by_text None k = absurd (z (ap length k))
+      by_text (Some s) k = k
 
 -- how many `*` a name has, by its length and that of the wanted name
 module _ (d : List ℕ) (p : Place) (e : Element) {t w : Text} (ht : t ≡ ((read_at raw d p).0 or [])) (hw : w ≡ wanted_name e) where

@@ -6,7 +6,7 @@ use native.Mathlib.Omega.{arith}
 use mathlib.Core.Path.{◌≡◌, refl, sym, ap, ◌∙◌}
 use mathlib.Core.Bool.{Bool, true, false, not, false≢true}
 use mathlib.Core.List.{List, [], ◌∷◌}
-use mathlib.Core.Option.{Option, some, none}
+use Rattle.std.specs.Prelude.{Option, Some, None}
 use lib.Dec.{eqb, ltb}
 use lib.ListN.{length, get_or, set, drop, length-set, drop_of_length-le}
 use lib.Seq.{get_or-set_same, get_or-set_other}
@@ -66,8 +66,8 @@ each_passes {A} p (x ∷ l) = go (p x) refl (each_passes p l)
 
 calendars_kept : (o : Option Element) → Each Kept (all_in o (bytes "Calendar"))
 unfolding all
-calendars_kept none = empty
-calendars_kept (some e) = each_passes _ _
+calendars_kept None = empty
+calendars_kept (Some e) = each_passes _ _
 
 order_kept : (root : Element) → Each Kept (in_order root)
 unfolding in_order

@@ -5,7 +5,7 @@ use native.Mathlib.Omega.{arith}
 use mathlib.Core.Path.{◌≡◌, refl, sym, ap, ◌∙◌}
 use mathlib.Core.Bool.{Bool, true, false}
 use mathlib.Core.List.{List, [], ◌∷◌}
-use mathlib.Core.Option.{Option, some, none}
+use Rattle.std.specs.Prelude.{Option, Some, None}
 use lib.Dec.{eqb, ltb}
 use lib.ListN.{length, get_or, set}
 use lib.Seq.{get_or-set_same, get_or-set_other}
@@ -77,32 +77,32 @@ wanted_some e = go (child e (bytes "Name"))
     text (b ∷ s) = omega arith
 
     go : (o : Option Element) → 0 < length ((o >>= λ c. non_empty (trim c.text)) or bytes "Calendar")
-    go none = omega arith
-    go (some c) = text (trim c.text)
+    go None = omega arith
+    go (Some c) = text (trim c.text)
 
 pub stars_small : (d : List ℕ) (p : Place) (e : Element) {stars : ℕ} → stars ≡ stars_by ((read_at raw d p).0 or []) e → stars + 1 < 2 ^ 32
 stars_small d p e h = omega (arith, raw_length d p, wanted_some e)
 
 -- ---- the main calendar
 
-pub main_none : (root : Element) → main_in root ≡ none → how_many root ≡ 0
+pub main_none : (root : Element) → main_in root ≡ None → how_many root ≡ 0
 unfolding main_in first numbered
 main_none root e = go (text_in root "CalendarUID" >>= with_uid_in root) (in_order root) e
   where
-    go : (o : Option (ℕ × Element)) (l : List Element) → (o or_else first (numbered 0 l)) ≡ none → length l ≡ 0
-    go none [] e = refl
-    go none (x ∷ l) e = never (sym e)
-    go (some y) l e = never (sym e)
+    go : (o : Option (ℕ × Element)) (l : List Element) → (o or_else first (numbered 0 l)) ≡ None → length l ≡ 0
+    go None [] e = refl
+    go None (x ∷ l) e = never (sym e)
+    go (Some y) l e = never (sym e)
 
-pub main_some : (root : Element) {x : ℕ × Element} → main_in root ≡ some x → 0 < how_many root
+pub main_some : (root : Element) {x : ℕ × Element} → main_in root ≡ Some x → 0 < how_many root
 unfolding main_in first numbered keep
 main_some root {x} e = go (text_in root "CalendarUID") (in_order root) e
   where
-    go : (o : Option Text) (l : List Element) → ((o >>= λ u. find (λ (y : ℕ × Element). has_uid u y.1) (numbered 0 l)) or_else first (numbered 0 l)) ≡ some x → 0 < length l
-    go none [] e = never e
-    go (some u) [] e = never e
-    go none (y ∷ l) e = omega arith
-    go (some u) (y ∷ l) e = omega arith
+    go : (o : Option Text) (l : List Element) → ((o >>= λ u. find (λ (y : ℕ × Element). has_uid u y.1) (numbered 0 l)) or_else first (numbered 0 l)) ≡ Some x → 0 < length l
+    go None [] e = never e
+    go (Some u) [] e = never e
+    go None (y ∷ l) e = omega arith
+    go (Some u) (y ∷ l) e = omega arith
 
 module _ {d : List ℕ} {c : Place} {s : Text} {root : Element} {m : Main} (h : MainOf d c s root m) where
   main_name : main_text s m ≡ (context_at d c root).main.name
@@ -110,7 +110,7 @@ module _ {d : List ℕ} {c : Place} {s : Text} {root : Element} {m : Main} (h : 
       ap (starred_by (wanted_name (element_at s m.at))) h.stars ∙ sym (main_there d c root (m.row, element_at s m.at) h.there)
 
   main_is : m.row ≡ main_row root
-  main_is = sym (ap (λ (o : Option (ℕ × Element)). (o >>= λ x. some x.0) or 0) h.there)
+  main_is = sym (ap (λ (o : Option (ℕ × Element)). (o >>= λ x. Some x.0) or 0) h.there)
 
 -- ---- the records one after another
 
@@ -221,7 +221,7 @@ module _ {s : Text} {root : Element} {t : Table} {w : List ℕ} (uids : Uids s r
 
 module _ {d : List ℕ} {c : Place} {s : Text} {root : Element} {t : Table} {w : List ℕ} (uids : Uids s root t w) where
   -- no calendar: the default one is no elapsed one
-  pub filled_none : main_in root ≡ none → {w' : List ℕ} → w' ≡ set w (t.at + 4 * t.rows) 1 → Calendars d c s root t w' × Stays (end_of t) (names_end t) w w'
+  pub filled_none : main_in root ≡ None → {w' : List ℕ} → w' ≡ set w (t.at + 4 * t.rows) 1 → Calendars d c s root t w' × Stays (end_of t) (names_end t) w w'
   unfolding name_word same
   filled_none e {w'} i =
       let x : Stays (end_of t) (names_end t) w w' = rw i (stays_set w (t.at + 4 * t.rows) 1 (omega arith) (omega arith)) in
@@ -343,8 +343,8 @@ module _ {d : List ℕ} {c : Place} {s : Text} {root : Element} {at : ℕ} {w w�
 
 in_order_lem : (s : Text) (w : List ℕ) (t : Table) (o : Option ℕ) → calendar_meaning s (order_row w t o) ≡ (o >>= row_found s w t)
 unfolding order_row calendar_meaning
-in_order_lem s w t none = refl
-in_order_lem s w t (some r) = refl
+in_order_lem s w t None = refl
+in_order_lem s w t (Some r) = refl
 
 module _ (w : List ℕ) (t : Table) {a : RowAnswer} where
   pub row_absent : a ≡ NoRow → Absent ≡ order_row w t (row_meaning a)
@@ -365,7 +365,7 @@ module _ (s : Text) (root : Element) (w : List ℕ) {m : Made} (u : Text) where
   by_scan e a h = rw e h
 
 module _ (s : Text) (root : Element) {a : CalendarAnswer} (h : calendar_meaning s a ≡ main_in root) where
-  pub main_missing : a ≡ Absent → main_in root ≡ none
+  pub main_missing : a ≡ Absent → main_in root ≡ None
   unfolding calendar_meaning
   main_missing e = sym h ∙ rw e
 

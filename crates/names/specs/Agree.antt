@@ -3,7 +3,7 @@ use Rattle.std.specs.Prelude.{if◌then◌else◌, ◌≡◌, Bool, true, false,
 use Rattle.std.proofs.Math.Path.{refl, ap}
 use Rattle.std.proofs.Common.{◌∙◌}
 use mathlib.Core.List.{List, [], ◌∷◌, ◌++◌, map}
-use Rattle.std.proofs.Math.Option.{Option, some, none}
+use Rattle.std.specs.Prelude.{Option, Some, None}
 use Rattle.definition.specs.Base.{◌>>=◌, when, same}
 use Rattle.definition.specs.Ascii.{bytes}
 use Rattle.definition.specs.Text.{Text}
@@ -23,12 +23,12 @@ pub record Agree (x y : Context) : Type 0 where
 
 module _ {x y : Context} (h : Agree x y) where
   unless_agree : (o : Option Text) → (o >>= unless_main x) ≡ (o >>= unless_main y)
-  unless_agree none = refl
-  unless_agree (some n) = ap (λ (m : Text). when (not (same n m)) n) h.main
+  unless_agree None = refl
+  unless_agree (Some n) = ap (λ (m : Text). when (not (same n m)) n) h.main
 
   name_agree : (o : Option Text) → (o >>= name_of x.built) ≡ (o >>= name_of y.built)
-  name_agree none = refl
-  name_agree (some u) = h.names u
+  name_agree None = refl
+  name_agree (Some u) = h.names u
 
   pub named_agree : (o : Option Text) → (o >>= name_of x.built >>= unless_main x) ≡ (o >>= name_of y.built >>= unless_main y)
   named_agree o = unless_agree (o >>= name_of x.built) ∙ ap (λ (p : Option Text). p >>= unless_main y) (name_agree o)
@@ -37,8 +37,8 @@ module _ {x y : Context} (h : Agree x y) where
   calendar_agree t = by_test (is_elapsed t)
     where
       by_test : (b : Bool)
-          → (if b then some elapsed_name else (text_in t "CalendarUID" >>= λ u. when (not (same u (bytes "-1"))) u >>= name_of x.built))
-          ≡ (if b then some elapsed_name else (text_in t "CalendarUID" >>= λ u. when (not (same u (bytes "-1"))) u >>= name_of y.built))
+          → (if b then Some elapsed_name else (text_in t "CalendarUID" >>= λ u. when (not (same u (bytes "-1"))) u >>= name_of x.built))
+          ≡ (if b then Some elapsed_name else (text_in t "CalendarUID" >>= λ u. when (not (same u (bytes "-1"))) u >>= name_of y.built))
       by_test true = refl
       by_test false = bind_ext (text_in t "CalendarUID") _ (λ u. when (not (same u (bytes "-1"))) u >>= name_of y.built) (λ u. name_agree (when (not (same u (bytes "-1"))) u))
 

@@ -3,7 +3,7 @@ use Rattle.std.specs.Prelude.{if◌then◌else◌, ◌≡◌, refl, Bool, true, 
 use Rattle.std.proofs.Math.Path.{ap}
 use Rattle.std.proofs.Common.{◌∙◌, arith, ltb-true}
 use mathlib.Core.List.{List, [], ◌∷◌, map}
-use Rattle.std.proofs.Math.Option.{Option, some, none}
+use Rattle.std.specs.Prelude.{Option, Some, None}
 use Prim.Native.Nat.{ℕ, suc, ◌+◌, ◌-◌, ◌≤◌, ◌<◌}
 use Rattle.definition.specs.Base.{◌>>=◌, ◌or◌, ◌or_else◌, keep, first, numbered}
 use Rattle.definition.specs.Bits.{Bits}
@@ -40,8 +40,8 @@ unfolding place_of_row read_at
 place_inside kind d p n h = by_read (rest d p >>= (times n (record_of false kind)).get) h
   where
     by_read : (o : Option (List (Unit {0}) × Bits)) → (seen d o).1.bit < 8 → inside (length d) (seen d o).1 ≡ true
-    by_read none h = absurd (omega arith)
-    by_read (some x) h = let f : Fits (length d) (spot d x.1) 0 = record { bit = omega arith; ends = omega arith } in fits_room f
+    by_read None h = absurd (omega arith)
+    by_read (Some x) h = let f : Fits (length d) (spot d x.1) 0 = record { bit = omega arith; ends = omega arith } in fits_room f
 
 -- no place inside is behind what a step leaves
 step_leaves : (n : ℕ) (p q : Place) → inside n p ≡ true → at p ≤ at q → at p ≤ before n q
@@ -53,34 +53,34 @@ step_leaves n p q i h = by_room (inside n q) refl
 
 -- ---- rows of calendars
 
-numbered_below : {A : Type 0} (k : ℕ) (l : List A) (p : ℕ × A → Bool) (x : ℕ × A) → first (keep p (numbered k l)) ≡ some x → x.0 < k + length l
+numbered_below : {A : Type 0} (k : ℕ) (l : List A) (p : ℕ × A → Bool) (x : ℕ × A) → first (keep p (numbered k l)) ≡ Some x → x.0 < k + length l
 unfolding numbered keep first
 numbered_below k [] p x e = never e
 numbered_below {A} k (y ∷ l) p x e = by_test (λ e. numbered_below (suc k) l p x e) (p (k, y)) e
   where
-    by_test : (first (keep p (numbered (suc k) l)) ≡ some x → x.0 < suc k + length l) → (t : Bool) → first (if t then (k, y) ∷ keep p (numbered (suc k) l) else keep p (numbered (suc k) l)) ≡ some x → x.0 < k + suc (length l)
+    by_test : (first (keep p (numbered (suc k) l)) ≡ Some x → x.0 < suc k + length l) → (t : Bool) → first (if t then (k, y) ∷ keep p (numbered (suc k) l) else keep p (numbered (suc k) l)) ≡ Some x → x.0 < k + suc (length l)
     by_test more true e = let z : ◌≡◌ {A = ℕ × A} (k, y) x = cc in let w : k ≡ x.0 = ap (λ (x : ℕ × A). x.0) z in omega arith
     by_test more false e = omega (arith, more e)
 
-first_below : {A : Type 0} (k : ℕ) (l : List A) (x : ℕ × A) → first (numbered k l) ≡ some x → x.0 < k + length l
+first_below : {A : Type 0} (k : ℕ) (l : List A) (x : ℕ × A) → first (numbered k l) ≡ Some x → x.0 < k + length l
 unfolding numbered first
 first_below k [] x e = never e
 first_below {A} k (y ∷ l) x e = let z : ◌≡◌ {A = ℕ × A} (k, y) x = cc in let w : k ≡ x.0 = ap (λ (x : ℕ × A). x.0) z in omega arith
 
-main_below : (root : Element) (x : ℕ × Element) → main_in root ≡ some x → x.0 < length (in_order root)
+main_below : (root : Element) (x : ℕ × Element) → main_in root ≡ Some x → x.0 < length (in_order root)
 unfolding main_in
 main_below root x e = by_uid (text_in root "CalendarUID" >>= with_uid_in root) refl e
   where
     l : List Element
     l = in_order root
 
-    by_text : (o : Option Text) → (o >>= with_uid_in root) ≡ some x → x.0 < length l
-    by_text none e = never e
-    by_text (some u) e = omega (arith, numbered_below 0 l (λ (x : ℕ × Element). has_uid u x.1) x e)
+    by_text : (o : Option Text) → (o >>= with_uid_in root) ≡ Some x → x.0 < length l
+    by_text None e = never e
+    by_text (Some u) e = omega (arith, numbered_below 0 l (λ (x : ℕ × Element). has_uid u x.1) x e)
 
-    by_uid : (o : Option (ℕ × Element)) → (text_in root "CalendarUID" >>= with_uid_in root) ≡ o → (o or_else first (numbered 0 l)) ≡ some x → x.0 < length l
-    by_uid none z e = omega (arith, first_below 0 l x e)
-    by_uid (some y) z e = by_text (text_in root "CalendarUID") (z ∙ e)
+    by_uid : (o : Option (ℕ × Element)) → (text_in root "CalendarUID" >>= with_uid_in root) ≡ o → (o or_else first (numbered 0 l)) ≡ Some x → x.0 < length l
+    by_uid None z e = omega (arith, first_below 0 l x e)
+    by_uid (Some y) z e = by_text (text_in root "CalendarUID") (z ∙ e)
 
 pub section_below : (root : Element) (row : ℕ) → row < length (in_order root) → section_row (main_row root) row < length (in_order root)
 section_below root row h = by_main (main_in root) refl
@@ -93,9 +93,9 @@ section_below root row h = by_main (main_in root) refl
     by_row main m false true et eo = omega (arith, m (ltb-true row main eo), ltb-true row main eo)
     by_row main m false false et eo = h
 
-    by_main : (o : Option (ℕ × Element)) → main_in root ≡ o → section_row ((o >>= λ x. some x.0) or 0) row < n
-    by_main none z = by_row 0 (λ l. absurd (omega arith)) (eqb row 0) (ltb row 0) refl refl
-    by_main (some x) z = by_row x.0 (λ l. main_below root x z) (eqb row x.0) (ltb row x.0) refl refl
+    by_main : (o : Option (ℕ × Element)) → main_in root ≡ o → section_row ((o >>= λ x. Some x.0) or 0) row < n
+    by_main None z = by_row 0 (λ l. absurd (omega arith)) (eqb row 0) (ltb row 0) refl refl
+    by_main (Some x) z = by_row x.0 (λ l. main_below root x z) (eqb row x.0) (ltb row x.0) refl refl
 
 numbered_same : {A B : Type 0} (f g : ℕ × A → B) (k : ℕ) (l : List A) → ((i : ℕ) (a : A) → i < k + length l → f (i, a) ≡ g (i, a)) → map f (numbered k l) ≡ map g (numbered k l)
 unfolding numbered

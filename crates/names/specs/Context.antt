@@ -2,7 +2,7 @@
 -- others in the order in which they are built. A name is the element's, with as many `*` as the text in the buffer is longer. Assumes nothing:
 -- these are definitions.
 use Rattle.std.specs.Prelude.{if◌then◌else◌, ℕ, suc, ◌-◌, Bool, ◌&&◌, List, [], map, leb, ltb, eqb, length}
-use Rattle.std.proofs.Math.Option.{some}
+use Rattle.std.specs.Prelude.{Some}
 use Rattle.definition.specs.Base.{◌>>=◌, ◌or◌, numbered}
 use Rattle.definition.specs.Ascii.{bytes}
 use Rattle.definition.specs.Text.{Text}
@@ -20,7 +20,7 @@ use Rattle.names.specs.Texts.{place_of_row, text_at}
 
 -- the row of the main calendar among those in the order in which they are built
 abbrev pub main_row : Element → ℕ
-main_row root = (main_in root >>= λ x. some x.0) or 0
+main_row root = (main_in root >>= λ x. Some x.0) or 0
 
 -- the row in the section, where the main one stands first
 abbrev pub section_row : ℕ → ℕ → ℕ

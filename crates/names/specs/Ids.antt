@@ -1,7 +1,7 @@
 -- Ids by tables in lent words: what the calls make of the words and read in them, and the law that it is what a look at all records gives. Assumes
 -- nothing.
 use Rattle.std.specs.Prelude.{if◌then◌else◌, Bool, ◌&&◌, List, [], ℕ, suc, ◌+◌, ◌-◌, ◌*◌, min, ltb, leb, eqb, length}
-use Rattle.std.proofs.Math.Option.{some}
+use Rattle.std.specs.Prelude.{Some}
 use Rattle.definition.specs.Base.{◌>>=◌, ◌or◌, given, find, same}
 use Rattle.definition.specs.Calendar.{free}
 use Rattle.definition.specs.Text.{Text}
@@ -57,7 +57,7 @@ wants d w i wanted row = is_id d w i wanted (place_of w i.wanted row) row
 
 unfoldable pub stars_from : List ℕ → List ℕ → Ids → ℕ → Text → ℕ
 stars_from d w i count wanted =
-    (find (wants d w i wanted) (chain_of w i.wanted (hash_of wanted)) >>= λ r. some (behind (place_of w i.wanted r) count)) or 0
+    (find (wants d w i wanted) (chain_of w i.wanted (hash_of wanted)) >>= λ r. Some (behind (place_of w i.wanted r) count)) or 0
 
 -- how many `*` a text needs, as the words say
 unfoldable pub free_in : List ℕ → List ℕ → Ids → ℕ → Text → ℕ

@@ -1,7 +1,7 @@
 -- What was put in a format that gives back what fits is read there, and still is while the bits before a place stay. Assumes nothing.
 use Rattle.std.specs.Prelude.{◌≡◌, refl, Bool, true, false, List, ◌++◌, ℕ, ◌+◌, ◌-◌, ◌*◌, ◌≤◌, length, take, drop}
 use Rattle.std.proofs.Common.{sym, ap, ◌∙◌, append_assoc, arith, length-append, length-drop, take-append-drop, take-take, take_at}
-use Rattle.std.proofs.Math.Option.{Option, some, none}
+use Rattle.std.specs.Prelude.{Option, Some, None}
 use Rattle.definition.specs.Base.{◌>>=◌}
 use Rattle.definition.specs.Bits.{Bits, bits_of}
 use Rattle.definition.specs.Format.{Format}
@@ -85,14 +85,14 @@ module _ {A : Type 0} {f : Format A} {F : A → Type 0} (g : Good f F) where
       }
 
   -- what the format gives fits, and stands there
-  pub gets_there : (d : List ℕ) (p : Place) {k : Bits} {a : A} {l : Bits} → rest d p ≡ some k → f.get k ≡ some (a, l) → F a × There d p (f.put (at p) a) (spot d l)
+  pub gets_there : (d : List ℕ) (p : Place) {k : Bits} {a : A} {l : Bits} → rest d p ≡ Some k → f.get k ≡ Some (a, l) → F a × There d p (f.put (at p) a) (spot d l)
   gets_there d p {k} {a} {l} z h = by_room (inside (length d) p) refl
     where
       by_room : (t : Bool) → inside (length d) p ≡ t → F a × There d p (f.put (at p) a) (spot d l)
       by_room false e = never (sym (rest_out d p e) ∙ z)
       by_room true e =
           let fp = room_fits (length d) p 0 e in
-          let w : some (drop (at p) (bits_of d)) ≡ some k = sym (rest_in d p fp) ∙ z in
+          let w : Some (drop (at p) (bits_of d)) ≡ Some k = sym (rest_in d p fp) ∙ z in
           let u : drop (at p) (bits_of d) ≡ k = cc in
           let n = length_rest d (at p) in
           let r = g.exact (at p) (drop (at p) (bits_of d)) (a, l) (each_drop (at p) (bits_binary d)) (omega (arith, fp.ends)) (ap f.get u ∙ h) in
@@ -118,11 +118,11 @@ module _ {A : Type 0} {f : Format A} {F : A → Type 0} (g : Good f F) where
       fq = room_fits (length d) q 0 i
 
       by_rest : (o : Option Bits) → rest d p ≡ o → F a × There d p (f.put (at p) a) q
-      by_rest none z =
-          let e : ◌≡◌ {A = Option (A × Bits)} none (some (a, drop (at q) (bits_of d))) = ap (λ (o : Option Bits). o >>= f.get) (sym z) ∙ h.reads ∙ rw (rest_in d q fq) in
+      by_rest None z =
+          let e : ◌≡◌ {A = Option (A × Bits)} None (Some (a, drop (at q) (bits_of d))) = ap (λ (o : Option Bits). o >>= f.get) (sym z) ∙ h.reads ∙ rw (rest_in d q fq) in
           never e
-      by_rest (some k) z =
-          let e : ◌≡◌ {A = Option (A × Bits)} (f.get k) (some (a, drop (at q) (bits_of d))) = ap (λ (o : Option Bits). o >>= f.get) (sym z) ∙ h.reads ∙ rw (rest_in d q fq) in
+      by_rest (Some k) z =
+          let e : ◌≡◌ {A = Option (A × Bits)} (f.get k) (Some (a, drop (at q) (bits_of d))) = ap (λ (o : Option Bits). o >>= f.get) (sym z) ∙ h.reads ∙ rw (rest_in d q fq) in
           rw (spot_at d q fq) at (gets_there d p z e)
 
   -- while the bits before its end stay

@@ -1,6 +1,6 @@
 -- The name of a calendar by its UID, as words say it. Assumes nothing: these are definitions.
 use Rattle.std.specs.Prelude.{if◌then◌else◌, ℕ, zero, suc, ◌+◌, ◌-◌, ◌*◌, ◌<◌, ◌≡◌, false, List, [], eqb, length, get_or, set}
-use Rattle.std.proofs.Math.Option.{Option, some, none}
+use Rattle.std.specs.Prelude.{Option, Some, None}
 use Rattle.definition.specs.Base.{◌>>=◌, ◌or◌, same}
 use Rattle.definition.specs.Calendar.{name_of, elapsed_name}
 use Rattle.definition.specs.Format.{times}
@@ -35,8 +35,8 @@ name_word main text stars = if same (starred_by text stars) main then 0 else suc
 
 -- what such a word says beside the text
 unfoldable pub name_by : Text → ℕ → Option Text
-name_by text zero = none
-name_by text (suc stars) = some (starred_by text stars)
+name_by text zero = None
+name_by text (suc stars) = Some (starred_by text stars)
 
 -- ---- the words of a table
 
@@ -84,7 +84,7 @@ pub record Makes (d : List ℕ) (c : Place) (s : Text) (root : Element) (at : �
 -- ---- while it is made
 
 pub record MainOf (d : List ℕ) (c : Place) (s : Text) (root : Element) (m : Main) : Type 0 where
-  pub there : main_in root ≡ some (m.row, element_at s m.at)
+  pub there : main_in root ≡ Some (m.row, element_at s m.at)
   pub stars : m.stars ≡ stars_in d c root m.row (element_at s m.at)
 
 -- its name

@@ -4,7 +4,7 @@ use native.Mathlib.Omega.{arith}
 use Rattle.std.specs.Prelude.{if◌then◌else◌, ◌≡◌, Bool, true, false, not, List, get_or}
 use Rattle.std.proofs.Math.Path.{refl, sym, ap}
 use Rattle.std.proofs.Common.{◌∙◌}
-use Rattle.std.proofs.Math.Option.{Option, some, none}
+use Rattle.std.specs.Prelude.{Option, Some, None}
 use Rattle.definition.specs.Base.{◌>>=◌, when, same}
 use Rattle.definition.specs.Calendar.{elapsed_name}
 use Rattle.definition.specs.Task.{Context, unless_main}
@@ -50,14 +50,14 @@ module _ (d : List ℕ) (c : Place) (root : Element) where
   unfolding context_at
   named_by_lem u = ap (λ (o : Option Text). o >>= unless_main (context_at d c root)) (name_with d c root u) ∙ go (with_uid_in root u)
     where
-      go : (o : Option (ℕ × Element)) → (o >>= (λ y. some (name_in d c root y)) >>= unless_main (context_at d c root)) ≡ (o >>= λ y. unless_main (context_at d c root) (name_in d c root y))
-      go none = refl
-      go (some y) = refl
+      go : (o : Option (ℕ × Element)) → (o >>= (λ y. Some (name_in d c root y)) >>= unless_main (context_at d c root)) ≡ (o >>= λ y. unless_main (context_at d c root) (name_in d c root y))
+      go None = refl
+      go (Some y) = refl
 
 -- ---- the table
 
 module _ {d : List ℕ} {c : Place} {s : Text} {root : Element} {t : Table} {w : List ℕ} (x : Calendars d c s root t w) where
-  in_row : (r : ℕ) → r < how_many root → name_of_row s w t (some r) ≡ unless_main (context_at d c root) (name_in d c root (how_many root - suc r, of_row root r))
+  in_row : (r : ℕ) → r < how_many root → name_of_row s w t (Some r) ≡ unless_main (context_at d c root) (name_in d c root (how_many root - suc r, of_row root r))
   in_row r h =
       ap (λ (e : Element). name_by (wanted_name e) (get_or w (name_at t r) 0)) (x.uids.stands r h)
       ∙ ap (name_by (wanted_name (of_row root r))) (x.names r h)
@@ -72,10 +72,10 @@ module _ {d : List ℕ} {c : Place} {s : Text} {root : Element} {t : Table} {w :
       ∙ ap (λ (o : Option (ℕ × Element)). o >>= λ y. unless_main (context_at d c root) (name_in d c root y)) (sym (find_back (has_uid u) no_element 0 (in_order root)))
       ∙ sym (named_by_lem d c root u)
     where
-      go : (o : Option ℕ) → ((r : ℕ) → o ≡ some r → r < how_many root)
-          → name_of_row s w t o ≡ (o >>= (λ r. some (0 + (how_many root - suc r), of_row root r)) >>= λ y. unless_main (context_at d c root) (name_in d c root y))
-      go none h = refl
-      go (some r) h =
+      go : (o : Option ℕ) → ((r : ℕ) → o ≡ Some r → r < how_many root)
+          → name_of_row s w t o ≡ (o >>= (λ r. Some (0 + (how_many root - suc r), of_row root r)) >>= λ y. unless_main (context_at d c root) (name_in d c root y))
+      go None h = refl
+      go (Some r) h =
           let z : how_many root - suc r ≡ 0 + (how_many root - suc r) = omega arith in
           in_row r (h r refl) ∙ ap (λ (i : ℕ). unless_main (context_at d c root) (name_in d c root (i, of_row root r))) z
 
@@ -95,9 +95,9 @@ module _ (x : Context) (s : Text) (t : Table) {w w' : List ℕ} (y : SameBelow (
       ap (name_of_row s w' t) (find_same in_table (λ v. same (uid_of (element_at s v)) u) (hash_of u))
       ∙ go (sought_in s w t u) (λ r e. chain_row (λ r. same (uid_of (element_at s (place_of w t r))) u) w t (hash_of u) e)
     where
-      go : (o : Option ℕ) → ((r : ℕ) → o ≡ some r → r < t.rows) → name_of_row s w' t o ≡ name_of_row s w t o
-      go none h = refl
-      go (some r) h =
+      go : (o : Option ℕ) → ((r : ℕ) → o ≡ Some r → r < t.rows) → name_of_row s w' t o ≡ name_of_row s w t o
+      go None h = refl
+      go (Some r) h =
           let k : r < t.rows = h r refl in
           ap (λ (p : ℕ). name_by (wanted_name (element_at s p)) (get_or w' (name_at t r) 0)) (place_same in_table r k)
           ∙ ap (name_by (wanted_name (element_at s (place_of w t r)))) (y.words (name_at t r) (omega arith))

@@ -2,7 +2,7 @@
 use Rattle.std.specs.Prelude.{if◌then◌else◌, ◌≡◌, refl, Bool, true, false, ◌&&◌, ◌||◌, List, [], ◌∷◌, ◌++◌, map, ℕ, zero, suc, ◌+◌, ◌-◌, ◌*◌, ◌≤◌, ◌<◌, min, ltb, leb, take, get_or}
 use Rattle.std.proofs.Math.Path.{sym, ap}
 use Rattle.std.proofs.Common.{◌∙◌, add-one, arith, ltb-true, leb-true, length-take, length-append, get_or-take, ext_get_or}
-use Rattle.std.proofs.Math.Option.{Option, some, none}
+use Rattle.std.specs.Prelude.{Option, Some, None}
 use Rattle.std.proofs.Math.Decide.{dec_lt}
 use Rattle.std.proofs.Math.ListN.{length}
 use Rattle.definition.specs.Base.{◌>>=◌, ◌or◌, ◌or_else◌, when, given, find, find_last, count, same, some?}
@@ -38,10 +38,10 @@ use Rattle.names.specs.declared.ids.IdsMade.TheVariants.{Ready, NoRoom}
 -- ---- one of some rows
 
 given_else : (o : Option ℕ) (b : Bool) (r : ℕ) → given (o or_else when b r) ≡ (b || given o)
-given_else none true r = refl
-given_else none false r = refl
-given_else (some s) true r = refl
-given_else (some s) false r = refl
+given_else None true r = refl
+given_else None false r = refl
+given_else (Some s) true r = refl
+given_else (Some s) false r = refl
 
 some_counted : (q : Text → Bool) (f : ℕ → Text) (a n : ℕ) → some? q (map f (count a n)) ≡ given (find_last (λ r. q (f r)) (count a n))
 unfolding some? count find_last
@@ -177,9 +177,9 @@ module _ {kind : Kind} {d : List ℕ} {p : Place} {w : List ℕ} {i : Ids} {n : 
         by (find (wants d w i u) (chain_of w i.wanted (hash_of u)))
         (find_like x.by_wanted (wants d w i u) (λ r. same (starred_by u (x.stars r)) (text_at kind d p r)) (hash_of u) wants_is (λ r h e. ap hash_of (sym (wanted_is r h e))))
       where
-        by : (o : Option ℕ) → o ≡ last_below (λ r. same (starred_by u (x.stars r)) (text_at kind d p r)) n → TakenTo names u ((o >>= λ r. some (behind (place_of w i.wanted r) n)) or 0)
-        by none e j l = absurd (omega arith)
-        by (some r) e j l =
+        by : (o : Option ℕ) → o ≡ last_below (λ r. same (starred_by u (x.stars r)) (text_at kind d p r)) n → TakenTo names u ((o >>= λ r. Some (behind (place_of w i.wanted r) n)) or 0)
+        by None e j l = absurd (omega arith)
+        by (Some r) e j l =
             let (h, g) = last_in (λ r. same (starred_by u (x.stars r)) (text_at kind d p r)) n (sym e) in
             taken_behind r h g j (omega (arith, behind_most (place_of w i.wanted r) n, x.by_wanted.places r h))
 

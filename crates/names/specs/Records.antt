@@ -4,8 +4,9 @@ use Rattle.std.proofs.Math.Path.{refl, ap}
 use Rattle.std.proofs.Common.{sym, ◌∙◌, arith, length-append}
 use Rattle.std.proofs.Math.Bool.{false}
 use mathlib.Core.List.{List, [], ◌∷◌, ◌++◌, map, append_assoc}
-use Rattle.std.proofs.Math.Option.{Option, some, none}
-use Rattle.std.proofs.Math.ListN.{length, get_elem?}
+use Rattle.std.specs.Prelude.{Option, Some, None}
+use Rattle.std.specs.Prelude.{slice_get}
+use Rattle.std.proofs.Math.ListN.{length}
 use Rattle.std.proofs.lemmas.List.{length-map}
 use Rattle.definition.specs.Base.{◌>>=◌, ◌or◌, count}
 use Rattle.definition.specs.Bits.{Bits}
@@ -65,7 +66,7 @@ map_count {A} {B} f h ys (x ∷ xs) e =
     ∙ ap (λ (l : List B). h x ∷ l) (ap (λ (k : ℕ). map f (count k (length xs))) (sym n) ∙ rest)
 
 -- the item of a row, with those before and behind it
-pub parted : {A : Type 0} (xs : List A) (i : ℕ) (x : A) → get_elem? xs i ≡ some x → (us : List A) × (vs : List A) × (xs ≡ us ++ (x ∷ vs)) × (length us ≡ i)
+pub parted : {A : Type 0} (xs : List A) (i : ℕ) (x : A) → slice_get xs i ≡ Some x → (us : List A) × (vs : List A) × (xs ≡ us ++ (x ∷ vs)) × (length us ≡ i)
 parted [] i x e = never e
 parted {A} (y ∷ xs) zero x e = let z : y ≡ x = cc in ([], xs, ap (λ (a : A). a ∷ xs) z, refl)
 parted {A} (y ∷ xs) (suc i) x e = let (us, vs, z, n) = parted xs i x e in (y ∷ us, vs, ap (λ (l : List A). y ∷ l) z, ap suc n)
@@ -173,22 +174,22 @@ module _ {kind : Kind} {B : Type 0} {g : Format B} {G : B → Type 0} (k : Plain
       nowhere : place_of_row kind d p n ≡ past → Found d p n (place_of_row kind d p n)
       nowhere e = never_both (inside (length d) past) (ap (inside (length d)) (sym e) ∙ h) (past_out (length d))
 
-      somewhere : (l m : Bits) → rest d p ≡ some l → left (times n g) l ≡ some m → place_of_row kind d p n ≡ spot d m → Found d p n (place_of_row kind d p n)
+      somewhere : (l m : Bits) → rest d p ≡ Some l → left (times n g) l ≡ Some m → place_of_row kind d p n ≡ spot d m → Found d p n (place_of_row kind d p n)
       somewhere l m z e w =
-          let (y, u, v) = some_is ((times n g).get l) (λ x. some x.1) m e in
+          let (y, u, v) = some_is ((times n g).get l) (λ x. Some x.1) m e in
           let m' : y.1 ≡ m = cc in
           let (a, b) = gets_there (good_times n k.good) d p z u in
           rw (w, ← m') (y.0, a.many, record { each = a.each; there = b })
 
-      by_get : (l : Bits) → rest d p ≡ some l → (o : Option (List (Unit {0}) × Bits)) → f.get l ≡ o → Found d p n (place_of_row kind d p n)
-      by_get l z none e = nowhere (ap (λ (o : Option Bits). (seen d (o >>= f.get)).1) z ∙ ap (λ (o : Option (List (Unit {0}) × Bits)). (seen d o).1) e)
-      by_get l z (some x) e =
-          somewhere l x.1 z (sym ((like_times n k.like).like l) ∙ ap (λ (o : Option (List (Unit {0}) × Bits)). o >>= λ y. some y.1) e)
+      by_get : (l : Bits) → rest d p ≡ Some l → (o : Option (List (Unit {0}) × Bits)) → f.get l ≡ o → Found d p n (place_of_row kind d p n)
+      by_get l z None e = nowhere (ap (λ (o : Option Bits). (seen d (o >>= f.get)).1) z ∙ ap (λ (o : Option (List (Unit {0}) × Bits)). (seen d o).1) e)
+      by_get l z (Some x) e =
+          somewhere l x.1 z (sym ((like_times n k.like).like l) ∙ ap (λ (o : Option (List (Unit {0}) × Bits)). o >>= λ y. Some y.1) e)
           (ap (λ (o : Option Bits). (seen d (o >>= f.get)).1) z ∙ ap (λ (o : Option (List (Unit {0}) × Bits)). (seen d o).1) e)
 
       by_rest : (o : Option Bits) → rest d p ≡ o → Found d p n (place_of_row kind d p n)
-      by_rest none z = nowhere (ap (λ (o : Option Bits). (seen d (o >>= f.get)).1) z)
-      by_rest (some l) z = by_get l z (f.get l) refl
+      by_rest None z = nowhere (ap (λ (o : Option Bits). (seen d (o >>= f.get)).1) z)
+      by_rest (Some l) z = by_get l z (f.get l) refl
 
   module _ {n : ℕ} {d d' : List ℕ} (u : Kept n d d') (p : Place) (rows : ℕ) (i' : inside (length d) (place_of_row kind d p rows) ≡ true) (h : at (place_of_row kind d p rows) ≤ n) where
     -- they are read where they were
@@ -348,8 +349,8 @@ same_activities n a = by_name a.calendar
     )
 
     by_name : (o : Option Text) → (whole (activity_by text)).put n (fields_with o) ≡ plain_activities.put n (fields_with o)
-    by_name none = refl
-    by_name (some s) = refl
+    by_name None = refl
+    by_name (Some s) = refl
 
 pub same_resources : (n : ℕ) (r : Resource) → (whole resource).put n r ≡ plain_resources.put n (resource_fields r)
 unfolding whole resource via ◌⊗◌ text raw optional depending
@@ -359,8 +360,8 @@ same_resources n r = by_name r.calendar
     fields_with o = (r.id, (r.name, (r.kind, (r.unit, (r.max_units, (o, r.price))))))
 
     by_name : (o : Option Text) → (whole (resource_by text)).put n (fields_with o) ≡ plain_resources.put n (fields_with o)
-    by_name none = refl
-    by_name (some s) = refl
+    by_name None = refl
+    by_name (Some s) = refl
 
 same_expenses : (n : ℕ) (e : Expense) → (whole expense).put n e ≡ plain_expenses.put n (expense_fields e)
 unfolding whole expense expense_parts via ◌⊗◌ text raw

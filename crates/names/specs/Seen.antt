@@ -3,7 +3,7 @@ use Rattle.std.specs.Prelude.{if◌then◌else◌, ◌≡◌, Bool, ◌||◌, Li
 use Rattle.std.proofs.Math.Path.{refl, sym, ap}
 use Rattle.std.proofs.Common.{◌∙◌, take-append-drop, length-take-le}
 use Rattle.std.proofs.Math.Bool.{true, false}
-use Rattle.std.proofs.Math.Option.{Option, some, none}
+use Rattle.std.specs.Prelude.{Option, Some, None}
 use Prim.Native.Nat.{ℕ, zero, suc, ◌+◌, ◌-◌, ◌*◌, ◌/◌, ◌%◌, ◌^◌, ◌≤◌, ◌<◌}
 use Rattle.std.proofs.Math.Nat.{sub-zero}
 use native.Mathlib.Omega.{arith}
@@ -122,7 +122,7 @@ module _ (kind : Kind) (s : List ℕ) (p : Place) (n : ℕ) where
 -- ---- a text of any bytes
 
 abbrev raw_from : ℕ × Bits → Option (Text × Bits)
-raw_from x = if ltb (length x.1) (8 * x.0) then none else some (bytes_up_to x.0 x.1, drop (8 * x.0) x.1)
+raw_from x = if ltb (length x.1) (8 * x.0) then None else Some (bytes_up_to x.0 x.1, drop (8 * x.0) x.1)
 
 module _ (s : List ℕ) (p : Place) where
   size : ℕ
@@ -139,7 +139,7 @@ module _ (s : List ℕ) (p : Place) where
   unfolding raw
   raw_on = chain raw_from counted
 
-  span_on : span_at s p ≡ span_of s (rest s body >>= λ l. some (size, l))
+  span_on : span_at s p ≡ span_of s (rest s body >>= λ l. Some (size, l))
   unfolding span_at
   span_on = ap (span_of s) counted.reads
 
@@ -155,13 +155,13 @@ module _ (s : List ℕ) (p : Place) where
   unfolding size
   raw_length = rw raw_shown (by_rest (rest s body))
     where
-      by_room : (l : Bits) (t : Bool) → length (shown (if t then none else some (bytes_up_to size l, drop (8 * size) l))) < 2 ^ 32
+      by_room : (l : Bits) (t : Bool) → length (shown (if t then None else Some (bytes_up_to size l, drop (8 * size) l))) < 2 ^ 32
       by_room l true = omega arith
       by_room l false = rw length_bytes (field_lt s p 32 refl)
 
       by_rest : (o : Option Bits) → length (shown (o >>= λ l. raw_from (size, l))) < 2 ^ 32
-      by_rest none = omega arith
-      by_rest (some l) = by_room l (ltb (length l) (8 * size))
+      by_rest None = omega arith
+      by_rest (Some l) = by_room l (ltb (length l) (8 * size))
 
   abbrev bytes_at : Span → Text
   bytes_at x = take x.len (drop x.start s)
@@ -172,7 +172,7 @@ module _ (s : List ℕ) (p : Place) where
   raw_spanned bs {x} e = rw (e, span_on, raw_shown) (by_inside (inside (length s) body) refl)
     where
       by_room : Fits (length s) body 0 → (t : Bool) → ltb (length (drop (at body) (bits_of s))) (8 * size) ≡ t
-          → bytes_at (span_of s (some (size, drop (at body) (bits_of s)))) ≡ shown (raw_from (size, drop (at body) (bits_of s)))
+          → bytes_at (span_of s (Some (size, drop (at body) (bits_of s)))) ≡ shown (raw_from (size, drop (at body) (bits_of s)))
       by_room f true h = rw h
       by_room f false h =
           let l = ltb-false (length (drop (at body) (bits_of s))) (8 * size) h in
@@ -185,6 +185,6 @@ module _ (s : List ℕ) (p : Place) where
           rw (a, bits_drop body.byte s (omega arith)) (bytes_front size (drop body.byte s) (each_drop body.byte bs) (omega (arith, length-drop body.byte s))) in
           rw (h, x, y)
 
-      by_inside : (t : Bool) → inside (length s) body ≡ t → bytes_at (span_of s (rest s body >>= λ l. some (size, l))) ≡ shown (rest s body >>= λ l. raw_from (size, l))
+      by_inside : (t : Bool) → inside (length s) body ≡ t → bytes_at (span_of s (rest s body >>= λ l. Some (size, l))) ≡ shown (rest s body >>= λ l. raw_from (size, l))
       by_inside false e = rw (rest_out s body e)
       by_inside true e = let f = room_fits (length s) body 0 e in rw (rest_in s body f) (by_room f (ltb (length (drop (at body) (bits_of s))) (8 * size)) refl)

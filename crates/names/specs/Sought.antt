@@ -4,7 +4,7 @@ use Rattle.std.proofs.Common.{arith, ◌∙◌, ltb-true}
 use Rattle.std.specs.Prelude.{if◌then◌else◌, ◌≡◌, Bool, true, false, ◌&&◌, leb, ltb, get_or}
 use Rattle.std.proofs.Math.Path.{refl, sym, ap}
 use mathlib.Core.List.{List, [], ◌∷◌}
-use Rattle.std.proofs.Math.Option.{Option, some, none}
+use Rattle.std.specs.Prelude.{Option, Some, None}
 use Rattle.std.proofs.Math.ListN.{length}
 use Rattle.definition.specs.Base.{◌>>=◌, keep, first, find, numbered, same}
 use Rattle.definition.specs.Refusal.{most_elements}
@@ -35,7 +35,7 @@ module _ {A : Type 0} (p : A → Bool) (d : A) where
   back l r = get_or l (length l - suc r) d
 
   abbrev numbered_back : ℕ → List A → ℕ → Option (ℕ × A)
-  numbered_back k l r = some (k + (length l - suc r), back l r)
+  numbered_back k l r = Some (k + (length l - suc r), back l r)
 
   one_more : (x : A) (l : List A) (r : ℕ) → r < length l → back (x ∷ l) r ≡ back l r
   one_more x l r h =
@@ -53,12 +53,12 @@ module _ {A : Type 0} (p : A → Bool) (d : A) where
       here : back (x ∷ l) n ≡ x
       here = let z : suc (length l) - suc (length l) ≡ 0 = omega arith in ap (λ (i : ℕ). get_or (x ∷ l) i d) z
 
-      later : (o : Option ℕ) → ((r : ℕ) → o ≡ some r → r < n) → (o >>= numbered_back (suc k) l) ≡ (o >>= numbered_back k (x ∷ l))
-      later none h = refl
-      later (some r) h =
+      later : (o : Option ℕ) → ((r : ℕ) → o ≡ Some r → r < n) → (o >>= numbered_back (suc k) l) ≡ (o >>= numbered_back k (x ∷ l))
+      later None h = refl
+      later (Some r) h =
           let i : r < length l = h r refl in
           let z : suc k + (length l - suc r) ≡ k + (suc (length l) - suc r) = omega arith in
-          ap (λ (j : ℕ). some (j, back l r)) z ∙ ap (λ (e : A). some (k + (suc (length l) - suc r), e)) (sym (one_more x l r i))
+          ap (λ (j : ℕ). Some (j, back l r)) z ∙ ap (λ (e : A). Some (k + (suc (length l) - suc r), e)) (sym (one_more x l r i))
 
       found : ℕ → Bool
       found r = p (back (x ∷ l) r)
@@ -68,8 +68,8 @@ module _ {A : Type 0} (p : A → Bool) (d : A) where
           ≡ (last_below found (suc n) >>= numbered_back k (x ∷ l))
       go true e h =
           let z : k ≡ k + (suc n - suc n) = omega arith in
-          ap (λ (j : ℕ). some (j, x)) z
-          ∙ ap (λ (e : A). some (k + (suc n - suc n), e)) (sym here)
+          ap (λ (j : ℕ). Some (j, x)) z
+          ∙ ap (λ (e : A). Some (k + (suc n - suc n), e)) (sym here)
           ∙ ap (λ (o : Option ℕ). o >>= numbered_back k (x ∷ l)) (sym (last_yes found n (ap p here ∙ e)))
       go false e h =
           let same : last_below (λ r. p (back l r)) n ≡ last_below found (suc n) =
@@ -94,13 +94,13 @@ module _ {s : Text} {root : Element} {t : Table} {w : List ℕ} (x : Uids s root
       ∙ go (last_below (λ r. has_uid u (of_row root r)) (how_many root)) (λ r e. (last_in (λ r. has_uid u (of_row root r)) (how_many root) e).0)
       ∙ sym (find_back (has_uid u) no_element 0 (in_order root))
     where
-      go : (o : Option ℕ) → ((r : ℕ) → o ≡ some r → r < how_many root)
-          → (o >>= row_found s w t) ≡ (o >>= λ r. some (0 + (how_many root - suc r), of_row root r))
-      go none h = refl
-      go (some r) h =
+      go : (o : Option ℕ) → ((r : ℕ) → o ≡ Some r → r < how_many root)
+          → (o >>= row_found s w t) ≡ (o >>= λ r. Some (0 + (how_many root - suc r), of_row root r))
+      go None h = refl
+      go (Some r) h =
           let z : t.rows - suc r ≡ 0 + (how_many root - suc r) = omega (arith, x.rows, h r refl) in
-          let y : row_found s w t r ≡ some (0 + (how_many root - suc r), element_at s (place_of w t r)) = ap (λ (k : ℕ). some (k, element_at s (place_of w t r))) z in
-          y ∙ ap (λ (e : Element). some (0 + (how_many root - suc r), e)) (x.stands r (h r refl))
+          let y : row_found s w t r ≡ Some (0 + (how_many root - suc r), element_at s (place_of w t r)) = ap (λ (k : ℕ). Some (k, element_at s (place_of w t r))) z in
+          y ∙ ap (λ (e : Element). Some (0 + (how_many root - suc r), e)) (x.stands r (h r refl))
 
 -- ---- where it stands
 
@@ -148,9 +148,9 @@ uids_kept {s} {root} {m} {w} {w'} y h = go m y h
         in_table : SameIn t w w'
         in_table = below_in y (omega arith)
 
-        at_row : (o : Option ℕ) → ((r : ℕ) → o ≡ some r → r < t.rows) → (o >>= row_found s w' t) ≡ (o >>= row_found s w t)
-        at_row none k = refl
-        at_row (some r) k = ap (λ (p : ℕ). some (t.rows - suc r, element_at s p)) (place_same in_table r (k r refl))
+        at_row : (o : Option ℕ) → ((r : ℕ) → o ≡ Some r → r < t.rows) → (o >>= row_found s w' t) ≡ (o >>= row_found s w t)
+        at_row None k = refl
+        at_row (Some r) k = ap (λ (p : ℕ). Some (t.rows - suc r, element_at s p)) (place_same in_table r (k r refl))
 
 module _ {s : Text} {root : Element} {at : ℕ} {w w' : List ℕ} {r : CalendarTable} (h : MakesUids s root at w w' r) where
   pub uids_find : FindsUids s root r.table w'

@@ -3,9 +3,10 @@ use Rattle.std.specs.Prelude.{if◌then◌else◌, ◌≡◌, refl, Bool, true, 
 use Rattle.std.proofs.Math.Path.{sym, ap}
 use Rattle.std.proofs.Common.{◌∙◌, add-zero, zero-add, arith, length-append, length-drop, take-append-drop, length-take-le, eqb-true, ltb-true, ltb-false, le-leb}
 use mathlib.Core.List.{List, [], ◌∷◌, ◌++◌, map, append_assoc, append-nil}
-use Rattle.std.proofs.Math.Option.{Option, some, none}
+use Rattle.std.specs.Prelude.{Option, Some, None}
 use Rattle.std.proofs.Math.Decide.{dec_lt}
-use Rattle.std.proofs.Math.ListN.{length, get_elem?}
+use Rattle.std.specs.Prelude.{slice_get}
+use Rattle.std.proofs.Math.ListN.{length}
 use Rattle.std.proofs.lemmas.List.{length-replicate, length-map}
 use Rattle.std.proofs.lemmas.Bool.{eqb-false}
 use Rattle.definition.specs.Base.{◌>>=◌, ◌or◌, ◌or_else◌, given, keep, first, find, some?, same, numbered, count}
@@ -41,34 +42,34 @@ use Rattle.names.specs.Agree.{Agree, activities_agree, resources_agree}
 
 -- ---- items by rows
 
-elem_front : {A : Type 0} (l s : List A) (i : ℕ) → i < length l → get_elem? (l ++ s) i ≡ get_elem? l i
+elem_front : {A : Type 0} (l s : List A) (i : ℕ) → i < length l → slice_get (l ++ s) i ≡ slice_get l i
 elem_front [] s i h = absurd (omega arith)
 elem_front (x ∷ l) s zero h = refl
 elem_front (x ∷ l) s (suc i) h = elem_front l s i (omega arith)
 
-elem_length : {A : Type 0} (l : List A) (i : ℕ) {x : A} → get_elem? l i ≡ some x → i < length l
+elem_length : {A : Type 0} (l : List A) (i : ℕ) {x : A} → slice_get l i ≡ Some x → i < length l
 elem_length [] i e = never e
 elem_length (y ∷ l) zero e = omega arith
 elem_length (y ∷ l) (suc i) e = omega (arith, elem_length l i e)
 
-elem_map : {A B : Type 0} (f : A → B) (l : List A) (i : ℕ) {x : A} → get_elem? l i ≡ some x → get_elem? (map f l) i ≡ some (f x)
+elem_map : {A B : Type 0} (f : A → B) (l : List A) (i : ℕ) {x : A} → slice_get l i ≡ Some x → slice_get (map f l) i ≡ Some (f x)
 elem_map f [] i e = never e
-elem_map {A} f (y ∷ l) zero {x} e = let z : y ≡ x = cc in ap (λ (a : A). some (f a)) z
+elem_map {A} f (y ∷ l) zero {x} e = let z : y ≡ x = cc in ap (λ (a : A). Some (f a)) z
 elem_map f (y ∷ l) (suc i) e = elem_map f l i e
 
-elem_count : {B : Type 0} (f : ℕ → B) (k n i : ℕ) → i < n → get_elem? (map f (count k n)) i ≡ some (f (k + i))
+elem_count : {B : Type 0} (f : ℕ → B) (k n i : ℕ) → i < n → slice_get (map f (count k n)) i ≡ Some (f (k + i))
 unfolding count
 elem_count f k zero i h = absurd (omega arith)
-elem_count {B} f k (suc n) zero h = ap (λ (j : ℕ). some (f j)) (sym (add-zero k))
-elem_count {B} f k (suc n) (suc i) h = let z : suc k + i ≡ k + suc i = omega arith in elem_count f (suc k) n i (omega arith) ∙ ap (λ (j : ℕ). some (f j)) z
+elem_count {B} f k (suc n) zero h = ap (λ (j : ℕ). Some (f j)) (sym (add-zero k))
+elem_count {B} f k (suc n) (suc i) h = let z : suc k + i ≡ k + suc i = omega arith in elem_count f (suc k) n i (omega arith) ∙ ap (λ (j : ℕ). Some (f j)) z
 
-turned_before : {A : Type 0} (l r s : List A) (m i : ℕ) → i < m → m ≤ length l → get_elem? ((take m l ++ r) ++ s) i ≡ get_elem? l i
+turned_before : {A : Type 0} (l r s : List A) (m i : ℕ) → i < m → m ≤ length l → slice_get ((take m l ++ r) ++ s) i ≡ slice_get l i
 turned_before l r s zero i h k = absurd (omega arith)
 turned_before [] r s (suc m) i h k = absurd (omega arith)
 turned_before (x ∷ l) r s (suc m) zero h k = refl
 turned_before (x ∷ l) r s (suc m) (suc i) h k = turned_before l r s m i (omega arith) (omega arith)
 
-turned_behind : {A : Type 0} (l s : List A) (m j : ℕ) → m ≤ j → suc j < length l → get_elem? ((take m l ++ drop (suc m) l) ++ s) j ≡ get_elem? l (suc j)
+turned_behind : {A : Type 0} (l s : List A) (m j : ℕ) → m ≤ j → suc j < length l → slice_get ((take m l ++ drop (suc m) l) ++ s) j ≡ slice_get l (suc j)
 turned_behind [] s m j h k = absurd (omega arith)
 turned_behind (x ∷ l) s zero j h k = elem_front l s j (omega arith)
 turned_behind (x ∷ l) s (suc m) zero h k = absurd (omega arith)
@@ -82,15 +83,15 @@ beyond m i h n = by_test (dec_lt m i)
     by_test (no g) = absurd (n (omega arith))
 
 -- the item of a row stands at its row in the section
-turned_row : {A : Type 0} (c : A) (l s : List A) (m i : ℕ) → get_elem? l m ≡ some c → i < length l → get_elem? ((c ∷ (take m l ++ drop (suc m) l)) ++ s) (section_row m i) ≡ get_elem? l i
+turned_row : {A : Type 0} (c : A) (l s : List A) (m i : ℕ) → slice_get l m ≡ Some c → i < length l → slice_get ((c ∷ (take m l ++ drop (suc m) l)) ++ s) (section_row m i) ≡ slice_get l i
 turned_row {A} c l s m i e h = by_row (eqb i m) (ltb i m) refl refl
   where
-    later : (i : ℕ) → m < i → i < length l → get_elem? ((c ∷ (take m l ++ drop (suc m) l)) ++ s) i ≡ get_elem? l i
+    later : (i : ℕ) → m < i → i < length l → slice_get ((c ∷ (take m l ++ drop (suc m) l)) ++ s) i ≡ slice_get l i
     later zero a h = absurd (omega arith)
     later (suc j) a h = turned_behind l s m j (omega arith) h
 
-    by_row : (t o : Bool) → eqb i m ≡ t → ltb i m ≡ o → get_elem? ((c ∷ (take m l ++ drop (suc m) l)) ++ s) (if t then 0 else if o then suc i else i) ≡ get_elem? l i
-    by_row true o et eo = let z : i ≡ m = eqb-true i m et in sym (ap (get_elem? l) z ∙ e)
+    by_row : (t o : Bool) → eqb i m ≡ t → ltb i m ≡ o → slice_get ((c ∷ (take m l ++ drop (suc m) l)) ++ s) (if t then 0 else if o then suc i else i) ≡ slice_get l i
+    by_row true o et eo = let z : i ≡ m = eqb-true i m et in sym (ap (slice_get l) z ∙ e)
     by_row false true et eo = turned_before l (drop (suc m) l) s m i (ltb-true i m eo) (omega (arith, elem_length l m e))
     by_row false false et eo = later i (beyond m i (ltb-false i m eo) (eqb-false i m et)) h
 
@@ -134,8 +135,8 @@ built_shape root =
 -- ---- the row that is found
 
 data Hit (b : List Named) (k : ℕ) : Option (ℕ × Element) → Option Named → Type 0 where
-  miss : Hit b k none none
-  hit : (j i : ℕ) (e : Element) (n : Named) → j ≡ k + i → get_elem? b i ≡ some n → Hit b k (some (j, e)) (some n)
+  miss : Hit b k None None
+  hit : (j i : ℕ) (e : Element) (n : Named) → j ≡ k + i → slice_get b i ≡ Some n → Hit b k (Some (j, e)) (Some n)
 
 hit_next : {b : List Named} {k : ℕ} (m : Named) {o : Option (ℕ × Element)} {p : Option Named} → Hit b (suc k) o p → Hit (m ∷ b) k o p
 hit_next m miss = miss
@@ -157,14 +158,14 @@ find_hit u k (more {x = e} {y = n} {xs = l} {ys = b} h p) = by_test (same n.0 u)
     by_test false z w = let y : has_uid u e ≡ false = ap (λ (t : Text). same t u) (sym h.uid) ∙ z in rw (z, y) (hit_next n w)
 
 -- the main calendar is the one of its row
-main_hit : (root : Element) (x : ℕ × Element) → main_in root ≡ some x → get_elem? (calendars_in (built_calendars root)) x.0 ≡ some (main_calendar root (built_calendars root))
+main_hit : (root : Element) (x : ℕ × Element) → main_in root ≡ Some x → slice_get (calendars_in (built_calendars root)) x.0 ≡ Some (main_calendar root (built_calendars root))
 unfolding main_in main_calendar
 main_hit root x e = by_uid (text_in root "CalendarUID") e
   where
     b : List Named
     b = built_calendars root
 
-    is_hit : {o : Option (ℕ × Element)} {p : Option Named} → Hit b 0 o p → o ≡ some x → get_elem? (calendars_in b) x.0 ≡ some ((p >>= λ y. some y.1) or default_calendar)
+    is_hit : {o : Option (ℕ × Element)} {p : Option Named} → Hit b 0 o p → o ≡ Some x → slice_get (calendars_in b) x.0 ≡ Some ((p >>= λ y. Some y.1) or default_calendar)
     is_hit miss e = never e
     is_hit (hit j i y n z h) e =
         let w : ◌≡◌ {A = ℕ × Element} (j, y) x = cc in
@@ -174,15 +175,15 @@ main_hit root x e = by_uid (text_in root "CalendarUID") e
     by_first : Hit b 0 (first (numbered 0 (in_order root))) (first b)
     by_first = first_hit 0 (built_shape root)
 
-    by_found : {o : Option (ℕ × Element)} {p : Option Named} → Hit b 0 o p → (o or_else first (numbered 0 (in_order root))) ≡ some x
-        → get_elem? (calendars_in b) x.0 ≡ some (((p >>= λ y. some y.1) or_else (first b >>= λ y. some y.1)) or default_calendar)
+    by_found : {o : Option (ℕ × Element)} {p : Option Named} → Hit b 0 o p → (o or_else first (numbered 0 (in_order root))) ≡ Some x
+        → slice_get (calendars_in b) x.0 ≡ Some (((p >>= λ y. Some y.1) or_else (first b >>= λ y. Some y.1)) or default_calendar)
     by_found miss e = is_hit by_first e
     by_found (hit j i y n z h) e = is_hit (hit j i y n z h) e
 
-    by_uid : (o : Option Text) → ((o >>= with_uid_in root) or_else first (numbered 0 (in_order root))) ≡ some x
-        → get_elem? (calendars_in b) x.0 ≡ some (((o >>= λ u. with_uid u b) or_else (first b >>= λ y. some y.1)) or default_calendar)
-    by_uid none e = is_hit by_first e
-    by_uid (some u) e = by_found (find_hit u 0 (built_shape root)) e
+    by_uid : (o : Option Text) → ((o >>= with_uid_in root) or_else first (numbered 0 (in_order root))) ≡ Some x
+        → slice_get (calendars_in b) x.0 ≡ Some (((o >>= λ u. with_uid u b) or_else (first b >>= λ y. Some y.1)) or default_calendar)
+    by_uid None e = is_hit by_first e
+    by_uid (Some u) e = by_found (find_hit u 0 (built_shape root)) e
 
 -- ---- names and UIDs
 
@@ -192,60 +193,60 @@ Key = Text × Text
 abbrev key_of : Named → Key
 key_of n = (n.0, n.1.name)
 
-first_key : (b : List Named) → (first b >>= λ n. some n.1.name) ≡ (first (map key_of b) >>= λ k. some k.1)
+first_key : (b : List Named) → (first b >>= λ n. Some n.1.name) ≡ (first (map key_of b) >>= λ k. Some k.1)
 unfolding first
 first_key [] = refl
 first_key (n ∷ b) = refl
 
-find_key : (u : Text) (b : List Named) → (find (λ (n : Named). same n.0 u) b >>= λ n. some n.1.name) ≡ (find (λ (k : Key). same k.0 u) (map key_of b) >>= λ k. some k.1)
+find_key : (u : Text) (b : List Named) → (find (λ (n : Named). same n.0 u) b >>= λ n. Some n.1.name) ≡ (find (λ (k : Key). same k.0 u) (map key_of b) >>= λ k. Some k.1)
 unfolding keep first
 find_key u [] = refl
 find_key u (n ∷ b) = by_test (same n.0 u) (find_key u b)
   where
-    by_test : (t : Bool) → (find (λ (n : Named). same n.0 u) b >>= λ n. some n.1.name) ≡ (find (λ (k : Key). same k.0 u) (map key_of b) >>= λ k. some k.1)
-        → (first (if t then n ∷ keep (λ (n : Named). same n.0 u) b else keep (λ (n : Named). same n.0 u) b) >>= λ n. some n.1.name)
-        ≡ (first (if t then key_of n ∷ keep (λ (k : Key). same k.0 u) (map key_of b) else keep (λ (k : Key). same k.0 u) (map key_of b)) >>= λ k. some k.1)
+    by_test : (t : Bool) → (find (λ (n : Named). same n.0 u) b >>= λ n. Some n.1.name) ≡ (find (λ (k : Key). same k.0 u) (map key_of b) >>= λ k. Some k.1)
+        → (first (if t then n ∷ keep (λ (n : Named). same n.0 u) b else keep (λ (n : Named). same n.0 u) b) >>= λ n. Some n.1.name)
+        ≡ (first (if t then key_of n ∷ keep (λ (k : Key). same k.0 u) (map key_of b) else keep (λ (k : Key). same k.0 u) (map key_of b)) >>= λ k. Some k.1)
     by_test true e = refl
     by_test false e = e
 
-name_key : (u : Text) (b : List Named) → name_of b u ≡ (find (λ (k : Key). same k.0 u) (map key_of b) >>= λ k. some k.1)
+name_key : (u : Text) (b : List Named) → name_of b u ≡ (find (λ (k : Key). same k.0 u) (map key_of b) >>= λ k. Some k.1)
 name_key u b = by_found (find (λ (n : Named). same n.0 u) b) ∙ find_key u b
   where
-    by_found : (o : Option Named) → (o >>= (λ x. some x.1) >>= λ c. some c.name) ≡ (o >>= λ n. some n.1.name)
-    by_found none = refl
-    by_found (some n) = refl
+    by_found : (o : Option Named) → (o >>= (λ x. Some x.1) >>= λ c. Some c.name) ≡ (o >>= λ n. Some n.1.name)
+    by_found None = refl
+    by_found (Some n) = refl
 
-main_key : (root : Element) (b : List Named) → (main_calendar root b).name ≡ (((text_in root "CalendarUID" >>= name_of b) or_else (first (map key_of b) >>= λ k. some k.1)) or bytes "Standard")
+main_key : (root : Element) (b : List Named) → (main_calendar root b).name ≡ (((text_in root "CalendarUID" >>= name_of b) or_else (first (map key_of b) >>= λ k. Some k.1)) or bytes "Standard")
 unfolding main_calendar default_calendar
 main_key root b = by_uid (text_in root "CalendarUID") ∙ ap (λ (o : Option Text). ((text_in root "CalendarUID" >>= name_of b) or_else o) or bytes "Standard") (first_key b)
   where
-    by_first : (o : Option Named) → ((o >>= λ n. some n.1) or default_calendar).name ≡ ((o >>= λ n. some n.1.name) or bytes "Standard")
-    by_first none = refl
-    by_first (some n) = refl
+    by_first : (o : Option Named) → ((o >>= λ n. Some n.1) or default_calendar).name ≡ ((o >>= λ n. Some n.1.name) or bytes "Standard")
+    by_first None = refl
+    by_first (Some n) = refl
 
-    by_found : (c : Option Calendar) (o : Option Named) → ((c or_else (o >>= λ n. some n.1)) or default_calendar).name ≡ (((c >>= λ c. some c.name) or_else (o >>= λ n. some n.1.name)) or bytes "Standard")
-    by_found none o = by_first o
-    by_found (some c) o = refl
+    by_found : (c : Option Calendar) (o : Option Named) → ((c or_else (o >>= λ n. Some n.1)) or default_calendar).name ≡ (((c >>= λ c. Some c.name) or_else (o >>= λ n. Some n.1.name)) or bytes "Standard")
+    by_found None o = by_first o
+    by_found (Some c) o = refl
 
-    by_uid : (o : Option Text) → (((o >>= λ u. with_uid u b) or_else (first b >>= λ n. some n.1)) or default_calendar).name ≡ (((o >>= name_of b) or_else (first b >>= λ n. some n.1.name)) or bytes "Standard")
-    by_uid none = by_first (first b)
-    by_uid (some u) = by_found (with_uid u b) (first b)
+    by_uid : (o : Option Text) → (((o >>= λ u. with_uid u b) or_else (first b >>= λ n. Some n.1)) or default_calendar).name ≡ (((o >>= name_of b) or_else (first b >>= λ n. Some n.1.name)) or bytes "Standard")
+    by_uid None = by_first (first b)
+    by_uid (Some u) = by_found (with_uid u b) (first b)
 
 module _ (root : Element) (b b' : List Named) (e : map key_of b ≡ map key_of b') where
   keys_name : (u : Text) → name_of b u ≡ name_of b' u
-  keys_name u = name_key u b ∙ ap (λ (l : List Key). find (λ (k : Key). same k.0 u) l >>= λ k. some k.1) e ∙ sym (name_key u b')
+  keys_name u = name_key u b ∙ ap (λ (l : List Key). find (λ (k : Key). same k.0 u) l >>= λ k. Some k.1) e ∙ sym (name_key u b')
 
   keys_main : (main_calendar root b).name ≡ (main_calendar root b').name
   keys_main = main_key root b ∙ by_uid (text_in root "CalendarUID") ∙ sym (main_key root b')
     where
-      by_uid : (o : Option Text) → (((o >>= name_of b) or_else (first (map key_of b) >>= λ k. some k.1)) or bytes "Standard") ≡ (((o >>= name_of b') or_else (first (map key_of b') >>= λ k. some k.1)) or bytes "Standard")
-      by_uid none = ap (λ (l : List Key). (first l >>= λ k. some k.1) or bytes "Standard") e
-      by_uid (some u) =
-          ap (λ (o : Option Text). (o or_else (first (map key_of b) >>= λ k. some k.1)) or bytes "Standard") (keys_name u)
-          ∙ ap (λ (l : List Key). (name_of b' u or_else (first l >>= λ k. some k.1)) or bytes "Standard") e
+      by_uid : (o : Option Text) → (((o >>= name_of b) or_else (first (map key_of b) >>= λ k. Some k.1)) or bytes "Standard") ≡ (((o >>= name_of b') or_else (first (map key_of b') >>= λ k. Some k.1)) or bytes "Standard")
+      by_uid None = ap (λ (l : List Key). (first l >>= λ k. Some k.1) or bytes "Standard") e
+      by_uid (Some u) =
+          ap (λ (o : Option Text). (o or_else (first (map key_of b) >>= λ k. Some k.1)) or bytes "Standard") (keys_name u)
+          ∙ ap (λ (l : List Key). (name_of b' u or_else (first l >>= λ k. Some k.1)) or bytes "Standard") e
 
 -- the keys of what is built, from its elements and their names by rows
-keys_pairs : (f : ℕ × Element → Text) (k : ℕ) {l : List Element} {b : List Named} → Pairs Shape l b → ((i : ℕ) (e : Element) (n : Named) → Shape e n → get_elem? b i ≡ some n → f (k + i, e) ≡ n.1.name)
+keys_pairs : (f : ℕ × Element → Text) (k : ℕ) {l : List Element} {b : List Named} → Pairs Shape l b → ((i : ℕ) (e : Element) (n : Named) → Shape e n → slice_get b i ≡ Some n → f (k + i, e) ≡ n.1.name)
     → map key_of (map (λ (x : ℕ × Element). (text_in x.1 "UID" or [], plain_calendar (f x) [] [])) (numbered k l)) ≡ map key_of b
 unfolding numbered
 keys_pairs f k bare h = refl
@@ -275,38 +276,38 @@ order_length root =
 
 -- ---- the names in the buffer
 
-none_built : (root : Element) → main_in root ≡ none → built_calendars root ≡ []
+none_built : (root : Element) → main_in root ≡ None → built_calendars root ≡ []
 unfolding main_in first
 none_built root e = empty_if (built_calendars root) (missed (first_hit 0 (built_shape root)) (none_first (text_in root "CalendarUID" >>= with_uid_in root) e))
   where
-    none_first : (o : Option (ℕ × Element)) → (o or_else first (numbered 0 (in_order root))) ≡ none → first (numbered 0 (in_order root)) ≡ none
-    none_first none e = e
-    none_first (some x) e = never (sym e)
+    none_first : (o : Option (ℕ × Element)) → (o or_else first (numbered 0 (in_order root))) ≡ None → first (numbered 0 (in_order root)) ≡ None
+    none_first None e = e
+    none_first (Some x) e = never (sym e)
 
-    empty_if : (b : List Named) → first b ≡ none → b ≡ []
+    empty_if : (b : List Named) → first b ≡ None → b ≡ []
     empty_if [] e = refl
     empty_if (n ∷ b) e = never (sym e)
 
-    missed : {o : Option (ℕ × Element)} {p : Option Named} → Hit (built_calendars root) 0 o p → o ≡ none → p ≡ none
+    missed : {o : Option (ℕ × Element)} {p : Option Named} → Hit (built_calendars root) 0 o p → o ≡ None → p ≡ None
     missed miss e = refl
     missed (hit j i x n z h) e = never (sym e)
 
-main_row_lem : (root : Element) (y : ℕ × Element) → main_in root ≡ some y → main_row root ≡ y.0
-main_row_lem root y e = ap (λ (o : Option (ℕ × Element)). (o >>= λ x. some x.0) or 0) e
+main_row_lem : (root : Element) (y : ℕ × Element) → main_in root ≡ Some y → main_row root ≡ y.0
+main_row_lem root y e = ap (λ (o : Option (ℕ × Element)). (o >>= λ x. Some x.0) or 0) e
 
-turned : (root : Element) (y : ℕ × Element) → main_in root ≡ some y
+turned : (root : Element) (y : ℕ × Element) → main_in root ≡ Some y
     → calendars_of (context_of root)
     ≡ (main_calendar root (built_calendars root) ∷ (take y.0 (calendars_in (built_calendars root)) ++ drop (suc y.0) (calendars_in (built_calendars root)))) ++ (if some? is_elapsed (kept_tasks root) then elapsed_calendar ∷ [] else [])
 unfolding context_of
 turned root y e = calendars_turned (context_of root) y.0 (built_distinct root) (main_hit root y e)
 
 -- the row of a built calendar in the section
-section_elem : (root : Element) (j : ℕ) (n : Named) → get_elem? (built_calendars root) j ≡ some n → get_elem? (calendars_of (context_of root)) (section_row (main_row root) j) ≡ some n.1
+section_elem : (root : Element) (j : ℕ) (n : Named) → slice_get (built_calendars root) j ≡ Some n → slice_get (calendars_of (context_of root)) (section_row (main_row root) j) ≡ Some n.1
 section_elem root j n g = by_main (main_in root) refl
   where
-    by_main : (o : Option (ℕ × Element)) → main_in root ≡ o → get_elem? (calendars_of (context_of root)) (section_row (main_row root) j) ≡ some n.1
-    by_main none e = never (sym (ap (λ (l : List Named). get_elem? l j) (none_built root e)) ∙ g)
-    by_main (some y) e =
+    by_main : (o : Option (ℕ × Element)) → main_in root ≡ o → slice_get (calendars_of (context_of root)) (section_row (main_row root) j) ≡ Some n.1
+    by_main None e = never (sym (ap (λ (l : List Named). slice_get l j) (none_built root e)) ∙ g)
+    by_main (Some y) e =
         let c = elem_map (λ (n : Named). n.1) (built_calendars root) j g in
         rw (main_row_lem root y e, turned root y e) (turned_row (main_calendar root (built_calendars root)) (calendars_in (built_calendars root)) _ y.0 j (main_hit root y e) (elem_length (calendars_in (built_calendars root)) j c) ∙ c)
 
@@ -314,8 +315,8 @@ all_enough : (root : Element) → length (in_order root) ≤ length (calendars_o
 all_enough root = by_main (main_in root) refl
   where
     by_main : (o : Option (ℕ × Element)) → main_in root ≡ o → length (in_order root) ≤ length (calendars_of (context_of root))
-    by_main none e = let z : length (in_order root) ≡ 0 = pairs_length (built_shape root) ∙ ap length (none_built root e) in omega arith
-    by_main (some y) e =
+    by_main None e = let z : length (in_order root) ≡ 0 = pairs_length (built_shape root) ∙ ap length (none_built root e) in omega arith
+    by_main (Some y) e =
         let cs = calendars_in (built_calendars root) in
         let z : length (in_order root) ≡ length cs = pairs_length (built_shape root) ∙ sym (length-map (built_calendars root) (λ (n : Named). n.1)) in
         rw (z, turned root y e) (turned_length (main_calendar root (built_calendars root)) cs _ y.0 (elem_length cs y.0 (main_hit root y e)))
@@ -328,13 +329,13 @@ stars_back w t k e =
 
 -- all calendars were put, the main one first
 module _ (k : ℕ) (root : Element) {d₀ : List ℕ} {c : Place} {d : List ℕ} {q : Place} (x : Puts (times k (whole calendar)) (calendars_of (context_of root)) d₀ c d q) (i : inside (length d) q ≡ true) (h : Each (FitsCalendarBy Short) (calendars_of (context_of root))) where
-  text_row : (j : ℕ) (y : Calendar) → get_elem? (calendars_of (context_of root)) j ≡ some y → text_at Calendars d c j ≡ y.name
+  text_row : (j : ℕ) (y : Calendar) → slice_get (calendars_of (context_of root)) j ≡ Some y → text_at Calendars d c j ≡ y.name
   unfolding texts_at
   text_row j y e =
       let all = calendars_of (context_of root) in
       let t = texts_calendars k x i h in
-      let z : some (text_at Calendars d c (0 + j)) ≡ some y.name =
-      sym (elem_count (text_at Calendars d c) 0 (length all) j (elem_length all j e)) ∙ ap (λ (l : List Text). get_elem? l j) t ∙ elem_map (λ (c : Calendar). c.name) all j e in
+      let z : Some (text_at Calendars d c (0 + j)) ≡ Some y.name =
+      sym (elem_count (text_at Calendars d c) 0 (length all) j (elem_length all j e)) ∙ ap (λ (l : List Text). slice_get l j) t ∙ elem_map (λ (c : Calendar). c.name) all j e in
       let w : text_at Calendars d c (0 + j) ≡ y.name = cc in
       ap (text_at Calendars d c) (sym (zero-add j)) ∙ w
 

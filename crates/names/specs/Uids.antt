@@ -1,6 +1,6 @@
 -- Calendars by their UIDs, as words say it. Assumes nothing: these are definitions.
 use Rattle.std.specs.Prelude.{if◌then◌else◌, ℕ, suc, ◌+◌, ◌-◌, ◌*◌, ◌^◌, ◌≤◌, ◌<◌, max, ◌≡◌, ◌&&◌, List, leb, ltb, length, get_or}
-use Rattle.std.proofs.Math.Option.{Option, some, none}
+use Rattle.std.specs.Prelude.{Option, Some, None}
 use Rattle.definition.specs.Base.{◌>>=◌}
 use Rattle.definition.specs.Refusal.{most_elements}
 use Rattle.definition.specs.Text.{Text}
@@ -70,11 +70,11 @@ pub record MakesUids (s : Text) (root : Element) (at : ℕ) (w w' : List ℕ) (r
 
 -- its row in the order in which they are built, and where it stands
 unfoldable pub order_row : List ℕ → Table → Option ℕ → CalendarAnswer
-order_row w t none = Absent
-order_row w t (some r) = Is (t.rows - suc r) (place_of w t r)
+order_row w t None = Absent
+order_row w t (Some r) = Is (t.rows - suc r) (place_of w t r)
 
 abbrev pub row_found : Text → List ℕ → Table → ℕ → Option (ℕ × Element)
-row_found s w t r = some (t.rows - suc r, element_at s (place_of w t r))
+row_found s w t r = Some (t.rows - suc r, element_at s (place_of w t r))
 
 -- the first with a UID, as words say it where there is a table
 unfoldable pub calendar_by : Text → Element → List ℕ → Made → Text → Option (ℕ × Element)

@@ -1,6 +1,6 @@
 -- What the code puts together of a number's parts is the definition's number. Assumes nothing.
 use Rattle.std.proofs.Common.{◌≡◌, ℕ, zero, suc, ◌+◌, ◌-◌, ◌^◌, ◌<◌, ◌≤◌, min, Bool, true, false, leb, ◌⊎◌, [], ◌∷◌, ◌++◌, length, get_or, drop, sym, refl, ap, ◌∙◌, inl, inr, add-zero, add-suc, suc-add, zero-add, arith, length-drop, ne_eqb, leb-true}
-use mathlib.Core.Option.{Option, some, none}
+use Rattle.std.specs.Prelude.{Option, Some, None}
 use lib.Ieee.{Float}
 use Rattle.definition.specs.Base.{◌>>=◌, ◌or◌}
 use Rattle.definition.specs.Text.{Text, Sign, plus, minus, bare, sign_of, before, after, is_digit, digits}
@@ -37,29 +37,29 @@ number_other s e = go (sign_of s) e
 -- ---- the power
 -- the digits held, none where they are none
 abbrev scaled_of : Option ℕ → ℕ → Power → Reading Float
-scaled_of none places p = absent
-scaled_of (some v) places p = scaled_by v places p
+scaled_of None places p = absent
+scaled_of (Some v) places p = scaled_by v places p
 
 abbrev power_after : Option Text → Power
-power_after none = power.Up 0
-power_after (some s) = power_of s
+power_after None = power.Up 0
+power_after (Some s) = power_of s
 
 by_sign : (v places : ℕ) → places < 2 ^ 63 → (g : Sign) (y : Option ℕ)
-    → scaled_by (min v limit) places (power_by g (hold y)) ≡ magnitude (y >>= λ n. some (scaled g v places n))
-by_sign v places b plus none = refl
-by_sign v places b plus (some n) = digits_cap v (min n limit) places ∙ up_cap v n places b
-by_sign v places b minus none = refl
-by_sign v places b minus (some n) = digits_cap v 0 (places + min n limit) ∙ down_cap v places n
-by_sign v places b bare none = refl
-by_sign v places b bare (some n) = digits_cap v (min n limit) places ∙ up_cap v n places b
+    → scaled_by (min v limit) places (power_by g (hold y)) ≡ magnitude (y >>= λ n. Some (scaled g v places n))
+by_sign v places b plus None = refl
+by_sign v places b plus (Some n) = digits_cap v (min n limit) places ∙ up_cap v n places b
+by_sign v places b minus None = refl
+by_sign v places b minus (Some n) = digits_cap v 0 (places + min n limit) ∙ down_cap v places n
+by_sign v places b bare None = refl
+by_sign v places b bare (Some n) = digits_cap v (min n limit) places ∙ up_cap v n places b
 
 by_power : (x : Option ℕ) (places : ℕ) (o : Option Text) → places < 2 ^ 63
     → scaled_of (hold x) places (power_after o) ≡ magnitude (x >>= λ v. powered v places o)
 unfolding power_of
-by_power none places none b = refl
-by_power none places (some s) b = refl
-by_power (some v) places none b = digits_cap v 0 places
-by_power (some v) places (some s) b = by_sign v places b (sign_of s) (digits (unsigned (sign_of s) s))
+by_power None places None b = refl
+by_power None places (Some s) b = refl
+by_power (Some v) places None b = digits_cap v 0 places
+by_power (Some v) places (Some s) b = by_sign v places b (sign_of s) (digits (unsigned (sign_of s) s))
 
 -- ---- what is left of a number after c digits, which are v: before the dot, and after it, where k of them stood before it
 abbrev fraction_of : Text → Text
@@ -112,7 +112,7 @@ module _ (p : ℕ → Bool) (b : ℕ) (s : Text) (yes : p b ≡ true) where
   unfolding before
   before_here = rw yes
 
-  after_here : after p (b ∷ s) ≡ some s
+  after_here : after p (b ∷ s) ≡ Some s
   unfolding after
   after_here = rw yes
 
@@ -233,43 +233,43 @@ module _ (t : Text) (w e : ℕ) (a : Ran t 0 0 w e) where
       let q : e - 0 ≡ e = omega arith in
       ap hold (from_start t) ∙ follow (λ c v s. hold (digits_from c v s)) held_steps a.reads ∙ ap (λ (c : ℕ). hold (digits_from c w (drop e t))) q
 
-  pub not_all : e < length t → hold (digits t) ≡ none
+  pub not_all : e < length t → hold (digits t) ≡ None
   not_all h = held ∙ rw (at_cons t e h) (rw (from_other e w (get_or t e 0) (drop (e + 1) t) (a.stops h)))
 
-  pub not_one : e ≡ 0 → hold (digits t) ≡ none
+  pub not_one : e ≡ 0 → hold (digits t) ≡ None
   not_one z = go (le_or_lt (length t) e)
     where
-      go : (length t ≤ e) ⊎ (e < length t) → hold (digits t) ≡ none
+      go : (length t ≤ e) ⊎ (e < length t) → hold (digits t) ≡ None
       go (inl h) = held ∙ rw (at_end_lem t e h) (ap (λ (c : ℕ). hold (digits_from c w [])) z)
       go (inr h) = not_all h
 
-  pub all : (e ≡ 0 → ⊥) → length t ≤ e → hold (digits t) ≡ some w
+  pub all : (e ≡ 0 → ⊥) → length t ≤ e → hold (digits t) ≡ Some w
   all n h = held ∙ rw (at_end_lem t e h) (go e n)
     where
-      go : (c : ℕ) → (c ≡ 0 → ⊥) → hold (digits_from c w []) ≡ some w
+      go : (c : ℕ) → (c ≡ 0 → ⊥) → hold (digits_from c w []) ≡ Some w
       go zero n = absurd (n refl)
-      go (suc c) n = let l = a.held in ap some (omega arith)
+      go (suc c) n = let l = a.held in ap Some (omega arith)
 
 module _ (s t : Text) (at : t ≡ unsigned (sign_of s) s) where
   power_with : (o : Option ℕ) → hold (digits t) ≡ o → power_by (sign_of s) o ≡ power_of s
   unfolding power_of
   power_with o e = sym (ap (λ (x : Text). power_by (sign_of s) (hold (digits x))) (sym at) ∙ ap (power_by (sign_of s)) e)
 
-  pub power_none : hold (digits t) ≡ none → power.Wrong ≡ power_of s
-  power_none e = power_with none e
+  pub power_none : hold (digits t) ≡ None → power.Wrong ≡ power_of s
+  power_none e = power_with None e
 
-  pub power_down : (n : ℕ) → hold (digits t) ≡ some n → minus? (sign_of s) ≡ true → power.Down n ≡ power_of s
-  power_down n e m = go (sign_of s) m ∙ power_with (some n) e
+  pub power_down : (n : ℕ) → hold (digits t) ≡ Some n → minus? (sign_of s) ≡ true → power.Down n ≡ power_of s
+  power_down n e m = go (sign_of s) m ∙ power_with (Some n) e
     where
-      go : (g : Sign) → minus? g ≡ true → power.Down n ≡ power_by g (some n)
+      go : (g : Sign) → minus? g ≡ true → power.Down n ≡ power_by g (Some n)
       go plus m = let z : ◌≡◌ {A = ℕ} 0 1 = cc in absurd (omega arith)
       go minus m = refl
       go bare m = let z : ◌≡◌ {A = ℕ} 0 1 = cc in absurd (omega arith)
 
-  pub power_up : (n : ℕ) → hold (digits t) ≡ some n → minus? (sign_of s) ≡ false → power.Up n ≡ power_of s
-  power_up n e m = go (sign_of s) m ∙ power_with (some n) e
+  pub power_up : (n : ℕ) → hold (digits t) ≡ Some n → minus? (sign_of s) ≡ false → power.Up n ≡ power_of s
+  power_up n e m = go (sign_of s) m ∙ power_with (Some n) e
     where
-      go : (g : Sign) → minus? g ≡ false → power.Up n ≡ power_by g (some n)
+      go : (g : Sign) → minus? g ≡ false → power.Up n ≡ power_by g (Some n)
       go plus m = refl
       go minus m = let z : ◌≡◌ {A = ℕ} 0 1 = cc in absurd (omega arith)
       go bare m = refl

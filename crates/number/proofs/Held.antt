@@ -2,7 +2,7 @@
 use Rattle.std.specs.Prelude.{if◌then◌else◌}
 use Rattle.std.proofs.Common.{◌≡◌, ℕ, zero, suc, ◌+◌, ◌-◌, ◌*◌, ◌<◌, ◌≤◌, min, Bool, true, false, leb, [], ◌∷◌, length, get_or, drop, sym, refl, ap, ◌∙◌, subst, arith, le-leb}
 use mathlib.Core.Bool.{and-false}
-use mathlib.Core.Option.{Option, some, none}
+use Rattle.std.specs.Prelude.{Option, Some, None}
 use borrow.Author.Tests.{lt-leb}
 use Rattle.definition.specs.Text.{Text, is_digit, digits, digits_after}
 use Rattle.number.specs.Number.{limit, hold, Reads, start, digit}
@@ -41,8 +41,8 @@ follow F k (digit {c} {w} {b} {t} r d) = follow F k r ∙ k.step c w b t d ∙ k
 
 -- ---- digits after those of v, of which there are so many: one at least
 abbrev pub digits_from : ℕ → ℕ → Text → Option ℕ
-digits_from zero v [] = none
-digits_from (suc c) v [] = some v
+digits_from zero v [] = None
+digits_from (suc c) v [] = Some v
 digits_from zero v (b ∷ s) = digits_after v (b ∷ s)
 digits_from (suc c) v (b ∷ s) = digits_after v (b ∷ s)
 
@@ -61,7 +61,7 @@ unfolding digits_after
 from_digit zero v b s d = rw d (from_more zero (v * 10 + (b - 48)) s)
 from_digit (suc c) v b s d = rw d (from_more (suc c) (v * 10 + (b - 48)) s)
 
-pub from_other : (c v b : ℕ) (s : Text) → is_digit b ≡ false → digits_from c v (b ∷ s) ≡ none
+pub from_other : (c v b : ℕ) (s : Text) → is_digit b ≡ false → digits_from c v (b ∷ s) ≡ None
 unfolding digits_after
 from_other zero v b s d = rw d
 from_other (suc c) v b s d = rw d
@@ -75,7 +75,7 @@ cap_twice n = omega arith
 
 cap_early : (n : ℕ) (s : Text) → hold (digits_after n s) ≡ hold (digits_after (min n limit) s)
 unfolding digits_after
-cap_early n [] = ap some (cap_twice n)
+cap_early n [] = ap Some (cap_twice n)
 cap_early n (x ∷ s) =
     go (is_digit x)
     (cap_early (n * 10 + (x - 48)) s
@@ -83,13 +83,13 @@ cap_early n (x ∷ s) =
     ∙ sym (cap_early (min n limit * 10 + (x - 48)) s))
   where
     go : (b : Bool) → hold (digits_after (n * 10 + (x - 48)) s) ≡ hold (digits_after (min n limit * 10 + (x - 48)) s)
-        → hold (if b then digits_after (n * 10 + (x - 48)) s else none) ≡ hold (if b then digits_after (min n limit * 10 + (x - 48)) s else none)
+        → hold (if b then digits_after (n * 10 + (x - 48)) s else None) ≡ hold (if b then digits_after (min n limit * 10 + (x - 48)) s else None)
     go true e = e
     go false e = refl
 
 pub from_cap : (c v : ℕ) (s : Text) → hold (digits_from c v s) ≡ hold (digits_from c (min v limit) s)
 from_cap zero v [] = refl
-from_cap (suc c) v [] = ap some (cap_twice v)
+from_cap (suc c) v [] = ap Some (cap_twice v)
 from_cap zero v (b ∷ s) = cap_early v (b ∷ s)
 from_cap (suc c) v (b ∷ s) = cap_early v (b ∷ s)
 

@@ -1,7 +1,7 @@
 -- When a number is long, and that what the code holds of its parts is judged as the parts themselves. Assumes nothing.
 use Rattle.std.specs.Prelude.{if◌then◌else◌}
 use Rattle.std.proofs.Common.{◌≡◌, ℕ, zero, suc, ◌+◌, ◌*◌, ◌^◌, ◌<◌, ◌≤◌, min, Bool, true, false, ◌&&◌, ltb, leb, ◌⊎◌, sym, refl, ap, ◌∙◌, inl, inr, arith, ltb-true, lt-ltb, eq-eqb, ne_eqb, le-leb, leb-true}
-use mathlib.Core.Option.{some}
+use Rattle.std.specs.Prelude.{Some}
 use lib.Ieee.{round, binary64}
 use Rattle.definition.specs.Number.{absent, long, value, short?, nearest, zero_float, magnitude}
 use Rattle.laws.specs.Bools.{and_left, and_right}
@@ -24,15 +24,15 @@ is_short_lem v u d h =
       not_low = leb-true d (22 + u) (and_right (leb u (22 + d)) (leb d (22 + u)) k);
     }
 
-pub zero_is : (v u d : ℕ) → v ≡ 0 → magnitude (some (decimal v u d)) ≡ value zero_float
+pub zero_is : (v u d : ℕ) → v ≡ 0 → magnitude (Some (decimal v u d)) ≡ value zero_float
 unfolding short? nearest
 zero_is v u d h = rw (eq-eqb v 0 h)
 
-pub short_is : (v u d : ℕ) → (v ≡ 0 → ⊥) → Short v u d → magnitude (some (decimal v u d)) ≡ value (round binary64 false (v * 10 ^ u) (10 ^ d))
+pub short_is : (v u d : ℕ) → (v ≡ 0 → ⊥) → Short v u d → magnitude (Some (decimal v u d)) ≡ value (round binary64 false (v * 10 ^ u) (10 ^ d))
 unfolding short? nearest
 short_is v u d n h = rw (ne_eqb v 0 n, lt-ltb v (10 ^ 15) h.few, le-leb u (22 + d) h.not_high, le-leb d (22 + u) h.not_low)
 
-pub long_is : (v u d : ℕ) → (v ≡ 0 → ⊥) → (Short v u d → ⊥) → magnitude (some (decimal v u d)) ≡ long
+pub long_is : (v u d : ℕ) → (v ≡ 0 → ⊥) → (Short v u d → ⊥) → magnitude (Some (decimal v u d)) ≡ long
 unfolding short? nearest
 long_is v u d n h =
     rw (ne_eqb v 0 n)
@@ -44,39 +44,39 @@ long_is v u d n h =
 
 -- ---- two that are not short, both zero or neither
 both_long : (v w u x d y : ℕ) → (v ≡ 0 → w ≡ 0) → (w ≡ 0 → v ≡ 0) → (Short v u d → ⊥) → (Short w x y → ⊥)
-    → magnitude (some (decimal v u d)) ≡ magnitude (some (decimal w x y))
+    → magnitude (Some (decimal v u d)) ≡ magnitude (Some (decimal w x y))
 both_long zero w u x d y a b h k = zero_is 0 u d refl ∙ sym (zero_is w x y (a refl))
 both_long (suc v) w u x d y a b h k = long_is (suc v) u d (λ z. omega arith) h ∙ sym (long_is w x y (λ z. omega (arith, b z)) k)
 
 -- digits past the limit
-pub digits_cap : (v u d : ℕ) → magnitude (some (decimal (min v limit) u d)) ≡ magnitude (some (decimal v u d))
+pub digits_cap : (v u d : ℕ) → magnitude (Some (decimal (min v limit) u d)) ≡ magnitude (Some (decimal v u d))
 digits_cap v u d = go (le_or_lt (10 ^ 15) v)
   where
-    go : (10 ^ 15 ≤ v) ⊎ (v < 10 ^ 15) → magnitude (some (decimal (min v limit) u d)) ≡ magnitude (some (decimal v u d))
+    go : (10 ^ 15 ≤ v) ⊎ (v < 10 ^ 15) → magnitude (Some (decimal (min v limit) u d)) ≡ magnitude (Some (decimal v u d))
     go (inl h) = both_long (min v limit) v u u d d (λ z. omega arith) (λ z. omega arith) (λ s. omega (arith, s.few)) (λ s. omega (arith, s.few))
-    go (inr h) = ap (λ (n : ℕ). magnitude (some (decimal n u d))) (omega arith)
+    go (inr h) = ap (λ (n : ℕ). magnitude (Some (decimal n u d))) (omega arith)
 
 -- a power past the limit, where the places below the dot are those of a slice
-pub up_cap : (v u d : ℕ) → d < 2 ^ 63 → magnitude (some (decimal v (min u limit) d)) ≡ magnitude (some (decimal v u d))
+pub up_cap : (v u d : ℕ) → d < 2 ^ 63 → magnitude (Some (decimal v (min u limit) d)) ≡ magnitude (Some (decimal v u d))
 up_cap v u d b = go (le_or_lt limit u)
   where
-    go : (limit ≤ u) ⊎ (u < limit) → magnitude (some (decimal v (min u limit) d)) ≡ magnitude (some (decimal v u d))
+    go : (limit ≤ u) ⊎ (u < limit) → magnitude (Some (decimal v (min u limit) d)) ≡ magnitude (Some (decimal v u d))
     go (inl h) = both_long v v (min u limit) u d d (λ z. z) (λ z. z) (λ s. omega (arith, s.not_high)) (λ s. omega (arith, s.not_high))
-    go (inr h) = ap (λ (n : ℕ). magnitude (some (decimal v n d))) (omega arith)
+    go (inr h) = ap (λ (n : ℕ). magnitude (Some (decimal v n d))) (omega arith)
 
-pub down_cap : (v p n : ℕ) → magnitude (some (decimal v 0 (p + min n limit))) ≡ magnitude (some (decimal v 0 (p + n)))
+pub down_cap : (v p n : ℕ) → magnitude (Some (decimal v 0 (p + min n limit))) ≡ magnitude (Some (decimal v 0 (p + n)))
 down_cap v p n = go (le_or_lt limit n)
   where
-    go : (limit ≤ n) ⊎ (n < limit) → magnitude (some (decimal v 0 (p + min n limit))) ≡ magnitude (some (decimal v 0 (p + n)))
+    go : (limit ≤ n) ⊎ (n < limit) → magnitude (Some (decimal v 0 (p + min n limit))) ≡ magnitude (Some (decimal v 0 (p + n)))
     go (inl h) = both_long v v 0 0 (p + min n limit) (p + n) (λ z. z) (λ z. z) (λ s. omega (arith, s.not_low)) (λ s. omega (arith, s.not_low))
-    go (inr h) = ap (λ (k : ℕ). magnitude (some (decimal v 0 (p + k)))) (omega arith)
+    go (inr h) = ap (λ (k : ℕ). magnitude (Some (decimal v 0 (p + k)))) (omega arith)
 
 -- as many as matter of the powers below the dot
-few_same : (v p n : ℕ) → magnitude (some (decimal v 0 (p + min n 23))) ≡ magnitude (some (decimal v 0 (p + n)))
+few_same : (v p n : ℕ) → magnitude (Some (decimal v 0 (p + min n 23))) ≡ magnitude (Some (decimal v 0 (p + n)))
 few_same v p n = go (le_or_lt n 23)
   where
-    go : (n ≤ 23) ⊎ (23 < n) → magnitude (some (decimal v 0 (p + min n 23))) ≡ magnitude (some (decimal v 0 (p + n)))
-    go (inl h) = ap (λ (k : ℕ). magnitude (some (decimal v 0 (p + k)))) (omega arith)
+    go : (n ≤ 23) ⊎ (23 < n) → magnitude (Some (decimal v 0 (p + min n 23))) ≡ magnitude (Some (decimal v 0 (p + n)))
+    go (inl h) = ap (λ (k : ℕ). magnitude (Some (decimal v 0 (p + k)))) (omega arith)
     go (inr h) = both_long v v 0 0 (p + min n 23) (p + n) (λ z. z) (λ z. z) (λ s. omega (arith, s.not_low)) (λ s. omega (arith, s.not_low))
 
 -- ---- the power p
@@ -85,8 +85,8 @@ wrong_is v places (power.Up n) e = let z : ◌≡◌ {A = ℕ} 0 1 = cc in absur
 wrong_is v places (power.Down n) e = let z : ◌≡◌ {A = ℕ} 0 1 = cc in absurd (omega arith)
 wrong_is v places power.Wrong e = refl
 
-pub power_is : (v places : ℕ) (p : Power) → is_wrong p ≡ false → magnitude (some (decimal v (up_by p) (places + down_by p))) ≡ scaled_by v places p
-power_is v places (power.Up n) e = ap (λ (d : ℕ). magnitude (some (decimal v n d))) (omega arith)
+pub power_is : (v places : ℕ) (p : Power) → is_wrong p ≡ false → magnitude (Some (decimal v (up_by p) (places + down_by p))) ≡ scaled_by v places p
+power_is v places (power.Up n) e = ap (λ (d : ℕ). magnitude (Some (decimal v n d))) (omega arith)
 power_is v places (power.Down n) e = few_same v places n
 power_is v places power.Wrong e = let z : ◌≡◌ {A = ℕ} 0 1 = cc in absurd (omega arith)
 

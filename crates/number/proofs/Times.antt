@@ -1,6 +1,6 @@
 -- The parts of a time of day. Assumes nothing.
 use Rattle.std.proofs.Common.{◌≡◌, ℕ, ◌+◌, ◌*◌, ◌<◌, ◌≤◌, length, take, drop, sym, ap, ◌∙◌, arith, le-ltb, lt-ltb, le-leb}
-use mathlib.Core.Option.{Option, some, none}
+use Rattle.std.specs.Prelude.{Option, Some, None}
 use borrow.Author.Tests.{lt-leb}
 use Rattle.definition.specs.Base.{◌or◌}
 use Rattle.definition.specs.Ascii.{bytes}
@@ -9,19 +9,19 @@ use Rattle.definition.specs.Time.{is_colon, time_parts}
 use Rattle.text.specs.Cut.{place_of, before_take, after_some, after_none}
 use Rattle.number.specs.Time.{time_at, joined, minutes_text}
 
-pub too_late : (h m : ℕ) → 24 < h → time_at h m ≡ none
+pub too_late : (h m : ℕ) → 24 < h → time_at h m ≡ None
 unfolding time_at
 too_late h m a = rw (lt-leb h 24 a)
 
-pub too_many : (h m : ℕ) → h ≤ 24 → 60 ≤ m → time_at h m ≡ none
+pub too_many : (h m : ℕ) → h ≤ 24 → 60 ≤ m → time_at h m ≡ None
 unfolding time_at
 too_many h m a b = rw (le-leb h 24 a, le-ltb m 60 b)
 
-pub past_day : (h m : ℕ) → h ≤ 24 → m < 60 → 1440 < h * 60 + m → time_at h m ≡ none
+pub past_day : (h m : ℕ) → h ≤ 24 → m < 60 → 1440 < h * 60 + m → time_at h m ≡ None
 unfolding time_at
 past_day h m a b c = rw (le-leb h 24 a, lt-ltb m 60 b, lt-leb (h * 60 + m) 1440 c)
 
-pub in_day : (h m : ℕ) → h ≤ 24 → m < 60 → h * 60 + m ≤ 1440 → time_at h m ≡ some (h * 60 + m)
+pub in_day : (h m : ℕ) → h ≤ 24 → m < 60 → h * 60 + m ≤ 1440 → time_at h m ≡ Some (h * 60 + m)
 unfolding time_at
 in_day h m a b c = rw (le-leb h 24 a, lt-ltb m 60 b, le-leb (h * 60 + m) 1440 c)
 
@@ -31,7 +31,7 @@ module _ (s : Text) (k : ℕ) (at : k ≡ place_of is_colon s) where
       ap (λ (l : Text). before is_colon l) (e ∙ ap (λ (n : ℕ). drop (n + 1) s) at)
       ∙ sym (ap (λ (o : Option Text). before is_colon (o or bytes "0")) (after_some is_colon s (omega arith)))
 
-  pub minutes_missing : length s ≤ k → some 0 ≡ unsigned_of 16 (minutes_text s)
+  pub minutes_missing : length s ≤ k → Some 0 ≡ unsigned_of 16 (minutes_text s)
   unfolding unsigned_of digits digits_after sign_of before
   minutes_missing h = sym (ap (λ (o : Option Text). unsigned_of 16 (before is_colon (o or bytes "0"))) (after_none is_colon s (omega arith)))
 

@@ -1,6 +1,6 @@
 -- What the answer of a number text means, and what the code holds of its parts. Assumes nothing.
 use Rattle.std.specs.Prelude.{if◌then◌else◌, ◌≡◌, ℕ, zero, suc, ◌+◌, ◌-◌, ◌*◌, ◌^◌, ◌<◌, ◌≤◌, min, Bool, true, false, [], ◌∷◌, length, drop, slice_index, Float}
-use Rattle.std.proofs.Math.Option.{Option, some, none}
+use Rattle.std.specs.Prelude.{Option, Some, None}
 use Rattle.definition.specs.Text.{Text, Sign, plus, minus, bare, sign_of, is_digit, digits}
 use Rattle.definition.specs.Number.{Reading, absent, long, value, Decimal, is_e, unsigned, decimal_of, magnitude}
 use Rattle.number.specs.declared.decimal.NumberAnswer.{NumberAnswer}
@@ -25,8 +25,8 @@ abbrev pub limit : ℕ
 limit = 10 ^ 19
 
 abbrev pub hold : Option ℕ → Option ℕ
-hold none = none
-hold (some n) = some (min n limit)
+hold None = None
+hold (Some n) = Some (min n limit)
 
 -- reading so many digits of s, written after those of v, gives w and leaves t
 pub data Reads (v : ℕ) (s : Text) : ℕ → ℕ → Text → Type 0 where
@@ -43,10 +43,10 @@ pub record Ran (s : Text) (from v w e : ℕ) : Type 0 where
 
 -- ---- the power of ten
 abbrev pub power_by : Sign → Option ℕ → Power
-power_by g none = power.Wrong
-power_by plus (some n) = power.Up n
-power_by minus (some n) = power.Down n
-power_by bare (some n) = power.Up n
+power_by g None = power.Wrong
+power_by plus (Some n) = power.Up n
+power_by minus (Some n) = power.Down n
+power_by bare (Some n) = power.Up n
 
 -- what follows an `e`
 unfoldable pub power_of : Text → Power
@@ -80,8 +80,8 @@ decimal v u d = record { digits = v; up = u; down = d }
 -- digits, of which so many stand after the dot, and the power
 abbrev pub scaled_by : ℕ → ℕ → Power → Reading Float
 scaled_by v places power.Wrong = absent
-scaled_by v places (power.Up n) = magnitude (some (decimal v n places))
-scaled_by v places (power.Down n) = magnitude (some (decimal v 0 (places + n)))
+scaled_by v places (power.Up n) = magnitude (Some (decimal v n places))
+scaled_by v places (power.Down n) = magnitude (Some (decimal v 0 (places + n)))
 
 -- so many digits, and what follows them
 abbrev pub ended : ℕ → ℕ → ℕ → Text → Reading Float

@@ -1,6 +1,6 @@
 -- What the answer of a time text means, and the parts of a time. Assumes nothing.
 use Rattle.std.specs.Prelude.{ℕ, ◌+◌, ◌*◌, ◌&&◌, nat_le, nat_lt}
-use Rattle.std.proofs.Math.Option.{Option, some, none}
+use Rattle.std.specs.Prelude.{Option, Some, None}
 use Rattle.definition.specs.Base.{◌>>=◌, ◌or◌, when}
 use Rattle.definition.specs.Ascii.{bytes}
 use Rattle.definition.specs.Text.{Text, before, after}
@@ -9,8 +9,8 @@ use Rattle.number.specs.declared.time.TimeAnswer.{TimeAnswer}
 use Rattle.number.specs.declared.time.TimeAnswer.TheVariants as answer
 
 abbrev pub meaning : TimeAnswer → Option ℕ
-meaning answer.Absent = none
-meaning (answer.Time t) = some t
+meaning answer.Absent = None
+meaning (answer.Time t) = Some t
 
 unfoldable pub time_at : ℕ → ℕ → Option ℕ
 time_at h m = when (nat_le h 24 && (nat_lt m 60 && nat_le (h * 60 + m) most_time)) (h * 60 + m)

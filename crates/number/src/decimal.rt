@@ -1,6 +1,5 @@
 // Number texts, as Rust's `str::parse::<f64>` reads them, in one pass.
 ghost use Rattle.std.specs.Prelude.{◌≡◌, ◌+◌, ◌-◌, ◌*◌, ◌^◌, ◌<◌, ◌≤◌, min, false, length, drop};
-ghost use Rattle.std.proofs.Math.Option.{some};
 ghost use Rattle.std.specs.Float.{binary64};
 ghost use Rattle.std.specs.Float.Ieee.{round};
 ghost use Rattle.std.specs.Float.Ieee.Exact.{HasValue};
@@ -158,7 +157,7 @@ fn above(a: usize, b: usize) -> usize
 
 // The number v * 10 ^ up / 10 ^ down, where it is short.
 fn judge(v: usize, up: usize, down: usize) -> NumberAnswer
-    ensures { meaning result ≡ magnitude (some (decimal v up down)) }
+    ensures { meaning result ≡ magnitude (Some (decimal v up down)) }
 {
     if v == 0 {
         return NumberAnswer::Value(0.0);

@@ -3,7 +3,7 @@ use Rattle.std.specs.Prelude.{if◌then◌else◌}
 use mathlib.Core.Path.{◌≡◌, refl, sym, ap, ◌∙◌}
 use mathlib.Core.Bool.{Bool, true, false}
 use mathlib.Core.List.{List, [], ◌∷◌, ◌++◌, flat_map, append_assoc, append-nil}
-use mathlib.Core.Option.{Option, some, none}
+use Rattle.std.specs.Prelude.{Option, Some, None}
 use Prim.Native.Nat.{ℕ, zero, suc, ◌+◌, ◌-◌, ◌*◌, ◌≤◌, ◌<◌}
 use native.Mathlib.Numerals.{add-one}
 use native.Mathlib.Omega.{arith}
@@ -28,13 +28,13 @@ record Found (p : ℕ → Bool) (n a c : ℕ) (l : List ℕ) : Type 0 where
   high : c < n
   cut : l ≡ c ∷ keep p (count (suc c) (n - suc c))
 
-found : (p : ℕ → Bool) (n c m a : ℕ) → a + m ≡ n → first (keep p (count a m)) ≡ some c → Found p n a c (keep p (count a m))
+found : (p : ℕ → Bool) (n c m a : ℕ) → a + m ≡ n → first (keep p (count a m)) ≡ Some c → Found p n a c (keep p (count a m))
 unfolding keep first count
 found p n c zero a e h = let z : ◌≡◌ {A = ℕ} 0 1 = cc in absurd (omega arith)
 found p n c (suc m) a e h = go (p a) refl h (found p n c m (suc a) (omega arith))
   where
-    go : (t : Bool) → p a ≡ t → first (if t then a ∷ keep p (count (suc a) m) else keep p (count (suc a) m)) ≡ some c
-        → (first (keep p (count (suc a) m)) ≡ some c → Found p n (suc a) c (keep p (count (suc a) m)))
+    go : (t : Bool) → p a ≡ t → first (if t then a ∷ keep p (count (suc a) m) else keep p (count (suc a) m)) ≡ Some c
+        → (first (keep p (count (suc a) m)) ≡ Some c → Found p n (suc a) c (keep p (count (suc a) m)))
         → Found p n a c (if t then a ∷ keep p (count (suc a) m) else keep p (count (suc a) m))
     go true t k f =
         let q : a ≡ c = cc in
@@ -42,16 +42,16 @@ found p n c (suc m) a e h = go (p a) refl h (found p n c m (suc a) (omega arith)
         record { passes = cc; low = omega arith; high = omega arith; cut = cc }
     go false t k f = record { passes = (f k).passes; low = omega (arith, (f k).low); high = (f k).high; cut = (f k).cut }
 
-first_none : (l : List ℕ) → first l ≡ none → l ≡ []
+first_none : (l : List ℕ) → first l ≡ None → l ≡ []
 unfolding first
 first_none [] h = refl
 first_none (x ∷ l) h = let z : ◌≡◌ {A = ℕ} 0 1 = cc in absurd (omega arith)
 
 pub same_parent_lem : (o u : Option ℕ) → same_parent o u ≡ true → u ≡ o
-same_parent_lem none none h = refl
-same_parent_lem none (some q) h = let z : ◌≡◌ {A = ℕ} 0 1 = cc in absurd (omega arith)
-same_parent_lem (some p) none h = let z : ◌≡◌ {A = ℕ} 0 1 = cc in absurd (omega arith)
-same_parent_lem (some p) (some q) h = ap some (eqb-true q p h)
+same_parent_lem None None h = refl
+same_parent_lem None (Some q) h = let z : ◌≡◌ {A = ℕ} 0 1 = cc in absurd (omega arith)
+same_parent_lem (Some p) None h = let z : ◌≡◌ {A = ℕ} 0 1 = cc in absurd (omega arith)
+same_parent_lem (Some p) (Some q) h = ap Some (eqb-true q p h)
 
 module _ (ps : List (Option ℕ)) where
   record Head (o : Option ℕ) (a c : ℕ) : Type 0 where
@@ -59,7 +59,7 @@ module _ (ps : List (Option ℕ)) where
     high : c < length ps
     cut : siblings ps o a ≡ c ∷ later ps c
 
-  headed : (o : Option ℕ) (a c : ℕ) → a ≤ length ps → first (siblings ps o a) ≡ some c → Head o a c
+  headed : (o : Option ℕ) (a c : ℕ) → a ≤ length ps → first (siblings ps o a) ≡ Some c → Head o a c
   unfolding siblings
   headed o a c l h =
       let f : Found (λ c. same_parent o (parent_at ps c)) (length ps) a c (siblings ps o a) =
@@ -80,10 +80,10 @@ module _ (ps : List (Option ℕ)) where
 
   -- from a row at depth d on
   unfoldable pub ahead : ℕ → Option ℕ → List (ℕ × ℕ)
-  ahead d none = []
-  ahead d (some r) = under (length ps - d) ps (suc d) r ++ rest (suc d) r
+  ahead d None = []
+  ahead d (Some r) = under (length ps - d) ps (suc d) r ++ rest (suc d) r
 
-  rows_ahead : (o : Option ℕ) (a c d : ℕ) → Head o a c → all d (siblings ps o a) ++ rest d (home_of o) ≡ ahead d (some c)
+  rows_ahead : (o : Option ℕ) (a c d : ℕ) → Head o a c → all d (siblings ps o a) ++ rest d (home_of o) ≡ ahead d (Some c)
   unfolding flat_map rest ahead
   rows_ahead o a c d h =
       ap (λ (l : List ℕ). all d l ++ rest d (home_of o)) h.cut
@@ -91,28 +91,28 @@ module _ (ps : List (Option ℕ)) where
       ∙ ap (λ (u : Option ℕ). under (length ps - d) ps (suc d) c ++ (all d (later ps c) ++ rest d (home_of u))) (sym h.parent)
 
   -- a row with all below it: the row, then its children
-  open_row : (r d : ℕ) → d < length ps → ahead d (some r) ≡ (r, suc d) ∷ (all (suc d) (siblings ps (some r) 0) ++ rest (suc d) r)
+  open_row : (r d : ℕ) → d < length ps → ahead d (Some r) ≡ (r, suc d) ∷ (all (suc d) (siblings ps (Some r) 0) ++ rest (suc d) r)
   unfolding ahead under child_rows siblings
   open_row r d h =
       let e : length ps - d ≡ suc (length ps - suc d) = omega arith in
       let z : length ps ≡ length ps - 0 = omega arith in
       ap (λ (k : ℕ). under k ps (suc d) r ++ rest (suc d) r) e
-      ∙ ap (λ (m : ℕ). (r, suc d) ∷ (all (suc d) (keep (λ c. same_parent (some r) (parent_at ps c)) (count 0 m)) ++ rest (suc d) r)) z
+      ∙ ap (λ (m : ℕ). (r, suc d) ∷ (all (suc d) (keep (λ c. same_parent (Some r) (parent_at ps c)) (count 0 m)) ++ rest (suc d) r)) z
 
-  open_top : outline_of ps ≡ all 0 (siblings ps none 0) ++ rest 0 0
+  open_top : outline_of ps ≡ all 0 (siblings ps None 0) ++ rest 0 0
   unfolding outline_of top_rows siblings rest
   open_top =
       let z : length ps ≡ length ps - 0 = omega arith in
-      ap (λ (m : ℕ). flat_map (under m ps 1) (keep (λ c. same_parent none (parent_at ps c)) (count 0 m))) z
-      ∙ sym (append-nil (all 0 (siblings ps none 0)))
+      ap (λ (m : ℕ). flat_map (under m ps 1) (keep (λ c. same_parent None (parent_at ps c)) (count 0 m))) z
+      ∙ sym (append-nil (all 0 (siblings ps None 0)))
 
 -- ---- the walk's words
 
 -- the row that a word names
 abbrev pub row_in : ℕ → Option ℕ
-row_in x = if eqb x no_row then none else some x
+row_in x = if eqb x no_row then None else Some x
 
-row_some : (c : ℕ) → (c ≡ no_row → ⊥) → row_in c ≡ some c
+row_some : (c : ℕ) → (c ≡ no_row → ⊥) → row_in c ≡ Some c
 row_some c h = rw (ne_eqb c no_row h)
 
 -- the walk is at a place, and a list of rows stands ahead
@@ -127,8 +127,8 @@ module _ (ps : List (Option ℕ)) (few : length ps ≤ no_row) where
   arrive o a d x l e n = go (first (siblings ps o a)) refl e
     where
       go : (u : Option ℕ) → first (siblings ps o a) ≡ u → x ≡ word_of u → Ahead ps x d (all ps d (siblings ps o a) ++ rest ps d (home_of o))
-      go none h k = absurd (n k)
-      go (some c) h k =
+      go None h k = absurd (n k)
+      go (Some c) h k =
           let f : Head ps o a c = headed ps o a c l h in
           record {
             rows = rows_ahead ps o a c d f ∙ ap (ahead ps d) (sym (ap row_in k ∙ row_some c (λ q. omega (arith, f.high))));
@@ -140,8 +140,8 @@ module _ (ps : List (Option ℕ)) (few : length ps ≤ no_row) where
   pass o a x l e n = go (first (siblings ps o a)) refl e
     where
       go : (u : Option ℕ) → first (siblings ps o a) ≡ u → x ≡ word_of u → siblings ps o a ≡ []
-      go none h k = first_none (siblings ps o a) h
-      go (some c) h k = absurd (omega (arith, (headed ps o a c l h).high))
+      go None h k = first_none (siblings ps o a) h
+      go (Some c) h k = absurd (omega (arith, (headed ps o a c l h).high))
 
   nothing : (x d : ℕ) → x ≡ no_row → Ahead ps x d []
   unfolding ahead
@@ -151,8 +151,8 @@ module _ (ps : List (Option ℕ)) (few : length ps ≤ no_row) where
   home_in r h = go (parent_at ps r) refl
     where
       go : (o : Option ℕ) → parent_at ps r ≡ o → home_of o < length ps
-      go none e = omega arith
-      go (some p) e = parent_in_lem ps r p e
+      go None e = omega arith
+      go (Some p) e = parent_in_lem ps r p e
 
   module _ (w : List ℕ) (links : Links ps 0 w) where
     climb_ahead : (d r : ℕ) → r < length ps → Ahead ps (climb_of w d r).row (climb_of w d r).depth (rest ps (suc d) r)
@@ -186,38 +186,38 @@ module _ (ps : List (Option ℕ)) (few : length ps ≤ no_row) where
 
     -- a row's children, then what stands behind it
     step_ahead : (r d : ℕ) → r < length ps → d < length ps
-        → (let q : Visit = step_of (length ps) w r d in Ahead ps q.row q.depth (all ps (suc d) (siblings ps (some r) 0) ++ rest ps (suc d) r))
+        → (let q : Visit = step_of (length ps) w r d in Ahead ps q.row q.depth (all ps (suc d) (siblings ps (Some r) 0) ++ rest ps (suc d) r))
     unfolding step_of flat_map
     step_ahead r d h k = go (eqb (get_or w (4 * r + 1) 0) no_row) refl (ltb (d + 1) (length ps)) refl
       where
-        e : get_or w (4 * r + 1) 0 ≡ word_of (first (siblings ps (some r) 0))
-        e = links.head (some r) h
+        e : get_or w (4 * r + 1) 0 ≡ word_of (first (siblings ps (Some r) 0))
+        e = links.head (Some r) h
 
-        deep : length ps ≤ d + 1 → all ps (suc d) (siblings ps (some r) 0) ≡ []
+        deep : length ps ≤ d + 1 → all ps (suc d) (siblings ps (Some r) 0) ≡ []
         deep l =
             let z : length ps - suc d ≡ 0 = omega arith in
-            ap (λ (m : ℕ). flat_map (under m ps (suc (suc d))) (siblings ps (some r) 0)) z ∙ no_levels ps (suc (suc d)) (siblings ps (some r) 0)
+            ap (λ (m : ℕ). flat_map (under m ps (suc (suc d))) (siblings ps (Some r) 0)) z ∙ no_levels ps (suc (suc d)) (siblings ps (Some r) 0)
 
         go : (t : Bool) → eqb (get_or w (4 * r + 1) 0) no_row ≡ t → (u : Bool) → ltb (d + 1) (length ps) ≡ u
             → (let q : Visit = if t then climb_of w d r else if u then record { row = get_or w (4 * r + 1) 0; depth = d + 1 } else climb_of w d r in
-            Ahead ps q.row q.depth (all ps (suc d) (siblings ps (some r) 0) ++ rest ps (suc d) r))
+            Ahead ps q.row q.depth (all ps (suc d) (siblings ps (Some r) 0) ++ rest ps (suc d) r))
         go true t u v =
-            rw (pass (some r) 0 (get_or w (4 * r + 1) 0) (omega arith) e (eqb-true (get_or w (4 * r + 1) 0) no_row t)) (climb_ahead d r h)
-        go false t true v = rw (add-one d) (arrive (some r) 0 (suc d) (get_or w (4 * r + 1) 0) (omega arith) e (eqb-false (get_or w (4 * r + 1) 0) no_row t))
+            rw (pass (Some r) 0 (get_or w (4 * r + 1) 0) (omega arith) e (eqb-true (get_or w (4 * r + 1) 0) no_row t)) (climb_ahead d r h)
+        go false t true v = rw (add-one d) (arrive (Some r) 0 (suc d) (get_or w (4 * r + 1) 0) (omega arith) e (eqb-false (get_or w (4 * r + 1) 0) no_row t))
         go false t false v = rw (deep (ltb-false (d + 1) (length ps) v)) (climb_ahead d r h)
 
     start_ahead : 0 < length ps → Ahead ps (get_or w (4 * 0 + 3) 0) 0 (outline_of ps)
     unfolding flat_map rest
     start_ahead h = go (eqb (get_or w 3 0) no_row) refl
       where
-        e : get_or w 3 0 ≡ word_of (first (siblings ps none 0))
-        e = links.head none h
+        e : get_or w 3 0 ≡ word_of (first (siblings ps None 0))
+        e = links.head None h
 
         go : (t : Bool) → eqb (get_or w 3 0) no_row ≡ t → Ahead ps (get_or w 3 0) 0 (outline_of ps)
         go true t =
             let n : get_or w 3 0 ≡ no_row = eqb-true (get_or w 3 0) no_row t in
-            rw (open_top ps, pass none 0 (get_or w 3 0) (omega arith) e n) (nothing (get_or w 3 0) 0 n)
-        go false t = rw (open_top ps) (arrive none 0 0 (get_or w 3 0) (omega arith) e (eqb-false (get_or w 3 0) no_row t))
+            rw (open_top ps, pass None 0 (get_or w 3 0) (omega arith) e n) (nothing (get_or w 3 0) 0 n)
+        go false t = rw (open_top ps) (arrive None 0 0 (get_or w 3 0) (omega arith) e (eqb-false (get_or w 3 0) no_row t))
 
 -- ---- the rows written
 
@@ -271,9 +271,9 @@ pub going_full : (ps : List (Option ℕ)) (done : List ℕ) (row depth k : ℕ) 
     → row_words (outline_of ps) ≡ done
 going_full ps done row depth k going long full =
     let x : List ℕ = row_words (ahead ps depth (row_in row)) in
-    let none : x ≡ [] =
+    let None : x ≡ [] =
     empty x (omega (arith, ap length going.words, length-append done x, length_words (outline_of ps), outline_length ps)) in
-    going.words ∙ ap (λ (l : List ℕ). done ++ l) none ∙ append-nil done
+    going.words ∙ ap (λ (l : List ℕ). done ++ l) None ∙ append-nil done
 
 -- no activities, no rows
 pub no_rows : (ps : List (Option ℕ)) → length ps ≡ 0 → row_words (outline_of ps) ≡ []

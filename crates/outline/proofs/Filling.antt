@@ -3,7 +3,7 @@
 use mathlib.Core.Path.{◌≡◌, refl, sym, ap, subst, ◌∙◌}
 use mathlib.Core.Bool.{Bool, true, false}
 use mathlib.Core.List.{List, [], ◌∷◌}
-use mathlib.Core.Option.{Option, some, none}
+use Rattle.std.specs.Prelude.{Option, Some, None}
 use Prim.Native.Nat.{ℕ, zero, suc, ◌+◌, ◌-◌, ◌*◌, ◌≤◌, ◌<◌}
 use native.Mathlib.Omega.{arith}
 use borrow.Author.Tests.{eqb-true, eqb-false}
@@ -25,7 +25,7 @@ use Rattle.outline.specs.declared.parents.Parent.{Parent}
 use Rattle.outline.specs.Filled.{parents, Names, ParentAt}
 
 -- the first of the activities that are left
-parent_at_lem : (xs : List Activity) (i : ℕ) {a : Activity} {ys : List Activity} → drop i xs ≡ a ∷ ys → get_or (parents xs) i none ≡ a.parent
+parent_at_lem : (xs : List Activity) (i : ℕ) {a : Activity} {ys : List Activity} → drop i xs ≡ a ∷ ys → get_or (parents xs) i None ≡ a.parent
 parent_at_lem [] zero e = let z : ◌≡◌ {A = ℕ} 0 1 = cc in absurd (omega arith)
 parent_at_lem [] (suc i) e = let z : ◌≡◌ {A = ℕ} 0 1 = cc in absurd (omega arith)
 parent_at_lem (x ∷ xs) zero {a} e = let z : x ≡ a = cc in ap (λ (a : Activity). a.parent) z
@@ -46,8 +46,8 @@ module _ {s : List ℕ} {x : Section} {xs : List Activity} {next : ℕ} (h : Hol
       let u = one_passed h i (lax_activities true) t.left l p.next in
       record { left = u.on; names = λ r k. at r k (eqb r i) refl (p.word u.item u.stands ∙ ap word_of (sym (parent_at_lem xs i u.is))) }
     where
-      at : (r : ℕ) → r < i + 1 → (b : Bool) → eqb r i ≡ b → a.word ≡ word_of (get_or (parents xs) i none)
-          → get_or (set w (4 * i + 0) a.word) (4 * r) 0 ≡ word_of (get_or (parents xs) r none)
+      at : (r : ℕ) → r < i + 1 → (b : Bool) → eqb r i ≡ b → a.word ≡ word_of (get_or (parents xs) i None)
+          → get_or (set w (4 * i + 0) a.word) (4 * r) 0 ≡ word_of (get_or (parents xs) r None)
       at r k true e g =
           let z : r ≡ i = eqb-true r i e in
           let y : 4 * i ≡ 4 * i + 0 = omega arith in
@@ -57,10 +57,10 @@ module _ {s : List ℕ} {x : Section} {xs : List Activity} {next : ℕ} (h : Hol
           get_or-set_other w (4 * i + 0) (4 * r) a.word 0 (λ y. z (omega arith)) ∙ t.names r (omega (arith, z))
 
   -- a place past every end is none of theirs
-  pub turn_far : {q : Place} {w : List ℕ} {A : Type 0} (i : ℕ) → Turn s x xs next q i w → rest s q ≡ none → A
+  pub turn_far : {q : Place} {w : List ℕ} {A : Type 0} (i : ℕ) → Turn s x xs next q i w → rest s q ≡ None → A
   turn_far {q} i t e =
       let f : Format (List Activity) = times (x.count - i) (whole activity) in
-      let z : ◌≡◌ {A = Option (List Activity × Bits)} none (some (drop i xs, _)) =
-      sym (ap (λ (o : Option Bits). o >>= f.get) e) ∙ t.left.reads ∙ ap (λ (o : Option Bits). o >>= λ l. some (drop i xs, l)) (byte_rest s next h.ends) in
+      let z : ◌≡◌ {A = Option (List Activity × Bits)} None (Some (drop i xs, _)) =
+      sym (ap (λ (o : Option Bits). o >>= f.get) e) ∙ t.left.reads ∙ ap (λ (o : Option Bits). o >>= λ l. Some (drop i xs, l)) (byte_rest s next h.ends) in
       let y : ◌≡◌ {A = ℕ} 0 1 = cc in
       absurd (omega arith)

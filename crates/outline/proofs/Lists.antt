@@ -2,7 +2,7 @@
 use mathlib.Core.Path.{◌≡◌, refl, sym, ap, ◌∙◌}
 use mathlib.Core.Bool.{Bool, true, false}
 use mathlib.Core.List.{List, [], ◌∷◌}
-use mathlib.Core.Option.{Option, some, none}
+use Rattle.std.specs.Prelude.{Option, Some, None}
 use Prim.Native.Nat.{ℕ, suc, ◌+◌, ◌-◌, ◌*◌, ◌≤◌, ◌<◌}
 use native.Mathlib.Omega.{arith}
 use borrow.Author.Tests.{eqb-true, eqb-false, eq-eqb}
@@ -25,13 +25,13 @@ pub push_by : (w₀ : List ℕ) {w₁ w₂ w₃ : List ℕ} {x : ℕ} (i p s : �
 unfolding pushed
 push_by w₀ i p s e f g h = cc
 
-pub link_by_lem : (n i : ℕ) (w : List ℕ) {p : ℕ} {w' : List ℕ} (o : Option ℕ) → p ≡ get_or w (4 * i + 0) 0 → parent_in n i (some p) ≡ o
+pub link_by_lem : (n i : ℕ) (w : List ℕ) {p : ℕ} {w' : List ℕ} (o : Option ℕ) → p ≡ get_or w (4 * i + 0) 0 → parent_in n i (Some p) ≡ o
     → w' ≡ pushed w i (home_of o) (slot_of o) → w' ≡ link_of n i w
 unfolding link_of
 link_by_lem n i w o e h k =
     k
     ∙ ap (λ (u : Option ℕ). pushed w i (home_of u) (slot_of u)) (sym h)
-    ∙ ap (λ (x : ℕ). pushed w i (home_of (parent_in n i (some x))) (slot_of (parent_in n i (some x)))) e
+    ∙ ap (λ (x : ℕ). pushed w i (home_of (parent_in n i (Some x))) (slot_of (parent_in n i (Some x)))) e
 
 -- the words after a row is put in front of a list that begins at an odd word
 module _ (w : List ℕ) (i p s k : ℕ) (odd : 4 * p + s ≡ 2 * k + 1) where
@@ -77,7 +77,7 @@ length_pushed w i p s = simp length-set
 
 pub length_link : (n i : ℕ) (w : List ℕ) → length (link_of n i w) ≡ length w
 unfolding link_of
-length_link n i w = let o = parent_in n i (some (get_or w (4 * i + 0) 0)) in length_pushed w i (home_of o) (slot_of o)
+length_link n i w = let o = parent_in n i (Some (get_or w (4 * i + 0) 0)) in length_pushed w i (home_of o) (slot_of o)
 
 -- ---- the rows of one parent, from a row on
 
@@ -98,18 +98,18 @@ module _ (ps : List (Option ℕ)) (o : Option ℕ) (i : ℕ) (h : i < length ps)
 
 -- two lists begin at one word only where they are one
 slot_same : (o u : Option ℕ) → 4 * home_of o + slot_of o ≡ 4 * home_of u + slot_of u → same_parent o u ≡ true
-slot_same none none h = refl
-slot_same none (some q) h = absurd (omega arith)
-slot_same (some p) none h = absurd (omega arith)
-slot_same (some p) (some q) h = eq-eqb q p (omega arith)
+slot_same None None h = refl
+slot_same None (Some q) h = absurd (omega arith)
+slot_same (Some p) None h = absurd (omega arith)
+slot_same (Some p) (Some q) h = eq-eqb q p (omega arith)
 
 slot_odd : (o : Option ℕ) → (k : ℕ) × (4 * home_of o + slot_of o ≡ 2 * k + 1)
-slot_odd none = (1, refl)
-slot_odd (some p) = (2 * p, omega arith)
+slot_odd None = (1, refl)
+slot_odd (Some p) = (2 * p, omega arith)
 
 slot_in : (o : Option ℕ) → slot_of o < 4
-slot_in none = omega arith
-slot_in (some p) = omega arith
+slot_in None = omega arith
+slot_in (Some p) = omega arith
 
 -- ---- one more row linked
 
@@ -118,8 +118,8 @@ module _ (ps : List (Option ℕ)) (i : ℕ) (w : List ℕ) (h : i < length ps) (
   home_in = go (parent_at ps i) refl
     where
       go : (o : Option ℕ) → parent_at ps i ≡ o → home_of o < length ps
-      go none e = omega arith
-      go (some p) e = parent_in_lem ps i p e
+      go None e = omega arith
+      go (Some p) e = parent_in_lem ps i p e
 
   abbrev linked : List ℕ
   linked = pushed w i (home_of (parent_at ps i)) (slot_of (parent_at ps i))
@@ -175,7 +175,7 @@ module _ (ps : List (Option ℕ)) (i : ℕ) (w : List ℕ) (h : i < length ps) (
   pushed_more =
       record {
         named = λ r l.
-            ap (λ (x : ℕ). parent_in (length ps) r (some x)) (same r 0 (λ e. omega arith) 0 (refl, omega arith)) ∙ links.named r (omega arith);
+            ap (λ (x : ℕ). parent_in (length ps) r (Some x)) (same r 0 (λ e. omega arith) 0 (refl, omega arith)) ∙ links.named r (omega arith);
         home = λ r l m. home_at r (eqb r i) refl l m;
         next = λ r l m. next_at_lem r (eqb r i) refl l m;
         head = λ o l. head_at o (same_parent o (parent_at ps i)) refl l;
@@ -241,7 +241,7 @@ links_none n w u e =
     record {
       named = λ r h.
           let z : 4 * r + 0 ≡ 4 * r = omega arith in
-          ap (parent_in (length (parents_in n w)) r) (ap some (e.parents r ∙ ap (λ (j : ℕ). get_or w j 0) z) ∙ sym (parents_at n r w h));
+          ap (parent_in (length (parents_in n w)) r) (ap Some (e.parents r ∙ ap (λ (j : ℕ). get_or w j 0) z) ∙ sym (parents_at n r w h));
       home = λ r l h. absurd (omega (arith, length_parents n w));
       next = λ r l h. absurd (omega (arith, length_parents n w));
       head = λ o h. begins o h ∙ ap (λ (l : List ℕ). word_of (first l)) (sym (none_left o));
@@ -253,8 +253,8 @@ links_none n w u e =
         ap (λ (m : ℕ). keep (λ c. same_parent o (parent_at (parents_in n w) c)) (count n m)) z
 
     begins : (o : Option ℕ) → home_of o < length (parents_in n w) → get_or u (4 * home_of o + slot_of o) 0 ≡ word_of (first [])
-    begins none h = e.top (omega (arith, length_parents n w))
-    begins (some p) h = e.child p (omega (arith, length_parents n w))
+    begins None h = e.top (omega (arith, length_parents n w))
+    begins (Some p) h = e.child p (omega (arith, length_parents n w))
 
 -- ---- one turn of each loop
 

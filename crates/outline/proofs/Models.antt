@@ -3,7 +3,7 @@ use Rattle.std.specs.Prelude.{if◌then◌else◌}
 use mathlib.Core.Path.{◌≡◌, refl, sym, ap, ◌∙◌}
 use mathlib.Core.Bool.{Bool, true, false, ◌||◌, false≢true}
 use mathlib.Core.List.{List}
-use mathlib.Core.Option.{Option, none}
+use Rattle.std.specs.Prelude.{Option, None}
 use Prim.Native.Nat.{ℕ, ◌*◌, ◌≤◌}
 use native.Mathlib.Omega.{arith}
 use borrow.Author.Tests.{ltb-false}
@@ -60,7 +60,7 @@ module _ (s : List ℕ) (rows work : ℕ) where
   unfolding outline_answer
   answer_of_lem e = ap (λ (o : Option Model). outline_by o rows work) e
 
-  answer_none : decode s ≡ none → outline_answer s rows work ≡ refused 6
+  answer_none : decode s ≡ None → outline_answer s rows work ≡ refused 6
   answer_none = answer_of_lem
 
   answer_by : {r : Sections} (f : Sectioned s r) {t : Bool} → is_short r.activities.count rows work ≡ t

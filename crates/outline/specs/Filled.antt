@@ -1,6 +1,6 @@
 -- The parents of a model's activities in the words of the work slice. Assumes nothing.
 use Rattle.std.specs.Prelude.{ℕ, ◌*◌, ◌≤◌, ◌<◌, ◌≡◌, true, List, map, length, get_or}
-use Rattle.std.proofs.Math.Option.{Option, none}
+use Rattle.std.specs.Prelude.{Option, None}
 use Rattle.definition.specs.Format.{whole, times}
 use Rattle.definition.specs.Model.{Activity}
 use Rattle.definition.specs.Pack.{activity}
@@ -25,7 +25,7 @@ pub record ParentAt (s : List ℕ) (p : Place) (r : Parent) : Type 0 where
 
 -- the first words of i rows name the activities' parents
 abbrev pub Names : List Activity → ℕ → List ℕ → Type 0
-Names xs i w = (r : ℕ) → r < i → get_or w (4 * r) 0 ≡ word_of (get_or (parents xs) r none)
+Names xs i w = (r : ℕ) → r < i → get_or w (4 * r) 0 ≡ word_of (get_or (parents xs) r None)
 
 -- n activities are passed over; where they stand from a whole byte on, and there is room, the words name the parents of all
 pub record Filled (s : List ℕ) (p : Place) (n : ℕ) (w w' : List ℕ) (r : Place) : Type 0 where

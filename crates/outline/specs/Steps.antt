@@ -1,7 +1,7 @@
 -- The lists in the work slice, and the steps of the walk over them. The four words of a row: 0 its parent (0 where it has none), 1 its first
 -- child, 2 the next row with its parent; word 3 of row 0 is the first row at the top. Assumes nothing.
 use Rattle.std.specs.Prelude.{if◌then◌else◌, ℕ, zero, suc, ◌+◌, ◌-◌, ◌*◌, ◌≤◌, ◌<◌, ◌≡◌, Bool, List, [], length, get_or, set, take, eqb, ltb}
-use Rattle.std.proofs.Math.Option.{Option, some, none}
+use Rattle.std.specs.Prelude.{Option, Some, None}
 use Rattle.definition.specs.Base.{keep, first, count}
 use Rattle.definition.specs.Outline.{parent_in, is_top, is_under, parent_at, outline_of}
 use Rattle.definition.specs.Refusal.{Answer, refused, gives, row_words}
@@ -11,22 +11,22 @@ use Rattle.outline.specs.Words.{no_row, outline_words}
 -- ---- the lists
 
 abbrev pub word_of : Option ℕ → ℕ
-word_of none = no_row
-word_of (some r) = r
+word_of None = no_row
+word_of (Some r) = r
 
 -- the row, and the word of it, where the list of a parent's children begins; of those with no parent in row 0
 abbrev pub home_of : Option ℕ → ℕ
-home_of none = 0
-home_of (some p) = p
+home_of None = 0
+home_of (Some p) = p
 
 abbrev pub slot_of : Option ℕ → ℕ
-slot_of none = 3
-slot_of (some p) = 1
+slot_of None = 3
+slot_of (Some p) = 1
 
 -- whether a parent is the given one
 abbrev pub same_parent : Option ℕ → Option ℕ → Bool
-same_parent none o = is_top o
-same_parent (some p) o = is_under p o
+same_parent None o = is_top o
+same_parent (Some p) o = is_under p o
 
 -- the rows from a row on that have a given parent, or none
 unfoldable pub siblings : List (Option ℕ) → Option ℕ → ℕ → List ℕ
@@ -38,7 +38,7 @@ later ps r = siblings ps (parent_at ps r) (suc r)
 
 -- the words where the rows from i on are in their lists, and those before it still name their parents
 pub record Links (ps : List (Option ℕ)) (i : ℕ) (w : List ℕ) : Type 0 where
-  pub named : (r : ℕ) → r < i → parent_in (length ps) r (some (get_or w (4 * r + 0) 0)) ≡ parent_at ps r
+  pub named : (r : ℕ) → r < i → parent_in (length ps) r (Some (get_or w (4 * r + 0) 0)) ≡ parent_at ps r
   pub home : (r : ℕ) → i ≤ r → r < length ps → get_or w (4 * r + 0) 0 ≡ home_of (parent_at ps r)
   pub next : (r : ℕ) → i ≤ r → r < length ps → get_or w (4 * r + 2) 0 ≡ word_of (first (later ps r))
   pub head : (o : Option ℕ) → home_of o < length ps → get_or w (4 * home_of o + slot_of o) 0 ≡ word_of (first (siblings ps o i))
@@ -50,7 +50,7 @@ pushed w i p s = set (set (set w (4 * i + 0) p) (4 * i + 2) (get_or (set w (4 * 
 -- row i of n in its list
 unfoldable pub link_of : ℕ → ℕ → List ℕ → List ℕ
 link_of n i w =
-    let o = parent_in n i (some (get_or w (4 * i + 0) 0)) in
+    let o = parent_in n i (Some (get_or w (4 * i + 0) 0)) in
     pushed w i (home_of o) (slot_of o)
 
 -- the lists of the first n rows empty, and nothing else changed

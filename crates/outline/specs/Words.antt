@@ -1,7 +1,7 @@
 -- What `outline_rows` gives. The work slice has four words an activity, and at entry the first of them names the row of its parent.
 -- Assumes nothing.
 use Rattle.std.specs.Prelude.{if◌then◌else◌, ℕ, ◌*◌, ◌/◌, ◌≤◌, ◌≡◌, ◌||◌, List, map, length, get_or, replicate, ltb}
-use Rattle.std.proofs.Math.Option.{Option, some}
+use Rattle.std.specs.Prelude.{Option, Some}
 use Rattle.definition.specs.Base.{count}
 use Rattle.definition.specs.Outline.{outline_of}
 use Rattle.definition.specs.Refusal.{Answer, refused, gives, left, written, row_words}
@@ -12,7 +12,7 @@ no_row = 0xFFFF_FFFF
 
 -- the parents of n activities; a row out of range, or the activity's own, is no parent
 unfoldable pub parents_in : ℕ → List ℕ → List (Option ℕ)
-parents_in n work = map (λ row. some (get_or work (4 * row) 0)) (count 0 n)
+parents_in n work = map (λ row. Some (get_or work (4 * row) 0)) (count 0 n)
 
 -- the words of the outline, with so many words of room
 unfoldable pub outline_words : ℕ → ℕ → List ℕ → Answer

@@ -3,7 +3,7 @@ use Prim.Native.Nat.{ℕ}
 use mathlib.Core.Path.{◌≡◌, refl, sym, ap, ◌∙◌}
 use mathlib.Core.Bool.{true, false}
 use mathlib.Core.List.{List}
-use mathlib.Core.Option.{Option, some, none}
+use Rattle.std.specs.Prelude.{Option, Some, None}
 use lib.IntN.{negsuc}
 use Rattle.definition.specs.Base.{◌>>=◌, ◌or◌}
 use Rattle.definition.specs.Answer.{date_meaning, day_number_of}
@@ -19,11 +19,11 @@ use Rattle.bits.specs.declared.Place.{Place}
 -- ---- values that may be missing
 
 module _ {d : List ℕ} {p : Place} {d' : List ℕ} {q : Place} where
-  pub put_missing : {A : Type 0} (f : Format A) {o : Option A} → o ≡ none → Puts flag false d p d' q → Puts (optional f) o d p d' q
+  pub put_missing : {A : Type 0} (f : Format A) {o : Option A} → o ≡ None → Puts flag false d p d' q → Puts (optional f) o d p d' q
   unfolding optional
   put_missing f e x = put_same {f = optional f} (sym e) (put_via _ _ (put_alone _ f x))
 
-  pub put_given_lem : {A : Type 0} {f : Format A} {a : A} {o : Option A} {d'' : List ℕ} {r : Place} → o ≡ some a → Puts flag true d p d' q → Puts f a d' q d'' r → Puts (optional f) o d p d'' r
+  pub put_given_lem : {A : Type 0} {f : Format A} {a : A} {o : Option A} {d'' : List ℕ} {r : Place} → o ≡ Some a → Puts flag true d p d' q → Puts f a d' q d'' r → Puts (optional f) o d p d'' r
   unfolding optional
   put_given_lem {f = f} e x y = put_same {f = optional f} (sym e) (put_via _ _ (put_both _ x y))
 
@@ -34,25 +34,25 @@ module _ {a : DateAnswer} (o : Option D.Date) (h : date_meaning a ≡ day_number
   unfolding date_meaning day_number_of
   day_is {x} e = by o (ap date_meaning (sym e) ∙ h)
     where
-      by : (o : Option D.Date) → some x.0 ≡ (o >>= λ d. some (day_number d)) → x.0 ≡ day_number (o or 0)
-      by none i = cc
-      by (some d) i = cc
+      by : (o : Option D.Date) → Some x.0 ≡ (o >>= λ d. Some (day_number d)) → x.0 ≡ day_number (o or 0)
+      by None i = cc
+      by (Some d) i = cc
 
   pub no_day : a ≡ DateAnswer.Absent → negsuc 4371952 ≡ day_number (o or 0)
   unfolding date_meaning day_number_of day_number
   no_day e = by o (ap date_meaning (sym e) ∙ h)
     where
-      by : (o : Option D.Date) → none ≡ (o >>= λ d. some (day_number d)) → negsuc 4371952 ≡ day_number (o or 0)
-      by none i = refl
-      by (some d) i = cc
+      by : (o : Option D.Date) → None ≡ (o >>= λ d. Some (day_number d)) → negsuc 4371952 ≡ day_number (o or 0)
+      by None i = refl
+      by (Some d) i = cc
 
 -- ---- constraints
 
 module _ {d : List ℕ} {p : Place} {d1 : List ℕ} {p1 : Place} {d2 : List ℕ} {p2 : Place} (x : Puts flag true d p d1 p1) {k : ℕ} (y : Puts (code 1 7) k d1 p1 d2 p2) where
-  pub constraint_alone : Puts (optional constraint) (some (k, none)) d p d2 p2
+  pub constraint_alone : Puts (optional constraint) (Some (k, None)) d p d2 p2
   unfolding constraint
   constraint_alone = put_given_lem refl x (put_alone _ date y)
 
-  pub constraint_dated : {t : D.Date} {d3 : List ℕ} {p3 : Place} → Puts date t d2 p2 d3 p3 → Puts (optional constraint) (some (k, some t)) d p d3 p3
+  pub constraint_dated : {t : D.Date} {d3 : List ℕ} {p3 : Place} → Puts date t d2 p2 d3 p3 → Puts (optional constraint) (Some (k, Some t)) d p d3 p3
   unfolding constraint
   constraint_dated z = put_given_lem refl x (put_both _ y z)

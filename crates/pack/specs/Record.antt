@@ -1,6 +1,6 @@
 -- The records of the values that are written. Assumes nothing.
 use Rattle.std.specs.Prelude.{ℕ, ℤ}
-use Rattle.std.proofs.Math.Option.{Option}
+use Rattle.std.specs.Prelude.{Option}
 use Rattle.definition.specs.Answer.{row_meaning}
 use Rattle.definition.specs.Date.{Date}
 use Rattle.definition.specs.Text.{Text}

@@ -1,7 +1,7 @@
 -- What the values that are written mean. Assumes nothing.
 use Rattle.std.specs.Prelude.{ℕ, ◌≡◌, refl, ℤ}
 use Rattle.std.proofs.Common.{ap, ◌∙◌}
-use Rattle.std.proofs.Math.Option.{Option, some, none}
+use Rattle.std.specs.Prelude.{Option, Some, None}
 use Rattle.definition.specs.Base.{◌or◌, ◌>>=◌}
 use Rattle.definition.specs.Date.{Date, from_days}
 pub use Rattle.laws.specs.Stars.{starred_by}
@@ -21,39 +21,39 @@ date_by z = from_days z or 0
 
 -- a date that may be missing
 abbrev pub date_given : DateAnswer → Option Date
-date_given d = date_meaning d >>= λ z. some (date_by z)
+date_given d = date_meaning d >>= λ z. Some (date_by z)
 
 -- a constraint that may be missing: its code, and its date unless the code is 1
 abbrev pub constraint_given : ConstraintAnswer → Option (ℕ × Option Date)
-constraint_given c = constraint_means c >>= λ x. some (x.0, x.1 >>= λ z. some (date_by z))
+constraint_given c = constraint_means c >>= λ x. Some (x.0, x.1 >>= λ z. Some (date_by z))
 
 -- a name that may be missing: the text with so many `*` behind it
 unfoldable pub name_meaning : Text → NameAnswer → Option Text
-name_meaning s (name.Starred stars) = some (starred_by s stars)
-name_meaning s name.Absent = none
+name_meaning s (name.Starred stars) = Some (starred_by s stars)
+name_meaning s name.Absent = None
 
 -- ---- what was read is written as it is meant: its dates stand in the years
 
-date_back : (o : Option Date) → (day_number_of o >>= from_days) ≡ o → (day_number_of o >>= λ z. some (date_by z)) ≡ o
+date_back : (o : Option Date) → (day_number_of o >>= from_days) ≡ o → (day_number_of o >>= λ z. Some (date_by z)) ≡ o
 unfolding day_number_of
-date_back none h = refl
-date_back (some d) h = rw h
+date_back None h = refl
+date_back (Some d) h = rw h
 
 -- a date
 pub date_read : (a : DateAnswer) (o : Option Date) → date_meaning a ≡ day_number_of o → (day_number_of o >>= from_days) ≡ o → date_given a ≡ o
-date_read a o e h = ap (λ (o : Option ℤ). o >>= λ z. some (date_by z)) e ∙ date_back o h
+date_read a o e h = ap (λ (o : Option ℤ). o >>= λ z. Some (date_by z)) e ∙ date_back o h
 
 -- where it stands in the years
 pub years_back : (o : Option Date) → IfGiven InYears o → (day_number_of o >>= from_days) ≡ o
 unfolding day_number_of
-years_back none h = refl
-years_back (some d) h = days_day d h
+years_back None h = refl
+years_back (Some d) h = days_day d h
 
 -- a constraint
 pub constraint_read : (a : ConstraintAnswer) (o : Option (ℕ × Option Date)) → constraint_means a ≡ day_numbered o → IfGiven (λ (x : ℕ × Option Date). IfGiven InYears x.1) o → constraint_given a ≡ o
 unfolding day_numbered
-constraint_read a o e h = ap (λ (o : Option (ℕ × Option ℤ)). o >>= λ x. some (x.0, x.1 >>= λ z. some (date_by z))) e ∙ back o h
+constraint_read a o e h = ap (λ (o : Option (ℕ × Option ℤ)). o >>= λ x. Some (x.0, x.1 >>= λ z. Some (date_by z))) e ∙ back o h
   where
-    back : (o : Option (ℕ × Option Date)) → IfGiven (λ (x : ℕ × Option Date). IfGiven InYears x.1) o → (day_numbered o >>= λ x. some (x.0, x.1 >>= λ z. some (date_by z))) ≡ o
-    back none h = refl
-    back (some (k, d)) h = ap (λ (d : Option Date). some (k, d)) (date_back d (years_back d h))
+    back : (o : Option (ℕ × Option Date)) → IfGiven (λ (x : ℕ × Option Date). IfGiven InYears x.1) o → (day_numbered o >>= λ x. Some (x.0, x.1 >>= λ z. Some (date_by z))) ≡ o
+    back None h = refl
+    back (Some (k, d)) h = ap (λ (d : Option Date). Some (k, d)) (date_back d (years_back d h))

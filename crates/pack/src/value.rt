@@ -1,6 +1,5 @@
 // The fields of a record, and values that may be missing.
 ghost use Rattle.std.specs.Prelude.{ℕ, ◌≡◌};
-ghost use Rattle.std.proofs.Math.Option.{some, none};
 ghost use Rattle.definition.specs.Answer.{row_meaning};
 ghost use Rattle.definition.specs.Date.{day_number};
 ghost use Rattle.definition.specs.Format.{count, row, code, number, date, optional};
@@ -94,7 +93,7 @@ pub(crate) fn put_optional_date(out: &mut [u8], p: Place, d: DateAnswer) -> Plac
 
 // A constraint of a code, and its date.
 fn put_dated(out: &mut [u8], p: Place, code: u32, d: Date) -> Place
-    ensures { Puts (optional constraint) (some (code, some (date_by d.0))) out.old p out.new result }
+    ensures { Puts (optional constraint) (Some (code, Some (date_by d.0))) out.old p out.new result }
 {
     let q = bits::put_flag(out, p, true);
     let r = put_code(out, q, code);
@@ -102,7 +101,7 @@ fn put_dated(out: &mut [u8], p: Place, code: u32, d: Date) -> Place
 }
 
 fn put_undated(out: &mut [u8], p: Place) -> Place
-    ensures { Puts (optional constraint) (some (1, none)) out.old p out.new result }
+    ensures { Puts (optional constraint) (Some (1, None)) out.old p out.new result }
 {
     let q = bits::put_flag(out, p, true);
     put_code(out, q, 1)

@@ -1,7 +1,7 @@
 -- How a probe gives what may be absent, or too long. Assumes nothing.
 use Rattle.std.specs.Prelude.{ℕ, ◌≡◌, Bool, true, false, ℤ, pos, Float}
 use Rattle.std.proofs.Common.{sym, ap, ◌∙◌, to_z, of_z, SFits}
-use Rattle.std.proofs.Math.Option.{Option, some, none}
+use Rattle.std.specs.Prelude.{Option, Some, None}
 use Rattle.std.specs.Int.{Width}
 use Rattle.std.proofs.lemmas.Int.{to_z-of_z}
 use Rattle.definition.specs.Number as number
@@ -10,12 +10,12 @@ use Rattle.definition.specs.Duration.{Duration}
 
 -- 0: there is a value
 abbrev pub code : {A : Type 0} → Option A → ℕ
-code (some a) = 0
-code none = 1
+code (Some a) = 0
+code None = 1
 
 abbrev pub value : {A : Type 0} → A → Option A → A
-value d (some a) = a
-value d none = d
+value d (Some a) = a
+value d None = d
 
 -- the code r and the value v of what may be absent
 pub record Whole (o : Option ℕ) (r v : ℕ) : Type 0 where
@@ -56,8 +56,8 @@ pub record Number (o : Reading Float) (r : ℕ) (v : Float) : Type 0 where
   pub held : v ≡ value_read zero_float o
 
 module _ (o : Option ℤ) where
-  pub signed_is : (w : Width) {z : ℤ} → o ≡ some z → SFits w z → Signed o 0 (to_z w (of_z w z))
+  pub signed_is : (w : Width) {z : ℤ} → o ≡ Some z → SFits w z → Signed o 0 (to_z w (of_z w z))
   signed_is w {z} e h = record { said = sym (ap code e); held = to_z-of_z w z h ∙ sym (ap (value (pos 0)) e) }
 
-  pub signed_absent : o ≡ none → Signed o 1 (pos 0)
+  pub signed_absent : o ≡ None → Signed o 1 (pos 0)
   signed_absent e = record { said = sym (ap code e); held = sym (ap (value (pos 0)) e) }

@@ -2,7 +2,7 @@
 use mathlib.Core.Path.{◌≡◌, refl, sym, ap, ◌∙◌}
 use mathlib.Core.Bool.{true, false}
 use mathlib.Core.List.{List, [], ◌++◌}
-use mathlib.Core.Option.{Option, some, none}
+use Rattle.std.specs.Prelude.{Option, Some, None}
 use Prim.Native.Nat.{ℕ, ◌+◌, ◌%◌, ◌^◌}
 use Prim.Native.String.{String}
 use native.Mathlib.Omega.{arith}
@@ -36,12 +36,12 @@ use Rattle.read.specs.Project.{Skipped}
 -- ---- its fields
 
 pub given_first : (o p : Option Text) → present o ≡ true → (o or []) ≡ ((o or_else p) or [])
-given_first none p h = let z : ◌≡◌ {A = ℕ} 0 1 = cc in absurd (omega arith)
-given_first (some t) p h = refl
+given_first None p h = let z : ◌≡◌ {A = ℕ} 0 1 = cc in absurd (omega arith)
+given_first (Some t) p h = refl
 
 pub given_second : (o p : Option Text) → present o ≡ false → (p or []) ≡ ((o or_else p) or [])
-given_second none p h = refl
-given_second (some t) p h = let z : ◌≡◌ {A = ℕ} 0 1 = cc in absurd (omega arith)
+given_second None p h = refl
+given_second (Some t) p h = let z : ◌≡◌ {A = ℕ} 0 1 = cc in absurd (omega arith)
 
 epoch_is : date_by (pos 0) ≡ epoch
 unfolding from_days

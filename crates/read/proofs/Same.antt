@@ -4,7 +4,7 @@ use Prim.Native.Nat.{ℕ}
 use mathlib.Core.Path.{◌≡◌, ap, ◌∙◌, subst}
 use mathlib.Core.Bool.{not}
 use mathlib.Core.List.{List, [], map}
-use mathlib.Core.Option.{Option, some, none}
+use Rattle.std.specs.Prelude.{Option, Some, None}
 use lib.ListN.{length, take}
 use Rattle.definition.specs.Base.{◌>>=◌, ◌or◌, ◌or_else◌, given, keep, find_last, present, same}
 use Rattle.definition.specs.Ascii.{bytes}
@@ -52,11 +52,11 @@ cost_by rs a = text_in a "ResourceUID" >>= λ u. find_last (λ r. same (text_in 
 
 abbrev assignments_of : Context → List Element → List Element → List Assignment
 assignments_of x rs es =
-    present (map (λ a. if given (cost_by rs a) then none else
-    (task_row x a >>= λ t. text_in a "ResourceUID" >>= row_of (work_in rs) >>= λ r. some (assignment_from t r a))) es)
+    present (map (λ a. if given (cost_by rs a) then None else
+    (task_row x a >>= λ t. text_in a "ResourceUID" >>= row_of (work_in rs) >>= λ r. Some (assignment_from t r a))) es)
 
 abbrev expenses_of : Context → List Element → List Element → List Expense
-expenses_of x rs es = firsts [] (present (map (λ a. task_row x a >>= λ t. cost_by rs a >>= λ r. some (expense_from t r a)) es))
+expenses_of x rs es = firsts [] (present (map (λ a. task_row x a >>= λ t. cost_by rs a >>= λ r. Some (expense_from t r a)) es))
 
 module _ {a b : Element} (h : Same a b) where
   per_day_lem : per_day_of a ≡ per_day_of b

@@ -3,7 +3,7 @@ use Prim.Native.Nat.{ℕ, suc, ◌+◌, ◌-◌, ◌<◌}
 use native.Mathlib.Omega.{arith}
 use native.Mathlib.Decide.{dec_lt}
 use mathlib.Core.Path.{◌≡◌, refl, sym, ap, ◌∙◌}
-use mathlib.Core.Option.{Option, some, none}
+use Rattle.std.specs.Prelude.{Option, Some, None}
 use lib.IntN.{ℤ, pos, nat_abs, ◌+ℤ◌, ◌-ℤ◌, -ℤ-+ℤ_cancel}
 use borrow.Author.Tests.{lt-ltb, le-ltb, le-leb}
 use Rattle.definition.specs.Base.{◌or◌}
@@ -22,18 +22,18 @@ use Rattle.recurrence.proofs.Dates.{days_back}
 
 pub count_said : (a : DateAnswer) (o : Option Date) → date_meaning a ≡ day_number_of o → count_by a ≡ (o or 0)
 unfolding date_meaning day_number_of count_by
-count_said (DateAnswer.Is d) none e = let z : ◌≡◌ {A = ℕ} 0 1 = cc in absurd (omega arith)
-count_said (DateAnswer.Is d) (some n) e = let q : d.0 ≡ day_number n = cc in ap day_count q ∙ count_of_number n
-count_said DateAnswer.Absent none e = refl
-count_said DateAnswer.Absent (some n) e = let z : ◌≡◌ {A = ℕ} 0 1 = cc in absurd (omega arith)
+count_said (DateAnswer.Is d) None e = let z : ◌≡◌ {A = ℕ} 0 1 = cc in absurd (omega arith)
+count_said (DateAnswer.Is d) (Some n) e = let q : d.0 ≡ day_number n = cc in ap day_count q ∙ count_of_number n
+count_said DateAnswer.Absent None e = refl
+count_said DateAnswer.Absent (Some n) e = let z : ◌≡◌ {A = ℕ} 0 1 = cc in absurd (omega arith)
 
 -- ---- years
 
-pub year_of_number : (y : ℕ) → IsYear y → year_at (pos y -ℤ pos 10000) ≡ some y
+pub year_of_number : (y : ℕ) → IsYear y → year_at (pos y -ℤ pos 10000) ≡ Some y
 unfolding year_at
 year_of_number y h = by (dec_lt y 10000)
   where
-    by : Dec (y < 10000) → year_at (pos y -ℤ pos 10000) ≡ some y
+    by : Dec (y < 10000) → year_at (pos y -ℤ pos 10000) ≡ Some y
     by (yes l) =
         let q : 9999 - (10000 - suc y) ≡ y = omega arith in
         rw (lt-ltb y 10000 l, lt-ltb (10000 - suc y) 9999 (omega arith), q)
@@ -50,36 +50,36 @@ module _ (y m : ℕ) (h : IsYear y) (i : IsMonth m) (z : ℤ) (e : z ≡ pos y -
   unfolding from_ymd day_in
   day_by_lem day = rw (e, year_of_number y h, le-leb 1 m i.0, le-leb m 12 i.1)
 
-  length_by_lem : length_at z m ≡ some (month_length y m)
+  length_by_lem : length_at z m ≡ Some (month_length y m)
   unfolding length_at
   length_by_lem = rw (e, year_of_number y h, le-leb 1 m i.0, le-leb m 12 i.1)
 
   module _ (a : LengthAnswer) (said : length_meaning a ≡ length_at z m) where
     pub length_is : (n : ℕ) → a ≡ LengthAnswer.Is n → n ≡ month_length y m
     unfolding length_meaning
-    length_is n q = let p : some n ≡ some (month_length y m) = sym (ap length_meaning q) ∙ said ∙ length_by_lem in cc
+    length_is n q = let p : Some n ≡ Some (month_length y m) = sym (ap length_meaning q) ∙ said ∙ length_by_lem in cc
 
     pub length_there : a ≡ LengthAnswer.Absent → ⊥
     unfolding length_meaning
     length_there q =
-        let p : none ≡ some (month_length y m) = sym (ap length_meaning q) ∙ said ∙ length_by_lem in
+        let p : None ≡ Some (month_length y m) = sym (ap length_meaning q) ∙ said ∙ length_by_lem in
         let x : ◌≡◌ {A = ℕ} 0 1 = cc in
         omega arith
 
 -- ---- the day of the calendar
 
 module _ (d : Date) (h : InDates d) (z : ℤ) (e : z ≡ day_number d) (a : YmdAnswer) (said : ymd_meaning a ≡ ymd_at z) where
-  ymd_by : ymd_at z ≡ some (ymd_of d)
+  ymd_by : ymd_at z ≡ Some (ymd_of d)
   unfolding ymd_at
   ymd_by = rw (e, days_back d h)
 
   pub ymd_is : (c : Ymd) → a ≡ YmdAnswer.Is c → c ≡ ymd_of d
   unfolding ymd_meaning
-  ymd_is c q = let p : some c ≡ some (ymd_of d) = sym (ap ymd_meaning q) ∙ said ∙ ymd_by in cc
+  ymd_is c q = let p : Some c ≡ Some (ymd_of d) = sym (ap ymd_meaning q) ∙ said ∙ ymd_by in cc
 
   pub ymd_there : a ≡ YmdAnswer.Absent → ⊥
   unfolding ymd_meaning
   ymd_there q =
-      let p : none ≡ some (ymd_of d) = sym (ap ymd_meaning q) ∙ said ∙ ymd_by in
+      let p : None ≡ Some (ymd_of d) = sym (ap ymd_meaning q) ∙ said ∙ ymd_by in
       let x : ◌≡◌ {A = ℕ} 0 1 = cc in
       omega arith

@@ -4,7 +4,7 @@ use native.Mathlib.Omega.{arith}
 use native.Mathlib.Decide.{dec_lt}
 use mathlib.Core.Path.{◌≡◌, refl, subst}
 use mathlib.Core.List.{[]}
-use mathlib.Core.Option.{Option, some, none}
+use Rattle.std.specs.Prelude.{Option, Some, None}
 use borrow.Author.Tests.{lt-ltb, le-ltb, le-leb}
 use Rattle.definition.specs.Base.{◌>>=◌}
 use Rattle.definition.specs.Text.{Text, before, signed_of, sign_of, digits, trim, trim_front, trim_back, strip}
@@ -16,11 +16,11 @@ use Rattle.laws.specs.Fields.{InYears}
 use Rattle.laws.specs.FitLists.{is_given_lem}
 use Rattle.laws.specs.FitFields.{date_of_lem}
 
-pub days_back : (d : Date) → InDates d → from_days (day_number d) ≡ some d
+pub days_back : (d : Date) → InDates d → from_days (day_number d) ≡ Some d
 unfolding from_days day_number
 days_back d h = by (dec_lt d epoch)
   where
-    by : Dec (d < epoch) → from_days (day_number d) ≡ some d
+    by : Dec (d < epoch) → from_days (day_number d) ≡ Some d
     by (yes l) =
         let q : epoch - suc (4371953 - suc d) ≡ d = omega arith in
         rw (lt-ltb d epoch l, lt-ltb (4371953 - suc d) epoch (omega arith), q, le-leb first_date d h.low, le-leb d last_date h.high)
@@ -28,10 +28,10 @@ days_back d h = by (dec_lt d epoch)
         let q : d - 4371953 + epoch ≡ d = omega arith in
         rw (le-ltb d epoch (omega arith), q, le-leb first_date d h.low, le-leb d last_date h.high)
 
-pub date_in_lem : (s : Text) (d : Date) → date_of s ≡ some d → InDates d
+pub date_in_lem : (s : Text) (d : Date) → date_of s ≡ Some d → InDates d
 date_in_lem s d e = let h : InYears d = subst (IfGiven InYears) e (is_given_lem (date_of_lem s)) in record { low = h.0; high = h.1 }
 
-pub no_date : date_of [] ≡ none
+pub no_date : date_of [] ≡ None
 unfolding date_of date_parts first_ten trim trim_front trim_back strip before signed_of sign_of digits
 no_date = refl
 
@@ -40,6 +40,6 @@ pub back : (s : Text) → (day_number_of (date_of s) >>= from_days) ≡ date_of 
 unfolding day_number_of
 back s = by (date_of s) refl
   where
-    by : (o : Option Date) → date_of s ≡ o → ((o >>= λ d. some (day_number d)) >>= from_days) ≡ o
-    by none e = refl
-    by (some d) e = days_back d (date_in_lem s d e)
+    by : (o : Option Date) → date_of s ≡ o → ((o >>= λ d. Some (day_number d)) >>= from_days) ≡ o
+    by None e = refl
+    by (Some d) e = days_back d (date_in_lem s d e)

@@ -5,7 +5,7 @@ use native.Mathlib.Decide.{dec_lt}
 use native.Mathlib.Nat.{mul-le-mul_right, mul-mod_left}
 use mathlib.Core.Path.{◌≡◌, refl}
 use mathlib.Core.Bool.{Bool, true, false, ◌&&◌, and-false}
-use mathlib.Core.Option.{some}
+use Rattle.std.specs.Prelude.{Some}
 use lib.Dec.{eqb}
 use borrow.Author.Tests.{eq-eqb, ne_eqb, le-leb, lt-leb}
 use Rattle.definition.specs.Base.{◌or◌, when, within}
@@ -29,7 +29,7 @@ turn true l x = refl
 turn false true x = refl
 turn false false x = refl
 
-pub month_is : (m : ℕ) → IsMonth m → when (within 1 12 m) m ≡ some m
+pub month_is : (m : ℕ) → IsMonth m → when (within 1 12 m) m ≡ Some m
 month_is m h = rw (le-leb 1 m h.0, le-leb m 12 h.1)
 
 module _ (r : Scaled) (d : Date) where

@@ -4,7 +4,7 @@ use native.Mathlib.Omega.{arith}
 use mathlib.Core.Path.{◌≡◌, refl, sym, ap, subst, ◌∙◌}
 use mathlib.Core.Bool.{Bool, true, false, ◌&&◌}
 use mathlib.Core.List.{List, [], ◌∷◌}
-use mathlib.Core.Option.{Option, some, none}
+use Rattle.std.specs.Prelude.{Option, Some, None}
 use lib.ListN.{take}
 use lib.Seq.{take-nil}
 use lib.Dec.{leb}
@@ -32,7 +32,7 @@ pub starts : (r : Rule) → to_come r (start_of r) ≡ days_by r
 unfolding to_come days_by days_of_rule meaning
 starts r = by (sound (scaled_by r) && is_rule (as_rule (scaled_by r)))
   where
-    by : (t : Bool) → (when t (as_rule (scaled_by r)) >>= λ m. some (take r.most (from_on (fits m) m.last (max m.from (day_count r.from.0))))) ≡ (when t (as_rule (scaled_by r)) >>= λ m. some (days_of_rule m))
+    by : (t : Bool) → (when t (as_rule (scaled_by r)) >>= λ m. Some (take r.most (from_on (fits m) m.last (max m.from (day_count r.from.0))))) ≡ (when t (as_rule (scaled_by r)) >>= λ m. Some (days_of_rule m))
     by true = let e : max (day_count r.from.0) (day_count r.from.0) ≡ day_count r.from.0 = omega arith in rw e
     by false = refl
 
@@ -43,17 +43,17 @@ abbrev pub Right : Rule → Cursor → Step → Type 0
 Right r c s = (s ≡ step_of r c) × (said r s ≡ to_come r c)
 
 module _ (r : Rule) (c : Cursor) where
-  skips : to_come r c ≡ none → Right r c Skipped
+  skips : to_come r c ≡ None → Right r c Skipped
   unfolding step_of said
   skips e = (sym (ap (step_by c) e), sym e)
 
-  ends : to_come r c ≡ some [] → Right r c Done
+  ends : to_come r c ≡ Some [] → Right r c Done
   unfolding step_of said
   ends e = (sym (ap (step_by c) e), sym e)
 
-  goes : (x : Date) (l : List Date) → to_come r c ≡ some (x ∷ l) → to_come r (after c x) ≡ some l → Right r c (Day (day_date x) (after c x))
+  goes : (x : Date) (l : List Date) → to_come r c ≡ Some (x ∷ l) → to_come r (after c x) ≡ Some l → Right r c (Day (day_date x) (after c x))
   unfolding step_of said
-  goes x l e f = (sym (ap (step_by c) e), ap (λ (o : Option (List Date)). o >>= λ k. some (day_count (day_number x) ∷ k)) f ∙ ap (λ (d : Date). some (d ∷ l)) (count_of_number x) ∙ sym e)
+  goes x l e f = (sym (ap (step_by c) e), ap (λ (o : Option (List Date)). o >>= λ k. Some (day_count (day_number x) ∷ k)) f ∙ ap (λ (d : Date). Some (d ∷ l)) (count_of_number x) ∙ sym e)
 
 -- ---- the code's tests
 
@@ -82,7 +82,7 @@ module _ (t : Scaled) (h : is_one t ≡ true) where
       record { first = (within_is first_date last_date t.from a.0).0; from = f; until = u; last = leb-true t.last last_date b.0; step = p.0; most = p.1 }
 
 module _ (r : Rule) (c : Cursor) (t : Scaled) (e : t ≡ scaled_by r) where
-  none_come : is_one (scaled_by r) ≡ false → to_come r c ≡ none
+  none_come : is_one (scaled_by r) ≡ false → to_come r c ≡ None
   unfolding to_come meaning
   none_come q = rw q
 
@@ -90,22 +90,22 @@ module _ (r : Rule) (c : Cursor) (t : Scaled) (e : t ≡ scaled_by r) where
   no_rule h = skips r c (none_come (sym (ap is_one e) ∙ h))
 
   module _ (h : is_one t ≡ true) where
-    come : (k : Cursor) → to_come r k ≡ some (take k.left (from_on (fits (as_rule t)) t.last (max t.from (day_count k.at.0))))
+    come : (k : Cursor) → to_come r k ≡ Some (take k.left (from_on (fits (as_rule t)) t.last (max t.from (day_count k.at.0))))
     unfolding to_come meaning
-    come k = subst (λ (u : Scaled). is_one u ≡ true → to_come r k ≡ some (take k.left (from_on (fits (as_rule u)) u.last (max u.from (day_count k.at.0))))) (sym e) by h
+    come k = subst (λ (u : Scaled). is_one u ≡ true → to_come r k ≡ Some (take k.left (from_on (fits (as_rule u)) u.last (max u.from (day_count k.at.0))))) (sym e) by h
       where
-        by : is_one (scaled_by r) ≡ true → to_come r k ≡ some (take k.left (from_on (fits (as_rule (scaled_by r))) (scaled_by r).last (max (scaled_by r).from (day_count k.at.0))))
+        by : is_one (scaled_by r) ≡ true → to_come r k ≡ Some (take k.left (from_on (fits (as_rule (scaled_by r))) (scaled_by r).last (max (scaled_by r).from (day_count k.at.0))))
         by q = rw q
 
     pub none_left : c.left ≡ 0 → Right r c Done
-    none_left z = ends r c (come c ∙ ap (λ (n : ℕ). some (take n (from_on (fits (as_rule t)) t.last (max t.from (day_count c.at.0))))) z)
+    none_left z = ends r c (come c ∙ ap (λ (n : ℕ). Some (take n (from_on (fits (as_rule t)) t.last (max t.from (day_count c.at.0))))) z)
 
     module _ (at : ℕ) (a : at ≡ max t.from (day_count c.at.0)) where
-      from_at : to_come r c ≡ some (take c.left (from_on (fits (as_rule t)) t.last at))
-      from_at = come c ∙ ap (λ (n : ℕ). some (take c.left (from_on (fits (as_rule t)) t.last n))) (sym a)
+      from_at : to_come r c ≡ Some (take c.left (from_on (fits (as_rule t)) t.last at))
+      from_at = come c ∙ ap (λ (n : ℕ). Some (take c.left (from_on (fits (as_rule t)) t.last n))) (sym a)
 
       nothing : from_on (fits (as_rule t)) t.last at ≡ [] → Right r c Done
-      nothing z = ends r c (from_at ∙ ap (λ (l : List Date). some (take c.left l)) z ∙ ap some (take-nil c.left))
+      nothing z = ends r c (from_at ∙ ap (λ (l : List Date). Some (take c.left l)) z ∙ ap Some (take-nil c.left))
 
       pub past_last : t.last < at → Right r c Done
       past_last l = nothing (from_past (fits (as_rule t)) t.last at l)
@@ -115,7 +115,7 @@ module _ (r : Rule) (c : Cursor) (t : Scaled) (e : t ≡ scaled_by r) where
         no_more l = nothing (no_fit (fits (as_rule t)) t.last at x f l)
 
         pub day_next : x ≤ t.last → (c.left ≡ 0 → ⊥) → Right r c (Day (day_date x) (after c x))
-        day_next l n = goes r c x (take (c.left - 1) (from_on (fits (as_rule t)) t.last (suc x))) (from_at ∙ ap some (by c.left n)) (come (after c x) ∙ ap (λ (k : ℕ). some (take (c.left - 1) (from_on (fits (as_rule t)) t.last k))) behind)
+        day_next l n = goes r c x (take (c.left - 1) (from_on (fits (as_rule t)) t.last (suc x))) (from_at ∙ ap Some (by c.left n)) (come (after c x) ∙ ap (λ (k : ℕ). Some (take (c.left - 1) (from_on (fits (as_rule t)) t.last k))) behind)
           where
             by : (k : ℕ) → (k ≡ 0 → ⊥) → take k (from_on (fits (as_rule t)) t.last at) ≡ x ∷ take (k - 1) (from_on (fits (as_rule t)) t.last (suc x))
             by zero g = absurd (g refl)

@@ -6,8 +6,8 @@ use native.Mathlib.Numerals.{add-one}
 use mathlib.Core.Path.{◌≡◌, refl, ap, ◌∙◌}
 use mathlib.Core.Bool.{Bool, true, false, ◌&&◌, not}
 use mathlib.Core.List.{List, [], ◌∷◌}
-use mathlib.Core.Option.{Option, some}
-use lib.ListN.{get_elem?}
+use Rattle.std.specs.Prelude.{Option, Some}
+use Rattle.std.specs.Prelude.{slice_get}
 use lib.Dec.{eqb}
 use lib.IntN.{pos}
 use borrow.Author.Tests.{ne_eqb, lt-ltb, le-ltb}
@@ -62,34 +62,34 @@ module _ (p : ℕ → Bool) where
     pub run_end : end ≤ d → run d end ≡ []
     run_end h = let e : end - d ≡ 0 = omega arith in rw e (keep_none p d)
 
-    pub nth_hit : (k : ℕ) → d < end → p d ≡ true → k ≡ 0 → d ≡ (get_elem? (run d end) k or 0)
+    pub nth_hit : (k : ℕ) → d < end → p d ≡ true → k ≡ 0 → d ≡ (slice_get (run d end) k or 0)
     nth_hit k h y e = rw (e, run_yes h y)
 
-    pub nth_yes : (k : ℕ) → d < end → p d ≡ true → (k ≡ 0 → ⊥) → get_elem? (run d end) k ≡ get_elem? (run (d + 1) end) (k - 1)
+    pub nth_yes : (k : ℕ) → d < end → p d ≡ true → (k ≡ 0 → ⊥) → slice_get (run d end) k ≡ slice_get (run (d + 1) end) (k - 1)
     nth_yes zero h y n = absurd (n refl)
     nth_yes (suc k) h y n = let e : suc k - 1 ≡ k = omega arith in rw (run_yes h y, e)
 
-    pub nth_no : (k : ℕ) → d < end → p d ≡ false → get_elem? (run d end) k ≡ get_elem? (run (d + 1) end) k
+    pub nth_no : (k : ℕ) → d < end → p d ≡ false → slice_get (run d end) k ≡ slice_get (run (d + 1) end) k
     nth_no k h y = rw (run_no h y)
 
-    pub nth_end : (k : ℕ) → end ≤ d → 0 ≡ (get_elem? (run d end) k or 0)
+    pub nth_end : (k : ℕ) → end ≤ d → 0 ≡ (slice_get (run d end) k or 0)
     nth_end k h = rw (run_end h)
 
   -- backwards
-  last_front : (a n : ℕ) → last_of (keep p (count a (suc n))) ≡ (if p a then (last_of (keep p (count (suc a) n)) or_else some a) else last_of (keep p (count (suc a) n)))
+  last_front : (a n : ℕ) → last_of (keep p (count a (suc n))) ≡ (if p a then (last_of (keep p (count (suc a) n)) or_else Some a) else last_of (keep p (count (suc a) n)))
   last_front a n = by (p a) refl
     where
-      by : (t : Bool) → p a ≡ t → last_of (keep p (count a (suc n))) ≡ (if t then (last_of (keep p (count (suc a) n)) or_else some a) else last_of (keep p (count (suc a) n)))
+      by : (t : Bool) → p a ≡ t → last_of (keep p (count a (suc n))) ≡ (if t then (last_of (keep p (count (suc a) n)) or_else Some a) else last_of (keep p (count (suc a) n)))
       by true t = ap last_of (keep_yes p a n t) ∙ last_cons a (keep p (count (suc a) n))
       by false t = ap last_of (keep_no p a n t)
 
-  swap : (t s : Bool) (a m : ℕ) (l : Option ℕ) → (if t then ((if s then some m else l) or_else some a) else (if s then some m else l)) ≡ (if s then some m else (if t then (l or_else some a) else l))
+  swap : (t s : Bool) (a m : ℕ) (l : Option ℕ) → (if t then ((if s then Some m else l) or_else Some a) else (if s then Some m else l)) ≡ (if s then Some m else (if t then (l or_else Some a) else l))
   swap true true a m l = refl
   swap true false a m l = refl
   swap false true a m l = refl
   swap false false a m l = refl
 
-  last_snoc : (a n : ℕ) → last_of (keep p (count a (suc n))) ≡ (if p (a + n) then some (a + n) else last_of (keep p (count a n)))
+  last_snoc : (a n : ℕ) → last_of (keep p (count a (suc n))) ≡ (if p (a + n) then Some (a + n) else last_of (keep p (count a n)))
   last_snoc a zero =
       let e : a + 0 ≡ a = omega arith in
       last_front a 0 ∙ rw (e, keep_none p a, keep_none p (suc a), last_none)
@@ -128,7 +128,7 @@ module _ (y m item position : ℕ) where
     unfolding nth_in_month
     of_last q = rw (other, q, month_run)
 
-    pub of_nth : (position ≡ 4 → ⊥) → position < 4 → (get_elem? (keep (item_fits (pos item)) (count first (end - first))) position or 0) ≡ (nth_in_month y m (pos item) (pos position) or 0)
+    pub of_nth : (position ≡ 4 → ⊥) → position < 4 → (slice_get (keep (item_fits (pos item)) (count first (end - first))) position or 0) ≡ (nth_in_month y m (pos item) (pos position) or 0)
     unfolding nth_in_month
     of_nth n l = rw (other, ne_eqb position 4 n, lt-ltb position 4 l, month_run)
 

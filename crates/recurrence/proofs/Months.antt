@@ -7,8 +7,8 @@ use native.Mathlib.Numerals.{add-one}
 use mathlib.Core.Path.{◌≡◌, refl, sym, ap, ◌∙◌}
 use mathlib.Core.Bool.{Bool, true, false, ◌&&◌, ◌||◌}
 use mathlib.Core.List.{List, [], ◌∷◌}
-use mathlib.Core.Option.{Option, some, none}
-use lib.ListN.{get_elem?}
+use Rattle.std.specs.Prelude.{Option, Some, None}
+use Rattle.std.specs.Prelude.{slice_get}
 use lib.Dec.{ltb, eqb}
 use lib.IntN.{ℤ, pos, negsuc}
 use borrow.Author.Tests.{eqb-true, eqb-false, eq-eqb, ne_eqb, le-leb}
@@ -91,36 +91,36 @@ month_rises d e h = by (dec_lt (year_of d) (year_of e)) (month_of_lem d) (month_
 -- ---- what stands in a run lies in it
 
 module _ (p : ℕ → Bool) where
-  pub nth_in : (a n k x : ℕ) → get_elem? (keep p (count a n)) k ≡ some x → (a ≤ x) × (x < a + n)
-  nth_in a zero k x e = let z : ◌≡◌ {A = ℕ} 0 1 = cc (ap (λ (l : List ℕ). get_elem? l k) (keep_none p a)) in absurd (omega arith)
+  pub nth_in : (a n k x : ℕ) → slice_get (keep p (count a n)) k ≡ Some x → (a ≤ x) × (x < a + n)
+  nth_in a zero k x e = let z : ◌≡◌ {A = ℕ} 0 1 = cc (ap (λ (l : List ℕ). slice_get l k) (keep_none p a)) in absurd (omega arith)
   nth_in a (suc n) k x e = by (p a) refl k e (nth_in (suc a) n)
     where
-      by : (t : Bool) → p a ≡ t → (k : ℕ) → get_elem? (keep p (count a (suc n))) k ≡ some x → ((k y : ℕ) → get_elem? (keep p (count (suc a) n)) k ≡ some y → (suc a ≤ y) × (y < suc a + n)) → (a ≤ x) × (x < a + suc n)
-      by true t zero e more = let q : a ≡ x = cc (ap (λ (l : List ℕ). get_elem? l 0) (keep_yes p a n t)) in omega arith
-      by true t (suc k) e more = let m = more k x (sym (ap (λ (l : List ℕ). get_elem? l (suc k)) (keep_yes p a n t)) ∙ e) in omega arith
-      by false t k e more = let m = more k x (sym (ap (λ (l : List ℕ). get_elem? l k) (keep_no p a n t)) ∙ e) in omega arith
+      by : (t : Bool) → p a ≡ t → (k : ℕ) → slice_get (keep p (count a (suc n))) k ≡ Some x → ((k y : ℕ) → slice_get (keep p (count (suc a) n)) k ≡ Some y → (suc a ≤ y) × (y < suc a + n)) → (a ≤ x) × (x < a + suc n)
+      by true t zero e more = let q : a ≡ x = cc (ap (λ (l : List ℕ). slice_get l 0) (keep_yes p a n t)) in omega arith
+      by true t (suc k) e more = let m = more k x (sym (ap (λ (l : List ℕ). slice_get l (suc k)) (keep_yes p a n t)) ∙ e) in omega arith
+      by false t k e more = let m = more k x (sym (ap (λ (l : List ℕ). slice_get l k) (keep_no p a n t)) ∙ e) in omega arith
 
-pub last_cons : (a : ℕ) (l : List ℕ) → last_of (a ∷ l) ≡ (last_of l or_else some a)
+pub last_cons : (a : ℕ) (l : List ℕ) → last_of (a ∷ l) ≡ (last_of l or_else Some a)
 unfolding find_last
 last_cons a l = refl
 
-pub last_none : last_of [] ≡ none
+pub last_none : last_of [] ≡ None
 unfolding find_last
 last_none = refl
 
 module _ (p : ℕ → Bool) where
-  pub last_in : (a n x : ℕ) → last_of (keep p (count a n)) ≡ some x → (a ≤ x) × (x < a + n)
+  pub last_in : (a n x : ℕ) → last_of (keep p (count a n)) ≡ Some x → (a ≤ x) × (x < a + n)
   last_in a zero x e = let z : ◌≡◌ {A = ℕ} 0 1 = cc (ap last_of (keep_none p a), last_none) in absurd (omega arith)
   last_in a (suc n) x e = by (p a) refl (last_in (suc a) n)
     where
       rest : Option ℕ
       rest = last_of (keep p (count (suc a) n))
 
-      or_here : (o : Option ℕ) → last_of (keep p (count (suc a) n)) ≡ o → (o or_else some a) ≡ some x → ((y : ℕ) → last_of (keep p (count (suc a) n)) ≡ some y → (suc a ≤ y) × (y < suc a + n)) → (a ≤ x) × (x < a + suc n)
-      or_here none o q more = let z : a ≡ x = cc in omega arith
-      or_here (some y) o q more = let m = more x (o ∙ q) in omega arith
+      or_here : (o : Option ℕ) → last_of (keep p (count (suc a) n)) ≡ o → (o or_else Some a) ≡ Some x → ((y : ℕ) → last_of (keep p (count (suc a) n)) ≡ Some y → (suc a ≤ y) × (y < suc a + n)) → (a ≤ x) × (x < a + suc n)
+      or_here None o q more = let z : a ≡ x = cc in omega arith
+      or_here (Some y) o q more = let m = more x (o ∙ q) in omega arith
 
-      by : (t : Bool) → p a ≡ t → ((y : ℕ) → last_of (keep p (count (suc a) n)) ≡ some y → (suc a ≤ y) × (y < suc a + n)) → (a ≤ x) × (x < a + suc n)
+      by : (t : Bool) → p a ≡ t → ((y : ℕ) → last_of (keep p (count (suc a) n)) ≡ Some y → (suc a ≤ y) × (y < suc a + n)) → (a ≤ x) × (x < a + suc n)
       by true t more = or_here (last_of (keep p (count (suc a) n))) refl (sym (last_cons a _) ∙ sym (ap last_of (keep_yes p a n t)) ∙ e) more
       by false t more = let m = more x (sym (ap last_of (keep_no p a n t)) ∙ e) in omega arith
 
@@ -140,38 +140,38 @@ in_run_lies x y m h r =
     let k = x - (new_year y + months_length y m) + 1 in
     falls_lies x y m k (falls x y m k (record { low = h.0; high = h.1; first = omega arith; last = omega (arith, r.0, r.1) }) (omega (arith, r.0)))
 
-day_lies : (x y m k : ℕ) → IsMonth m → day_in y m k ≡ some x → Falls x y m k
+day_lies : (x y m k : ℕ) → IsMonth m → day_in y m k ≡ Some x → Falls x y m k
 unfolding day_in
 day_lies x y m k h e =
     let w = when_is (within 1 (month_length y m) k) (date_at y m k) x e in
     let i = within_is 1 (month_length y m) k w.0 in
     falls x y m k (record { low = h.0; high = h.1; first = i.0; last = i.1 }) (sym w.1)
 
-position_lies : (x y m item : ℕ) (position : ℤ) → IsMonth m → at_position position (keep (item_fits (pos item)) (count (date_at y m 1) (month_length y m))) ≡ some x → Lies x y m
+position_lies : (x y m item : ℕ) (position : ℤ) → IsMonth m → at_position position (keep (item_fits (pos item)) (count (date_at y m 1) (month_length y m))) ≡ Some x → Lies x y m
 position_lies x y m item (negsuc n) h e = let z : ◌≡◌ {A = ℕ} 0 1 = cc in absurd (omega arith)
 position_lies x y m item (pos n) h e = by (eqb n 4) (ltb n 4) e
   where
-    by : (s t : Bool) → (if s then last_of (keep (item_fits (pos item)) (count (date_at y m 1) (month_length y m))) else if t then get_elem? (keep (item_fits (pos item)) (count (date_at y m 1) (month_length y m))) n else none) ≡ some x → Lies x y m
+    by : (s t : Bool) → (if s then last_of (keep (item_fits (pos item)) (count (date_at y m 1) (month_length y m))) else if t then slice_get (keep (item_fits (pos item)) (count (date_at y m 1) (month_length y m))) n else None) ≡ Some x → Lies x y m
     by true t e = in_run_lies x y m h (last_in (item_fits (pos item)) (date_at y m 1) (month_length y m) x e)
     by false true e = in_run_lies x y m h (nth_in (item_fits (pos item)) (date_at y m 1) (month_length y m) n x e)
     by false false e = let z : ◌≡◌ {A = ℕ} 0 1 = cc in absurd (omega arith)
 
-nth_lies : (x y m item position : ℕ) → IsMonth m → nth_in_month y m (pos item) (pos position) ≡ some x → Lies x y m
+nth_lies : (x y m item position : ℕ) → IsMonth m → nth_in_month y m (pos item) (pos position) ≡ Some x → Lies x y m
 unfolding nth_in_month
 nth_lies x y m item position h e = by (eqb y 19999 && eqb m 12) e
   where
-    by : (t : Bool) → (if t then none else at_position (pos position) (keep (item_fits (pos item)) (count (date_at y m 1) (month_length y m)))) ≡ some x → Lies x y m
+    by : (t : Bool) → (if t then None else at_position (pos position) (keep (item_fits (pos item)) (count (date_at y m 1) (month_length y m)))) ≡ Some x → Lies x y m
     by true e = let z : ◌≡◌ {A = ℕ} 0 1 = cc in absurd (omega arith)
     by false e = position_lies x y m item (pos position) h e
 
-day_there : (d : Date) → day_in (year_of d) (month_of d) (day_of d) ≡ some d
+day_there : (d : Date) → day_in (year_of d) (month_of d) (day_of d) ≡ Some d
 unfolding day_in
 day_there d =
     let i : IsDay (year_of d) (month_of d) (day_of d) = is_day_lem d in
-    rw (le-leb 1 (day_of d) i.first, le-leb (day_of d) (month_length (year_of d) (month_of d)) i.last) (ap some (date_back d))
+    rw (le-leb 1 (day_of d) i.first, le-leb (day_of d) (month_length (year_of d) (month_of d)) i.last) (ap Some (date_back d))
 
 module _ (day item position : ℕ) where
-  pub candidate_lies : (b : Bool) (x y m : ℕ) → IsMonth m → candidate b day item position y m ≡ some x → Lies x y m
+  pub candidate_lies : (b : Bool) (x y m : ℕ) → IsMonth m → candidate b day item position y m ≡ Some x → Lies x y m
   unfolding candidate
   candidate_lies true x y m h e = nth_lies x y m item position h e
   candidate_lies false x y m h e = falls_lies x y m day (day_lies x y m day h e)
@@ -189,10 +189,10 @@ module _ (day item position : ℕ) where
 
       by : (t : Bool) → eqb day (day_of d) ≡ t → (o : Option Date) → day_in (year_of d) (month_of d) day ≡ o → is_date o d ≡ t
       by true t o e =
-          let q : o ≡ some d = sym e ∙ ap (day_in (year_of d) (month_of d)) (eqb-true day (day_of d) t) ∙ day_there d in
+          let q : o ≡ Some d = sym e ∙ ap (day_in (year_of d) (month_of d)) (eqb-true day (day_of d) t) ∙ day_there d in
           rw q (eq-eqb d d refl)
-      by false t none e = refl
-      by false t (some x) e = ne_eqb x d (λ q. eqb-false day (day_of d) t (sym (day_lies d (year_of d) (month_of d) day (i.low, i.high) (e ∙ ap some q)).day))
+      by false t None e = refl
+      by false t (Some x) e = ne_eqb x d (λ q. eqb-false day (day_of d) t (sym (day_lies d (year_of d) (month_of d) day (i.low, i.high) (e ∙ ap Some q)).day))
 
   here : (b : Bool) (d : Date) → is_date (candidate b day item position (year_of d) (month_of d)) d ≡ on b d
   unfolding candidate on
@@ -207,5 +207,5 @@ module _ (day item position : ℕ) where
       by true t o e =
           let q : m ≡ month_of d = eqb-true m (month_of d) t in
           rw (← e, q) (here b d)
-      by false t none e = refl
-      by false t (some x) e = ne_eqb x d (λ q. eqb-false m (month_of d) t (sym (candidate_lies b d (year_of d) m h (e ∙ ap some q)).month))
+      by false t None e = refl
+      by false t (Some x) e = ne_eqb x d (λ q. eqb-false m (month_of d) t (sym (candidate_lies b d (year_of d) m h (e ∙ ap Some q)).month))

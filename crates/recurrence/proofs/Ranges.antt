@@ -4,7 +4,7 @@ use native.Mathlib.Omega.{arith}
 use native.Mathlib.Numerals.{add-one}
 use mathlib.Core.Path.{◌≡◌, refl, sym, ap, ◌∙◌}
 use mathlib.Core.List.{◌∷◌}
-use mathlib.Core.Option.{Option, some, none}
+use Rattle.std.specs.Prelude.{Option, Some, None}
 use lib.ListN.{length}
 use lib.Dec.{leb}
 use borrow.Author.Tests.{le-leb, ne_eqb}
@@ -54,14 +54,14 @@ range_made from to end n d a b e f =
     rw (ne_eqb from 0 a, ne_eqb to 0 b) (λ i. RangeAnswer.Is (record { first = d i; count = m i + 1 }))
 
 module _ (x : Element) where
-  module _ (p : Element) (c : child x (bytes "TimePeriod") ≡ some p) where
+  module _ (p : Element) (c : child x (bytes "TimePeriod") ≡ Some p) where
     range_read : (f : Option Date) → date_in p "FromDate" ≡ f → (t : Option Date) → date_in p "ToDate" ≡ t → RangeRead x (range_in (f or 0) (t or 0))
     unfolding range_in days_of range_days
-    range_read none f t g = record { is = rw (c, f); days = rw (c, f) }
-    range_read (some d) f none g =
+    range_read None f t g = record { is = rw (c, f); days = rw (c, f) }
+    range_read (Some d) f None g =
         let i = field_in p "FromDate" d f in
         record { is = rw (c, f, g, ne_eqb d 0 (λ z. omega (arith, i.low))); days = rw (c, f, g, ne_eqb d 0 (λ z. omega (arith, i.low))) }
-    range_read (some d) f (some k) g =
+    range_read (Some d) f (Some k) g =
         let i = field_in p "FromDate" d f in
         let j = field_in p "ToDate" k g in
         let n = min (k - d) most_exception_days in
@@ -69,7 +69,7 @@ module _ (x : Element) where
         let l : days_of x ≡ count d (suc n) = rw (c, f, g) (keep_all (suc n) d (omega (arith, i.high, j.high))) in
         record { is = r ∙ run_range d n ∙ ap range_by (sym l); days = ap range_days r ∙ run_days d n ∙ sym l }
 
-  none_read : child x (bytes "TimePeriod") ≡ none → RangeRead x (range_in 0 0)
+  none_read : child x (bytes "TimePeriod") ≡ None → RangeRead x (range_in 0 0)
   unfolding range_in days_of range_days
   none_read e = record { is = rw e; days = rw e }
 
@@ -78,5 +78,5 @@ module _ (x : Element) where
   range_is = by (child x (bytes "TimePeriod")) refl
     where
       by : (o : Option Element) → child x (bytes "TimePeriod") ≡ o → RangeRead x (range_in ((o >>= λ p. date_in p "FromDate") or 0) ((o >>= λ p. date_in p "ToDate") or 0))
-      by none e = none_read e
-      by (some p) e = range_read p e (date_in p "FromDate") refl (date_in p "ToDate") refl
+      by None e = none_read e
+      by (Some p) e = range_read p e (date_in p "FromDate") refl (date_in p "ToDate") refl

@@ -6,7 +6,7 @@ use native.Mathlib.Decide.{dec_lt}
 use mathlib.Core.Path.{◌≡◌, refl, sym, ap, ◌∙◌}
 use mathlib.Core.Bool.{Bool, true, false, ◌&&◌}
 use mathlib.Core.List.{List, [], ◌∷◌}
-use mathlib.Core.Option.{Option, some, none}
+use Rattle.std.specs.Prelude.{Option, Some, None}
 use Prim.Native.String.{String}
 use lib.Dec.{leb, ltb, eqb}
 use lib.IntN.{ℤ, pos, negsuc}
@@ -37,47 +37,47 @@ use Rattle.recurrence.proofs.Dates.{date_in_lem}
 
 types : (o : Option ℤ) → pick_of 7 7 1 o % 7 ≡ type_from (o or pos 1)
 unfolding pick_of
-types none = refl
-types (some (pos n)) = by (dec_lt n 7)
+types None = refl
+types (Some (pos n)) = by (dec_lt n 7)
   where
     by : Dec (n < 7) → min n 7 % 7 ≡ (if leb n 6 then n else 0)
     by (yes l) = rw (le-leb n 6 (omega arith)) (omega arith)
     by (no g) = rw (lt-leb n 6 (omega arith)) (omega arith)
-types (some (negsuc n)) = refl
+types (Some (negsuc n)) = refl
 
 periods : (o : Option ℤ) → max 1 (pick_of 1000 1 1 o) ≡ held 1 1000 (o or pos 1)
 unfolding pick_of
-periods none = refl
-periods (some (pos n)) = refl
-periods (some (negsuc n)) = refl
+periods None = refl
+periods (Some (pos n)) = refl
+periods (Some (negsuc n)) = refl
 
 mosts : (o : Option ℤ) → pick_of most_days 0 1 o ≡ held 0 most_days (o or pos 1)
 unfolding pick_of
-mosts none = refl
-mosts (some (pos n)) = omega arith
-mosts (some (negsuc n)) = refl
+mosts None = refl
+mosts (Some (pos n)) = omega arith
+mosts (Some (negsuc n)) = refl
 
 months : (o : Option ℤ) → month_from (pos (pick_of 12 12 0 o)) ≡ month_from (o or pos 0)
 unfolding pick_of
-months none = refl
-months (some (pos n)) = by (dec_lt n 12)
+months None = refl
+months (Some (pos n)) = by (dec_lt n 12)
   where
     by : Dec (n < 12) → when (ltb (min n 12) 12) (min n 12 + 1) ≡ when (ltb n 12) (n + 1)
     by (yes l) = let m : min n 12 ≡ n = omega arith in rw m
     by (no g) = let m : min n 12 ≡ 12 = omega arith in rw (m, le-ltb n 12 (omega arith))
-months (some (negsuc n)) = refl
+months (Some (negsuc n)) = refl
 
 -- and its number back
 month_back : (o : Option ℕ) → (month_meaning (month_by o) or 13) ≡ (o or 13)
 unfolding month_meaning
-month_back (some m) = refl
-month_back none = refl
+month_back (Some m) = refl
+month_back None = refl
 
 caps : (most k : ℕ) → k ≤ most → (o : Option ℤ) → pick_of most most k o ≡ capped most (o or pos k)
 unfolding pick_of
-caps most k h none = omega arith
-caps most k h (some (pos n)) = refl
-caps most k h (some (negsuc n)) = refl
+caps most k h None = omega arith
+caps most k h (Some (pos n)) = refl
+caps most k h (Some (negsuc n)) = refl
 
 -- made of its fields
 module _ (x : Element) (from to : Date) where
@@ -237,7 +237,7 @@ scaled_of m =
     }
 
 abbrev days_at : Scaled → Option (List Date)
-days_at u = when (sound u && is_rule (as_rule u)) (as_rule u) >>= λ m. some (days_of_rule m)
+days_at u = when (sound u && is_rule (as_rule u)) (as_rule u) >>= λ m. Some (days_of_rule m)
 
 scaled_is : (m : D.Rule) → scaled_by (held_rule m) ≡ scaled_of m
 scaled_is m = λ i.
@@ -300,18 +300,18 @@ module _ (x : Element) (from to : Date) where
     is_one_lem : is_rule (rule_from x from to) ≡ true → (sound (scaled_of (rule_from x from to)) && is_rule (as_rule (scaled_of (rule_from x from to)))) ≡ true
     is_one_lem e = ap (λ (b : Bool). b && is_rule (as_rule (scaled_of (rule_from x from to)))) sounds ∙ rule_same (as_rule (scaled_of (rule_from x from to))) (rule_from x from to) alike ∙ e
 
-    same : is_rule (rule_from x from to) ≡ true → days_by (held_rule (rule_from x from to)) ≡ some (days_of_rule (rule_from x from to))
+    same : is_rule (rule_from x from to) ≡ true → days_by (held_rule (rule_from x from to)) ≡ Some (days_of_rule (rule_from x from to))
     unfolding days_by meaning
     same e =
         ap days_at (scaled_is (rule_from x from to))
-        ∙ ap (λ (b : Bool). when b (as_rule (scaled_of (rule_from x from to))) >>= λ m. some (days_of_rule m)) (is_one_lem e)
-        ∙ ap some (days_same (as_rule (scaled_of (rule_from x from to))) (rule_from x from to) alike)
+        ∙ ap (λ (b : Bool). when b (as_rule (scaled_of (rule_from x from to))) >>= λ m. Some (days_of_rule m)) (is_one_lem e)
+        ∙ ap Some (days_same (as_rule (scaled_of (rule_from x from to))) (rule_from x from to) alike)
 
-    pub read_days : rule_days (rule_by (when (is_rule (rule_from x from to)) (rule_from x from to))) ≡ (when (is_rule (rule_from x from to)) (rule_from x from to) >>= λ r. some (days_of_rule r))
+    pub read_days : rule_days (rule_by (when (is_rule (rule_from x from to)) (rule_from x from to))) ≡ (when (is_rule (rule_from x from to)) (rule_from x from to) >>= λ r. Some (days_of_rule r))
     unfolding rule_days
     read_days = by (is_rule (rule_from x from to)) refl
       where
-        by : (t : Bool) → is_rule (rule_from x from to) ≡ t → rule_days (rule_by (when t (rule_from x from to))) ≡ (when t (rule_from x from to) >>= λ r. some (days_of_rule r))
+        by : (t : Bool) → is_rule (rule_from x from to) ≡ t → rule_days (rule_by (when t (rule_from x from to))) ≡ (when t (rule_from x from to) >>= λ r. Some (days_of_rule r))
         by true e = same e
         by false e = refl
 
@@ -321,17 +321,17 @@ or_most false from to h l = l
 
 -- ---- an Exception
 
-pub field_in : (p : Element) (name : String) (d : Date) → date_in p name ≡ some d → InDates d
+pub field_in : (p : Element) (name : String) (d : Date) → date_in p name ≡ Some d → InDates d
 unfolding date_in
 field_in p name d e = by (text_in p name) e
   where
-    by : (o : Option Text) → (o >>= date_of) ≡ some d → InDates d
-    by none e = let z : ◌≡◌ {A = ℕ} 0 1 = cc in absurd (omega arith)
-    by (some t) e = date_in_lem t d e
+    by : (o : Option Text) → (o >>= date_of) ≡ Some d → InDates d
+    by None e = let z : ◌≡◌ {A = ℕ} 0 1 = cc in absurd (omega arith)
+    by (Some t) e = date_in_lem t d e
 
 said_most : (p : Element) (name : String) (o : Option Date) → date_in p name ≡ o → (o or 0) ≤ last_date
-said_most p name none e = omega arith
-said_most p name (some d) e = (field_in p name d e).high
+said_most p name None e = omega arith
+said_most p name (Some d) e = (field_in p name d e).high
 
 module _ (x : Element) where
   pub period_most : ((period_of x).from ≤ last_date) × ((period_of x).to ≤ last_date)
@@ -339,25 +339,25 @@ module _ (x : Element) where
   period_most = by (child x (bytes "TimePeriod"))
     where
       by : (o : Option Element) → (((o >>= λ p. date_in p "FromDate") or 0) ≤ last_date) × (((o >>= λ p. date_in p "ToDate") or 0) ≤ last_date)
-      by none = (omega arith, omega arith)
-      by (some p) = (said_most p "FromDate" (date_in p "FromDate") refl, said_most p "ToDate" (date_in p "ToDate") refl)
+      by None = (omega arith, omega arith)
+      by (Some p) = (said_most p "FromDate" (date_in p "FromDate") refl, said_most p "ToDate" (date_in p "ToDate") refl)
 
   -- the code's dates, 0 for a missing one
-  module _ (p : Element) (c : child x (bytes "TimePeriod") ≡ some p) where
+  module _ (p : Element) (c : child x (bytes "TimePeriod") ≡ Some p) where
     rule_read : (f : Option Date) → date_in p "FromDate" ≡ f → (t : Option Date) → date_in p "ToDate" ≡ t → RuleRead x (rule_in x (f or 0) (t or 0))
     unfolding rule_in rule_of recurrence_days rule_days
-    rule_read none f t g = record { is = rw (c, f); days = rw (c, f) }
-    rule_read (some d) f none g =
+    rule_read None f t g = record { is = rw (c, f); days = rw (c, f) }
+    rule_read (Some d) f None g =
         let i = field_in p "FromDate" d f in
         let r : rule_in x d 0 ≡ rule_by (when (is_rule (rule_from x d d)) (rule_from x d d)) = rw (ne_eqb d 0 (λ z. omega (arith, i.low))) (judged_is x d d) in
         record { is = r ∙ rw (c, f, g); days = ap rule_days r ∙ read_days x d d i i.high ∙ rw (c, f, g) }
-    rule_read (some d) f (some k) g =
+    rule_read (Some d) f (Some k) g =
         let i = field_in p "FromDate" d f in
         let j = field_in p "ToDate" k g in
         let r : rule_in x d k ≡ rule_by (when (is_rule (rule_from x d k)) (rule_from x d k)) = rw (ne_eqb d 0 (λ z. omega (arith, i.low)), ne_eqb k 0 (λ z. omega (arith, j.low))) (judged_is x d k) in
         record { is = r ∙ rw (c, f, g); days = ap rule_days r ∙ read_days x d k i j.high ∙ rw (c, f, g) }
 
-  none_read : child x (bytes "TimePeriod") ≡ none → RuleRead x (rule_in x 0 0)
+  none_read : child x (bytes "TimePeriod") ≡ None → RuleRead x (rule_in x 0 0)
   unfolding rule_in rule_of recurrence_days rule_days
   none_read e = record { is = rw e; days = rw e }
 
@@ -366,5 +366,5 @@ module _ (x : Element) where
   rule_is = by (child x (bytes "TimePeriod")) refl
     where
       by : (o : Option Element) → child x (bytes "TimePeriod") ≡ o → RuleRead x (rule_in x ((o >>= λ p. date_in p "FromDate") or 0) ((o >>= λ p. date_in p "ToDate") or 0))
-      by none e = none_read e
-      by (some p) e = rule_read p e (date_in p "FromDate") refl (date_in p "ToDate") refl
+      by None e = none_read e
+      by (Some p) e = rule_read p e (date_in p "FromDate") refl (date_in p "ToDate") refl

@@ -4,7 +4,7 @@ use native.Mathlib.Omega.{arith}
 use native.Mathlib.Decide.{dec_lt}
 use mathlib.Core.Path.{◌≡◌, refl, sym, ap, ◌∙◌}
 use mathlib.Core.Bool.{Bool, true, false, ◌&&◌, and-false}
-use mathlib.Core.Option.{Option, some, none}
+use Rattle.std.specs.Prelude.{Option, Some, None}
 use borrow.Author.Tests.{eq-eqb, ne_eqb}
 use Rattle.definition.specs.Base.{◌or◌}
 use Rattle.definition.specs.Recurrence.{is_date}
@@ -13,7 +13,7 @@ use Rattle.recurrence.specs.Sequence.{FirstFit}
 -- each date lies in a unit, later ones in later units; a date fits where its unit counts and it is the unit's candidate
 pub record Units (p : ℕ → Bool) (unit : ℕ → ℕ) (counts : ℕ → Bool) (candidate : ℕ → Option ℕ) : Type 0 where
   pub rises : (d e : ℕ) → d ≤ e → unit d ≤ unit e
-  pub lies : (k x : ℕ) → candidate k ≡ some x → unit x ≡ k
+  pub lies : (k x : ℕ) → candidate k ≡ Some x → unit x ≡ k
   pub fitting : (d : ℕ) → p d ≡ (counts (unit d) && is_date (candidate (unit d)) d)
 
 -- no date from `at` on fits that lies in a unit before k
@@ -35,8 +35,8 @@ module _ (p : ℕ → Bool) (unit : ℕ → ℕ) (counts : ℕ → Bool) (candid
   -- a unit with no candidate from `at` on, and one whose candidate is the answer
   module _ (k x : ℕ) (before : Passed p unit at k) (is : x ≡ (candidate k or 0)) where
     other : (d : ℕ) (c : Option ℕ) → c ≡ candidate k → unit d ≡ k → (x ≡ d → ⊥) → is_date c d ≡ false
-    other d none e w n = refl
-    other d (some y) e w n = ne_eqb y d (λ q. n (is ∙ ap (◌or 0) (sym e) ∙ q))
+    other d None e w n = refl
+    other d (Some y) e w n = ne_eqb y d (λ q. n (is ∙ ap (◌or 0) (sym e) ∙ q))
 
     here : (d : ℕ) → unit d ≡ k → (x ≡ d → ⊥) → p d ≡ false
     here d w n = u.fitting d ∙ rw (w, other d (candidate k) refl w n) (and-false (counts k))
@@ -55,10 +55,10 @@ module _ (p : ℕ → Bool) (unit : ℕ → ℕ) (counts : ℕ → Bool) (candid
     fit_unit last pos on does = by (candidate k) refl
       where
         by : (c : Option ℕ) → c ≡ candidate k → FirstFit p last at x
-        by none e = let z : x ≡ 0 = is ∙ ap (◌or 0) (sym e) in absurd (omega arith)
-        by (some y) e =
+        by None e = let z : x ≡ 0 = is ∙ ap (◌or 0) (sym e) in absurd (omega arith)
+        by (Some y) e =
             let q : x ≡ y = is ∙ ap (◌or 0) (sym e) in
-            let w : unit x ≡ k = u.lies k x (sym e ∙ ap some (sym q)) in
+            let w : unit x ≡ k = u.lies k x (sym e ∙ ap Some (sym q)) in
             record {
               on = λ h. on;
               before = λ d a l n. until d a (omega (arith, u.rises d x (omega arith))) (λ r. omega arith);

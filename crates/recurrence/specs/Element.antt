@@ -1,7 +1,7 @@
 -- What an element says, as this crate holds it: the rule of an Exception, the days of a WeekDay of DayType 0. Assumes nothing: these are
 -- definitions.
 use Rattle.std.specs.Prelude.{if◌then◌else◌, ℕ, suc, ◌+◌, ◌-◌, ◌%◌, min, ◌≡◌, Bool, List, [], ◌∷◌, length, eqb, ℤ, pos, negsuc}
-use Rattle.std.proofs.Math.Option.{Option, some, none}
+use Rattle.std.specs.Prelude.{Option, Some, None}
 use Rattle.definition.specs.Base.{◌>>=◌, ◌or◌, count}
 use Rattle.definition.specs.Ascii.{bytes}
 use Rattle.definition.specs.Bits.{twos}
@@ -27,8 +27,8 @@ capped most (pos n) = min n most
 capped most (negsuc n) = most
 
 abbrev pub month_by : Option ℕ → MonthAnswer
-month_by (some m) = MonthAnswer.Is m
-month_by none = MonthAnswer.Absent
+month_by (Some m) = MonthAnswer.Is m
+month_by None = MonthAnswer.Absent
 
 -- of the weekdays the seven low bits
 abbrev pub held_rule : D.Rule → Rule
@@ -47,13 +47,13 @@ held_rule m =
     }
 
 abbrev pub rule_by : Option D.Rule → RuleAnswer
-rule_by none = RuleAnswer.Absent
-rule_by (some m) = RuleAnswer.Is (held_rule m)
+rule_by None = RuleAnswer.Absent
+rule_by (Some m) = RuleAnswer.Is (held_rule m)
 
 -- all days of an answer; none: skipped
 unfoldable pub rule_days : RuleAnswer → Option (List Date)
 rule_days (RuleAnswer.Is r) = days_by r
-rule_days RuleAnswer.Absent = none
+rule_days RuleAnswer.Absent = None
 
 -- the definition's rule, and so its days
 pub record RuleRead (x : Element) (r : RuleAnswer) : Type 0 where
@@ -64,9 +64,9 @@ pub record RuleRead (x : Element) (r : RuleAnswer) : Type 0 where
 
 -- a number held to `most`, with what stands for one below 0 and for a missing one
 unfoldable pub pick_of : ℕ → ℕ → ℕ → Option ℤ → ℕ
-pick_of most below absent (some (pos n)) = min n most
-pick_of most below absent (some (negsuc n)) = below
-pick_of most below absent none = absent
+pick_of most below absent (Some (pos n)) = min n most
+pick_of most below absent (Some (negsuc n)) = below
+pick_of most below absent None = absent
 
 -- the seven low bits, as two's complement has them
 unfoldable pub mask_of : Option ℤ → ℕ

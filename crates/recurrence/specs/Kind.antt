@@ -1,6 +1,6 @@
 -- What fits a rule, kind by kind, and what the searches for the first such day may rest on. Assumes nothing: these are definitions.
 use Rattle.std.specs.Prelude.{ℕ, ◌+◌, ◌-◌, ◌*◌, ◌/◌, ◌%◌, ◌^◌, ◌≤◌, ◌<◌, ◌≡◌, Bool, true, false, ◌&&◌, List, leb, eqb, pos}
-use Rattle.std.proofs.Math.Option.{Option}
+use Rattle.std.specs.Prelude.{Option}
 use Rattle.definition.specs.Base.{find_last}
 use Rattle.definition.specs.Date.{Date, year_of, sunday_first, first_date, last_date}
 use Rattle.definition.specs.Recurrence.{most_days, century, every_nth, is_date, on_weekday, in_nth_week, nth_in_month}

@@ -1,6 +1,6 @@
 -- What a `Rule`, a `Cursor` and a `Step` mean. Assumes nothing: these are definitions.
 use Rattle.std.specs.Prelude.{ℕ, ◌+◌, ◌-◌, max, Bool, ◌&&◌, ◌||◌, not, List, [], ◌∷◌, take, leb, pos}
-use Rattle.std.proofs.Math.Option.{Option, some, none}
+use Rattle.std.specs.Prelude.{Option, Some, None}
 use Rattle.definition.specs.Base.{◌>>=◌, when, within}
 use Rattle.definition.specs.Date.{Date, first_date, last_date}
 use Rattle.definition.specs.Recurrence as D
@@ -43,11 +43,11 @@ meaning r = when (sound (scaled_by r) && is_rule (as_rule (scaled_by r))) (as_ru
 
 -- all days of a rule; none: skipped
 unfoldable pub days_by : Rule → Option (List Date)
-days_by r = meaning r >>= λ m. some (days_of_rule m)
+days_by r = meaning r >>= λ m. Some (days_of_rule m)
 
 -- the days of a rule that a cursor leaves to come
 unfoldable pub to_come : Rule → Cursor → Option (List Date)
-to_come r c = meaning r >>= λ m. some (take c.left (from_on (fits m) m.last (max m.from (day_count c.at.0))))
+to_come r c = meaning r >>= λ m. Some (take c.left (from_on (fits m) m.last (max m.from (day_count c.at.0))))
 
 abbrev pub start_of : Rule → Cursor
 start_of r = record { at = r.from; left = r.most }
@@ -58,15 +58,15 @@ after c x = record { at = day_date (x + 1); left = c.left - 1 }
 
 -- the first of the days to come, and the cursor behind it
 abbrev pub step_by : Cursor → Option (List Date) → Step
-step_by c none = Skipped
-step_by c (some []) = Done
-step_by c (some (x ∷ l)) = Day (day_date x) (after c x)
+step_by c None = Skipped
+step_by c (Some []) = Done
+step_by c (Some (x ∷ l)) = Day (day_date x) (after c x)
 
 unfoldable pub step_of : Rule → Cursor → Step
 step_of r c = step_by c (to_come r c)
 
 -- a step is the next of them, with the cursor that leaves the rest to come
 unfoldable pub said : Rule → Step → Option (List Date)
-said r (Day d c) = to_come r c >>= λ l. some (day_count d.0 ∷ l)
-said r Done = some []
-said r Skipped = none
+said r (Day d c) = to_come r c >>= λ l. Some (day_count d.0 ∷ l)
+said r Done = Some []
+said r Skipped = None

@@ -1,6 +1,6 @@
 -- Days, years and months as this crate counts them, from 1 January of the year -10000 on. Assumes nothing: these are definitions.
 use Rattle.std.specs.Prelude.{ℕ, ◌+◌, ◌-◌, ◌*◌, ◌≤◌, ◌≡◌, ℤ, pos, ◌-ℤ◌}
-use Rattle.std.proofs.Math.Option.{Option, some, none}
+use Rattle.std.specs.Prelude.{Option, Some, None}
 use Rattle.definition.specs.Base.{◌or◌, when, within}
 use Rattle.definition.specs.Date as D
 use Rattle.definition.specs.Date.{year_of, month_of, date_at, month_length, day_number, first_date, last_date}
@@ -38,8 +38,8 @@ count_by (DateAnswer.Is d) = day_count d.0
 count_by DateAnswer.Absent = 0
 
 unfoldable pub month_meaning : MonthAnswer → Option ℕ
-month_meaning (MonthAnswer.Is m) = some m
-month_meaning MonthAnswer.Absent = none
+month_meaning (MonthAnswer.Is m) = Some m
+month_meaning MonthAnswer.Absent = None
 
 -- month 13 stands for none
 abbrev pub scaled_by : Rule → Scaled

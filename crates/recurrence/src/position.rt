@@ -1,6 +1,6 @@
 // The item at a position of a month.
 ghost use Rattle.std.specs.Prelude.{◌≡◌, ◌-◌, pos};
-ghost use Rattle.std.proofs.Math.ListN.{get_elem?};
+ghost use Rattle.std.specs.Prelude.{slice_get};
 ghost use Rattle.definition.specs.Base.{◌or◌, within, keep, count};
 ghost use Rattle.definition.specs.Date.{sunday_first};
 ghost use Rattle.definition.specs.Recurrence.{item_fits, nth_in_month};
@@ -36,7 +36,7 @@ fn item_fits(item: u32, d: u32) -> bool
 }
 
 fn nth_fit(first: u32, end: u32, item: u32, position: u32) -> u32
-    ensures { result ≡ (get_elem? (keep (item_fits (pos item)) (count first (end - first))) position or 0) }
+    ensures { result ≡ (slice_get (keep (item_fits (pos item)) (count first (end - first))) position or 0) }
 {
     let mut d = first;
     let mut k = position;

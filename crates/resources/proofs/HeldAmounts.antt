@@ -3,7 +3,7 @@ use Prim.Native.Nat.{◌^◌, ◌≤◌}
 use native.Mathlib.Omega.{arith}
 use mathlib.Core.Path.{◌≡◌, refl, sym, ap, ◌∙◌, subst}
 use mathlib.Core.Bool.{Bool, true, false, ◌&&◌}
-use mathlib.Core.Option.{Option}
+use Rattle.std.specs.Prelude.{Option}
 use lib.IntN.{ℤ, pos, nat_abs, neg_ℤ, +ℤ_idl}
 use lib.Ieee.{Float, fin, binary64, round, neg, le, lt, mul}
 use lib.Ieee.Fits.{and_l, and_r}

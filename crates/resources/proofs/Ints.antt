@@ -3,7 +3,7 @@ use Prim.Native.Nat.{ℕ, zero, suc, ◌-◌, ◌^◌, ◌≤◌}
 use native.Mathlib.Omega.{arith}
 use mathlib.Core.Path.{◌≡◌, refl, sym, ap, ◌∙◌, subst}
 use mathlib.Core.Bool.{Bool, true, false, cond, not}
-use mathlib.Core.Option.{Option, some, none}
+use Rattle.std.specs.Prelude.{Option, Some, None}
 use lib.Dec.{T, ltb, eqb}
 use lib.IntN.{ℤ, pos, negsuc, nat_abs, sub_ℕ, ◌-ℤ◌}
 use lib.Signed.{lt_z}
@@ -46,18 +46,18 @@ module _ (z y : ℤ) (fz : SFits w64 z) (fy : SFits w64 y) {a : I64Answer} (e : 
   by_test : other_than z (i64_of a) ≡ when (not (eqb (of_z w64 y) (of_z w64 z))) y
   by_test = ap (λ (a : I64Answer). other_than z (i64_of a)) e ∙ ap (λ (t : Bool). when (not t) y) (sym (eq_same y z fy fz))
 
-  pub same_dropped : of_z w64 y ≡ of_z w64 z → none ≡ other_than z (i64_of a)
+  pub same_dropped : of_z w64 y ≡ of_z w64 z → None ≡ other_than z (i64_of a)
   same_dropped h = sym (by_test ∙ ap (λ (t : Bool). when (not t) y) (eq-eqb (of_z w64 y) (of_z w64 z) h))
 
-  pub same_kept : (of_z w64 y ≡ of_z w64 z → ⊥) → some (to_z w64 (of_z w64 y)) ≡ other_than z (i64_of a)
-  same_kept h = ap some (to_z-of_z w64 y fy) ∙ sym (by_test ∙ ap (λ (t : Bool). when (not t) y) (ne_eqb (of_z w64 y) (of_z w64 z) h))
+  pub same_kept : (of_z w64 y ≡ of_z w64 z → ⊥) → Some (to_z w64 (of_z w64 y)) ≡ other_than z (i64_of a)
+  same_kept h = ap Some (to_z-of_z w64 y fy) ∙ sym (by_test ∙ ap (λ (t : Bool). when (not t) y) (ne_eqb (of_z w64 y) (of_z w64 z) h))
 
 -- whether the number of a field is m, where d stands for one below 0 and for a missing one
 pub is_by : {n : ℕ} (d m : ℕ) (o : Option ℤ) → eqb d m ≡ false → n ≡ unsigned_or d d o → eqb n m ≡ is_int o m
 unfolding unsigned_or
-is_by d m none e f = ap (λ (n : ℕ). eqb n m) f ∙ e
-is_by d m (some (pos n)) e f = ap (λ (n : ℕ). eqb n m) f
-is_by d m (some (negsuc n)) e f = ap (λ (n : ℕ). eqb n m) f ∙ e
+is_by d m None e f = ap (λ (n : ℕ). eqb n m) f ∙ e
+is_by d m (Some (pos n)) e f = ap (λ (n : ℕ). eqb n m) f
+is_by d m (Some (negsuc n)) e f = ap (λ (n : ℕ). eqb n m) f ∙ e
 
 -- ---- small numbers
 

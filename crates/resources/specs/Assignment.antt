@@ -1,6 +1,6 @@
 -- The amounts of an assignment and of an expense. Assumes nothing.
 use Rattle.std.specs.Prelude.{◌^◌, ◌≤◌, ◌≡◌, ℤ, pos, nat_abs}
-use Rattle.std.proofs.Math.Option.{Option}
+use Rattle.std.specs.Prelude.{Option}
 use Rattle.definition.specs.Base.{◌or◌}
 use Rattle.definition.specs.Resource.{unless_left}
 use Rattle.text.specs.Answers.{i64_of}

@@ -2,7 +2,7 @@
 use Rattle.std.specs.Prelude.{if◌then◌else◌}
 use Rattle.std.proofs.Common.{◌≡◌, ℕ, suc, ◌+◌, ◌-◌, ◌%◌, Bool, true, false, ltb, List, [], ◌∷◌, map, take, sym, refl, ap, ◌∙◌, arith}
 use native.Mathlib.Nat.{zero-mod, mod-add-mod}
-use mathlib.Core.Option.{Option, some, none}
+use Rattle.std.specs.Prelude.{Option, Some, None}
 use Rattle.definition.specs.Base.{◌>>=◌, ◌or_else◌, when, first, keep, find, find_last, numbered}
 use Rattle.definition.specs.Answer.{row_meaning}
 use Rattle.definition.specs.Text.{Text}
@@ -16,7 +16,7 @@ use Rattle.rows.specs.Rows.{has_uid, found_meaning}
 -- ---- the row of the last that passes, counted from a row on
 
 unfoldable pub row_by : {A : Type 0} → (ℕ → ℕ) → (A → Bool) → ℕ → List A → Option ℕ
-row_by next p n [] = none
+row_by next p n [] = None
 row_by next p n (x ∷ l) = row_by next p (next n) l or_else when (p x) n
 
 -- the row after a row, and as so many bits hold it
@@ -27,25 +27,25 @@ abbrev pub up_within : ℕ → ℕ → ℕ
 up_within m n = (n + 1) % m
 
 module _ {A : Type 0} (p : A → Bool) where
-  last_row : (n : ℕ) (l : List A) → (find_last (λ (x : ℕ × A). p x.1) (numbered n l) >>= λ x. some x.0) ≡ row_by up p n l
+  last_row : (n : ℕ) (l : List A) → (find_last (λ (x : ℕ × A). p x.1) (numbered n l) >>= λ x. Some x.0) ≡ row_by up p n l
   unfolding find_last numbered row_by
   last_row n [] = refl
   last_row n (x ∷ l) = by (find_last (λ (x : ℕ × A). p x.1) (numbered (suc n) l)) (p x) (last_row (suc n) l ∙ ap (λ (k : ℕ). row_by up p k l) (omega arith))
     where
-      by : (o : Option (ℕ × A)) (t : Bool) {k : Option ℕ} → (o >>= λ x. some x.0) ≡ k → (o or_else when t (n, x) >>= λ x. some x.0) ≡ (k or_else when t n)
-      by none true e = rw (← e)
-      by none false e = rw (← e)
-      by (some y) t e = rw (← e)
+      by : (o : Option (ℕ × A)) (t : Bool) {k : Option ℕ} → (o >>= λ x. Some x.0) ≡ k → (o or_else when t (n, x) >>= λ x. Some x.0) ≡ (k or_else when t n)
+      by None true e = rw (← e)
+      by None false e = rw (← e)
+      by (Some y) t e = rw (← e)
 
-  within_rows : (m n : ℕ) (l : List A) → (row_by up p n l >>= λ k. some (k % m)) ≡ row_by (up_within m) p (n % m) l
+  within_rows : (m n : ℕ) (l : List A) → (row_by up p n l >>= λ k. Some (k % m)) ≡ row_by (up_within m) p (n % m) l
   unfolding row_by
   within_rows m n [] = refl
   within_rows m n (x ∷ l) = by (row_by up p (n + 1) l) (p x) (within_rows m (n + 1) l ∙ ap (λ (k : ℕ). row_by (up_within m) p k l) (sym (mod-add-mod n m 1)))
     where
-      by : (o : Option ℕ) (t : Bool) {k : Option ℕ} → (o >>= λ k. some (k % m)) ≡ k → (o or_else when t n >>= λ k. some (k % m)) ≡ (k or_else when t (n % m))
-      by none true e = rw (← e)
-      by none false e = rw (← e)
-      by (some y) t e = rw (← e)
+      by : (o : Option ℕ) (t : Bool) {k : Option ℕ} → (o >>= λ k. Some (k % m)) ≡ k → (o or_else when t n >>= λ k. Some (k % m)) ≡ (k or_else when t (n % m))
+      by None true e = rw (← e)
+      by None false e = rw (← e)
+      by (Some y) t e = rw (← e)
 
 map_rows : {A B : Type 0} (f : A → B) (p : B → Bool) (n : ℕ) (l : List A) → row_by up p n (map f l) ≡ row_by up (λ x. p (f x)) n l
 unfolding row_by
@@ -56,9 +56,9 @@ row_of_lem : (es : List Element) (u : Text) → row_of es u ≡ row_by up (has_u
 unfolding row_of
 row_of_lem es u = last_row (has_uid u) 0 es
 
-row_within : (m : ℕ) (es : List Element) (u : Text) → (row_of es u >>= λ n. some (n % m)) ≡ row_by (up_within m) (has_uid u) 0 es
+row_within : (m : ℕ) (es : List Element) (u : Text) → (row_of es u >>= λ n. Some (n % m)) ≡ row_by (up_within m) (has_uid u) 0 es
 row_within m es u =
-    ap (λ o. o >>= λ n. some (n % m)) (row_of_lem es u) ∙ within_rows (has_uid u) m 0 es ∙ ap (λ (k : ℕ). row_by (up_within m) (has_uid u) k es) (zero-mod m)
+    ap (λ o. o >>= λ n. Some (n % m)) (row_of_lem es u) ∙ within_rows (has_uid u) m 0 es ∙ ap (λ (k : ℕ). row_by (up_within m) (has_uid u) k es) (zero-mod m)
 
 parent_of_lem : (es : List Element) (k : ℕ) → parent_of (map level_of es) k ≡ row_by up (λ e. ltb (level_of e) k) 0 es
 unfolding parent_of
@@ -69,13 +69,13 @@ parent_of_lem es k = last_row (λ n. ltb n k) 0 (map level_of es) ∙ map_rows l
 pub record RowIn {A : Type 0} (next : ℕ → ℕ) (p : A → Bool) (t : Option ℕ) (n : ℕ) (l : List A) (found : RowAnswer) : Type 0 where
   pub is : t ≡ (row_by next p n l or_else row_meaning found)
 
-none_else : {A : Type 0} (o : Option A) → (o or_else none) ≡ o
-none_else none = refl
-none_else (some a) = refl
+none_else : {A : Type 0} (o : Option A) → (o or_else None) ≡ o
+none_else None = refl
+none_else (Some a) = refl
 
 else_else : {A : Type 0} (a b c : Option A) → (a or_else b or_else c) ≡ (a or_else (b or_else c))
-else_else none b c = refl
-else_else (some x) b c = refl
+else_else None b c = refl
+else_else (Some x) b c = refl
 
 module _ {A : Type 0} {next : ℕ → ℕ} {p : A → Bool} {t : Option ℕ} where
   row_all : {l : List A} → t ≡ row_by next p 0 l → RowIn next p t 0 l RowAnswer.Absent
@@ -95,7 +95,7 @@ module _ {A : Type 0} {next : ℕ → ℕ} {p : A → Bool} {t : Option ℕ} whe
     unfolding row_by
     row_end i = sym (h.is ∙ rw i)
 
-pub within_begin : (m : ℕ) (es : List Element) (u : Text) {l : List Element} → es ≡ l → RowIn (up_within m) (has_uid u) (row_of es u >>= λ n. some (n % m)) 0 l RowAnswer.Absent
+pub within_begin : (m : ℕ) (es : List Element) (u : Text) {l : List Element} → es ≡ l → RowIn (up_within m) (has_uid u) (row_of es u >>= λ n. Some (n % m)) 0 l RowAnswer.Absent
 within_begin m es u e = row_all (row_within m es u ∙ ap (row_by (up_within m) (has_uid u) 0) e)
 
 pub parents_begin : (row : ℕ) (es : List Element) (k : ℕ) {l : List Element} → es ≡ l → RowIn up (λ e. ltb (level_of e) k) (parent_of (map level_of (take row es)) k) 0 (take (row - 0) l) RowAnswer.Absent
@@ -139,12 +139,12 @@ pub find_begin : {A : Type 0} (p : A → Bool) {es l : List A} → es ≡ l → 
 find_begin {A} p e = record { is = ap (λ (l : List A). find (λ (x : ℕ × A). p x.1) (numbered 0 l)) e }
 
 module _ {A : Type 0} {p : A → Bool} {t : Option (ℕ × A)} {n : ℕ} {l : List A} (h : FirstIn p t n l) where
-  pub find_end : l ≡ [] → none ≡ t
+  pub find_end : l ≡ [] → None ≡ t
   unfolding numbered keep first
   find_end i = sym (h.is ∙ rw i)
 
   module _ {x : A} {k : List A} (i : l ≡ x ∷ k) where
-    pub find_here : p x ≡ true → some (n, x) ≡ t
+    pub find_here : p x ≡ true → Some (n, x) ≡ t
     unfolding numbered keep first
     find_here j = sym (h.is ∙ rw (i, j))
 

@@ -1,6 +1,6 @@
 -- A walk over the chain of a UID: from where it stands on, the first row whose element has the UID is the one that is sought. Assumes nothing.
 use Rattle.std.proofs.Common.{◌≡◌, ℕ, Bool, true, false, List, sym, refl, ap, ◌∙◌, arith}
-use mathlib.Core.Option.{Option, some, none}
+use Rattle.std.specs.Prelude.{Option, Some, None}
 use Rattle.definition.specs.Base.{◌>>=◌, same}
 use Rattle.definition.specs.Answer.{row_meaning}
 use Rattle.definition.specs.Text.{Text}
@@ -22,13 +22,13 @@ named s w t u r = same (uid_of (element_at s (place_of w t r))) u
 
 row_is : (o : Option ℕ) {r : ℕ} → row.At r ≡ as_row o → row_meaning (RowAnswer.Is r) ≡ o
 unfolding row_meaning
-row_is none {r} e = let y : ◌≡◌ {A = ℕ} 0 1 = cc in absurd (omega arith)
-row_is (some k) {r} e = let y : r ≡ k = cc in ap some y
+row_is None {r} e = let y : ◌≡◌ {A = ℕ} 0 1 = cc in absurd (omega arith)
+row_is (Some k) {r} e = let y : r ≡ k = cc in ap Some y
 
 row_none : (o : Option ℕ) → row.None ≡ as_row o → row_meaning RowAnswer.Absent ≡ o
 unfolding row_meaning
-row_none none e = refl
-row_none (some k) e = let y : ◌≡◌ {A = ℕ} 0 1 = cc in absurd (omega arith)
+row_none None e = refl
+row_none (Some k) e = let y : ◌≡◌ {A = ℕ} 0 1 = cc in absurd (omega arith)
 
 pub sought_first : (s : Text) {w : List ℕ} {t : Table} (u : Text) {h : ℕ} {at : Row} → h ≡ hash_of u → at ≡ first_of w t h → Seeks w t (named s w t u) (sought_in s w t u) at
 sought_first s u i e = rw (← i) (seeks_first _ e)
@@ -60,10 +60,10 @@ module _ (w : List ℕ) (t : Table) {o : RowAnswer} where
 
 -- the element where a row was found
 pub found_sought : (s : Text) (w : List ℕ) (t : Table) {o k : Option ℕ} {r : Found} → r ≡ found_in w t o → o ≡ k
-    → found_meaning s r ≡ (k >>= λ r. some (element_at s (place_of w t r)))
+    → found_meaning s r ≡ (k >>= λ r. Some (element_at s (place_of w t r)))
 unfolding found_meaning
 found_sought s w t {k = k} e i = ap (found_meaning s) (e ∙ ap (found_in w t) i) ∙ go k
   where
-    go : (k : Option ℕ) → found_meaning s (found_in w t k) ≡ (k >>= λ r. some (element_at s (place_of w t r)))
-    go none = refl
-    go (some r) = refl
+    go : (k : Option ℕ) → found_meaning s (found_in w t k) ≡ (k >>= λ r. Some (element_at s (place_of w t r)))
+    go None = refl
+    go (Some r) = refl

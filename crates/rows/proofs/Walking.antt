@@ -1,6 +1,6 @@
 -- The walks: each turn of the search for the next element that counts. Assumes nothing.
 use Rattle.std.proofs.Common.{◌≡◌, ℕ, zero, suc, ◌+◌, ◌-◌, ◌<◌, ◌≤◌, Bool, true, false, not, ◌&&◌, List, [], ◌∷◌, length, take, refl, ap, ◌∙◌, arith}
-use mathlib.Core.Option.{Option, some, none}
+use Rattle.std.specs.Prelude.{Option, Some, None}
 use lib.Seq.{take-nil}
 use borrow.Author.Tests.{not-true}
 use Rattle.definition.specs.Base.{◌or_else◌, given, keep, first, numbered}
@@ -138,11 +138,11 @@ module _ {w : Which} (x : Element) {a : Bool} where
 
 -- ---- a section
 
-pub section_none : {s n : Text} {o : Option Element} {m : ℕ} → o ≡ none → Starts s n (all_in o n) m Nothing
+pub section_none : {s n : Text} {o : Option Element} {m : ℕ} → o ≡ None → Starts s n (all_in o n) m Nothing
 unfolding list_of Past
 section_none e = record { is = rw e; on = tt }
 
-pub section_found : {s n : Text} {o : Option Element} {m p : ℕ} {r : Found} → o ≡ some (element_at s p) → m ≤ p → Starts s n (all (element_at s p) n) (p + 1) r → Starts s n (all_in o n) m r
+pub section_found : {s n : Text} {o : Option Element} {m p : ℕ} {r : Found} → o ≡ Some (element_at s p) → m ≤ p → Starts s n (all (element_at s p) n) (p + 1) r → Starts s n (all_in o n) m r
 section_found {s} {r = r} e k h = record { is = rw e h.is; on = past_later s (omega arith) r h.on }
 
 -- ---- the calendars in the order in which they are built

@@ -1,6 +1,6 @@
 -- What a look-up in the tree answers. Assumes nothing: these are definitions.
 use Rattle.std.specs.Prelude.{ℕ, Bool, not, List, [], ◌++◌}
-use Rattle.std.proofs.Math.Option.{Option, some, none}
+use Rattle.std.specs.Prelude.{Option, Some, None}
 use Rattle.definition.specs.Base.{◌>>=◌, ◌or◌, ◌or_else◌, given, keep, find, first, numbered, same}
 use Rattle.definition.specs.Text.{Text}
 use Rattle.definition.specs.Tree.{Element}
@@ -14,8 +14,8 @@ use Rattle.rows.specs.declared.CalendarAnswer.TheVariants.{Is, Absent}
 
 -- the element that was found
 unfoldable pub found_meaning : Text → Found → Option Element
-found_meaning s Nothing = none
-found_meaning s (At p) = some (element_at s p)
+found_meaning s Nothing = None
+found_meaning s (At p) = Some (element_at s p)
 
 abbrev pub has_uid : Text → Element → Bool
 has_uid u e = same (text_in e "UID" or []) u
@@ -33,8 +33,8 @@ unfoldable pub main_in : Element → Option (ℕ × Element)
 main_in root = (text_in root "CalendarUID" >>= with_uid_in root) or_else first (numbered 0 (in_order root))
 
 unfoldable pub calendar_meaning : Text → CalendarAnswer → Option (ℕ × Element)
-calendar_meaning s (Is row at) = some (row, element_at s at)
-calendar_meaning s Absent = none
+calendar_meaning s (Is row at) = Some (row, element_at s at)
+calendar_meaning s Absent = None
 
 -- the first one, where there is any
 abbrev pub row_zero : Found → CalendarAnswer

@@ -3,7 +3,7 @@
 use Rattle.std.specs.Prelude.{if◌then◌else◌, ◌≡◌, ℕ, suc, ◌+◌, ◌%◌, ◌^◌, ◌<◌, ◌≤◌, max, Bool, true, false, ◌&&◌, ltb, List, [], ◌∷◌, length, nat_lt, slice_index_or}
 use Rattle.std.proofs.Common.{mod-eq_of_lt, zero-add, arith, sym, ◌∙◌, ltb-true, lt-ltb}
 use Rattle.std.proofs.Math.Path.{refl, ap, fun_ext}
-use Rattle.std.proofs.Math.Option.{Option, some, none}
+use Rattle.std.specs.Prelude.{Option, Some, None}
 use Rattle.definition.specs.Base.{◌>>=◌, ◌or_else◌, when, keep, first, find, find_last, numbered, same}
 use Rattle.definition.specs.Text.{Text}
 use Rattle.definition.specs.Tree.{Element}
@@ -29,7 +29,7 @@ use Rattle.rows.specs.declared.table.Listed.{Listed}
 
 -- the last of a list that passes, from its row
 last_by_row : {A : Type 0} (p : A → Bool) (d : A) (f : ℕ → A) (a : ℕ) (l : List A) → ((r : ℕ) → r < length l → f (a + r) ≡ slice_index_or l r d)
-    → (find_last (λ (y : ℕ × A). p y.1) (numbered a l) >>= λ y. some (f y.0)) ≡ find_last p l
+    → (find_last (λ (y : ℕ × A). p y.1) (numbered a l) >>= λ y. Some (f y.0)) ≡ find_last p l
 unfolding find_last numbered
 last_by_row p d f a [] h = refl
 last_by_row {A} p d f a (x ∷ l) h =
@@ -37,28 +37,28 @@ last_by_row {A} p d f a (x ∷ l) h =
     let k : f a ≡ x = rw z at (h 0 (omega arith)) in
     split (find_last (λ (y : ℕ × A). p y.1) (numbered (suc a) l)) (p x) k ∙ ap (λ o. o or_else when (p x) x) (last_by_row p d f (suc a) l later)
   where
-    split : (o : Option (ℕ × A)) (b : Bool) → f a ≡ x → ((o or_else when b (a, x)) >>= λ y. some (f y.0)) ≡ ((o >>= λ y. some (f y.0)) or_else when b x)
-    split none true e = ap some e
-    split none false e = refl
-    split (some y) b e = refl
+    split : (o : Option (ℕ × A)) (b : Bool) → f a ≡ x → ((o or_else when b (a, x)) >>= λ y. Some (f y.0)) ≡ ((o >>= λ y. Some (f y.0)) or_else when b x)
+    split None true e = ap Some e
+    split None false e = refl
+    split (Some y) b e = refl
 
     later : (r : ℕ) → r < length l → f (suc a + r) ≡ slice_index_or l r d
     later r k = let z : a + suc r ≡ suc a + r = omega arith in rw z at (h (suc r) (omega arith))
 
 -- a row is below the number of elements
-row_below : (es : List Element) (u : Text) {r : ℕ} → row_of es u ≡ some r → r < length es
+row_below : (es : List Element) (u : Text) {r : ℕ} → row_of es u ≡ Some r → r < length es
 unfolding row_of
 row_below es u {r} e =
     let p : ℕ → Bool = λ r. has_uid u (slice_index_or es r no_element) in
     (last_in p (length es) (sym (rows_of (λ (y : ℕ × Element). has_uid u y.1) no_element p es (λ r h. refl)) ∙ e)).0
 
 -- so that 32 bits hold it
-within_32 : (es : List Element) (u : Text) → length es ≤ 2 ^ 32 → (row_of es u >>= λ n. some (n % 2 ^ 32)) ≡ row_of es u
+within_32 : (es : List Element) (u : Text) → length es ≤ 2 ^ 32 → (row_of es u >>= λ n. Some (n % 2 ^ 32)) ≡ row_of es u
 within_32 es u h = go (row_of es u) refl
   where
-    go : (o : Option ℕ) → row_of es u ≡ o → (o >>= λ n. some (n % 2 ^ 32)) ≡ o
-    go none e = refl
-    go (some r) e = let k : r < 2 ^ 32 = omega (arith, row_below es u e) in ap some (mod-eq_of_lt k)
+    go : (o : Option ℕ) → row_of es u ≡ o → (o >>= λ n. Some (n % 2 ^ 32)) ≡ o
+    go None e = refl
+    go (Some r) e = let k : r < 2 ^ 32 = omega (arith, row_below es u e) in ap Some (mod-eq_of_lt k)
 
 pub tasks_32 : (root : Element) (u : Text) → row_in32 Listed.Tasks root u ≡ row_of (kept_tasks root) u
 tasks_32 root u = within_32 (kept_tasks root) u (omega (arith, tasks_most root))
@@ -76,17 +76,17 @@ module _ {s : Text} {root : Element} {l : Listed} {t : Table} {w w' : List ℕ} 
   at_place : (r : ℕ) → r < length (listed l root) → element_at s (place_of w' t (0 + r)) ≡ nth l root r
   at_place r h = rw (zero-add r) (ap (element_at s) (x.indexed.places r h) ∙ x.stands r h)
 
-  tabled_last : (u : Text) → (sought_in s w' t u >>= λ r. some (element_at s (place_of w' t r))) ≡ find_last (has_uid u) (listed l root)
+  tabled_last : (u : Text) → (sought_in s w' t u >>= λ r. Some (element_at s (place_of w' t r))) ≡ find_last (has_uid u) (listed l root)
   unfolding row_of
   tabled_last u =
-      ap (λ o. o >>= λ r. some (element_at s (place_of w' t r))) (sought_is u)
+      ap (λ o. o >>= λ r. Some (element_at s (place_of w' t r))) (sought_is u)
       ∙ then_then (find_last (λ (y : ℕ × Element). has_uid u y.1) (numbered 0 (listed l root)))
       ∙ last_by_row (has_uid u) no_element (λ r. element_at s (place_of w' t r)) 0 (listed l root) at_place
     where
       then_then : (o : Option (ℕ × Element))
-          → ((o >>= λ y. some y.0) >>= λ r. some (element_at s (place_of w' t r))) ≡ (o >>= λ y. some (element_at s (place_of w' t y.0)))
-      then_then none = refl
-      then_then (some y) = refl
+          → ((o >>= λ y. Some y.0) >>= λ r. Some (element_at s (place_of w' t r))) ≡ (o >>= λ y. Some (element_at s (place_of w' t y.0)))
+      then_then None = refl
+      then_then (Some y) = refl
 
 module _ {s : Text} {root : Element} {at : ℕ} {w w' : List ℕ} (u : Text) where
   -- a table that was made gives the row of the last with a UID
@@ -113,16 +113,16 @@ module _ {s : Text} {root : Element} {at : ℕ} {w w' : List ℕ} (u : Text) whe
 pub record SameFor (m : Made) (w w' : List ℕ) : Type 0 where
   pub same : (t : Table) → m ≡ Ready t → SameIn t w w'
 
-find_passes : (p : ℕ → Bool) (l : List ℕ) {r : ℕ} → find p l ≡ some r → p r ≡ true
+find_passes : (p : ℕ → Bool) (l : List ℕ) {r : ℕ} → find p l ≡ Some r → p r ≡ true
 unfolding first
 find_passes p l {r} e = go (keep p l) refl e
   where
-    go : (k : List ℕ) → keep p l ≡ k → first k ≡ some r → p r ≡ true
+    go : (k : List ℕ) → keep p l ≡ k → first k ≡ Some r → p r ≡ true
     go [] i j = let y : ◌≡◌ {A = ℕ} 0 1 = cc in absurd (omega arith)
     go (x ∷ k) i j = let z : x ≡ r = cc in rw (← z) (keep_head p l i)
 
 -- a row that a chain has is one of the table's
-pub chain_row : (p : ℕ → Bool) (w : List ℕ) (t : Table) (h : ℕ) {r : ℕ} → find p (chain_of w t h) ≡ some r → r < t.rows
+pub chain_row : (p : ℕ → Bool) (w : List ℕ) (t : Table) (h : ℕ) {r : ℕ} → find p (chain_of w t h) ≡ Some r → r < t.rows
 chain_row p w t h {r} e =
     let q : ℕ → Bool = λ r. p r && ltb r t.rows in
     let agree : (r : ℕ) → r < t.rows → q r ≡ p r = λ r k. by (p r) (lt-ltb r t.rows k) in
@@ -141,9 +141,9 @@ module _ (s : Text) {t : Table} {w w' : List ℕ} (x : SameIn t w w') (u : Text)
   sought_same : sought_in s w' t u ≡ sought_in s w t u
   sought_same = find_same x (λ p. same (uid_of (element_at s p)) u) _
 
-  placed_same : (o : Option ℕ) → sought_in s w t u ≡ o → (o >>= λ r. some (element_at s (place_of w' t r))) ≡ (o >>= λ r. some (element_at s (place_of w t r)))
-  placed_same none e = refl
-  placed_same (some r) e = ap (λ (p : ℕ). some (element_at s p)) (place_same x r (chain_row _ w t _ e))
+  placed_same : (o : Option ℕ) → sought_in s w t u ≡ o → (o >>= λ r. Some (element_at s (place_of w' t r))) ≡ (o >>= λ r. Some (element_at s (place_of w t r)))
+  placed_same None e = refl
+  placed_same (Some r) e = ap (λ (p : ℕ). Some (element_at s p)) (place_same x r (chain_row _ w t _ e))
 
 module _ (s : Text) (root : Element) {w w' : List ℕ} where
   pub row_same : (l : Listed) {m : Made} → SameFor m w w' → row_in s root l w' m ≡ row_in s root l w m
@@ -156,7 +156,7 @@ module _ (s : Text) (root : Element) {w w' : List ℕ} where
   cost_same {m = NoRoom} x = refl
   cost_same {m = Ready t} x =
       let h : SameIn t w w' = x.same t refl in
-      fun_ext (λ u. ap (λ o. o >>= λ r. some (element_at s (place_of w' t r))) (sought_same s h u) ∙ placed_same s h u (sought_in s w t u) refl)
+      fun_ext (λ u. ap (λ o. o >>= λ r. Some (element_at s (place_of w' t r))) (sought_same s h u) ∙ placed_same s h u (sought_in s w t u) refl)
 
 -- ---- a table behind another
 

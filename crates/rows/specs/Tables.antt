@@ -1,6 +1,6 @@
 -- Rows by their UIDs, from tables in lent words. Assumes nothing: these are definitions.
 use Rattle.std.specs.Prelude.{if◌then◌else◌, ◌≡◌, ℕ, suc, ◌-◌, ◌%◌, ◌^◌, ◌<◌, ◌≤◌, max, List, [], ◌∷◌, length, take, nat_lt, slice_index, slice_index_or}
-use Rattle.std.proofs.Math.Option.{Option, some, none}
+use Rattle.std.specs.Prelude.{Option, Some, None}
 use Rattle.definition.specs.Ascii.{bytes}
 use Rattle.definition.specs.Base.{◌>>=◌, ◌or◌, keep, find, find_last, same}
 use Rattle.definition.specs.Text.{Text}
@@ -35,7 +35,7 @@ uid_of e = text_in e "UID" or []
 
 -- the row of the last of them with a UID, as 32 bits hold it
 abbrev pub row_in32 : Listed → Element → Text → Option ℕ
-row_in32 l root u = row_of (listed l root) u >>= λ n. some (n % 2 ^ 32)
+row_in32 l root u = row_of (listed l root) u >>= λ n. Some (n % 2 ^ 32)
 
 -- the first row of the chain of a UID whose element has it
 abbrev pub sought_in : Text → List ℕ → Table → Text → Option ℕ
@@ -49,12 +49,12 @@ row_in s root l w (Ready t) u = sought_in s w t u
 -- the last cost resource with a UID, as words say it where there is a table
 unfoldable pub cost_in : Text → Element → List ℕ → Made → Text → Option Element
 cost_in s root w NoRoom u = find_last (has_uid u) (cost_resources root)
-cost_in s root w (Ready t) u = sought_in s w t u >>= λ r. some (element_at s (place_of w t r))
+cost_in s root w (Ready t) u = sought_in s w t u >>= λ r. Some (element_at s (place_of w t r))
 
 -- where the element of a row stands
 abbrev pub found_in : List ℕ → Table → Option ℕ → Found
-found_in w t none = Found.Nothing
-found_in w t (some r) = Found.At (place_of w t r)
+found_in w t None = Found.Nothing
+found_in w t (Some r) = Found.At (place_of w t r)
 
 -- ---- the walk over a list
 

@@ -4,7 +4,7 @@ use Rattle.std.proofs.Common.{arith, ◌∙◌}
 use Rattle.std.proofs.Math.Path.{sym, ap}
 use Rattle.std.proofs.lemmas.Bool.{false≢true}
 use mathlib.Core.List.{cons-ne-nil}
-use Rattle.std.proofs.Math.Option.{Option, some, none}
+use Rattle.std.specs.Prelude.{Option, Some, None}
 use Rattle.definition.specs.Base.{◌>>=◌, ◌or◌, given, keep, some?}
 use Rattle.definition.specs.Ascii.{bytes}
 use Rattle.definition.specs.Text.{Text, trim}
@@ -176,12 +176,12 @@ module _ {A : Type 0} {p : A → Bool} {t n : ℕ} {l : List A} (h : ManyIn p t 
 -- ---- a text that may be missing
 
 pub text_given : {A : Type 0} (o : Option Text) (f : Text → Option A) → given o ≡ true → {t : Text} → t ≡ (o or []) → f t ≡ (o >>= f)
-text_given none f g e = absurd (false≢true g)
-text_given (some u) f g e = ap f e
+text_given None f g e = absurd (false≢true g)
+text_given (Some u) f g e = ap f e
 
-pub text_missing : {A : Type 0} (o : Option Text) (f : Text → Option A) → given o ≡ false → none ≡ (o >>= f)
-text_missing none f g = refl
-text_missing (some u) f g = absurd (false≢true (sym g))
+pub text_missing : {A : Type 0} (o : Option Text) (f : Text → Option A) → given o ≡ false → None ≡ (o >>= f)
+text_missing None f g = refl
+text_missing (Some u) f g = absurd (false≢true (sym g))
 
 -- the trimmed text of an element
 pub own_given : (e : Element) {t : Text} → t ≡ (own_text e or []) → (length t ≢ 0) → given (own_text e) ≡ true

@@ -3,7 +3,7 @@ use Prim.Native.Nat.{ℕ, suc, ◌+◌, ◌*◌, ◌/◌, ◌%◌, min}
 use native.Mathlib.Omega.{arith}
 use mathlib.Core.Path.{◌≡◌, ap, ◌∙◌}
 use mathlib.Core.Bool.{Bool, true, false}
-use mathlib.Core.Option.{some, none}
+use Rattle.std.specs.Prelude.{Some, None}
 use lib.IntN.{ℤ, pos, negsuc}
 use borrow.Author.Tests.{eq-eqb, ne_eqb}
 use Rattle.definition.specs.Number.{with_sign}
@@ -14,17 +14,17 @@ use Rattle.tasks.proofs.Sign.{cut_sign, ten_sign, held_sign}
 
 -- working time, of whole days and of others
 module _ (per_day : ℕ) (b : Bool) (m : ℕ) {z : ℤ} where
-  pub whole_days : m % per_day ≡ 0 → z ≡ with_sign b (m / per_day) → record { days = z; minutes = none; kind = (0, none) } ≡ working_lag per_day (with_sign b m)
+  pub whole_days : m % per_day ≡ 0 → z ≡ with_sign b (m / per_day) → record { days = z; minutes = None; kind = (0, None) } ≡ working_lag per_day (with_sign b m)
   whole_days e f = rw (f, size_sign b m, eq-eqb (m % per_day) 0 e, cut_sign b m per_day)
 
-  pub part_days : (m % per_day ≡ 0 → ⊥) → z ≡ with_sign b m → record { days = pos 0; minutes = some z; kind = (0, none) } ≡ working_lag per_day (with_sign b m)
+  pub part_days : (m % per_day ≡ 0 → ⊥) → z ≡ with_sign b m → record { days = pos 0; minutes = Some z; kind = (0, None) } ≡ working_lag per_day (with_sign b m)
   part_days e f = rw (f, size_sign b m, ne_eqb (m % per_day) 0 e)
 
 module _ (per_day format : ℕ) (b : Bool) (n : ℕ) where
   share : held_by 10000000 (with_sign b (n * 10)) ≡ with_sign b (min n 1000000 * 10)
   share = let e : min (n * 10) 10000000 ≡ min n 1000000 * 10 = omega arith in held_sign 10000000 b (n * 10) ∙ ap (with_sign b) e
 
-  pub lag_percent : {z : ℤ} → percent_format format ≡ true → z ≡ with_sign b (min n 1000000 * 10) → record { days = pos 0; minutes = none; kind = (2, some z) } ≡ lag_of per_day format (with_sign b n)
+  pub lag_percent : {z : ℤ} → percent_format format ≡ true → z ≡ with_sign b (min n 1000000 * 10) → record { days = pos 0; minutes = None; kind = (2, Some z) } ≡ lag_of per_day format (with_sign b n)
   unfolding lag_of
   lag_percent e f = rw (f, e, ten_sign b n, share)
 

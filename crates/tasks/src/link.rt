@@ -1,6 +1,5 @@
 // The values of a PredecessorLink. What is right is said in the crate definition, specs/Link.antt.
 ghost use Rattle.std.specs.Prelude.{◌≡◌, ◌^◌, ◌≤◌, ◌<◌, pos};
-ghost use Rattle.std.proofs.Math.Option.{some};
 ghost use Rattle.definition.specs.Base.{◌or◌};
 ghost use Rattle.definition.specs.Number.{with_sign};
 ghost use Rattle.definition.specs.Field.{yes_in};

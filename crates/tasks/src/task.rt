@@ -1,6 +1,5 @@
 // The values of a Task. What is right is said in the crate definition, specs/Task.antt.
 ghost use Rattle.std.specs.Prelude.{◌≡◌, pos};
-ghost use Rattle.std.proofs.Math.Option.{some};
 ghost use Rattle.definition.specs.Base.{◌or◌, given};
 ghost use Rattle.definition.specs.Field.{yes_in};
 ghost use Rattle.definition.specs.Answer.{date_meaning};
@@ -129,7 +128,7 @@ pub fn per_day(s: &[u8], root: Root) -> u64
 // ---- a constraint
 
 fn constraint_on(kind: u64, d: Date) -> ConstraintAnswer
-    ensures { constraint_means result ≡ constraint_from kind (some d.0) }
+    ensures { constraint_means result ≡ constraint_from kind (Some d.0) }
 {
     match kind {
         1 => ConstraintAnswer::Is(Constraint::AsLateAsPossible),
@@ -169,7 +168,7 @@ pub fn constraint_of(s: &[u8], at: usize) -> ConstraintAnswer
 // ---- the duration
 
 fn type_code(n: u64) -> u32
-    ensures { result ≡ duration_type_from (some (pos n)) }
+    ensures { result ≡ duration_type_from (Some (pos n)) }
 {
     match n {
         0 => 2,

@@ -1,6 +1,6 @@
 -- Whole numbers up to a largest one: the ranges of the unsigned types, that answers lie in them, and numbers by their sign. Assumes nothing.
 use mathlib.Core.Path.{◌≡◌, refl, ap}
-use mathlib.Core.Option.{Option, some, none}
+use Rattle.std.specs.Prelude.{Option, Some, None}
 use mathlib.Core.Bool.{Bool, true, false}
 use Prim.Native.Nat.{ℕ, zero, suc, ◌+◌, ◌^◌, ◌≤◌}
 use native.Mathlib.Omega.{arith}
@@ -17,8 +17,8 @@ use Rattle.text.specs.Whole.{up_to, signed, minus_of, number_to, unsigned_under,
 
 module _ (w most : ℕ) (full : 2 ^ w ≡ suc most) where
   in_range_lem : (o : Option ℕ) → (o >>= λ n. when (ltb n (2 ^ w)) n) ≡ up_to most o
-  in_range_lem none = refl
-  in_range_lem (some n) = ap (λ (b : Bool). when b n) (below w most full n)
+  in_range_lem None = refl
+  in_range_lem (Some n) = ap (λ (b : Bool). when b n) (below w most full n)
 
   pub unsigned_to_lem : (s : Text) → unsigned_of w s ≡ unsigned_to most s
   unfolding unsigned_of unsigned_to number_to
@@ -31,29 +31,29 @@ module _ (w most : ℕ) (full : 2 ^ w ≡ suc most) where
 
 -- ---- an answer lies in its range
 
-pub unsigned_most : (most n : ℕ) (s : Text) → some n ≡ unsigned_to most s → n ≤ most
+pub unsigned_most : (most n : ℕ) (s : Text) → Some n ≡ unsigned_to most s → n ≤ most
 unfolding unsigned_to number_to
 unsigned_most most n s e = go (sign_of s) e
   where
-    go : (x : Sign) → some n ≡ unsigned_under x most s → n ≤ most
+    go : (x : Sign) → Some n ≡ unsigned_under x most s → n ≤ most
     go plus h = at_most most n (digits (drop 1 s)) h
     go minus h = let z : ◌≡◌ {A = ℕ} 0 1 = cc in absurd (omega arith)
     go bare h = at_most most n (digits s) h
 
-up_of : (n : ℕ) (o : Option ℕ) → some (pos n) ≡ signed pos o → some n ≡ o
-up_of n none e = let z : ◌≡◌ {A = ℕ} 0 1 = cc in absurd (omega arith)
-up_of n (some m) e = let z : n ≡ m = cc in ap some z
+up_of : (n : ℕ) (o : Option ℕ) → Some (pos n) ≡ signed pos o → Some n ≡ o
+up_of n None e = let z : ◌≡◌ {A = ℕ} 0 1 = cc in absurd (omega arith)
+up_of n (Some m) e = let z : n ≡ m = cc in ap Some z
 
-zero_of : (n : ℕ) (o : Option ℕ) → some (pos n) ≡ signed minus_of o → n ≡ 0
-zero_of n none e = let z : ◌≡◌ {A = ℕ} 0 1 = cc in absurd (omega arith)
-zero_of n (some zero) e = cc
-zero_of n (some (suc m)) e = let z : ◌≡◌ {A = ℕ} 0 1 = cc in absurd (omega arith)
+zero_of : (n : ℕ) (o : Option ℕ) → Some (pos n) ≡ signed minus_of o → n ≡ 0
+zero_of n None e = let z : ◌≡◌ {A = ℕ} 0 1 = cc in absurd (omega arith)
+zero_of n (Some zero) e = cc
+zero_of n (Some (suc m)) e = let z : ◌≡◌ {A = ℕ} 0 1 = cc in absurd (omega arith)
 
-pub signed_most : (most n : ℕ) (s : Text) → some (pos n) ≡ signed_to most s → n ≤ most
+pub signed_most : (most n : ℕ) (s : Text) → Some (pos n) ≡ signed_to most s → n ≤ most
 unfolding signed_to number_to
 signed_most most n s e = go (sign_of s) e
   where
-    go : (x : Sign) → some (pos n) ≡ signed_under x most s → n ≤ most
+    go : (x : Sign) → Some (pos n) ≡ signed_under x most s → n ≤ most
     go plus h = at_most most n (digits (drop 1 s)) (up_of n (up_to most (digits (drop 1 s))) h)
     go minus h = let z = zero_of n (up_to (most + 1) (digits (drop 1 s))) h in omega arith
     go bare h = at_most most n (digits s) (up_of n (up_to most (digits s)) h)
@@ -70,11 +70,11 @@ module _ (most : ℕ) (s : Text) where
       go minus = refl
       go bare = refl
 
-  pub unsigned_minus : minus? (sign_of s) ≡ true → none ≡ unsigned_to most s
+  pub unsigned_minus : minus? (sign_of s) ≡ true → None ≡ unsigned_to most s
   unfolding unsigned_to
   unsigned_minus e = go (sign_of s) e
     where
-      go : (g : Sign) → minus? g ≡ true → none ≡ unsigned_under g most s
+      go : (g : Sign) → minus? g ≡ true → None ≡ unsigned_under g most s
       go plus e = let z : ◌≡◌ {A = ℕ} 0 1 = cc in absurd (omega arith)
       go minus e = refl
       go bare e = let z : ◌≡◌ {A = ℕ} 0 1 = cc in absurd (omega arith)

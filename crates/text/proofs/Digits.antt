@@ -2,7 +2,7 @@
 use Rattle.std.specs.Prelude.{if◌then◌else◌}
 use mathlib.Core.Path.{◌≡◌, refl, sym, ap, ◌∙◌}
 use mathlib.Core.List.{[], ◌∷◌}
-use mathlib.Core.Option.{some, none}
+use Rattle.std.specs.Prelude.{Some, None}
 use mathlib.Core.Bool.{Bool, true, false}
 use Prim.Native.Nat.{ℕ, ◌+◌, ◌-◌, ◌*◌, ◌^◌, ◌≤◌, ◌<◌}
 use native.Mathlib.Nat.{pow-suc, pow-le-pow_right, lt_of_lt_of_le, zero-lt-suc}
@@ -24,7 +24,7 @@ digit_high b e = omega (arith, leb-true b 57 (and_right (leb 48 b) (leb b 57) e)
 
 -- ---- one byte further on
 module _ (s : Text) (i v : ℕ) where
-  pub stops : i < length s → is_digit (get_or s i 0) ≡ false → digits_after v (drop i s) ≡ none
+  pub stops : i < length s → is_digit (get_or s i 0) ≡ false → digits_after v (drop i s) ≡ None
   unfolding digits_after
   stops h e = rw (at_cons s i h) (rw e)
 
@@ -32,7 +32,7 @@ module _ (s : Text) (i v : ℕ) where
   unfolding digits_after
   goes_on h e = rw (at_cons s i h) (rw e)
 
-  pub ends : length s ≤ i → digits_after v (drop i s) ≡ some v
+  pub ends : length s ≤ i → digits_after v (drop i s) ≡ Some v
   unfolding digits_after
   ends h = rw (at_end_lem s i h)
 
@@ -45,16 +45,16 @@ small n i h k = lt_of_lt_of_le h (pow-le-pow_right (zero-lt-suc 9) k)
 
 -- ---- up to a largest number
 module _ (most : ℕ) where
-  pub past : (v : ℕ) (s : Text) → most < v → digits_to most v s ≡ none
+  pub past : (v : ℕ) (s : Text) → most < v → digits_to most v s ≡ None
   unfolding digits_to digits_after
   past v [] h = rw (lt-leb v most h)
   past v (b ∷ s) h = go (is_digit b) (past (v * 10 + (b - 48)) s (omega arith))
     where
-      go : (x : Bool) → up_to most (digits_after (v * 10 + (b - 48)) s) ≡ none → up_to most (if x then digits_after (v * 10 + (b - 48)) s else none) ≡ none
+      go : (x : Bool) → up_to most (digits_after (v * 10 + (b - 48)) s) ≡ None → up_to most (if x then digits_after (v * 10 + (b - 48)) s else None) ≡ None
       go true e = e
       go false e = refl
 
-  pub number_nil : (s : Text) → length s ≡ 0 → number_to most s ≡ none
+  pub number_nil : (s : Text) → length s ≡ 0 → number_to most s ≡ None
   unfolding number_to digits
   number_nil [] h = refl
   number_nil (b ∷ s) h = absurd (omega arith)
@@ -64,14 +64,14 @@ module _ (most : ℕ) where
   number_some [] h = absurd (h refl)
   number_some (b ∷ s) h = refl
 
-  pub kept : (n : ℕ) → n ≤ most → some n ≡ up_to most (some n)
+  pub kept : (n : ℕ) → n ≤ most → Some n ≡ up_to most (Some n)
   kept n h = rw (le-leb n most h)
 
-  pub left_out : (n : ℕ) → most < n → none ≡ up_to most (some n)
+  pub left_out : (n : ℕ) → most < n → None ≡ up_to most (Some n)
   left_out n h = rw (lt-leb n most h)
 
   module _ (s : Text) (i v : ℕ) where
-    pub no_digit : i < length s → is_digit (get_or s i 0) ≡ false → digits_to most v (drop i s) ≡ none
+    pub no_digit : i < length s → is_digit (get_or s i 0) ≡ false → digits_to most v (drop i s) ≡ None
     unfolding digits_to
     no_digit h e = ap (up_to most) (stops s i v h e)
 
@@ -79,9 +79,9 @@ module _ (most : ℕ) where
     unfolding digits_to
     one_more h e = ap (up_to most) (goes_on s i v h e)
 
-    pub too_large : i < length s → is_digit (get_or s i 0) ≡ true → most < v * 10 + (get_or s i 0 - 48) → digits_to most v (drop i s) ≡ none
+    pub too_large : i < length s → is_digit (get_or s i 0) ≡ true → most < v * 10 + (get_or s i 0 - 48) → digits_to most v (drop i s) ≡ None
     too_large h e l = one_more h e ∙ past (v * 10 + (get_or s i 0 - 48)) (drop (i + 1) s) l
 
-    pub all_read : length s ≤ i → v ≤ most → digits_to most v (drop i s) ≡ some v
+    pub all_read : length s ≤ i → v ≤ most → digits_to most v (drop i s) ≡ Some v
     unfolding digits_to
     all_read h l = ap (up_to most) (ends s i v h) ∙ sym (kept v l)

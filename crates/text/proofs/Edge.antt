@@ -1,6 +1,6 @@
 -- From a magnitude to a signed number, at any width. Assumes nothing.
 use mathlib.Core.Path.{◌≡◌, refl, sym, ap, subst, ◌∙◌}
-use mathlib.Core.Option.{some}
+use Rattle.std.specs.Prelude.{Some}
 use Prim.Native.Nat.{ℕ, zero, suc, ◌+◌, ◌-◌, ◌^◌, ◌<◌}
 use native.Mathlib.Omega.{arith}
 use lib.IntN.{ℤ, pos, negsuc, ◌-ℤ◌}
@@ -9,12 +9,12 @@ use mir.Val.{hbits, to_z, of_z, SFits}
 use mir.ValLaws.{to_z_pos, to_z-of_z}
 use Rattle.text.specs.Whole.{signed, minus_of}
 
-pub minus_zero : (n : ℕ) → n ≡ 0 → some (pos 0) ≡ signed minus_of (some n)
-minus_zero n e = ap (λ (k : ℕ). signed minus_of (some k)) (sym e)
+pub minus_zero : (n : ℕ) → n ≡ 0 → Some (pos 0) ≡ signed minus_of (Some n)
+minus_zero n e = ap (λ (k : ℕ). signed minus_of (Some k)) (sym e)
 
-pub minus_more : (n : ℕ) → (n ≡ 0 → ⊥) → some (negsuc (n - 1)) ≡ signed minus_of (some n)
+pub minus_more : (n : ℕ) → (n ≡ 0 → ⊥) → Some (negsuc (n - 1)) ≡ signed minus_of (Some n)
 minus_more zero h = absurd (h refl)
-minus_more (suc n) h = let e : suc n - 1 ≡ n = omega arith in ap (λ (k : ℕ). some (negsuc k)) e
+minus_more (suc n) h = let e : suc n - 1 ≡ n = omega arith in ap (λ (k : ℕ). Some (negsuc k)) e
 
 less : (n : ℕ) → negsuc 0 -ℤ pos n ≡ negsuc n
 less zero = refl

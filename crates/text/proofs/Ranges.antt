@@ -1,6 +1,6 @@
 -- What an answer of the readers up to a largest number says of a type of any width. Assumes nothing.
 use mathlib.Core.Path.{◌≡◌, sym, ap, subst, ◌∙◌}
-use mathlib.Core.Option.{some, none}
+use Rattle.std.specs.Prelude.{Some, None}
 use Prim.Native.Nat.{ℕ, suc, ◌-◌, ◌^◌, ◌≤◌, ◌<◌}
 use native.Mathlib.Omega.{arith}
 use lib.IntN.{ℤ, pos, negsuc, ◌-ℤ◌}
@@ -27,10 +27,10 @@ module _ (w : Width) (most : ℕ) (full : 2 ^ bits w ≡ suc most) (s : Text) (a
   pub is_fits : {n : ℕ} → a ≡ u64.Is n → Fits w n
   is_fits {n} h = record { fits = under (bits w) most n full (unsigned_most most n s (sym (ap u64_of h) ∙ e)) }
 
-  pub is : {n : ℕ} → a ≡ u64.Is n → some n ≡ unsigned_of (bits w) s
+  pub is : {n : ℕ} → a ≡ u64.Is n → Some n ≡ unsigned_of (bits w) s
   is h = sym (ap u64_of h) ∙ whole
 
-  pub is_absent : a ≡ u64.Absent → none ≡ unsigned_of (bits w) s
+  pub is_absent : a ≡ u64.Absent → None ≡ unsigned_of (bits w) s
   is_absent h = sym (ap u64_of h) ∙ whole
 
 module _ (w : Width) (most : ℕ) (half : 2 ^ hbits w ≡ suc most) (s : Text) (a : Signed) (e : signed_means a ≡ signed_to most s) where
@@ -50,8 +50,8 @@ module _ (w : Width) (most : ℕ) (half : 2 ^ hbits w ≡ suc most) (s : Text) (
   pub up_fits : {n : ℕ} → a ≡ signed.Up n → SFits w (pos n)
   up_fits h = record { sfits = up_small h }
 
-  pub up : {n : ℕ} → a ≡ signed.Up n → some (to_z w n) ≡ signed_of (bits w) s
-  up {n} h = ap (λ (z : ℤ). some z) (above w n (up_small h)) ∙ sym (ap signed_means h) ∙ signed_whole
+  pub up : {n : ℕ} → a ≡ signed.Up n → Some (to_z w n) ≡ signed_of (bits w) s
+  up {n} h = ap (λ (z : ℤ). Some z) (above w n (up_small h)) ∙ sym (ap signed_means h) ∙ signed_whole
 
   -- -1 - n
   pub down_fits : {n : ℕ} → a ≡ signed.Down n → SFits w (pos n)
@@ -60,8 +60,8 @@ module _ (w : Width) (most : ℕ) (half : 2 ^ hbits w ≡ suc most) (s : Text) (
   pub down_less : {n : ℕ} → a ≡ signed.Down n → SFits w (negsuc 0 -ℤ to_z w n)
   down_less {n} h = below_fits w n (down_small h)
 
-  pub down : {n : ℕ} → a ≡ signed.Down n → some (to_z w (of_z w (negsuc 0 -ℤ to_z w n))) ≡ signed_of (bits w) s
-  down {n} h = ap (λ (z : ℤ). some z) (below_back w n (down_small h)) ∙ sym (ap signed_means h) ∙ signed_whole
+  pub down : {n : ℕ} → a ≡ signed.Down n → Some (to_z w (of_z w (negsuc 0 -ℤ to_z w n))) ≡ signed_of (bits w) s
+  down {n} h = ap (λ (z : ℤ). Some z) (below_back w n (down_small h)) ∙ sym (ap signed_means h) ∙ signed_whole
 
-  pub no_signed : a ≡ signed.Absent → none ≡ signed_of (bits w) s
+  pub no_signed : a ≡ signed.Absent → None ≡ signed_of (bits w) s
   no_signed h = sym (ap signed_means h) ∙ signed_whole

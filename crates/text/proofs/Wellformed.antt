@@ -1,7 +1,7 @@
 -- One character of UTF-8 further on. Assumes nothing.
 use mathlib.Core.Path.{◌≡◌, refl, sym, ap, subst, ◌∙◌}
 use mathlib.Core.List.{List, [], ◌∷◌}
-use mathlib.Core.Option.{Option, some, none}
+use Rattle.std.specs.Prelude.{Option, Some, None}
 use mathlib.Core.Bool.{Bool, true, false, ◌&&◌, and-true, and-false}
 use Prim.Native.Nat.{ℕ, zero, suc, ◌+◌, ◌≤◌, ◌<◌}
 use native.Mathlib.Omega.{arith}
@@ -26,15 +26,15 @@ in_ranges (r ∷ rs) [] = false
 in_ranges (r ∷ rs) (x ∷ s) = within r.0 r.1 x && in_ranges rs s
 
 abbrev begins : Option Ranges → Text → Bool
-begins none s = false
-begins (some rs) s = in_ranges rs s
+begins None s = false
+begins (Some rs) s = in_ranges rs s
 
-nothing : (s : Text) → utf8_after s none ≡ false
+nothing : (s : Text) → utf8_after s None ≡ false
 unfolding utf8_after
 nothing [] = refl
 nothing (x ∷ s) = refl
 
-goes_on : (rs : Ranges) (s : Text) → in_ranges rs s ≡ true → utf8_after s (some rs) ≡ is_utf8 (drop (length rs) s)
+goes_on : (rs : Ranges) (s : Text) → in_ranges rs s ≡ true → utf8_after s (Some rs) ≡ is_utf8 (drop (length rs) s)
 unfolding utf8_after is_utf8
 goes_on [] s e = refl
 goes_on (r ∷ rs) [] e = let z : ◌≡◌ {A = ℕ} 0 1 = cc in absurd (omega arith)
@@ -47,13 +47,13 @@ long_enough [] s e = omega arith
 long_enough (r ∷ rs) [] e = let z : ◌≡◌ {A = ℕ} 0 1 = cc in absurd (omega arith)
 long_enough (r ∷ rs) (x ∷ s) e = let h = long_enough rs s (and_right (within r.0 r.1 x) (in_ranges rs s) e) in omega arith
 
-stops : (rs : Ranges) (s : Text) → in_ranges rs s ≡ false → utf8_after s (some rs) ≡ false
+stops : (rs : Ranges) (s : Text) → in_ranges rs s ≡ false → utf8_after s (Some rs) ≡ false
 unfolding utf8_after
 stops [] s e = let z : ◌≡◌ {A = ℕ} 0 1 = cc in absurd (omega arith)
 stops (r ∷ rs) [] e = refl
 stops (r ∷ rs) (x ∷ s) e = go (within r.0 r.1 x) (stops rs s) e
   where
-    go : (b : Bool) → (in_ranges rs s ≡ false → utf8_after s (some rs) ≡ false) → b && in_ranges rs s ≡ false → utf8_after s (when b rs) ≡ false
+    go : (b : Bool) → (in_ranges rs s ≡ false → utf8_after s (Some rs) ≡ false) → b && in_ranges rs s ≡ false → utf8_after s (when b rs) ≡ false
     go true f h = f h
     go false f h = nothing s
 
@@ -79,12 +79,12 @@ module _ (lo hi : ℕ) (low : 1 ≤ lo) where
   yes (suc (suc (suc n))) s e = let z : ◌≡◌ {A = ℕ} 0 1 = cc in absurd (omega arith)
 
 no : (o : Option Ranges) (s : Text) → begins o s ≡ false → utf8_after s o ≡ false
-no none s e = nothing s
-no (some rs) s e = stops rs s e
+no None s e = nothing s
+no (Some rs) s e = stops rs s e
 
 -- ---- the character at i
 
-ascii : (b : ℕ) → b < 128 → following b ≡ some []
+ascii : (b : ℕ) → b < 128 → following b ≡ Some []
 unfolding following
 ascii b h = rw (le-leb 0 b (omega arith), le-leb b 0x7F (omega arith))
 

@@ -1,6 +1,6 @@
 -- What the answers mean. Assumes nothing.
 use Rattle.std.specs.Prelude.{ℕ, ℤ, pos, negsuc}
-use Rattle.std.proofs.Math.Option.{Option, some, none}
+use Rattle.std.specs.Prelude.{Option, Some, None}
 use Rattle.text.specs.declared.U64Answer.{U64Answer}
 use Rattle.text.specs.declared.U64Answer.TheVariants as u64
 use Rattle.text.specs.declared.U32Answer.{U32Answer}
@@ -15,26 +15,26 @@ use Rattle.text.specs.declared.Signed.{Signed}
 use Rattle.text.specs.declared.Signed.TheVariants as signed
 
 abbrev pub u64_of : U64Answer → Option ℕ
-u64_of (u64.Is n) = some n
-u64_of u64.Absent = none
+u64_of (u64.Is n) = Some n
+u64_of u64.Absent = None
 
 abbrev pub u32_of : U32Answer → Option ℕ
-u32_of (u32.Is n) = some n
-u32_of u32.Absent = none
+u32_of (u32.Is n) = Some n
+u32_of u32.Absent = None
 
 abbrev pub u16_of : U16Answer → Option ℕ
-u16_of (u16.Is n) = some n
-u16_of u16.Absent = none
+u16_of (u16.Is n) = Some n
+u16_of u16.Absent = None
 
 abbrev pub i64_of : I64Answer → Option ℤ
-i64_of (i64.Is n) = some n
-i64_of i64.Absent = none
+i64_of (i64.Is n) = Some n
+i64_of i64.Absent = None
 
 abbrev pub i32_of : I32Answer → Option ℤ
-i32_of (i32.Is n) = some n
-i32_of i32.Absent = none
+i32_of (i32.Is n) = Some n
+i32_of i32.Absent = None
 
 abbrev pub signed_means : Signed → Option ℤ
-signed_means (signed.Up n) = some (pos n)
-signed_means (signed.Down n) = some (negsuc n)
-signed_means signed.Absent = none
+signed_means (signed.Up n) = Some (pos n)
+signed_means (signed.Down n) = Some (negsuc n)
+signed_means signed.Absent = None

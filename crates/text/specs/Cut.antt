@@ -3,7 +3,7 @@ use Rattle.std.specs.Prelude.{if◌then◌else◌, ◌≡◌, ◌⊎◌, Bool, d
 use Rattle.std.proofs.Math.Path.{refl, ap}
 use Rattle.std.proofs.Common.{sym, ◌∙◌, inl, inr, suc-add}
 use mathlib.Core.List.{[], ◌∷◌}
-use Rattle.std.proofs.Math.Option.{Option, some, none}
+use Rattle.std.specs.Prelude.{Option, Some, None}
 use Rattle.std.proofs.Math.Bool.{true, false}
 use Prim.Native.Nat.{ℕ, suc, ◌+◌, ◌≤◌, ◌<◌}
 use native.Mathlib.Omega.{arith}
@@ -37,26 +37,26 @@ module _ (p : ℕ → Bool) where
       go false h = ap (λ (z : Text). b ∷ z) h
 
   -- there is such a byte: its place lies within
-  pub after_some : (s : Text) → place_of p s < length s → after p s ≡ some (drop (place_of p s + 1) s)
+  pub after_some : (s : Text) → place_of p s < length s → after p s ≡ Some (drop (place_of p s + 1) s)
   unfolding before after
   after_some [] h = absurd (omega arith)
   after_some (b ∷ s) h = go (p b) (after_some s) h
     where
-      go : (x : Bool) → (place_of p s < length s → after p s ≡ some (drop (place_of p s + 1) s))
+      go : (x : Bool) → (place_of p s < length s → after p s ≡ Some (drop (place_of p s + 1) s))
           → length (if x then [] else b ∷ before p s) < suc (length s)
-          → (if x then some s else after p s) ≡ some (drop (length (if x then [] else b ∷ before p s) + 1) (b ∷ s))
+          → (if x then Some s else after p s) ≡ Some (drop (length (if x then [] else b ∷ before p s) + 1) (b ∷ s))
       go true f k = refl
-      go false f k = f (omega arith) ∙ ap (λ (n : ℕ). some (drop n (b ∷ s))) (sym (suc-add (place_of p s) 1))
+      go false f k = f (omega arith) ∙ ap (λ (n : ℕ). Some (drop n (b ∷ s))) (sym (suc-add (place_of p s) 1))
 
   -- there is none: the text ends first
-  pub after_none : (s : Text) → length s ≤ place_of p s → after p s ≡ none
+  pub after_none : (s : Text) → length s ≤ place_of p s → after p s ≡ None
   unfolding before after
   after_none [] h = refl
   after_none (b ∷ s) h = go (p b) (after_none s) h
     where
-      go : (x : Bool) → (length s ≤ place_of p s → after p s ≡ none)
+      go : (x : Bool) → (length s ≤ place_of p s → after p s ≡ None)
           → suc (length s) ≤ length (if x then [] else b ∷ before p s)
-          → (if x then some s else after p s) ≡ none
+          → (if x then Some s else after p s) ≡ None
       go true f k = absurd (omega arith)
       go false f k = f (omega arith)
 

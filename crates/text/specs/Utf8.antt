@@ -1,16 +1,16 @@
 -- A character of a text in UTF-8, by its first byte and those that follow. Assumes nothing.
 use Rattle.std.specs.Prelude.{◌≡◌, List, [], ◌∷◌, Bool, false, ◌&&◌, ◌||◌, ℕ, zero, suc, ◌≤◌, leb, length, drop}
-use Rattle.std.proofs.Math.Option.{Option, some, none}
+use Rattle.std.specs.Prelude.{Option, Some, None}
 use Rattle.definition.specs.Base.{within}
 use Rattle.definition.specs.Text.{Text, tail_byte, following, is_utf8}
 use Rattle.text.specs.declared.utf8.First.{First}
 
 -- a range and so many tail bytes more
 abbrev pub ranges_by : ℕ → ℕ × ℕ → Option (List (ℕ × ℕ))
-ranges_by zero r = some (r ∷ [])
-ranges_by (suc zero) r = some (r ∷ tail_byte ∷ [])
-ranges_by (suc (suc zero)) r = some (r ∷ tail_byte ∷ tail_byte ∷ [])
-ranges_by (suc (suc (suc n))) r = none
+ranges_by zero r = Some (r ∷ [])
+ranges_by (suc zero) r = Some (r ∷ tail_byte ∷ [])
+ranges_by (suc (suc zero)) r = Some (r ∷ tail_byte ∷ tail_byte ∷ [])
+ranges_by (suc (suc (suc n))) r = None
 
 pub record Begun (f : First) (b : ℕ) : Type 0 where
   pub ranges : ranges_by f.0 (f.1, f.2) ≡ following b

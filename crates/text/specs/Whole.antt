@@ -1,7 +1,7 @@
 -- Whole numbers up to a largest one, read digit by digit: what the ranges of the types come to. Assumes nothing.
 use Rattle.std.specs.Prelude.{◌≡◌, refl, Bool, true, false, ℕ, zero, suc, ◌+◌, ◌-◌, ◌^◌, ◌≤◌, leb, ltb, ℤ, pos, negsuc, neg_ℤ, drop}
 use Rattle.std.proofs.Common.{sym, ap, ◌∙◌, add-one, arith, leb-true}
-use Rattle.std.proofs.Math.Option.{Option, some, none}
+use Rattle.std.specs.Prelude.{Option, Some, None}
 use Rattle.std.proofs.Math.Dec.{leb-suc-suc}
 use Rattle.definition.specs.Base.{◌>>=◌, when}
 use Rattle.definition.specs.Text.{Text, Sign, plus, minus, bare, sign_of, digits, digits_after, signed_by, signed_of}
@@ -11,7 +11,7 @@ abbrev pub up_to : ℕ → Option ℕ → Option ℕ
 up_to most o = o >>= λ n. when (leb n most) n
 
 abbrev pub signed : (ℕ → ℤ) → Option ℕ → Option ℤ
-signed f o = o >>= λ n. some (f n)
+signed f o = o >>= λ n. Some (f n)
 
 abbrev pub minus_of : ℕ → ℤ
 minus_of n = neg_ℤ (pos n)
@@ -25,7 +25,7 @@ digits_to most v s = up_to most (digits_after v s)
 
 abbrev pub unsigned_under : Sign → ℕ → Text → Option ℕ
 unsigned_under plus most s = number_to most (drop 1 s)
-unsigned_under minus most s = none
+unsigned_under minus most s = None
 unsigned_under bare most s = number_to most s
 
 unfoldable pub unsigned_to : ℕ → Text → Option ℕ
@@ -52,16 +52,16 @@ below w most full n = ap (leb (suc n)) full ∙ leb-suc-suc n most
 
 module _ (w most : ℕ) (half : 2 ^ (w - 1) ≡ suc most) where
   up_range : (o : Option ℕ) → (o >>= λ n. when (ltb n (2 ^ (w - 1))) (pos n)) ≡ signed pos (up_to most o)
-  up_range none = refl
-  up_range (some n) = ap (λ (b : Bool). when b (pos n)) (below (w - 1) most half n) ∙ go (leb n most)
+  up_range None = refl
+  up_range (Some n) = ap (λ (b : Bool). when b (pos n)) (below (w - 1) most half n) ∙ go (leb n most)
     where
       go : (b : Bool) → when b (pos n) ≡ signed pos (when b n)
       go true = refl
       go false = refl
 
   down_range : (o : Option ℕ) → (o >>= λ n. when (leb n (2 ^ (w - 1))) (neg_ℤ (pos n))) ≡ signed minus_of (up_to (most + 1) o)
-  down_range none = refl
-  down_range (some n) =
+  down_range None = refl
+  down_range (Some n) =
       ap (λ (k : ℕ). when (leb n k) (neg_ℤ (pos n))) (half ∙ sym (add-one most)) ∙ go (leb n (most + 1))
     where
       go : (b : Bool) → when b (neg_ℤ (pos n)) ≡ signed minus_of (when b n)
@@ -79,28 +79,28 @@ module _ (w most : ℕ) (half : 2 ^ (w - 1) ≡ suc most) where
 
 -- ---- an answer lies in its range
 
-pub at_most : (most n : ℕ) (o : Option ℕ) → some n ≡ up_to most o → n ≤ most
-at_most most n none e = let z : ◌≡◌ {A = ℕ} 0 1 = cc in absurd (omega arith)
-at_most most n (some m) e = go (leb m most) refl e
+pub at_most : (most n : ℕ) (o : Option ℕ) → Some n ≡ up_to most o → n ≤ most
+at_most most n None e = let z : ◌≡◌ {A = ℕ} 0 1 = cc in absurd (omega arith)
+at_most most n (Some m) e = go (leb m most) refl e
   where
-    go : (b : Bool) → leb m most ≡ b → some n ≡ when b m → n ≤ most
+    go : (b : Bool) → leb m most ≡ b → Some n ≡ when b m → n ≤ most
     go true h k = let q : n ≡ m = cc in let l = leb-true m most h in omega arith
     go false h k = let z : ◌≡◌ {A = ℕ} 0 1 = cc in absurd (omega arith)
 
-not_down : (n : ℕ) (o : Option ℕ) → some (negsuc n) ≡ signed pos o → ⊥
-not_down n none e = let z : ◌≡◌ {A = ℕ} 0 1 = cc in omega arith
-not_down n (some m) e = let z : ◌≡◌ {A = ℕ} 0 1 = cc in omega arith
+not_down : (n : ℕ) (o : Option ℕ) → Some (negsuc n) ≡ signed pos o → ⊥
+not_down n None e = let z : ◌≡◌ {A = ℕ} 0 1 = cc in omega arith
+not_down n (Some m) e = let z : ◌≡◌ {A = ℕ} 0 1 = cc in omega arith
 
-down_of : (n : ℕ) (o : Option ℕ) → some (negsuc n) ≡ signed minus_of o → some (suc n) ≡ o
-down_of n none e = let z : ◌≡◌ {A = ℕ} 0 1 = cc in absurd (omega arith)
-down_of n (some zero) e = let z : ◌≡◌ {A = ℕ} 0 1 = cc in absurd (omega arith)
-down_of n (some (suc m)) e = let z : n ≡ m = cc in ap (λ (k : ℕ). some (suc k)) z
+down_of : (n : ℕ) (o : Option ℕ) → Some (negsuc n) ≡ signed minus_of o → Some (suc n) ≡ o
+down_of n None e = let z : ◌≡◌ {A = ℕ} 0 1 = cc in absurd (omega arith)
+down_of n (Some zero) e = let z : ◌≡◌ {A = ℕ} 0 1 = cc in absurd (omega arith)
+down_of n (Some (suc m)) e = let z : n ≡ m = cc in ap (λ (k : ℕ). Some (suc k)) z
 
-pub signed_least : (most n : ℕ) (s : Text) → some (negsuc n) ≡ signed_to most s → n ≤ most
+pub signed_least : (most n : ℕ) (s : Text) → Some (negsuc n) ≡ signed_to most s → n ≤ most
 unfolding signed_to number_to
 signed_least most n s e = go (sign_of s) e
   where
-    go : (x : Sign) → some (negsuc n) ≡ signed_under x most s → n ≤ most
+    go : (x : Sign) → Some (negsuc n) ≡ signed_under x most s → n ≤ most
     go plus h = absurd (not_down n (up_to most (digits (drop 1 s))) h)
     go minus h = let z = at_most (most + 1) (suc n) (digits (drop 1 s)) (down_of n (up_to (most + 1) (digits (drop 1 s))) h) in omega arith
     go bare h = absurd (not_down n (up_to most (digits s)) h)

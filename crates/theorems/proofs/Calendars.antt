@@ -2,7 +2,7 @@
 use Rattle.std.specs.Prelude.{◌≡◌, ℕ}
 use Rattle.std.proofs.Math.Path.{ap}
 use Rattle.std.proofs.Common.{sym, ◌∙◌, arith}
-use Rattle.std.proofs.Math.Option.{some}
+use Rattle.std.specs.Prelude.{Some}
 use Rattle.definition.specs.Tree.{Element}
 use Rattle.definition.specs.Model.{Activity}
 use Rattle.definition.specs.Task.{context_of, kept_tasks, calendar_name_of, activity_of}
@@ -13,7 +13,7 @@ use Rattle.theorems.specs.Told.{main_of}
 use Rattle.theorems.specs.Calendars.{unless_other}
 
 module _ (root : Element) where
-  pub activity_other_lem : (row : ℕ) (a : Activity) → At (model_of root).activities row a → a.calendar ≡ some (main_of root).name → ⊥
+  pub activity_other_lem : (row : ℕ) (a : Activity) → At (model_of root).activities row a → a.calendar ≡ Some (main_of root).name → ⊥
   unfolding activity_of context_of
   activity_other_lem row a e h =
       let t = leads (kept_tasks root) row (omega (arith, as_many_lem root, at_in (model_of root).activities row a e)) in

@@ -1,6 +1,6 @@
 -- What document 01 asks of every model that was read holds of each. Assumes nothing.
 use Rattle.std.specs.Prelude.{◌≡◌, refl, List, ℕ}
-use Rattle.std.proofs.Math.Option.{some}
+use Rattle.std.specs.Prelude.{Some}
 use Rattle.definition.specs.Text.{Text}
 use Rattle.definition.specs.Read.{model_of}
 use Rattle.definition.specs.Pack.{decode}
@@ -27,7 +27,7 @@ pub of_every_read : (tree : Text) (room : ℕ) (l : List ℕ) → Bytes tree →
 of_every_read tree room l b h =
     let root = root_of tree in
     let m = model_of root in
-    let d : decode l ≡ some m = answer_decodes tree room l b h in
+    let d : decode l ≡ Some m = answer_decodes tree room l b h in
     record {
       model = m;
       of_tree = refl;

@@ -5,7 +5,7 @@ use Rattle.std.proofs.Math.Path.{refl, ap}
 use Rattle.std.proofs.Common.{sym, ◌∙◌, true≢false}
 use Rattle.std.proofs.Math.Bool.{false}
 use mathlib.Core.List.{List, [], ◌∷◌, map}
-use Rattle.std.proofs.Math.Option.{Option, some, none}
+use Rattle.std.specs.Prelude.{Option, Some, None}
 use Prim.Native.Nat.{ℕ, ◌+◌}
 use native.Mathlib.Omega.{arith}
 use Rattle.std.proofs.Math.ListN.{length, length-map}
@@ -28,12 +28,12 @@ use Rattle.theorems.specs.LinkSums.{Becomes, goes, hangs, joins, Pairs, empty, n
 -- ---- what becomes of one
 
 module _ (root : Element) where
-  last_with : (u : Text) (row : ℕ) → LastAt (λ t. same (text_in t "UID" or []) u) (kept_tasks root) row → LastWith (kept_tasks root) (some u) row
+  last_with : (u : Text) (row : ℕ) → LastAt (λ t. same (text_in t "UID" or []) u) (kept_tasks root) row → LastWith (kept_tasks root) (Some u) row
   last_with u row h =
       record {
         task = h.item;
         is = h.is;
-        named = kept_uid root row h.item h.is ∙ ap some (same_eq (text_in h.item "UID" or []) u h.holds);
+        named = kept_uid root row h.item h.is ∙ ap Some (same_eq (text_in h.item "UID" or []) u h.holds);
         last = λ q t r e k. true≢false (sym (same_refl u) ∙ ap (λ (o : Option Text). same (o or []) u) (sym k) ∙ h.last q t r e);
       }
 
@@ -41,7 +41,7 @@ module _ (root : Element) where
   unfolding fate_of context_of row_of link_of
   becomes x = by (yes_in x.1 "CrossProject") refl
     where
-      named : (u : Text) → text_in x.1 "PredecessorUID" ≡ some u → goes_across x ≡ false → {o : Option ℕ} → RowFound (λ t. same (text_in t "UID" or []) u) 0 (kept_tasks root) o
+      named : (u : Text) → text_in x.1 "PredecessorUID" ≡ Some u → goes_across x ≡ false → {o : Option ℕ} → RowFound (λ t. same (text_in t "UID" or []) u) 0 (kept_tasks root) o
           → Becomes root x (fate_by (context_of root) x.0 x.1 o)
       named u e a (nowhere s) = hangs a (ap (names_one (kept_tasks root)) e ∙ s)
       named u e a (found k row r s h) =
@@ -50,8 +50,8 @@ module _ (root : Element) where
           joins {l = link_of (context_of root) row x.0 x.1} a (ap (names_one (kept_tasks root)) e ∙ s) (record { predecessor = p; successor = refl; whole = refl })
 
       to : (o : Option Text) → text_in x.1 "PredecessorUID" ≡ o → goes_across x ≡ false → Becomes root x (fate_by (context_of root) x.0 x.1 (o >>= row_of (kept_tasks root)))
-      to none e a = hangs a (ap (names_one (kept_tasks root)) e)
-      to (some u) e a = named u e a (last_row (λ t. same (text_in t "UID" or []) u) 0 (kept_tasks root))
+      to None e a = hangs a (ap (names_one (kept_tasks root)) e)
+      to (Some u) e a = named u e a (last_row (λ t. same (text_in t "UID" or []) u) 0 (kept_tasks root))
 
       by : (t : Bool) → goes_across x ≡ t → Becomes root x (if t then across else fate_by (context_of root) x.0 x.1 (text_in x.1 "PredecessorUID" >>= row_of (kept_tasks root)))
       by true a = goes a

@@ -3,7 +3,7 @@ use Rattle.std.specs.Prelude.{◌≡◌, Bool}
 use Rattle.std.proofs.Math.Path.{refl}
 use Rattle.std.proofs.Common.{sym, ap, ◌∙◌, arith}
 use mathlib.Core.List.{List, [], ◌∷◌, ◌++◌, map}
-use Rattle.std.proofs.Math.Option.{some}
+use Rattle.std.specs.Prelude.{Some}
 use Prim.Native.Nat.{ℕ, ◌+◌, ◌^◌, ◌≤◌, ◌<◌}
 use Rattle.std.proofs.Math.ListN.{length, length-append, length-map}
 use Rattle.definition.specs.Base.{present}
@@ -180,11 +180,11 @@ pub read_fits : (s : Text) → Bytes s → tree_refusal s ≡ 0 → FitsModel (m
 read_fits s b h = let a = accepted s h in model_fits (records s) a.few (neat_element s b a.utf8)
 
 -- so its bytes decode to it
-pub read_decodes : (s : Text) → Bytes s → tree_refusal s ≡ 0 → decode (encode (model_of (element (records s)))) ≡ some (model_of (element (records s)))
+pub read_decodes : (s : Text) → Bytes s → tree_refusal s ≡ 0 → decode (encode (model_of (element (records s)))) ≡ Some (model_of (element (records s)))
 read_decodes s b h = decode_encode (model_of (element (records s))) (read_fits s b h)
 
 -- what reading gives decodes to the model of the tree
-pub answer_decodes : (s : Text) (room : ℕ) (l : List ℕ) → Bytes s → read_answer s room ≡ gives l → decode l ≡ some (model_of (element (records s)))
+pub answer_decodes : (s : Text) (room : ℕ) (l : List ℕ) → Bytes s → read_answer s room ≡ gives l → decode l ≡ Some (model_of (element (records s)))
 answer_decodes s room l b h =
     let (z, k) = what_given s room l h in
     ap decode (sym k) ∙ read_decodes s b z

@@ -2,7 +2,7 @@
 use Rattle.std.specs.Prelude.{◌++◌, ◌≡◌, Bool, not, List, [], ◌∷◌, map, ℕ, zero, suc}
 use Rattle.std.proofs.Math.Path.{refl, ap}
 use Rattle.std.proofs.Common.{sym, ◌∙◌, true≢false}
-use Rattle.std.proofs.Math.Option.{Option, some, none}
+use Rattle.std.specs.Prelude.{Option, Some, None}
 use Rattle.std.proofs.lemmas.Bool.{not-true}
 use Rattle.std.proofs.Math.ListN.{length}
 use Rattle.definition.specs.Base.{◌>>=◌, given, keep, same}
@@ -22,9 +22,9 @@ use Rattle.theorems.specs.Leads.{At, same_if}
 use Rattle.theorems.specs.Told.{exception_elements, gives_no_rule, main_of}
 
 -- a name that is used is not the main one's
-pub unless_other : (x : Context) (o : Option Text) → (o >>= unless_main x) ≡ some x.main.name → ⊥
-unless_other x none h = never h
-unless_other x (some n) h =
+pub unless_other : (x : Context) (o : Option Text) → (o >>= unless_main x) ≡ Some x.main.name → ⊥
+unless_other x None h = never h
+unless_other x (Some n) h =
     let (t, e) = when_is (not (same n x.main.name)) n x.main.name h in
     true≢false (sym (same_if e) ∙ not-true (same n x.main.name) t)
 
@@ -43,9 +43,9 @@ no_rule : (x : Element) → not (given (recurrence_days x)) ≡ gives_no_rule x
 unfolding recurrence_days
 no_rule x = by (rule_of x)
   where
-    by : (o : Option Rule) → not (given (o >>= λ r. some (days_of_rule r))) ≡ not (given o)
-    by none = refl
-    by (some r) = refl
+    by : (o : Option Rule) → not (given (o >>= λ r. Some (days_of_rule r))) ≡ not (given o)
+    by None = refl
+    by (Some r) = refl
 
 module _ (root : Element) where
   pub skipped_many : (model_of root).project.skipped ≡ length (keep gives_no_rule (exception_elements root))
@@ -56,9 +56,9 @@ module _ (root : Element) where
   unfolding model_of calendars_of context_of
   main_first_lem = refl
 
-  pub resource_other_lem : (row : ℕ) (r : Resource) → At (model_of root).resources row r → r.calendar ≡ some (main_of root).name → ⊥
+  pub resource_other_lem : (row : ℕ) (r : Resource) → At (model_of root).resources row r → r.calendar ≡ Some (main_of root).name → ⊥
   unfolding model_of resources resource_of context_of
   resource_other_lem =
       let x = context_of root in
-      each_at {P = λ (r : Resource). r.calendar ≡ some (main_of root).name → ⊥}
-      (resources_each x (λ (r : Resource). r.calendar ≡ some (main_of root).name → ⊥) (λ ids r. unless_other x (text_in r "CalendarUID" >>= name_of x.built)) empty (work_resources root))
+      each_at {P = λ (r : Resource). r.calendar ≡ Some (main_of root).name → ⊥}
+      (resources_each x (λ (r : Resource). r.calendar ≡ Some (main_of root).name → ⊥) (λ ids r. unless_other x (text_in r "CalendarUID" >>= name_of x.built)) empty (work_resources root))

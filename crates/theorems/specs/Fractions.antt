@@ -3,7 +3,7 @@ use Rattle.std.specs.Prelude.{if◌then◌else◌, ◌≡◌, Bool, ◌≤◌, T
 use Rattle.std.proofs.Math.Path.{refl, ap}
 use Rattle.std.proofs.Common.{sym, subst, arith}
 use Rattle.std.proofs.Math.Bool.{true, false, not}
-use Rattle.std.proofs.Math.Option.{Option, some, none}
+use Rattle.std.specs.Prelude.{Option, Some, None}
 use Rattle.std.specs.Float.Ieee.{le}
 use Rattle.definition.specs.Base.{◌>>=◌, keep, when}
 use Rattle.definition.specs.Text.{Text, trim}
@@ -50,8 +50,8 @@ is_in_part t = by (text_in t "Duration")
   where
     by : (o : Option Text) → not_whole (o >>= λ s. found (duration_of s))
         ≡ in_part (o >>= λ s. found (figures_of (trim s)) >>= λ f. when (le (total_of f) (float most_minutes)) (total_of f))
-    by none = refl
-    by (some s) = text_is s
+    by None = refl
+    by (Some s) = text_is s
 
 -- ---- how many
 

@@ -4,7 +4,7 @@ use Rattle.std.proofs.Math.Path.{refl}
 use Rattle.std.proofs.Common.{sym, ap, ◌∙◌, arith}
 use Rattle.std.proofs.Math.Bool.{true, or-true}
 use mathlib.Core.List.{List, [], ◌∷◌, ◌++◌, map, map-append}
-use Rattle.std.proofs.Math.Option.{Option, some}
+use Rattle.std.specs.Prelude.{Option, Some}
 use Prim.Native.Nat.{ℕ, suc, ◌+◌, ◌<◌}
 use borrow.Author.Tests.{lt-ltb, eqb-true}
 use Rattle.std.proofs.Math.Dec.{ltb}
@@ -89,7 +89,7 @@ module _ (x : Context) where
   task_known t s = by (is_elapsed t) refl
     where
       by : (b : Bool) → is_elapsed t ≡ b
-          → Perhaps Known (if b then some elapsed_name else (text_in t "CalendarUID" >>= λ u. when (not (same u (bytes "-1"))) u >>= name_of x.built))
+          → Perhaps Known (if b then Some elapsed_name else (text_in t "CalendarUID" >>= λ u. when (not (same u (bytes "-1"))) u >>= name_of x.built))
       by true e = there (λ h. elapsed_known (s is_elapsed e))
       by false e = perhaps_any (text_in t "CalendarUID") (λ u. perhaps_any (when (not (same u (bytes "-1"))) u) (λ v. name_of_lem {T = Known} v built_known))
 

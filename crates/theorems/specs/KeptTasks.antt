@@ -4,7 +4,8 @@ use Rattle.std.proofs.Math.Path.{refl, ap}
 use Rattle.std.proofs.Common.{sym, ◌∙◌, true≢false, leb-true, le-leb}
 use Rattle.std.proofs.Math.Bool.{true, false}
 use mathlib.Core.List.{List, [], ◌∷◌}
-use Rattle.std.proofs.Math.Option.{Option, some, none, some-injective}
+use Rattle.std.specs.Prelude.{Option, Some, None}
+use Rattle.laws.specs.Options.{Some-injective}
 use Prim.Native.Nat.{ℕ, zero, suc, ◌≤◌, ◌<◌}
 use native.Mathlib.Omega.{arith}
 use Rattle.std.proofs.lemmas.Bool.{not-true}
@@ -53,7 +54,7 @@ module _ {A : Type 0} (p : A → Bool) where
     where
       by : (t : Bool) → p y ≡ t → (row : ℕ) → At (if t then y ∷ keep p l else keep p l) row x
           → ((row : ℕ) (x : A) → At (keep p l) row x → At l (place_in l row) x × (p x ≡ true)) → At (y ∷ l) (place_by t (place_in l) row) x × (p x ≡ true)
-      by true h zero e more = (e, ap p (sym (some-injective y x e)) ∙ h)
+      by true h zero e more = (e, ap p (sym (Some-injective y x e)) ∙ h)
       by true h (suc row) e more = more row x e
       by false h row e more = more row x e
 
@@ -72,7 +73,7 @@ module _ {A : Type 0} (p : A → Bool) where
   keep_each : (l : List A) (i : ℕ) (x : A) → At l i x → p x ≡ true → (row : ℕ) × ((place_in l row ≡ i) × At (keep p l) row x)
   unfolding keep
   keep_each [] i x e h = never e
-  keep_each (y ∷ l) zero x e h = by (p y) (ap p (some-injective y x e) ∙ h)
+  keep_each (y ∷ l) zero x e h = by (p y) (ap p (Some-injective y x e) ∙ h)
     where
       by : (t : Bool) → t ≡ true → (row : ℕ) × ((place_by t (place_in l) row ≡ 0) × At (if t then y ∷ keep p l else keep p l) row x)
       by true k = (0, (refl, e))
@@ -93,8 +94,8 @@ is_task_lem t k =
     by (text_in t "UID") refl g (not-true (same (text_in t "UID" or []) (bytes "0")) o) (leb-true 1 (level_of t) l)
   where
     by : (o : Option Text) → text_in t "UID" ≡ o → given o ≡ true → same (text_in t "UID" or []) (bytes "0") ≡ false → 1 ≤ level_of t → IsTask t
-    by none e g n l = absurd (true≢false (sym g))
-    by (some u) e g n l =
+    by None e g n l = absurd (true≢false (sym g))
+    by (Some u) e g n l =
         record { uid = u; has = e; other = λ z. true≢false (sym (same_refl (bytes "0")) ∙ ap (λ (s : Text). same s (bytes "0")) (sym (ap (λ (o : Option Text). o or []) e ∙ z)) ∙ n); level = l }
 
 task_is : (t : Element) → IsTask t → is_kept t ≡ true
@@ -120,5 +121,5 @@ module _ (root : Element) where
   }
 
   -- a kept task has a UID
-  pub kept_uid : (row : ℕ) (t : Element) → At (kept_tasks root) row t → text_in t "UID" ≡ some (text_in t "UID" or [])
-  kept_uid row t e = let u = (are_kept.is_task row t e).has in u ∙ ap some (sym (ap (λ (o : Option Text). o or []) u))
+  pub kept_uid : (row : ℕ) (t : Element) → At (kept_tasks root) row t → text_in t "UID" ≡ Some (text_in t "UID" or [])
+  kept_uid row t e = let u = (are_kept.is_task row t e).has in u ∙ ap Some (sym (ap (λ (o : Option Text). o or []) u))

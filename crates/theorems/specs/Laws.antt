@@ -3,7 +3,7 @@ use Rattle.std.specs.Prelude.{if◌then◌else◌, ◌≡◌, refl, Bool, true, 
 use Rattle.std.proofs.Common.{sym, ap, ◌∙◌, append-nil, append_assoc, mul-one, pow-suc, div-lt_iff_lt-mul, arith, leb-true, ltb-true, eqb-true, le-leb, lt-ltb, ne_eqb}
 use Rattle.std.proofs.Math.Bool.{and-false}
 use Rattle.std.proofs.lemmas.List.{reverse-append, reverse-reverse}
-use Rattle.std.proofs.Math.Option.{Option, some, none}
+use Rattle.std.specs.Prelude.{Option, Some, None}
 use Rattle.std.proofs.lemmas.Bool.{lt-leb}
 use Rattle.std.specs.Float.Ieee.{round}
 use Rattle.std.specs.Float.{binary64}
@@ -28,7 +28,7 @@ unfolding before
 before_free empty = refl
 before_free (next {b = b} h f) = rw h (ap (λ (l : Text). b ∷ l) (before_free f))
 
-pub after_free : {p : ℕ → Bool} {s : Text} → Free p s → after p s ≡ none
+pub after_free : {p : ℕ → Bool} {s : Text} → Free p s → after p s ≡ None
 unfolding after
 after_free empty = refl
 after_free (next h f) = rw h (after_free f)
@@ -38,7 +38,7 @@ unfolding before
 before_append b t empty k = rw k
 before_append b t (next {b = a} h f) k = rw h (ap (λ (l : Text). a ∷ l) (before_append b t f k))
 
-pub after_append : {p : ℕ → Bool} {s : Text} (b : ℕ) (t : Text) → Free p s → p b ≡ true → after p (s ++ (b ∷ t)) ≡ some t
+pub after_append : {p : ℕ → Bool} {s : Text} (b : ℕ) (t : Text) → Free p s → p b ≡ true → after p (s ++ (b ∷ t)) ≡ Some t
 unfolding after
 after_append b t empty k = rw k
 after_append b t (next h f) k = rw h (after_append b t f k)
@@ -95,12 +95,12 @@ trim_ends a s z h k = trim_plain (a ∷ (s ++ (z ∷ []))) h (rw (reverse-append
 
 -- ---- digits
 
-after_digits_free : {p : ℕ → Bool} (q : (b : ℕ) → 48 ≤ b → b ≤ 57 → p b ≡ false) (v : ℕ) (s : Text) (n : ℕ) → digits_after v s ≡ some n → Free p s
+after_digits_free : {p : ℕ → Bool} (q : (b : ℕ) → 48 ≤ b → b ≤ 57 → p b ≡ false) (v : ℕ) (s : Text) (n : ℕ) → digits_after v s ≡ Some n → Free p s
 unfolding digits_after
 after_digits_free q v [] n h = empty
 after_digits_free {p} q v (b ∷ s) n h = go (is_digit b) refl (digits_after (v * 10 + (b - 48)) s) (after_digits_free q (v * 10 + (b - 48)) s n) h
   where
-    go : (t : Bool) → is_digit b ≡ t → (r : Option ℕ) → (r ≡ some n → Free p s) → (if t then r else none) ≡ some n → Free p (b ∷ s)
+    go : (t : Bool) → is_digit b ≡ t → (r : Option ℕ) → (r ≡ Some n → Free p s) → (if t then r else None) ≡ Some n → Free p (b ∷ s)
     go true e r f k = next (q b (leb-true 48 b (and_left (leb 48 b) (leb b 57) e)) (leb-true b 57 (and_right (leb 48 b) (leb b 57) e))) (f k)
     go false e r f k = let z : ◌≡◌ {A = ℕ} 0 1 = cc in absurd (omega arith)
 
@@ -109,22 +109,22 @@ unfolding digits_after
 digits_append v [] t = refl
 digits_append v (b ∷ s) t = go (is_digit b) (digits_after (v * 10 + (b - 48)) s) (digits_after (v * 10 + (b - 48)) (s ++ t)) (digits_append (v * 10 + (b - 48)) s t)
   where
-    go : (c : Bool) (r u : Option ℕ) → u ≡ (r >>= λ w. digits_after w t) → (if c then u else none) ≡ ((if c then r else none) >>= λ w. digits_after w t)
+    go : (c : Bool) (r u : Option ℕ) → u ≡ (r >>= λ w. digits_after w t) → (if c then u else None) ≡ ((if c then r else None) >>= λ w. digits_after w t)
     go true r u h = h
     go false r u h = refl
 
-digits_one : (v d : ℕ) → d < 10 → digits_after v ((d + 48) ∷ []) ≡ some (v * 10 + d)
+digits_one : (v d : ℕ) → d < 10 → digits_after v ((d + 48) ∷ []) ≡ Some (v * 10 + d)
 unfolding digits_after
 digits_one v d h =
     let e : d + 48 - 48 ≡ d = omega arith in
     rw (le-leb 48 (d + 48) (omega arith), le-leb (d + 48) 57 (omega arith), e)
 
 -- one more digit
-pub digits_more : (v : ℕ) (s : Text) (w d : ℕ) → digits_after v s ≡ some w → d < 10 → digits_after v (s ++ ((d + 48) ∷ [])) ≡ some (w * 10 + d)
+pub digits_more : (v : ℕ) (s : Text) (w d : ℕ) → digits_after v s ≡ Some w → d < 10 → digits_after v (s ++ ((d + 48) ∷ [])) ≡ Some (w * 10 + d)
 digits_more v s w d h l = digits_append v s ((d + 48) ∷ []) ∙ rw h (digits_one w d l)
 
 -- digits, of which there is one at least
-pub digits_some : (s : Text) (n : ℕ) → digits s ≡ some n → digits_after 0 s ≡ some n
+pub digits_some : (s : Text) (n : ℕ) → digits s ≡ Some n → digits_after 0 s ≡ Some n
 unfolding digits
 digits_some [] n h = let z : ◌≡◌ {A = ℕ} 0 1 = cc in absurd (omega arith)
 digits_some (b ∷ s) n h = h
@@ -140,15 +140,15 @@ sign_free empty empty = refl
 sign_free (next h f) (next k g) = rw (h, k)
 
 -- what no digit passes, no byte of a number in digits passes
-pub digits_free : {p : ℕ → Bool} (q : (b : ℕ) → 48 ≤ b → b ≤ 57 → p b ≡ false) (s : Text) (n : ℕ) → digits s ≡ some n → Free p s
+pub digits_free : {p : ℕ → Bool} (q : (b : ℕ) → 48 ≤ b → b ≤ 57 → p b ≡ false) (s : Text) (n : ℕ) → digits s ≡ Some n → Free p s
 digits_free q s n h = after_digits_free q 0 s n (digits_some s n h)
 
 -- it has no sign
-pub digits_bare : (s : Text) (n : ℕ) → digits s ≡ some n → sign_of s ≡ bare
+pub digits_bare : (s : Text) (n : ℕ) → digits s ≡ Some n → sign_of s ≡ bare
 digits_bare s n h =
     sign_free (digits_free (λ b l u. ne_eqb b 43 (λ e. omega arith)) s n h) (digits_free (λ b l u. ne_eqb b 45 (λ e. omega arith)) s n h)
 
-pub unsigned_digits : (w : ℕ) (s : Text) (n : ℕ) → digits s ≡ some n → n < 2 ^ w → unsigned_of w s ≡ some n
+pub unsigned_digits : (w : ℕ) (s : Text) (n : ℕ) → digits s ≡ Some n → n < 2 ^ w → unsigned_of w s ≡ Some n
 unfolding unsigned_of
 unsigned_digits w s n h l = rw (digits_bare s n h, h, lt-ltb n (2 ^ w) l)
 
@@ -158,15 +158,15 @@ unsigned_digits w s n h l = rw (digits_bare s n h, h, lt-ltb n (2 ^ w) l)
 abbrev decimal_by : Bool → ℕ → ℕ → Text
 decimal_by t k n = if t then (n + 48) ∷ [] else decimal_up k (n / 10) ++ ((n % 10 + 48) ∷ [])
 
-decimal_after : (k n : ℕ) → n < 10 ^ k → digits_after 0 (decimal_up k n) ≡ some n
+decimal_after : (k n : ℕ) → n < 10 ^ k → digits_after 0 (decimal_up k n) ≡ Some n
 unfolding digits_after decimal_up
-decimal_after zero n h = ap some (omega arith)
+decimal_after zero n h = ap Some (omega arith)
 decimal_after (suc k) n h = go (ltb n 10) refl (decimal_after k (n / 10))
   where
-    go : (t : Bool) → ltb n 10 ≡ t → (n / 10 < 10 ^ k → digits_after 0 (decimal_up k (n / 10)) ≡ some (n / 10)) → digits_after 0 (decimal_by t k n) ≡ some n
-    go true e f = digits_one 0 n (ltb-true n 10 e) ∙ ap some (omega arith)
+    go : (t : Bool) → ltb n 10 ≡ t → (n / 10 < 10 ^ k → digits_after 0 (decimal_up k (n / 10)) ≡ Some (n / 10)) → digits_after 0 (decimal_by t k n) ≡ Some n
+    go true e f = digits_one 0 n (ltb-true n 10 e) ∙ ap Some (omega arith)
     go false e f =
-        digits_more 0 (decimal_up k (n / 10)) (n / 10) (n % 10) (f ((div-lt_iff_lt-mul (omega arith)).1 (rw pow-suc at h))) (omega arith) ∙ ap some (omega arith)
+        digits_more 0 (decimal_up k (n / 10)) (n / 10) (n % 10) (f ((div-lt_iff_lt-mul (omega arith)).1 (rw pow-suc at h))) (omega arith) ∙ ap Some (omega arith)
 
 decimal_some : (k n : ℕ) → digits (decimal_up (suc k) n) ≡ digits_after 0 (decimal_up (suc k) n)
 unfolding digits decimal_up
@@ -177,18 +177,18 @@ decimal_some k n = go (ltb n 10)
     go false = digits_snoc (decimal_up k (n / 10)) (n % 10 + 48)
 
 -- a number in decimal is read back
-pub digits_decimal : (n : ℕ) → n < 10 ^ 20 → digits (decimal n) ≡ some n
+pub digits_decimal : (n : ℕ) → n < 10 ^ 20 → digits (decimal n) ≡ Some n
 digits_decimal n h = decimal_some 19 n ∙ decimal_after 20 n h
 
 -- and so are two digits
-pub digits_two : (n : ℕ) → n < 100 → digits (two_digits n) ≡ some n
+pub digits_two : (n : ℕ) → n < 100 → digits (two_digits n) ≡ Some n
 digits_two n h =
     digits_snoc ((n / 10 + 48) ∷ []) (n % 10 + 48)
-    ∙ digits_more 0 ((n / 10 + 48) ∷ []) (n / 10) (n % 10) (digits_one 0 (n / 10) (omega arith) ∙ ap some (omega arith)) (omega arith)
-    ∙ ap some (omega arith)
+    ∙ digits_more 0 ((n / 10 + 48) ∷ []) (n / 10) (n % 10) (digits_one 0 (n / 10) (omega arith) ∙ ap Some (omega arith)) (omega arith)
+    ∙ ap Some (omega arith)
 
 -- a text of digits as a decimal
-pub decimal_of_digits : (s : Text) (n : ℕ) → digits s ≡ some n → decimal_of s ≡ some (record { digits = n; up = 0; down = 0 })
+pub decimal_of_digits : (s : Text) (n : ℕ) → digits s ≡ Some n → decimal_of s ≡ Some (record { digits = n; up = 0; down = 0 })
 unfolding decimal_of
 decimal_of_digits s n h =
     let e : Free is_e s = digits_free (λ b l u. rw (ne_eqb b 101 (λ e. omega arith), ne_eqb b 69 (λ e. omega arith))) s n h in
@@ -200,7 +200,7 @@ unfolding round
 float_zero = refl
 
 -- a number in digits alone is the float of it
-pub number_digits : (s : Text) (n : ℕ) → digits s ≡ some n → n < 10 ^ most_digits → number_of s ≡ value (float n)
+pub number_digits : (s : Text) (n : ℕ) → digits s ≡ Some n → n < 10 ^ most_digits → number_of s ≡ value (float n)
 unfolding number_of short? nearest
 number_digits s n h l = rw (digits_bare s n h, decimal_of_digits s n h, lt-ltb n (10 ^ most_digits) l) (go (eqb n 0) refl)
   where
@@ -211,7 +211,7 @@ number_digits s n h l = rw (digits_bare s n h, decimal_of_digits s n h, lt-ltb n
 -- ---- the pieces of a duration
 
 -- a number in digits alone
-pub piece_digits : (s : Text) (n : ℕ) → digits s ≡ some n → n < 10 ^ most_digits → piece_of s ≡ value (float n)
+pub piece_digits : (s : Text) (n : ℕ) → digits s ≡ Some n → n < 10 ^ most_digits → piece_of s ≡ value (float n)
 unfolding piece_of
 piece_digits s n h l = rw (number_digits s n h l, le_whole zero_float (float n) 0 n (refl, refl) (float_whole n (omega arith)) (omega arith))
 

@@ -4,9 +4,10 @@
 use Rattle.std.specs.Prelude.{◌≡◌, refl, Bool, true, false, ◌&&◌, ◌||◌, not, List, [], ◌∷◌, map, ℕ, zero, suc, ◌+◌, ◌<◌, ltb, eqb, length}
 use Rattle.std.proofs.Common.{sym, ap, ◌∙◌, arith, ltb-true, lt-ltb, eq-eqb, eqb-true}
 use Rattle.std.proofs.Math.Bool.{or-true, and-eq-true_iff}
-use Rattle.std.proofs.Math.Option.{Option, some, none, some-injective}
+use Rattle.std.specs.Prelude.{Option, Some, None}
+use Rattle.laws.specs.Options.{Some-injective}
 use Rattle.std.proofs.lemmas.Bool.{not-true}
-use Rattle.std.proofs.Math.ListN.{get_elem?}
+use Rattle.std.specs.Prelude.{slice_get}
 use Rattle.definition.specs.Base.{some?, every?, numbered, same}
 use Rattle.definition.specs.Text.{Text}
 use Rattle.definition.specs.Model.{Calendar, Activity, Link, Resource, Assignment, Expense, Model}
@@ -21,7 +22,7 @@ use Rattle.laws.specs.Same.{same_refl, same_eq}
 
 -- x stands at a row
 abbrev pub At : {A : Type 0} → List A → ℕ → A → Type 0
-At l row x = get_elem? l row ≡ some x
+At l row x = slice_get l row ≡ Some x
 
 -- a row leads to something
 pub record Leads {A : Type 0} (l : List A) (row : ℕ) : Type 0 where
@@ -37,14 +38,14 @@ pub record Named (l : List Calendar) (name : Text) : Type 0 where
   pub named : calendar.name ≡ name
 
 pub record LeadsSomewhere (m : Model) : Type 0 where
-  pub parent : (row p : ℕ) (a : Activity) → At m.activities row a → a.parent ≡ some p → (p < row) × Leads m.activities p
+  pub parent : (row p : ℕ) (a : Activity) → At m.activities row a → a.parent ≡ Some p → (p < row) × Leads m.activities p
   pub predecessor : (row : ℕ) (l : Link) → At m.links row l → Leads m.activities l.predecessor
   pub successor : (row : ℕ) (l : Link) → At m.links row l → Leads m.activities l.successor
   pub assigned : (row : ℕ) (a : Assignment) → At m.assignments row a → Leads m.activities a.activity
   pub assignee : (row : ℕ) (a : Assignment) → At m.assignments row a → Leads m.resources a.resource
   pub spent : (row : ℕ) (e : Expense) → At m.expenses row e → Leads m.activities e.activity
-  pub activity_calendar : (row : ℕ) (a : Activity) (name : Text) → At m.activities row a → a.calendar ≡ some name → Named m.calendars name
-  pub resource_calendar : (row : ℕ) (r : Resource) (name : Text) → At m.resources row r → r.calendar ≡ some name → Named m.calendars name
+  pub activity_calendar : (row : ℕ) (a : Activity) (name : Text) → At m.activities row a → a.calendar ≡ Some name → Named m.calendars name
+  pub resource_calendar : (row : ℕ) (r : Resource) (name : Text) → At m.resources row r → r.calendar ≡ Some name → Named m.calendars name
 
 -- what has to differ does: two rows that agree are one
 pub record IsDistinct (m : Model) : Type 0 where
@@ -87,12 +88,12 @@ at_numbered p n (y ∷ l) f =
 
 pub map_at : {A B : Type 0} (f : A → B) (l : List A) (i : ℕ) (x : A) → At l i x → At (map f l) i (f x)
 map_at f [] i x e = never e
-map_at f (y ∷ l) zero x e = let z : y ≡ x = cc in ap (λ a. some (f a)) z
+map_at f (y ∷ l) zero x e = let z : y ≡ x = cc in ap (λ a. Some (f a)) z
 map_at f (y ∷ l) (suc i) x e = map_at f l i x e
 
 at_map : {A B : Type 0} (f : A → B) (l : List A) (i : ℕ) (y : B) → At (map f l) i y → (x : A) × (At l i x × (f x ≡ y))
 at_map f [] i y e = never e
-at_map f (x ∷ l) zero y e = (x, (refl, some-injective (f x) y e))
+at_map f (x ∷ l) zero y e = (x, (refl, Some-injective (f x) y e))
 at_map f (x ∷ l) (suc i) y e = at_map f l i y e
 
 pub at_in : {A : Type 0} (l : List A) (i : ℕ) (x : A) → At l i x → i < length l
@@ -204,7 +205,7 @@ assignment_right_lem : (m : Model) (a : Assignment) → assignment_right m a ≡
 unfolding assignment_right
 assignment_right_lem m a h = both _ _ h
 
-if_given_lem : {A : Type 0} (p : A → Bool) (o : Option A) → if_given p o ≡ true → {a : A} → o ≡ some a → p a ≡ true
+if_given_lem : {A : Type 0} (p : A → Bool) (o : Option A) → if_given p o ≡ true → {a : A} → o ≡ Some a → p a ≡ true
 if_given_lem p o h e = sym (ap (if_given p) e) ∙ h
 
 calendar_named : (m : Model) (name : Text) → is_calendar m name ≡ true → Named m.calendars name
@@ -249,15 +250,15 @@ module _ (m : Model) (h : keeps_list m ≡ true) where
 -- bytes that pass
 pub record Passed (s : Text) : Type 0 where
   pub model : Model
-  pub decodes : decode s ≡ some model
+  pub decodes : decode s ≡ Some model
   pub leads : LeadsSomewhere model
   pub distinct : IsDistinct model
 
 -- ---- and the other way
 
-given_if : {A : Type 0} (p : A → Bool) (o : Option A) → ((a : A) → o ≡ some a → p a ≡ true) → if_given p o ≡ true
-given_if p none f = refl
-given_if p (some a) f = f a refl
+given_if : {A : Type 0} (p : A → Bool) (o : Option A) → ((a : A) → o ≡ Some a → p a ≡ true) → if_given p o ≡ true
+given_if p None f = refl
+given_if p (Some a) f = f a refl
 
 named_calendar : (m : Model) (name : Text) → Named m.calendars name → is_calendar m name ≡ true
 unfolding is_calendar

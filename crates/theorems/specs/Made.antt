@@ -4,10 +4,12 @@ use Rattle.std.specs.Prelude.{if◌then◌else◌, ◌≡◌, refl, Bool, true, 
 use Rattle.std.proofs.Math.Path.{sym, ap}
 use Rattle.std.proofs.Common.{◌∙◌}
 use mathlib.Core.List.{List, [], ◌∷◌, ◌++◌, map, append-nil, append_assoc}
-use Rattle.std.proofs.Math.Option.{some, some-injective}
+use Rattle.std.specs.Prelude.{Some}
+use Rattle.laws.specs.Options.{Some-injective}
 use Prim.Native.Nat.{ℕ, zero, suc, ◌+◌, ◌<◌}
 use native.Mathlib.Omega.{arith}
-use Rattle.std.proofs.Math.ListN.{length, take, get_elem?, length-append}
+use Rattle.std.specs.Prelude.{slice_get}
+use Rattle.std.proofs.Math.ListN.{length, take, length-append}
 use Rattle.std.proofs.Math.Seq.{take_at}
 use Rattle.definition.specs.Base.{some?, same}
 use Rattle.definition.specs.Ascii.{bytes}
@@ -89,14 +91,14 @@ module _ (x : Context) (entered : ℕ → Bool) where
   after_at done levels (u ∷ ts) zero row t a r e f =
       let b = next done levels u in
       let (rest, w) = after_front (done ++ (b ∷ [])) (levels ++ (level_of u ∷ [])) ts in
-      here rest (w ∙ append_assoc done (b ∷ []) rest) (r ∙ omega arith) f (some-injective u t e)
+      here rest (w ∙ append_assoc done (b ∷ []) rest) (r ∙ omega arith) f (Some-injective u t e)
     where
       here : (rest : List Activity) {whole : List Activity} → whole ≡ done ++ (next done levels u ∷ rest) → row ≡ length done → At whole row a → u ≡ t
           → a ≡ activity_of x (map (λ (b : Activity). b.id) (take row whole)) (levels ++ []) (entered row) t
       here rest {whole} w r f e =
           let b = next done levels u in
-          let g : At whole row b = ap (get_elem? whole) r ∙ ap (λ (l : List Activity). get_elem? l (length done)) w ∙ get_seam done b rest in
-          let z : b ≡ a = some-injective b a (sym g ∙ f) in
+          let g : At whole row b = ap (slice_get whole) r ∙ ap (λ (l : List Activity). slice_get l (length done)) w ∙ get_seam done b rest in
+          let z : b ≡ a = Some-injective b a (sym g ∙ f) in
           let d : take row whole ≡ done = ap (take row) w ∙ take_at done (b ∷ rest) row (sym r) in
           rw (d, r, ← e, append-nil levels) (sym z)
   after_at done levels (u ∷ ts) (suc k) row t a r e f =
@@ -121,7 +123,7 @@ module _ (root : Element) where
       let f : free ids (wanted_id t) ≡ wanted_id t ++ stars s.stars = s.is ∙ ap (λ (l : Text). wanted_id t ++ l) (stars_are s.stars) in
       record {
         whole = w;
-        uid = kept_uid root row t e ∙ ap (λ (b : Activity). some b.uid) (sym w);
+        uid = kept_uid root row t e ∙ ap (λ (b : Activity). Some b.uid) (sym w);
         name = ap (λ (b : Activity). b.name) w;
         notes = ap (λ (b : Activity). b.notes) w;
         deadline = ap (λ (b : Activity). b.deadline) w;

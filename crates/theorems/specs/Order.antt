@@ -3,11 +3,12 @@ use Rattle.std.specs.Prelude.{if◌then◌else◌, ◌≡◌, refl, Bool, true, 
 use Rattle.std.proofs.Math.Path.{sym, ap}
 use Rattle.std.proofs.Common.{◌∙◌, true≢false, eqb-true, ne_eqb}
 use mathlib.Core.List.{List, [], ◌∷◌, ◌++◌, map, flat_map, append_assoc}
-use Rattle.std.proofs.Math.Option.{Option, some, none, some-injective}
+use Rattle.std.specs.Prelude.{Option, Some, None}
+use Rattle.laws.specs.Options.{Some-injective}
 use Prim.Native.Nat.{ℕ, zero, suc, ◌+◌, ◌≤◌, ◌<◌}
 use native.Mathlib.Omega.{arith}
 use Rattle.std.proofs.Math.Decide.{dec_lt}
-use Rattle.std.proofs.Math.ListN.{get_elem?}
+use Rattle.std.specs.Prelude.{slice_get}
 use Rattle.std.proofs.lemmas.List.{length-map}
 use Rattle.definition.specs.Base.{keep, count}
 use Rattle.definition.specs.Tree.{Element}
@@ -84,34 +85,34 @@ rising_kept {P} p a (suc m) b e f = by (p a) refl (rising_kept p (suc a) m b (om
 -- ---- nested parents
 
 abbrev NotAbove : ℕ → Option ℕ → Type 0
-NotAbove p none = ⊥
-NotAbove p (some s) = p ≤ s
+NotAbove p None = ⊥
+NotAbove p (Some s) = p ≤ s
 
 -- each parent is above its child, and each row between the two has a parent, which is not above that one
 record Nested (ps : List (Option ℕ)) : Type 0 where
-  up : (c p : ℕ) → parent_at ps c ≡ some p → p < c
-  inside : (c p q : ℕ) → parent_at ps c ≡ some p → p < q → q < c → NotAbove p (parent_at ps q)
+  up : (c p : ℕ) → parent_at ps c ≡ Some p → p < c
+  inside : (c p q : ℕ) → parent_at ps c ≡ Some p → p < q → q < c → NotAbove p (parent_at ps q)
 
-is_top_lem : (o : Option ℕ) → is_top o ≡ true → o ≡ none
-is_top_lem none h = refl
-is_top_lem (some p) h = absurd (true≢false (sym h))
+is_top_lem : (o : Option ℕ) → is_top o ≡ true → o ≡ None
+is_top_lem None h = refl
+is_top_lem (Some p) h = absurd (true≢false (sym h))
 
-is_under_lem : (r : ℕ) (o : Option ℕ) → is_under r o ≡ true → o ≡ some r
-is_under_lem r none h = absurd (true≢false (sym h))
-is_under_lem r (some p) h = ap (λ (q : ℕ). some q) (eqb-true p r h)
+is_under_lem : (r : ℕ) (o : Option ℕ) → is_under r o ≡ true → o ≡ Some r
+is_under_lem r None h = absurd (true≢false (sym h))
+is_under_lem r (Some p) h = ap (λ (q : ℕ). Some q) (eqb-true p r h)
 
 module _ (ps : List (Option ℕ)) (n : Nested ps) where
   -- no row from b on has a parent from c on that is below b
   abbrev Ends : ℕ → ℕ → Type 0
-  Ends c b = (x y : ℕ) → parent_at ps x ≡ some y → b ≤ x → c ≤ y → y < b → ⊥
+  Ends c b = (x y : ℕ) → parent_at ps x ≡ Some y → b ≤ x → c ≤ y → y < b → ⊥
 
   -- at the next row of the same parent all below a row ends
   ends_next : (c d : ℕ) → c < d → parent_at ps c ≡ parent_at ps d → Ends c d
   ends_next c d h e x y k i j l = by (dec_lt d x)
     where
       above : (o : Option ℕ) → parent_at ps d ≡ o → NotAbove y o → ⊥
-      above none g m = m
-      above (some s) g m = omega (arith, n.up c s (e ∙ g))
+      above None g m = m
+      above (Some s) g m = omega (arith, n.up c s (e ∙ g))
 
       by : Dec (d < x) → ⊥
       by (yes g) = above (parent_at ps d) refl (n.inside x y d k l g)
@@ -145,23 +146,23 @@ module _ (ps : List (Option ℕ)) (n : Nested ps) where
   block zero level r b h e = let z : r ≤ b = omega arith in done z
   block (suc k) level r b h e =
       let z : r ≤ r = omega arith in
-      next z (siblings k (suc level) b (some r) (block k (suc level)) close h (rising_from (suc r) (λ s i p. n.up s r p.1) children))
+      next z (siblings k (suc level) b (Some r) (block k (suc level)) close h (rising_from (suc r) (λ s i p. n.up s r p.1) children))
     where
-      before : (s : ℕ) → Of (some r) s → Dec (s < b) → s < b
+      before : (s : ℕ) → Of (Some r) s → Dec (s < b) → s < b
       before s p (yes g) = g
       before s p (no g) = absurd (e s r p.1 (omega arith) (omega arith) h)
 
-      close : (s : ℕ) → Of (some r) s → (s < b) × Ends s b
+      close : (s : ℕ) → Of (Some r) s → (s < b) × Ends s b
       close s p = (before s p (dec_lt s b), λ x y i j l m. e x y i j (omega (arith, n.up s r p.1)) m)
 
-      children : Rising (Of (some r)) 0 (child_rows ps r)
+      children : Rising (Of (Some r)) 0 (child_rows ps r)
       children = unfold child_rows in
           rising_kept (λ c. is_under r (parent_at ps c)) 0 (length ps) (length ps) (omega arith) (λ s i t. (i, is_under_lem r (parent_at ps s) t))
 
   outline_rises : Between 0 (outline_of ps) (length ps)
   unfolding outline_of top_rows
   outline_rises =
-      siblings (length ps) 1 (length ps) none (block (length ps) 1) (λ r p. (p.0, λ x y i j l m. omega (arith, row_in ps x y i))) (omega arith)
+      siblings (length ps) 1 (length ps) None (block (length ps) 1) (λ r p. (p.0, λ x y i j l m. omega (arith, row_in ps x y i))) (omega arith)
       (rising_kept (λ row. is_top (parent_at ps row)) 0 (length ps) (length ps) (omega arith) (λ s i t. (i, is_top_lem (parent_at ps s) t)))
 
   outline_stands : (c : ℕ) → c < length ps → stands c (outline_of ps) ≡ 1
@@ -175,18 +176,18 @@ module _ (ps : List (Option ℕ)) (n : Nested ps) where
 nested_by : (level : ℕ → ℕ) (ps : List (Option ℕ)) → ((row : ℕ) → row < length ps → ParentBy level row (parent_at ps row)) → Nested ps
 nested_by level ps f = record { up = λ c p h. (closest c p h).earlier; inside = inside }
   where
-    closest : (c p : ℕ) → parent_at ps c ≡ some p → Closest level c p
+    closest : (c p : ℕ) → parent_at ps c ≡ Some p → Closest level c p
     closest c p h = rw h at (f c (row_in ps c p h))
 
-    inside : (c p q : ℕ) → parent_at ps c ≡ some p → p < q → q < c → NotAbove p (parent_at ps q)
+    inside : (c p q : ℕ) → parent_at ps c ≡ Some p → p < q → q < c → NotAbove p (parent_at ps q)
     inside c p q h i j = by (parent_at ps q) (f q (omega (arith, row_in ps c p h)))
       where
         low : level p < level q
         low = let k = closest c p h in omega (arith, k.between q i j)
 
         by : (o : Option ℕ) → ParentBy level q o → NotAbove p o
-        by none m = omega (arith, m p i, low)
-        by (some s) m = not_above (dec_lt s p)
+        by None m = omega (arith, m p i, low)
+        by (Some s) m = not_above (dec_lt s p)
           where
             not_above : Dec (s < p) → p ≤ s
             not_above (yes g) = absurd (omega (arith, m.between p g i, low))
@@ -206,13 +207,13 @@ placed a (suc m) (y ∷ before) x behind e =
 at_place : (l : List (ℕ × ℕ)) (m : ℕ) → map (λ (y : ℕ × ℕ). y.0) l ≡ count 0 m → (before : List (ℕ × ℕ)) (x : ℕ × ℕ) (behind : List (ℕ × ℕ)) → l ≡ before ++ (x ∷ behind) → At l x.0 x
 at_place l m e before x behind s =
     let z : x.0 ≡ length before = omega (arith, placed 0 m before x behind (rw s at e)) in
-    ap (get_elem? l) z ∙ ap (λ (k : List (ℕ × ℕ)). get_elem? k (length before)) s ∙ get_seam before x behind
+    ap (slice_get l) z ∙ ap (λ (k : List (ℕ × ℕ)). slice_get k (length before)) s ∙ get_seam before x behind
 
 -- and what stands after its parent one level below it
 at_below : (l : List (ℕ × ℕ)) (m : ℕ) → map (λ (y : ℕ × ℕ). y.0) l ≡ count 0 m → (p c level : ℕ) → After p c l → At l p (p, level) → At l c (c, suc level)
 at_below l m e p c level t h =
     let k = at_place l m e t.before (p, t.level) (t.between ++ ((c, suc t.level) ∷ t.behind)) t.split in
-    let z : t.level ≡ level = ap (λ (x : ℕ × ℕ). x.1) (some-injective (p, t.level) (p, level) (sym k ∙ h)) in
+    let z : t.level ≡ level = ap (λ (x : ℕ × ℕ). x.1) (Some-injective (p, t.level) (p, level) (sym k ∙ h)) in
     rw (← z)
     (at_place l m e (t.before ++ ((p, t.level) ∷ t.between)) (c, suc t.level) t.behind
     (t.split ∙ sym (append_assoc t.before ((p, t.level) ∷ t.between) ((c, suc t.level) ∷ t.behind))))
@@ -226,16 +227,16 @@ module _ (root : Element) where
   rows_many : length ps ≡ length (model_of root).activities
   rows_many = length-map (model_of root).activities (λ (a : Activity). a.parent)
 
-  parent_named : (row : ℕ) → row < length ps → ParentBy (level_at root) row (get_or ps row none)
+  parent_named : (row : ℕ) → row < length ps → ParentBy (level_at root) row (get_or ps row None)
   parent_named row h = parent_by root row (omega (arith, rows_many, as_many_lem root))
 
   -- the parent that is named counts
-  parent_counted : (row : ℕ) → row < length ps → parent_at ps row ≡ get_or ps row none
-  parent_counted row h = by (get_or ps row none) refl (parent_named row h)
+  parent_counted : (row : ℕ) → row < length ps → parent_at ps row ≡ get_or ps row None
+  parent_counted row h = by (get_or ps row None) refl (parent_named row h)
     where
-      by : (o : Option ℕ) → get_or ps row none ≡ o → ParentBy (level_at root) row o → parent_at ps row ≡ o
-      by none e k = unfold parent_at in ap (parent_in (length ps) row) e
-      by (some p) e k = parent_counts ps row p e k.earlier h
+      by : (o : Option ℕ) → get_or ps row None ≡ o → ParentBy (level_at root) row o → parent_at ps row ≡ o
+      by None e k = unfold parent_at in ap (parent_in (length ps) row) e
+      by (Some p) e k = parent_counts ps row p e k.earlier h
 
   nested : Nested ps
   nested = nested_by (level_at root) ps (λ row h. rw (parent_counted row h) (parent_named row h))
@@ -253,20 +254,20 @@ module _ (root : Element) where
 
     own_parent : parent_at ps row ≡ a.parent
     own_parent =
-        parent_counted row row_inside ∙ get_d_at ps row none a.parent (map_at (λ (a : Activity). a.parent) (model_of root).activities row a is)
+        parent_counted row row_inside ∙ get_d_at ps row None a.parent (map_at (λ (a : Activity). a.parent) (model_of root).activities row a is)
 
-    pub level_top : a.parent ≡ none → At (outline (model_of root)) row (row, 1)
+    pub level_top : a.parent ≡ None → At (outline (model_of root)) row (row, 1)
     unfolding outline
     level_top e =
         let t = outline_top ps row row_inside (own_parent ∙ e) in
         at_place (outline_of ps) (length ps) rows_order t.before (row, 1) t.behind t.split
 
-    after_parent : (p : ℕ) → a.parent ≡ some p → After p row (outline_of ps)
+    after_parent : (p : ℕ) → a.parent ≡ Some p → After p row (outline_of ps)
     after_parent p e =
         let once : stands row (outline_of ps) ≡ 1 = outline_stands ps nested row row_inside in
         outline_after ps p row (own_parent ∙ e) (omega arith)
 
-  pub level_under : (row p level : ℕ) (a : Activity) → At (model_of root).activities row a → a.parent ≡ some p → At (outline (model_of root)) p (p, level)
+  pub level_under : (row p level : ℕ) (a : Activity) → At (model_of root).activities row a → a.parent ≡ Some p → At (outline (model_of root)) p (p, level)
       → At (outline (model_of root)) row (row, suc level)
   unfolding outline
   level_under row p level a h e g = at_below (outline_of ps) (length ps) rows_order p row level (after_parent row a h p e) g

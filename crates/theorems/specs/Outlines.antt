@@ -6,7 +6,7 @@ use Rattle.std.proofs.Math.Path.{refl, ap}
 use Rattle.std.proofs.Common.{sym, ◌∙◌, ltb-true, ltb-false, eqb-true, lt-ltb, ne_eqb}
 use Rattle.std.proofs.Math.Bool.{true, false}
 use mathlib.Core.List.{List, [], ◌∷◌, ◌++◌, map, flat_map, append_assoc}
-use Rattle.std.proofs.Math.Option.{Option, some, none}
+use Rattle.std.specs.Prelude.{Option, Some, None}
 use Prim.Native.Nat.{ℕ, zero, suc, ◌+◌, ◌-◌, ◌<◌}
 use native.Mathlib.Omega.{arith}
 use Rattle.std.proofs.Math.Dec.{eqb}
@@ -107,7 +107,7 @@ module _ (ps : List (Option ℕ)) where
           }
       go false e f = at_front ((x, level) ∷ all ps k (suc level) (child_rows ps x)) (f (omega (arith, ap bit e)))
 
-  module _ (p c : ℕ) (parent : parent_at ps c ≡ some p) where
+  module _ (p c : ℕ) (parent : parent_at ps c ≡ Some p) where
     -- a row with all below it
     under_row : (k level x : ℕ) → ((l : List ℕ) → 0 < stands c (all ps k (suc level) l) → Found p c (suc level) l (all ps k (suc level) l))
         → 0 < stands c (all ps k (suc level) (child_rows ps x)) → After p c ((x, level) ∷ all ps k (suc level) (child_rows ps x))
@@ -164,21 +164,21 @@ module _ (ps : List (Option ℕ)) where
         go (below a) = a
 
   -- a row with no parent at level 1
-  pub outline_top : (c : ℕ) → c < length ps → parent_at ps c ≡ none → At c 1 (outline_of ps)
+  pub outline_top : (c : ℕ) → c < length ps → parent_at ps c ≡ None → At c 1 (outline_of ps)
   unfolding outline_of
   outline_top c l h =
       let e : length ps ≡ suc (length ps - 1) = omega arith in
       rw e (at_level c (length ps - 1) 1 (top_rows ps) (omega (arith, top_times ps c l h)))
 
   -- where each parent is above its child, all stand
-  pub all_stand : ((c p : ℕ) → parent_at ps c ≡ some p → p < c) → (k level c : ℕ) → c < k → c < length ps → stands c (all ps k level (top_rows ps)) ≡ 1
+  pub all_stand : ((c p : ℕ) → parent_at ps c ≡ Some p → p < c) → (k level c : ℕ) → c < k → c < length ps → stands c (all ps k level (top_rows ps)) ≡ 1
   all_stand up zero level c h l = absurd (omega arith)
   all_stand up (suc k) level c h l = go (parent_at ps c) refl (all_stand up k (suc level))
     where
       go : (o : Option ℕ) → parent_at ps c ≡ o → ((p : ℕ) → p < k → p < length ps → stands p (all ps k (suc level) (top_rows ps)) ≡ 1)
           → stands c (all ps (suc k) level (top_rows ps)) ≡ 1
-      go none e f = at_top ps c k level l e
-      go (some p) e f =
+      go None e f = at_top ps c k level l e
+      go (Some p) e f =
           let b : p < c = up c p e in
           as_parent ps c p k level e ∙ f p (omega arith) (omega arith)
 
@@ -188,7 +188,7 @@ abbrev pub parents_of : Model → List (Option ℕ)
 parents_of m = map (λ (a : Activity). a.parent) m.activities
 
 checked_rows : (m : Model) (from : ℕ) (l : List Activity) → every? (activity_right m) (numbered from l) ≡ true
-    → (r p : ℕ) → get_or (map (λ (a : Activity). a.parent) l) r none ≡ some p → p < from + r
+    → (r p : ℕ) → get_or (map (λ (a : Activity). a.parent) l) r None ≡ Some p → p < from + r
 unfolding every? numbered activity_right
 checked_rows m from [] h r p e = never e
 checked_rows m from (a ∷ l) h zero p e =
@@ -209,47 +209,47 @@ checked_all m h = go (distinct same (map (λ (a : Activity). a.id) m.activities)
     go true p false q = let z : ◌≡◌ {A = Bool} false true = rw (p, q) at h in let y : ◌≡◌ {A = ℕ} 0 1 = cc in absurd (omega arith)
     go false p false q = let z : ◌≡◌ {A = Bool} false true = rw p at h in let y : ◌≡◌ {A = ℕ} 0 1 = cc in absurd (omega arith)
 
-checked : (m : Model) → keeps_list m ≡ true → (r p : ℕ) → get_or (parents_of m) r none ≡ some p → p < r
+checked : (m : Model) → keeps_list m ≡ true → (r p : ℕ) → get_or (parents_of m) r None ≡ Some p → p < r
 checked m h r p e = omega (arith, checked_rows m 0 m.activities (checked_all m h) r p e)
 
-pub parent_counts : (ps : List (Option ℕ)) (c p : ℕ) → get_or ps c none ≡ some p → p < c → c < length ps → parent_at ps c ≡ some p
+pub parent_counts : (ps : List (Option ℕ)) (c p : ℕ) → get_or ps c None ≡ Some p → p < c → c < length ps → parent_at ps c ≡ Some p
 unfolding parent_at
 parent_counts ps c p e h l =
     let t : ltb p (length ps) && not (eqb p c) ≡ true = rw (lt-ltb p (length ps) (omega arith), ne_eqb p c (λ q. omega arith)) in
-    ap (parent_in (length ps) c) e ∙ ap {B = Option ℕ} (λ (b : Bool). elim b [ true ↦ some p | false ↦ none ]) t
+    ap (parent_in (length ps) c) e ∙ ap {B = Option ℕ} (λ (b : Bool). elim b [ true ↦ Some p | false ↦ None ]) t
 
-parent_names : (ps : List (Option ℕ)) (c p : ℕ) → parent_at ps c ≡ some p → get_or ps c none ≡ some p
+parent_names : (ps : List (Option ℕ)) (c p : ℕ) → parent_at ps c ≡ Some p → get_or ps c None ≡ Some p
 unfolding parent_at
-parent_names ps c p h = given (get_or ps c none) h
+parent_names ps c p h = given (get_or ps c None) h
   where
-    test : (q : ℕ) (t : Bool) → elim t [ true ↦ some q | false ↦ none ] ≡ some p → some q ≡ some p
+    test : (q : ℕ) (t : Bool) → elim t [ true ↦ Some q | false ↦ None ] ≡ Some p → Some q ≡ Some p
     test q true k = k
     test q false k = never k
 
-    given : (o : Option ℕ) → parent_in (length ps) c o ≡ some p → o ≡ some p
-    given none k = k
-    given (some q) k = test q (ltb q (length ps) && not (eqb q c)) k
+    given : (o : Option ℕ) → parent_in (length ps) c o ≡ Some p → o ≡ Some p
+    given None k = k
+    given (Some q) k = test q (ltb q (length ps) && not (eqb q c)) k
 
 -- after its parent and one level below it, or at level 1
 abbrev pub Placed : Option ℕ → ℕ → List (ℕ × ℕ) → Type 0
-Placed none c l = At c 1 l
-Placed (some p) c l = After p c l
+Placed None c l = At c 1 l
+Placed (Some p) c l = After p c l
 
 pub outline_checked : (m : Model) → keeps_list m ≡ true → (c : ℕ) → c < length m.activities
-    → (stands c (outline m) ≡ 1) × Placed (get_or (parents_of m) c none) c (outline m)
+    → (stands c (outline m) ≡ 1) × Placed (get_or (parents_of m) c None) c (outline m)
 unfolding outline
-outline_checked m h c l = (stood, place (get_or (parents_of m) c none) refl)
+outline_checked m h c l = (stood, place (get_or (parents_of m) c None) refl)
   where
     inside : c < length (parents_of m)
     inside = rw (length-map m.activities (λ (a : Activity). a.parent)) l
 
-    up : (r p : ℕ) → parent_at (parents_of m) r ≡ some p → p < r
+    up : (r p : ℕ) → parent_at (parents_of m) r ≡ Some p → p < r
     up r p e = checked m h r p (parent_names (parents_of m) r p e)
 
     stood : stands c (outline_of (parents_of m)) ≡ 1
     stood = unfold outline_of in all_stand (parents_of m) up (length (parents_of m)) 1 c inside inside
 
-    place : (o : Option ℕ) → get_or (parents_of m) c none ≡ o → Placed o c (outline_of (parents_of m))
-    place none e = outline_top (parents_of m) c inside (unfold parent_at in ap (parent_in (length (parents_of m)) c) e)
-    place (some p) e =
+    place : (o : Option ℕ) → get_or (parents_of m) c None ≡ o → Placed o c (outline_of (parents_of m))
+    place None e = outline_top (parents_of m) c inside (unfold parent_at in ap (parent_in (length (parents_of m)) c) e)
+    place (Some p) e =
         outline_after (parents_of m) p c (parent_counts (parents_of m) c p e (checked m h c p e) inside) (omega (arith, stood))

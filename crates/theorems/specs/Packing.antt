@@ -2,7 +2,7 @@
 -- decode are those of the model that they decode to. Assumes nothing.
 use Rattle.std.specs.Prelude.{◌≡◌, refl, ◌↔◌, List, [], ◌∷◌, ◌++◌, ℕ, ◌+◌, ◌/◌, ◌%◌, length}
 use Rattle.std.proofs.Common.{sym, ap, ◌∙◌, append-nil, arith, length-append}
-use Rattle.std.proofs.Math.Option.{Option, some, none}
+use Rattle.std.specs.Prelude.{Option, Some, None}
 use Rattle.definition.specs.Bits.{Bits, bits_of, bytes_of}
 use Rattle.definition.specs.Format.{field, ◌⊗◌, via}
 use Rattle.definition.specs.Model.{Model}
@@ -118,22 +118,22 @@ unfolding encode
 encode_bytes m = bytes_small (length (model.put 0 m) / 8) (good_model.binary 0 m) (omega arith)
 
 -- what fits is decoded from its bytes
-pub decode_encode : (m : Model) → FitsModel m → decode (encode m) ≡ some m
+pub decode_encode : (m : Model) → FitsModel m → decode (encode m) ≡ Some m
 unfolding decode encode
 decode_encode m h =
     let l = model.put 0 m in
     let e = append-nil l in
     let k : Ends 0 (l ++ []) = rw append-nil (omega (arith, model_whole m)) in
-    let r : model.get l ≡ some (m, []) = rw e at (good_model.back 0 m [] h k) in
+    let r : model.get l ≡ Some (m, []) = rw e at (good_model.back 0 m [] h k) in
     rw (whole_bits (good_model.binary 0 m) (model_whole m), r)
 
-at_end_lem : {A : Type 0} (o : Option (A × Bits)) (a : A) → at_end o ≡ some a → o ≡ some (a, [])
-at_end_lem none a h = never h
-at_end_lem {A} (some (x, [])) a h = got (λ a. ◌≡◌ {A = Option (A × Bits)} (some (x, [])) (some (a, []))) h refl
-at_end_lem (some (x, (b ∷ l))) a h = never h
+at_end_lem : {A : Type 0} (o : Option (A × Bits)) (a : A) → at_end o ≡ Some a → o ≡ Some (a, [])
+at_end_lem None a h = never h
+at_end_lem {A} (Some (x, [])) a h = got (λ a. ◌≡◌ {A = Option (A × Bits)} (Some (x, [])) (Some (a, []))) h refl
+at_end_lem (Some (x, (b ∷ l))) a h = never h
 
 -- what is decoded fits, and has these bytes
-pub encode_decode : (s : List ℕ) → Bytes s → (m : Model) → decode s ≡ some m → (encode m ≡ s) × FitsModel m
+pub encode_decode : (s : List ℕ) → Bytes s → (m : Model) → decode s ≡ Some m → (encode m ≡ s) × FitsModel m
 unfolding decode encode
 encode_decode s b m h =
     let l = bits_of s in
@@ -143,5 +143,5 @@ encode_decode s b m h =
     (ap (λ (t : Bits). bytes_of t) (sym r) ∙ whole_bytes b, f)
 
 -- so the bytes that decode to a model are its own and no others
-pub decodes_iff : (s : List ℕ) → Bytes s → (m : Model) → (decode s ≡ some m) ↔ ((encode m ≡ s) × FitsModel m)
+pub decodes_iff : (s : List ℕ) → Bytes s → (m : Model) → (decode s ≡ Some m) ↔ ((encode m ≡ s) × FitsModel m)
 decodes_iff s b m = (encode_decode s b m, λ h. ap decode (sym h.0) ∙ decode_encode m h.1)

@@ -2,7 +2,7 @@
 use Rattle.std.specs.Prelude.{◌≡◌, refl, Bool, List, [], ◌∷◌, ◌++◌, map, ℕ, zero, suc, ◌+◌, ◌≤◌, ◌<◌, ltb, length, get_or}
 use Rattle.std.proofs.Common.{sym, ap, ◌∙◌, append-nil, append_assoc, arith, ltb-true, ltb-false, length-append}
 use Rattle.std.proofs.lemmas.List.{map-append, length-map}
-use Rattle.std.proofs.Math.Option.{Option, some, none}
+use Rattle.std.specs.Prelude.{Option, Some, None}
 use Rattle.std.proofs.Math.ListN.{get_or-append}
 use Rattle.std.proofs.Math.Seq.{get_or-append_seam}
 use Rattle.definition.specs.Tree.{Element}
@@ -25,8 +25,8 @@ pub record Closest (level : ℕ → ℕ) (row p : ℕ) : Type 0 where
   pub between : (q : ℕ) → p < q → q < row → level row ≤ level q
 
 abbrev pub ParentBy : (ℕ → ℕ) → ℕ → Option ℕ → Type 0
-ParentBy level row none = (q : ℕ) → q < row → level row ≤ level q
-ParentBy level row (some p) = Closest level row p
+ParentBy level row None = (q : ℕ) → q < row → level row ≤ level q
+ParentBy level row (Some p) = Closest level row p
 
 -- those of rows of some levels that come after others
 abbrev pub parents_after : List ℕ → List ℕ → List (Option ℕ)
@@ -72,7 +72,7 @@ module _ (all : List ℕ) where
             between = λ q g i. omega (arith, own, ltb-false (at q) l (f.last q (at q) g (early q i)));
           })
 
-  parents_by : (before ls : List ℕ) (row r : ℕ) → all ≡ before ++ ls → r ≡ length before + row → row < length ls → ParentBy at r (get_or (parents_after before ls) row none)
+  parents_by : (before ls : List ℕ) (row r : ℕ) → all ≡ before ++ ls → r ≡ length before + row → row < length ls → ParentBy at r (get_or (parents_after before ls) row None)
   parents_by before [] row r e k h = absurd (omega arith)
   parents_by before (l ∷ ls) zero r e k h =
       let z : r ≡ length before = omega arith in
@@ -107,7 +107,7 @@ module _ (root : Element) where
   level_at_lem : (row : ℕ) (t : Element) → At (kept_tasks root) row t → level_at row ≡ level_of t
   level_at_lem row t h = get_d_at (map level_of (kept_tasks root)) row 0 (level_of t) (map_at level_of (kept_tasks root) row t h)
 
-  pub parent_by : (row : ℕ) → row < length (kept_tasks root) → ParentBy level_at row (get_or (parents_of (model_of root)) row none)
+  pub parent_by : (row : ℕ) → row < length (kept_tasks root) → ParentBy level_at row (get_or (parents_of (model_of root)) row None)
   parent_by row h =
       rw (model_parents root)
       (parents_by (map level_of (kept_tasks root)) [] (map level_of (kept_tasks root)) row row refl (omega arith) (omega (arith, length-map (kept_tasks root) level_of)))
@@ -115,12 +115,12 @@ module _ (root : Element) where
   pub nearest_parent : (row : ℕ) (a : Activity) → At (model_of root).activities row a → IsParent (kept_tasks root) row a.parent
   nearest_parent row a h = by a.parent (rw own at (parent_by row (omega (arith, as_many_lem root, at_in (model_of root).activities row a h))))
     where
-      own : get_or (parents_of (model_of root)) row none ≡ a.parent
-      own = get_d_at (parents_of (model_of root)) row none a.parent (map_at (λ (a : Activity). a.parent) (model_of root).activities row a h)
+      own : get_or (parents_of (model_of root)) row None ≡ a.parent
+      own = get_d_at (parents_of (model_of root)) row None a.parent (map_at (λ (a : Activity). a.parent) (model_of root).activities row a h)
 
       by : (o : Option ℕ) → ParentBy level_at row o → IsParent (kept_tasks root) row o
-      by none f = λ q t u k i j. omega (arith, f q k, level_at_lem row t i, level_at_lem q u j)
-      by (some p) f =
+      by None f = λ q t u k i j. omega (arith, f q k, level_at_lem row t i, level_at_lem q u j)
+      by (Some p) f =
           record {
             earlier = f.earlier;
             lower = λ t u i j. omega (arith, f.lower, level_at_lem row t i, level_at_lem p u j);

@@ -2,7 +2,7 @@
 use Rattle.std.specs.Prelude.{if◌then◌else◌, ◌≡◌, Bool, true, false, not}
 use Rattle.std.proofs.Common.{◌∙◌, arith}
 use mathlib.Core.List.{List, [], ◌∷◌, ◌++◌, map}
-use Rattle.std.proofs.Math.Option.{Option, some, none}
+use Rattle.std.specs.Prelude.{Option, Some, None}
 use Prim.Native.Nat.{ℕ, suc, ◌+◌, ◌≤◌, ◌<◌}
 use Rattle.std.proofs.Math.ListN.{length, length-append, length-map}
 use Rattle.definition.specs.Base.{◌>>=◌, ◌or◌, given, keep, some?, present, same}
@@ -31,8 +31,8 @@ row_in es u = last_row (λ (x : ℕ × Element). same (text_in x.1 "UID" or []) 
 pub present_most : {A : Type 0} (l : List (Option A)) → length (present l) ≤ length l
 unfolding present
 present_most [] = omega arith
-present_most (none ∷ l) = omega (arith, present_most l)
-present_most (some x ∷ l) = omega (arith, present_most l)
+present_most (None ∷ l) = omega (arith, present_most l)
+present_most (Some x ∷ l) = omega (arith, present_most l)
 
 -- ---- activities
 

@@ -1,7 +1,7 @@
 -- The texts of minutes and of times are read back. Assumes nothing.
 use Rattle.std.specs.Prelude.{◌≡◌, refl, Bool, true, false, [], ◌∷◌, ◌++◌, ℕ, ◌+◌, ◌*◌, ◌/◌, ◌%◌, ◌^◌, ◌≤◌, ◌<◌, Float}
 use Rattle.std.proofs.Common.{ap, ◌∙◌, subst, append_assoc, arith, le-leb, lt-ltb, ne_eqb}
-use Rattle.std.proofs.Math.Option.{some}
+use Rattle.std.specs.Prelude.{Some}
 use Rattle.std.specs.Float.{binary64}
 use Rattle.std.specs.Float.Ieee.{round, mul, div}
 use Rattle.definition.specs.Ascii.{bytes}
@@ -57,7 +57,7 @@ piece_zero = piece_digits (bytes "0") 0 refl (omega arith) ∙ ap value float_ze
 abbrev clock : Text → Text → Text
 clock x y = bytes "PT" ++ (x ++ (bytes "H" ++ (y ++ bytes "M0S")))
 
-figures_clock : (x y : Text) (h m : ℕ) → digits x ≡ some h → digits y ≡ some m → h < 10 ^ 15 → m < 10 ^ 15
+figures_clock : (x y : Text) (h m : ℕ) → digits x ≡ Some h → digits y ≡ Some m → h < 10 ^ 15 → m < 10 ^ 15
     → figures_of (clock x y) ≡ value (figures (float h) (float m))
 unfolding figures_of before after days_of time_figures set_unit figures
 figures_clock x y h m p q a b =
@@ -89,8 +89,8 @@ no_colon : (b : ℕ) → 48 ≤ b → b ≤ 57 → is_colon b ≡ false
 no_colon b l u = ne_eqb 58 b (λ e. omega arith)
 
 -- hours, a colon, minutes, a colon, and what is not read
-pub time_parts_lem : (x y z : Text) (h m : ℕ) → digits x ≡ some h → digits y ≡ some m → h ≤ 24 → m < 60 → h * 60 + m ≤ most_time
-    → time_parts (x ++ (bytes ":" ++ (y ++ (bytes ":" ++ z)))) ≡ some (h * 60 + m)
+pub time_parts_lem : (x y z : Text) (h m : ℕ) → digits x ≡ Some h → digits y ≡ Some m → h ≤ 24 → m < 60 → h * 60 + m ≤ most_time
+    → time_parts (x ++ (bytes ":" ++ (y ++ (bytes ":" ++ z)))) ≡ Some (h * 60 + m)
 unfolding time_parts
 time_parts_lem x y z h m p q a b l =
     let x_free = digits_free no_colon x h p in
@@ -100,7 +100,7 @@ time_parts_lem x y z h m p q a b l =
     (rw (le-leb h 24 a, lt-ltb m 60 b, le-leb (h * 60 + m) most_time l)))
 
 -- the text of a time is read back
-pub time_back : (t : ℕ) → t ≤ most_time → time_of (time_text t) ≡ some t
+pub time_back : (t : ℕ) → t ≤ most_time → time_of (time_text t) ≡ Some t
 unfolding time_of time_text
 time_back t l =
     let h = t / 60 in
@@ -108,4 +108,4 @@ time_back t l =
     let inner = (h % 10 + 48) ∷ (bytes ":" ++ (two_digits m ++ bytes ":0")) in
     rw (trim_ends (h / 10 + 48) inner 48 (plain_digit (h / 10 + 48) (omega arith) (omega arith)) (plain_digit 48 (omega arith) (omega arith)))
     (time_parts_lem (two_digits h) (two_digits m) (bytes "00") h m (digits_two h (omega arith)) (digits_two m (omega arith)) (omega arith) (omega arith) (omega arith)
-    ∙ ap some (omega arith))
+    ∙ ap Some (omega arith))

@@ -3,7 +3,7 @@
 -- parents are found by; a row of the outline has its own, 1 without a parent and else one more than its parent's. Assumes nothing.
 use Rattle.std.specs.Prelude.{◌≡◌, Bool, false, ◌&&◌, not, ℕ, zero, suc, ◌+◌, ◌*◌, ◌≤◌, ◌<◌, length, take, Float}
 use mathlib.Core.List.{List, [], ◌++◌, map, flat_map}
-use Rattle.std.proofs.Math.Option.{Option, some, none}
+use Rattle.std.specs.Prelude.{Option, Some, None}
 use Rattle.std.specs.Float.Ieee.{le, eq}
 use Rattle.definition.specs.Base.{◌>>=◌, ◌or◌, given, when, some?, keep, count, numbered, same}
 use Rattle.definition.specs.Ascii.{bytes}
@@ -36,7 +36,7 @@ task_elements root = all_in (child root (bytes "Tasks")) (bytes "Task")
 -- it has a UID other than `0`, and a level of at least 1
 pub record IsTask (t : Element) : Type 0 where
   pub uid : Text
-  pub has : text_in t "UID" ≡ some uid
+  pub has : text_in t "UID" ≡ Some uid
   pub other : uid ≡ bytes "0" → ⊥
   pub level : 1 ≤ level_of t
 
@@ -74,7 +74,7 @@ pub record Starred (m : Model) (row : ℕ) (wanted id : Text) : Type 0 where
 -- milestone whether a kept link enters the row, the duration MinutesPerDay of the Project, and the calendar the names of the calendars
 pub record MadeFrom (root : Element) (m : Model) (row : ℕ) (t : Element) (a : Activity) : Type 0 where
   pub whole : a ≡ activity_of (context_of root) (map (λ (b : Activity). b.id) (take row m.activities)) (map level_of (take row (kept_tasks root))) (entered m.links row) t
-  pub uid : text_in t "UID" ≡ some a.uid
+  pub uid : text_in t "UID" ≡ Some a.uid
   pub name : a.name ≡ text_in t "Name" or []
   pub notes : a.notes ≡ text_in t "Notes" or []
   pub deadline : a.deadline ≡ date_in t "Deadline"
@@ -95,8 +95,8 @@ abbrev pub NoneLower : List Element → ℕ → Type 0
 NoneLower tasks row = (q : ℕ) (t u : Element) → q < row → At tasks row t → At tasks q u → level_of t ≤ level_of u
 
 abbrev pub IsParent : List Element → ℕ → Option ℕ → Type 0
-IsParent tasks row none = NoneLower tasks row
-IsParent tasks row (some p) = Nearest tasks row p
+IsParent tasks row None = NoneLower tasks row
+IsParent tasks row (Some p) = Nearest tasks row p
 
 -- ---- link elements
 
@@ -106,8 +106,8 @@ link_elements root = flat_map (λ (x : ℕ × Element). map (λ e. (x.0, e)) (al
 
 -- the UID that it names is some kept task's
 abbrev pub names_one : List Element → Option Text → Bool
-names_one tasks none = false
-names_one tasks (some u) = some? (λ t. same (text_in t "UID" or []) u) tasks
+names_one tasks None = false
+names_one tasks (Some u) = some? (λ t. same (text_in t "UID" or []) u) tasks
 
 abbrev pub goes_across : ℕ × Element → Bool
 goes_across x = yes_in x.1 "CrossProject"
@@ -139,8 +139,8 @@ sum_in t = text_in t "Duration" >>= λ s. found (figures_of (trim s)) >>= λ f. 
 
 -- it is not the whole number that it is rounded to
 abbrev pub in_part : Option Float → Bool
-in_part none = false
-in_part (some x) = not (eq x (float (half_away x)))
+in_part None = false
+in_part (Some x) = not (eq x (float (half_away x)))
 
 -- ---- calendars
 
@@ -162,7 +162,7 @@ pub record OfEveryRead (tree : Text) (l : List ℕ) : Type 0 where
   -- the bytes decode to the model of the tree, each part fits its field, and the check passes
   pub model : Model
   pub of_tree : model ≡ model_of (root_of tree)
-  pub decodes : decode l ≡ some model
+  pub decodes : decode l ≡ Some model
   pub fits : FitsModel model
   pub passes : check_answer l ≡ 0
   -- so parents lie above, rows are in range, each calendar name used is some calendar's; ids are distinct, and so are expenses
@@ -175,11 +175,11 @@ pub record OfEveryRead (tree : Text) (l : List ℕ) : Type 0 where
   pub made : (row : ℕ) (t : Element) (a : Activity) → At (kept_tasks (root_of tree)) row t → At model.activities row a → MadeFrom (root_of tree) model row t a
   -- the parent of each is the nearest earlier kept task of a lower level; it has none exactly when there is no such task
   pub parent : (row : ℕ) (a : Activity) → At model.activities row a → IsParent (kept_tasks (root_of tree)) row a.parent
-  pub orphan : (row : ℕ) (a : Activity) → At model.activities row a → NoneLower (kept_tasks (root_of tree)) row → a.parent ≡ none
+  pub orphan : (row : ℕ) (a : Activity) → At model.activities row a → NoneLower (kept_tasks (root_of tree)) row → a.parent ≡ None
   -- the outline gives them in the same order, each one level below its parent, from 1
   pub order : map (λ (x : ℕ × ℕ). x.0) (outline model) ≡ count 0 (length model.activities)
-  pub top : (row : ℕ) (a : Activity) → At model.activities row a → a.parent ≡ none → At (outline model) row (row, 1)
-  pub under : (row p level : ℕ) (a : Activity) → At model.activities row a → a.parent ≡ some p → At (outline model) p (p, level) → At (outline model) row (row, suc level)
+  pub top : (row : ℕ) (a : Activity) → At model.activities row a → a.parent ≡ None → At (outline model) row (row, 1)
+  pub under : (row p level : ℕ) (a : Activity) → At model.activities row a → a.parent ≡ Some p → At (outline model) p (p, level) → At (outline model) row (row, suc level)
   pub outlined : (rows work : ℕ) → 2 * length model.activities ≤ rows → 4 * length model.activities ≤ work → outline_answer l rows work ≡ gives (row_words (outline model))
   -- row k of the links is the k-th link element that is kept, and there are as many
   pub links_many : length model.links ≡ length (keep (stays (root_of tree)) (link_elements (root_of tree)))
@@ -194,5 +194,5 @@ pub record OfEveryRead (tree : Text) (l : List ℕ) : Type 0 where
   pub skipped : model.project.skipped ≡ length (keep gives_no_rule (exception_elements (root_of tree)))
   -- the calendar of row 0 is the main one; no activity and no resource names it, so that no name means the main one
   pub main : At model.calendars 0 (main_of (root_of tree))
-  pub activity_other : (row : ℕ) (a : Activity) → At model.activities row a → a.calendar ≡ some (main_of (root_of tree)).name → ⊥
-  pub resource_other : (row : ℕ) (r : Resource) → At model.resources row r → r.calendar ≡ some (main_of (root_of tree)).name → ⊥
+  pub activity_other : (row : ℕ) (a : Activity) → At model.activities row a → a.calendar ≡ Some (main_of (root_of tree)).name → ⊥
+  pub resource_other : (row : ℕ) (r : Resource) → At model.resources row r → r.calendar ≡ Some (main_of (root_of tree)).name → ⊥

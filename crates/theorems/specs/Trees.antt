@@ -2,7 +2,7 @@
 -- every element whose records keep the layout is read from some bytes. Assumes nothing.
 use Rattle.std.specs.Prelude.{◌≡◌, refl, true, false, List, [], ◌∷◌, ◌++◌, ℕ, zero, suc, ◌+◌, ◌/◌, ◌^◌, ◌≤◌, ◌<◌, length, take, drop}
 use Rattle.std.proofs.Common.{sym, ap, ◌∙◌, append_assoc, append-nil, arith, le-leb, le-ltb, lt-ltb, eq-eqb, ne_eqb, length-append, take_at, drop_at}
-use Rattle.std.proofs.Math.Option.{some}
+use Rattle.std.specs.Prelude.{Some}
 use Rattle.definition.specs.Base.{every?, some?}
 use Rattle.definition.specs.Bits.{Bits, enc, bits_of}
 use Rattle.definition.specs.Text.{Text}
@@ -44,7 +44,7 @@ head_bits r = whole_bits (head_binary r) (omega (arith, head_length r))
 
 -- a body is taken from what follows its head
 body_back : (depth : ℕ) (name text rest : Text)
-    → body_of depth (length name) (length text) (name ++ (text ++ rest)) ≡ some (record { depth = depth; name = name; text = text }, rest)
+    → body_of depth (length name) (length text) (name ++ (text ++ rest)) ≡ Some (record { depth = depth; name = name; text = text }, rest)
 body_back depth name text rest =
     let l : length name + length text ≤ length (name ++ (text ++ rest)) = omega (arith, length-append name (text ++ rest), length-append text rest) in
     let d : drop (length name + length text) (name ++ (text ++ rest)) ≡ rest =
@@ -52,7 +52,7 @@ body_back depth name text rest =
     rw (le-leb (length name + length text) (length (name ++ (text ++ rest))) l, d)
     (rw (take_at name (text ++ rest) (length name) refl, drop_at name (text ++ rest) (length name) refl, take_at text rest (length text) refl))
 
-record_back : (r : Rec) (rest : Text) → Packs r → record_of (head_of r ++ (r.name ++ (r.text ++ rest))) ≡ some (r, rest)
+record_back : (r : Rec) (rest : Text) → Packs r → record_of (head_of r ++ (r.name ++ (r.text ++ rest))) ≡ Some (r, rest)
 unfolding record_of
 record_back r rest p =
     let body = r.name ++ (r.text ++ rest) in

@@ -3,7 +3,7 @@
 use Rattle.std.specs.Prelude.{if◌then◌else◌, ◌≡◌, refl, Bool, true, false, ◌&&◌, ◌||◌, ℕ, zero, suc, ◌≤◌, ◌<◌, leb, eqb, drop, get_or}
 use Rattle.std.proofs.Common.{sym, ap, ◌∙◌, subst, true≢false, arith, le-leb, eqb-true, ne_eqb}
 use mathlib.Core.List.{List, [], ◌∷◌, ◌++◌, reverse, reverse-cons, append_assoc}
-use Rattle.std.proofs.Math.Option.{Option, some, none}
+use Rattle.std.specs.Prelude.{Option, Some, None}
 use Rattle.std.proofs.lemmas.Bool.{lt-leb}
 use Rattle.definition.specs.Base.{when, within, every?}
 use Rattle.definition.specs.Text.{Text, tail_byte, following, utf8_after, is_utf8, white1, white2, white3, front_width, strip}
@@ -44,7 +44,7 @@ goes_following b =
 no : {A : Type 0} → false ≡ true → A
 no h = absurd (true≢false (sym h))
 
-utf8_none : (s : Text) → utf8_after s none ≡ false
+utf8_none : (s : Text) → utf8_after s None ≡ false
 unfolding utf8_after
 utf8_none [] = refl
 utf8_none (b ∷ s) = refl
@@ -52,19 +52,19 @@ utf8_none (b ∷ s) = refl
 -- one text after another
 utf8_both : (s : Text) (o : Option (List (ℕ × ℕ))) (t : Text) → utf8_after s o ≡ true → is_utf8 t ≡ true → utf8_after (s ++ t) o ≡ true
 unfolding utf8_after is_utf8
-utf8_both [] none t h k = no h
-utf8_both [] (some []) t h k = k
-utf8_both [] (some (r ∷ rs)) t h k = no h
-utf8_both (b ∷ s) none t h k = no h
-utf8_both (b ∷ s) (some []) t h k = utf8_both s (following b) t h k
-utf8_both (b ∷ s) (some (r ∷ rs)) t h k = utf8_both s (when (within r.0 r.1 b) rs) t h k
+utf8_both [] None t h k = no h
+utf8_both [] (Some []) t h k = k
+utf8_both [] (Some (r ∷ rs)) t h k = no h
+utf8_both (b ∷ s) None t h k = no h
+utf8_both (b ∷ s) (Some []) t h k = utf8_both s (following b) t h k
+utf8_both (b ∷ s) (Some (r ∷ rs)) t h k = utf8_both s (when (within r.0 r.1 b) rs) t h k
 
 pub utf8_append : (s t : Text) → is_utf8 s ≡ true → is_utf8 t ≡ true → is_utf8 (s ++ t) ≡ true
 unfolding is_utf8
-utf8_append s t h k = utf8_both s (some []) t h k
+utf8_append s t h k = utf8_both s (Some []) t h k
 
 -- plain bytes are characters
-plain_following : (b : ℕ) → b < 128 → following b ≡ some []
+plain_following : (b : ℕ) → b < 128 → following b ≡ Some []
 unfolding following
 plain_following b h = rw (is_within 0 0x7F b (omega arith, omega arith))
 
@@ -106,11 +106,11 @@ utf8_before s b t g h = cut_at s b t g (there empty) h
 
 -- ---- white space in front
 
-gone : (r : ℕ × ℕ) (rs : List (ℕ × ℕ)) (b : ℕ) (s : Text) → utf8_after (b ∷ s) (some (r ∷ rs)) ≡ true → utf8_after s (some rs) ≡ true
+gone : (r : ℕ × ℕ) (rs : List (ℕ × ℕ)) (b : ℕ) (s : Text) → utf8_after (b ∷ s) (Some (r ∷ rs)) ≡ true → utf8_after s (Some rs) ≡ true
 unfolding utf8_after
 gone r rs b s h = by (within r.0 r.1 b) h
   where
-    by : (t : Bool) → utf8_after s (when t rs) ≡ true → utf8_after s (some rs) ≡ true
+    by : (t : Bool) → utf8_after s (when t rs) ≡ true → utf8_after s (Some rs) ≡ true
     by true h = h
     by false h = no (sym (utf8_none s) ∙ h)
 
@@ -135,11 +135,11 @@ white3_first a b c h =
     is : (n : ℕ) → eqb a n ≡ true → 0xE1 ≤ n → n ≤ 0xEC → (0xE1 ≤ a) × (a ≤ 0xEC)
     is n e p q = let k = eqb-true a n e in (omega arith, omega arith)
 
-two_follow : (a : ℕ) → a ≡ 0xC2 → following a ≡ some (tail_byte ∷ [])
+two_follow : (a : ℕ) → a ≡ 0xC2 → following a ≡ Some (tail_byte ∷ [])
 unfolding following
 two_follow a e = rw e
 
-three_follow : (a : ℕ) → 0xE1 ≤ a → a ≤ 0xEC → following a ≡ some (tail_byte ∷ tail_byte ∷ [])
+three_follow : (a : ℕ) → 0xE1 ≤ a → a ≤ 0xEC → following a ≡ Some (tail_byte ∷ tail_byte ∷ [])
 unfolding following
 three_follow a p q =
     simp (
@@ -165,11 +165,11 @@ unfolding front_width is_utf8 utf8_after
 front_step [] h = drop_none (front_width 0 0 0)
 front_step (a ∷ s) h = by (white1 a) (white2 a (get_or s 0 0)) (white3 a (get_or s 0 0) (get_or s 1 0)) refl refl refl
   where
-    two : (s : Text) → utf8_after s (some (tail_byte ∷ [])) ≡ true → is_utf8 (drop 1 s) ≡ true
+    two : (s : Text) → utf8_after s (Some (tail_byte ∷ [])) ≡ true → is_utf8 (drop 1 s) ≡ true
     two [] k = refl
     two (b ∷ s) k = gone tail_byte [] b s k
 
-    three : (s : Text) → utf8_after s (some (tail_byte ∷ tail_byte ∷ [])) ≡ true → is_utf8 (drop 2 s) ≡ true
+    three : (s : Text) → utf8_after s (Some (tail_byte ∷ tail_byte ∷ [])) ≡ true → is_utf8 (drop 2 s) ≡ true
     three [] k = refl
     three (b ∷ s) k = two s (gone tail_byte (tail_byte ∷ []) b s k)
 

@@ -3,7 +3,7 @@ use mathlib.Core.Path.{◌≡◌, refl, ap, sym, ◌∙◌}
 use mathlib.Core.Logic.{◌⊎◌, inl, inr}
 use mathlib.Core.List.{List, [], ◌∷◌, ◌++◌}
 use mathlib.Core.Bool.{Bool, true, false}
-use mathlib.Core.Option.{some, none}
+use Rattle.std.specs.Prelude.{Some, None}
 use Prim.Native.Nat.{ℕ, zero, suc, ◌+◌, ◌-◌, ◌*◌, ◌/◌, ◌%◌, ◌≤◌, ◌<◌}
 use native.Mathlib.Omega.{arith}
 use lib.ListN.{length, get_or, take, drop, length-take, length-drop}
@@ -41,14 +41,14 @@ abbrev rec_in : Text → ℕ → ℕ → ℕ → Rec
 rec_in t d n k = record { depth = d; name = take n (drop head_bytes t); text = take k (drop n (drop head_bytes t)) }
 
 body_whole : (d n k : ℕ) (t : Text) → head_bytes + (n + k) ≤ length t
-    → body_of d n k (drop head_bytes t) ≡ some (rec_in t d n k, drop (n + k) (drop head_bytes t))
+    → body_of d n k (drop head_bytes t) ≡ Some (rec_in t d n k, drop (n + k) (drop head_bytes t))
 body_whole d n k t h = let q : n + k ≤ length (drop head_bytes t) = omega (arith, length-drop head_bytes t) in simp (le-leb _ _ q)
 
-body_cut : (d n k : ℕ) (t : Text) → head_bytes ≤ length t → length t < head_bytes + (n + k) → body_of d n k (drop head_bytes t) ≡ none
+body_cut : (d n k : ℕ) (t : Text) → head_bytes ≤ length t → length t < head_bytes + (n + k) → body_of d n k (drop head_bytes t) ≡ None
 body_cut d n k t g h = let q : length (drop head_bytes t) < n + k = omega (arith, length-drop head_bytes t) in simp (lt-leb _ _ q)
 
 module _ (t : Text) where
-  record_short : length t < head_bytes → record_of t ≡ none
+  record_short : length t < head_bytes → record_of t ≡ None
   unfolding record_of
   record_short h = rw (lt-ltb _ _ h)
 
@@ -57,13 +57,13 @@ module _ (t : Text) where
   record_long h = rw (le-ltb _ _ h)
 
   record_whole : head_bytes + (name_in t + text_in t) ≤ length t
-      → record_of t ≡ some (rec_in t (depth_in t) (name_in t) (text_in t), drop (name_in t + text_in t) (drop head_bytes t))
+      → record_of t ≡ Some (rec_in t (depth_in t) (name_in t) (text_in t), drop (name_in t + text_in t) (drop head_bytes t))
   record_whole h = record_long (omega arith) ∙ body_whole _ _ _ t h
 
-  record_cut : length t < head_bytes + (name_in t + text_in t) → record_of t ≡ none
+  record_cut : length t < head_bytes + (name_in t + text_in t) → record_of t ≡ None
   record_cut h = go (le_or_lt head_bytes (length t))
     where
-      go : (head_bytes ≤ length t) ⊎ (length t < head_bytes) → record_of t ≡ none
+      go : (head_bytes ≤ length t) ⊎ (length t < head_bytes) → record_of t ≡ None
       go (inl p) = record_long p ∙ body_cut _ _ _ t p h
       go (inr p) = record_short p
 
@@ -80,10 +80,10 @@ module _ (s : Text) (at : ℕ) where
   text_at = text_in (drop at s)
 
   at_whole : at + head_bytes + name_at + text_at ≤ length s
-      → record_of (drop at s) ≡ some (rec_in (drop at s) depth_at name_at text_at, drop (name_at + text_at) (drop head_bytes (drop at s)))
+      → record_of (drop at s) ≡ Some (rec_in (drop at s) depth_at name_at text_at, drop (name_at + text_at) (drop head_bytes (drop at s)))
   at_whole h = record_whole (drop at s) (omega (arith, length-drop at s))
 
-  at_cut : length s < at + head_bytes + name_at + text_at → record_of (drop at s) ≡ none
+  at_cut : length s < at + head_bytes + name_at + text_at → record_of (drop at s) ≡ None
   at_cut h = record_cut (drop at s) (omega (arith, length-drop at s))
 
   pub head_whole : at + head_bytes + name_at + text_at ≤ length s

@@ -5,7 +5,7 @@ use native.Mathlib.Omega.{arith}
 use mathlib.Core.Path.{◌≡◌, refl, sym, ap, ◌∙◌, subst}
 use mathlib.Core.Bool.{Bool, true, false}
 use mathlib.Core.List.{List}
-use mathlib.Core.Option.{Option, some}
+use Rattle.std.specs.Prelude.{Option, Some}
 use lib.Dec.{ltb}
 use lib.ListN.{length}
 use borrow.Author.Tests.{le-ltb, lt-ltb}
@@ -61,9 +61,9 @@ module _ (P Q : Text → ℕ → Type 0) where
 
 -- the first of a name among the records from `from` on was noted at x, or stands from p on
 abbrev Left : Text → ℕ → ℕ → ℕ → Text → ℕ → Type 0
-Left s w from p n x = first (row s n w from) ≡ (if ltb x (length s) then some (element_at s x) else first (row s n w p))
+Left s w from p n x = first (row s n w from) ≡ (if ltb x (length s) then Some (element_at s x) else first (row s n w p))
 
-first_hit : (s n : Text) (p : ℕ) {l : List Element} → l ≡ list_of s n (At p) → first l ≡ some (element_at s p)
+first_hit : (s n : Text) (p : ℕ) {l : List Element} → l ≡ list_of s n (At p) → first l ≡ Some (element_at s p)
 unfolding first list_of
 first_hit s n p e = rw e
 
@@ -73,10 +73,10 @@ module _ (s : Text) (w from : ℕ) where
 
   left_end : (p : ℕ) (n : Text) (x : ℕ) → row s n w p ≡ list_of s n Nothing → Left s w from p n x → Stands s x (first (row s n w from))
   unfolding first list_of
-  left_end p n x e h = record { is = h ∙ ap (λ (o : Option Element). if ltb x (length s) then some (element_at s x) else o) (ap (λ l. first l) e) }
+  left_end p n x e h = record { is = h ∙ ap (λ (o : Option Element). if ltb x (length s) then Some (element_at s x) else o) (ap (λ l. first l) e) }
 
   left_same : (p q : ℕ) (n : Text) (x : ℕ) → row s n w p ≡ row s n w q → Left s w from p n x → Left s w from q n x
-  left_same p q n x e h = h ∙ ap (λ (o : Option Element). if ltb x (length s) then some (element_at s x) else o) (ap (λ l. first l) e)
+  left_same p q n x e h = h ∙ ap (λ (o : Option Element). if ltb x (length s) then Some (element_at s x) else o) (ap (λ l. first l) e)
 
   module _ (p : ℕ) {d a b e : ℕ} (g : head_at s p ≡ Whole d a b e) (k : d ≡ w) where
     left_noted : (n : Text) (x : ℕ) → Left s w from p n x → Left s w from e n (note_at s p n x)

@@ -1,7 +1,7 @@
 -- What callers learn from `child` and `next_child`, by the answer that they are in. Assumes nothing.
 use Rattle.std.specs.Prelude.{◌≡◌, List, [], ◌∷◌, ℕ, ◌≤◌, ◌<◌, length}
 use Rattle.std.proofs.Common.{◌∙◌}
-use Rattle.std.proofs.Math.Option.{some, none}
+use Rattle.std.specs.Prelude.{Some, None}
 use Rattle.definition.specs.Base.{first}
 use Rattle.definition.specs.Text.{Text}
 use Rattle.definition.specs.Tree.{Element, all, child}
@@ -23,10 +23,10 @@ module _ {s n : Text} {l : List Element} {m : ℕ} {r : Found} (h : Starts s n l
   found_on e = rw e at h.on
 
 module _ {s n : Text} (el : Element) {m : ℕ} {r : Found} (h : Starts s n (all el n) m r) where
-  pub found_child : {p : ℕ} → r ≡ At p → child el n ≡ some (element_at s p)
+  pub found_child : {p : ℕ} → r ≡ At p → child el n ≡ Some (element_at s p)
   unfolding child first
   found_child e = rw (found_list h e)
 
-  pub none_child : r ≡ Nothing → child el n ≡ none
+  pub none_child : r ≡ Nothing → child el n ≡ None
   unfolding child first
   none_child e = rw (none_list h e)

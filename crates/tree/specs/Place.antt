@@ -1,6 +1,6 @@
 -- From positions in the bytes of a tree to the definition's records and elements. Assumes nothing: these are definitions.
 use Rattle.std.specs.Prelude.{if◌then◌else◌, ℕ, ◌≤◌, ◌<◌, ◌+◌, ◌*◌, ◌≡◌, List, [], ◌∷◌, length, get_or, drop, leb}
-use Rattle.std.proofs.Math.Option.{Option, some, none}
+use Rattle.std.specs.Prelude.{Option, Some, None}
 use Rattle.definition.specs.Base.{keep, same}
 use Rattle.definition.specs.Text.{Text}
 use Rattle.definition.specs.Tree.{Rec, head_bytes, record_of, records, layout, Forest, nothing, Element, elements, level, element}
@@ -21,8 +21,8 @@ pub record IsWord (s : Text) (i r : ℕ) : Type 0 where
 
 -- where the name, the text and the next record of the record at a position begin; Cut where none is whole
 unfoldable pub head_by : ℕ → Option (Rec × Text) → Head
-head_by at none = Cut
-head_by at (some (r, rest)) =
+head_by at None = Cut
+head_by at (Some (r, rest)) =
     Whole r.depth (at + head_bytes) (at + head_bytes + length r.name) (at + head_bytes + length r.name + length r.text)
 
 unfoldable pub head_at : Text → ℕ → Head

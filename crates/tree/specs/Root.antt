@@ -3,7 +3,7 @@ use Rattle.std.specs.Prelude.{if◌then◌else◌, ℕ, ◌≡◌, Bool, [], len
 use Rattle.std.proofs.Math.Path.{refl}
 use Rattle.std.proofs.Common.{◌∙◌, ltb-false, drop_of_length-le}
 use Rattle.std.proofs.Math.Bool.{true, false}
-use Rattle.std.proofs.Math.Option.{Option, some, none}
+use Rattle.std.specs.Prelude.{Option, Some, None}
 use Rattle.std.proofs.Math.Dec.{ltb}
 use Rattle.definition.specs.Base.{◌>>=◌, keep, first, same}
 use Rattle.definition.specs.Ascii.{bytes}
@@ -100,7 +100,7 @@ pub record Parts (P : Text → ℕ → Type 0) (r : Root) : Type 0 where
 
 -- p is where an element stands, or past the end where there is none
 pub record Stands (s : Text) (p : ℕ) (o : Option Element) : Type 0 where
-  pub is : o ≡ (if ltb p (length s) then some (element_at s p) else none)
+  pub is : o ≡ (if ltb p (length s) then Some (element_at s p) else None)
 
 -- nothing stands past the end
 past_end : (s : Text) (p : ℕ) → ltb p (length s) ≡ false → element_at s p ≡ element []
@@ -113,16 +113,16 @@ module _ {s : Text} {p : ℕ} {o : Option Element} (h : Stands s p o) where
   stands_all n = go (ltb p (length s)) refl
     where
       go : (b : Bool) → ltb p (length s) ≡ b → all (element_at s p) n ≡ all_in o n
-      go true e = let i : o ≡ some (element_at s p) = h.is ∙ rw e in rw i
-      go false e = let i : o ≡ none = h.is ∙ rw e in rw (i, past_end s p e)
+      go true e = let i : o ≡ Some (element_at s p) = h.is ∙ rw e in rw i
+      go false e = let i : o ≡ None = h.is ∙ rw e in rw (i, past_end s p e)
 
   pub stands_text : own_text (element_at s p) ≡ (o >>= λ c. own_text c)
   unfolding element trim trim_front trim_back strip
   stands_text = go (ltb p (length s)) refl
     where
       go : (b : Bool) → ltb p (length s) ≡ b → own_text (element_at s p) ≡ (o >>= λ c. own_text c)
-      go true e = let i : o ≡ some (element_at s p) = h.is ∙ rw e in rw i
-      go false e = let i : o ≡ none = h.is ∙ rw e in rw (i, past_end s p e)
+      go true e = let i : o ≡ Some (element_at s p) = h.is ∙ rw e in rw i
+      go false e = let i : o ≡ None = h.is ∙ rw e in rw (i, past_end s p e)
 
 -- ---- the walk
 

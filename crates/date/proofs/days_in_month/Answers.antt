@@ -1,5 +1,5 @@
 use mathlib.Core.Path.{◌≡◌, ◌∙◌, ap}
-use mathlib.Core.Option.{some}
+use Rattle.std.specs.Prelude.{Some}
 use lib.IntN.{ℤ}
 use Rattle.definition.specs.Base.{◌or◌}
 use Rattle.definition.specs.Date.{year_at}
@@ -11,7 +11,7 @@ use Rattle.date.proofs.days_in_month.Goals.{After-year_at-y, Else-y-eq0}
 told : (c : After-year_at-y) → c.year_at-y.result ≡ year_at c.args.year or 0
 told c = c.year_at-y.ensures ∙ ap (λ (z : ℤ). year_at z or 0) (back c.args.year c.ranges.year)
 
-given : (c : Else-y-eq0) → year_at c.args.year ≡ some c.year_at-y.result
+given : (c : Else-y-eq0) → year_at c.args.year ≡ Some c.year_at-y.result
 given c = some_placed (year_at c.args.year) _ (told c.before) c.if-y-eq0.false
 
 pub returns-then-y-eq0 : goal.returns-then-y-eq0
@@ -20,7 +20,7 @@ returns-then-y-eq0 c = rw (no_year c.args.year _ (told (goal.at.returns-then-y-e
 
 pub returns-then-month : goal.returns-then-month
 unfolding length_at length_meaning
-returns-then-month c = rw (given (goal.at.returns-then-month c).Else-y-eq0, c.if-month.true) (ap some c.month_length.ensures)
+returns-then-month c = rw (given (goal.at.returns-then-month c).Else-y-eq0, c.if-month.true) (ap Some c.month_length.ensures)
 
 pub returns : goal.returns
 unfolding length_at length_meaning

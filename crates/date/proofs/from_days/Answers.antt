@@ -2,7 +2,7 @@ use mathlib.Core.Path.{◌≡◌, ◌∙◌, sym, ap}
 use lib.IntN.{ℤ}
 use Rattle.definition.specs.Base.{◌or◌}
 use Rattle.definition.specs.Date.{from_days, day_number}
-use mathlib.Core.Option.{some}
+use Rattle.std.specs.Prelude.{Some}
 use Rattle.definition.specs.Answer.{date_meaning, day_number_of}
 use Rattle.date.proofs.Signs.{back, no_day, some_placed, days_counted}
 use Rattle.date.proofs.from_days.Goals as goal
@@ -19,4 +19,4 @@ pub returns : goal.returns
 unfolding date_meaning day_number_of day_number
 returns c =
     let e = some_placed (from_days c.args.n) _ (told (goal.at.returns c).After-date_of_number) c.if-date_of_number-eq0.false in
-    rw e (ap some (back c.args.n c.ranges.n ∙ sym (days_counted c.args.n _ e).number))
+    rw e (ap Some (back c.args.n c.ranges.n ∙ sym (days_counted c.args.n _ e).number))

@@ -3,7 +3,7 @@ use Prim.Native.Nat.{ℕ, ◌≤◌}
 use lib.IntN.{ℤ, pos, ◌-ℤ◌}
 use Rattle.definition.specs.Base.{◌or◌}
 use Rattle.definition.specs.Date.{year_at, from_ymd, day_number, epoch}
-use mathlib.Core.Option.{some}
+use Rattle.std.specs.Prelude.{Some}
 use Rattle.date.specs.Answer.{is_day}
 use Rattle.definition.specs.Answer.{date_meaning, day_number_of}
 use Rattle.laws.specs.Calendar.{IsDay}
@@ -16,7 +16,7 @@ use Rattle.date.proofs.from_ymd.Goals.{After-day_at-d, After-year_at-y, Else-y-e
 told : (c : After-year_at-y) → c.year_at-y.result ≡ year_at c.args.year or 0
 told c = c.year_at-y.ensures ∙ ap (λ (z : ℤ). year_at z or 0) (back c.args.year c.ranges.year)
 
-given : (c : Else-y-eq0) → year_at c.args.year ≡ some c.year_at-y.result
+given : (c : Else-y-eq0) → year_at c.args.year ≡ Some c.year_at-y.result
 given c = some_placed (year_at c.args.year) _ (told c.before) c.if-y-eq0.false
 
 valid : (c : Then-is_day) → IsDay c.year_at-y.result c.args.month c.args.day
@@ -48,7 +48,7 @@ returns-then-is_day c =
     let n = difference_back c.day_at-d.result epoch b.fact_1 b.fact_2 c.lowered.result c.lowered.ensures
     ∙ ap (λ (k : ℕ). pos k -ℤ pos epoch) c.day_at-d.ensures in
     let t = sym c.is_day.ensures ∙ c.if-is_day.true in
-    rw (given (goal.at.returns-then-is_day c).Else-y-eq0, t) (ap some n)
+    rw (given (goal.at.returns-then-is_day c).Else-y-eq0, t) (ap Some n)
 
 pub returns : goal.returns
 unfolding date_meaning day_number_of from_ymd is_day day_number

@@ -1,4 +1,4 @@
-use mathlib.Core.Option.{some}
+use Rattle.std.specs.Prelude.{Some}
 use mathlib.Core.Path.{◌≡◌, ◌∙◌, ap}
 use lib.IntN.{ℤ}
 use Rattle.definition.specs.Base.{◌or◌}
@@ -20,4 +20,4 @@ returns-then-n-eq0 c = rw (no_day c.args.d.0 _ (told (goal.at.returns-then-n-eq0
 pub returns : goal.returns
 unfolding weekday_at weekday_meaning
 returns c =
-    rw (some_placed (from_days c.args.d.0) _ (told (goal.at.returns c).After-date_of_number-n) c.if-n-eq0.false) (ap some c.weekday_of.ensures)
+    rw (some_placed (from_days c.args.d.0) _ (told (goal.at.returns c).After-date_of_number-n) c.if-n-eq0.false) (ap Some c.weekday_of.ensures)

@@ -2,7 +2,7 @@ use mathlib.Core.Path.{◌≡◌, ◌∙◌, ap}
 use lib.IntN.{ℤ, pos, ◌-ℤ◌}
 use Rattle.definition.specs.Base.{◌or◌}
 use Rattle.definition.specs.Date.{from_days, ymd_of}
-use mathlib.Core.Option.{some}
+use Rattle.std.specs.Prelude.{Some}
 use Rattle.date.specs.Answer.{ymd_meaning, ymd_at, civil_of}
 use Rattle.date.specs.declared.Civil.{Civil}
 use Rattle.date.proofs.Steps.{year_most}
@@ -16,7 +16,7 @@ told c =
     let z = c.args.d.0 in
     c.date_of_number-n.ensures ∙ ap (λ (z : ℤ). from_days z or 0) (back z (record { sfits = c.struct_told-1.given.0.1 }))
 
-given : (c : Else-n-eq0) → from_days c.args.d.0 ≡ some c.date_of_number-n.result
+given : (c : Else-n-eq0) → from_days c.args.d.0 ≡ Some c.date_of_number-n.result
 given c = some_placed (from_days c.args.d.0) _ (told c.before) c.if-n-eq0.false
 
 pub returns-then-n-eq0 : goal.returns-then-n-eq0
@@ -38,4 +38,4 @@ returns c =
     let b = lowered-requires (goal.at.returns c).After-civil_of-c in
     let y = difference_back c.civil_of-c.result.year _ b.fact_1 b.fact_2 c.lowered.result c.lowered.ensures
     ∙ ap (λ (k : Civil). pos k.year -ℤ pos 10000) e in
-    rw (given (goal.at.returns c).Else-n-eq0) (λ i. some (record { year = y i; month = (e i).month; day = (e i).day }))
+    rw (given (goal.at.returns c).Else-n-eq0) (λ i. Some (record { year = y i; month = (e i).month; day = (e i).day }))

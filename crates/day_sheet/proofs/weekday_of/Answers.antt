@@ -1,6 +1,6 @@
 use Prim.Native.Nat.{ℕ}
 use mathlib.Core.Path.{sym, ap, ◌∙◌}
-use mathlib.Core.Option.{Option}
+use Rattle.std.specs.Prelude.{Option}
 use Rattle.definition.specs.Base.{◌or◌}
 use Rattle.date.specs.Answer.{weekday_meaning, weekday_at}
 use Rattle.date.specs.declared.WeekdayAnswer.{WeekdayAnswer}

@@ -1,7 +1,7 @@
 -- `outline::link_rows` meets its contract. The invariant: the rows passed are in their lists, for whatever parents the words named. Assumes nothing.
 use mathlib.Core.Path.{◌≡◌}
 use mathlib.Core.List.{List}
-use mathlib.Core.Option.{Option}
+use Rattle.std.specs.Prelude.{Option}
 use Prim.Native.Nat.{ℕ, ◌≤◌}
 use lib.ListN.{length}
 use Rattle.outline.specs.Steps.{Links}

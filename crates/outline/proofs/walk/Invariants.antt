@@ -1,7 +1,7 @@
 -- `outline::walk` meets its contract. The invariant: the words written, then the rows ahead, are the outline; the walk is as deep as rows are written at most. Assumes nothing.
 use mathlib.Core.Path.{◌≡◌}
 use mathlib.Core.List.{List}
-use mathlib.Core.Option.{Option}
+use Rattle.std.specs.Prelude.{Option}
 use Prim.Native.Nat.{ℕ, ◌-◌, ◌*◌, ◌≤◌}
 use lib.ListN.{length, take}
 use Rattle.outline.specs.Steps.{Links}

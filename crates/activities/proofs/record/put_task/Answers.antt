@@ -1,6 +1,6 @@
 -- `activities::record::put_task` meets its contract. Assumes nothing.
 use mathlib.Core.Path.{ap}
-use mathlib.Core.Option.{Option}
+use Rattle.std.specs.Prelude.{Option}
 use Rattle.definition.specs.Text.{Text}
 use Rattle.bits.specs.Steps.{put_same}
 use Rattle.pack.specs.Value.{starred_by}

@@ -1,6 +1,6 @@
 use Prim.Native.Nat.{ℕ}
 use mathlib.Core.Path.{refl, ap, ◌∙◌}
-use mathlib.Core.Option.{Option}
+use Rattle.std.specs.Prelude.{Option}
 use Rattle.definition.specs.Base.{◌or◌}
 use Rattle.definition.specs.Field.{minutes_in}
 use Rattle.definition.specs.Task.{duration_days, duration_minutes}

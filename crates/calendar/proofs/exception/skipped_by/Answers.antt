@@ -1,5 +1,5 @@
 use Rattle.std.proofs.Common.{◌%◌, ◌^◌, sym, ap, ◌∙◌, rules}
-use mathlib.Core.Option.{Option}
+use Rattle.std.specs.Prelude.{Option}
 use Rattle.definition.specs.Ascii.{bytes}
 use Rattle.definition.specs.Tree.{Element, all_in}
 use Rattle.definition.specs.Calendar.{recurring}

@@ -1,5 +1,5 @@
 use Rattle.std.proofs.Common.{ℕ, ap, ◌∙◌}
-use mathlib.Core.Option.{Option}
+use Rattle.std.specs.Prelude.{Option}
 use Rattle.calendar.specs.Week.{place_by}
 use Rattle.calendar.proofs.week.day_place.Goals as goal
 

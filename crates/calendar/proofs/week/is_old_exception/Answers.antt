@@ -1,5 +1,5 @@
 use Rattle.std.proofs.Common.{ℕ, eqb, ap, ◌∙◌}
-use mathlib.Core.Option.{Option}
+use Rattle.std.specs.Prelude.{Option}
 use Rattle.definition.specs.Base.{◌or◌}
 use Rattle.calendar.proofs.week.is_old_exception.Goals as goal
 

@@ -1,7 +1,7 @@
 -- `model_check::rules::judge_activity` meets its contract. Assumes nothing.
 use mathlib.Core.Path.{ap, ◌∙◌}
 use mathlib.Core.Bool.{true}
-use mathlib.Core.Option.{Option, none}
+use Rattle.std.specs.Prelude.{Option, None}
 use Prim.Native.Nat.{ℕ}
 use lib.Dec.{ltb}
 use Rattle.definition.specs.Check.{if_given, activity_right}
@@ -19,7 +19,7 @@ returns c =
     let b = c.parent_place_by.ensures in
     let e = c.take_row-parent.ensures in
     let own = c.args.own in
-    let r = pass_read (or_reads tails_row none _ _ e) in
+    let r = pass_read (or_reads tails_row None _ _ e) in
     let x = activity_passed true b r c.skip_from_notes-end.ensures c.take_pad-next.ensures in
     record {
       right = λ m end d n a h.

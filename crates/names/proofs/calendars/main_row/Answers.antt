@@ -1,6 +1,6 @@
 -- `names::calendars::main_row` meets its contract. Assumes nothing.
 use mathlib.Core.Path.{sym, ap}
-use mathlib.Core.Option.{Option, some}
+use Rattle.std.specs.Prelude.{Option, Some}
 use Prim.Native.Nat.{ℕ}
 use Rattle.definition.specs.Base.{◌>>=◌, ◌or◌}
 use Rattle.definition.specs.Tree.{Element}
@@ -10,9 +10,9 @@ use Rattle.names.proofs.calendars.main_row.Goals as goal
 pub returns-in-Is : goal.returns-in-Is
 returns-in-Is c =
     let x = c.main_calendar in
-    sym (ap (λ (o : Option (ℕ × Element)). (o >>= λ x. some x.0) or 0) (is_there c.args.s.now x.result x.ensures c.in-Is.is))
+    sym (ap (λ (o : Option (ℕ × Element)). (o >>= λ x. Some x.0) or 0) (is_there c.args.s.now x.result x.ensures c.in-Is.is))
 
 pub returns-in-Absent : goal.returns-in-Absent
 returns-in-Absent c =
     let x = c.main_calendar in
-    sym (ap (λ (o : Option (ℕ × Element)). (o >>= λ x. some x.0) or 0) (is_absent c.args.s.now x.result x.ensures c.in-Absent.is))
+    sym (ap (λ (o : Option (ℕ × Element)). (o >>= λ x. Some x.0) or 0) (is_absent c.args.s.now x.result x.ensures c.in-Absent.is))

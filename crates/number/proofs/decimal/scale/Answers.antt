@@ -1,5 +1,5 @@
 use Rattle.std.proofs.Common.{ℕ, ◌+◌, sym, ap, ◌∙◌, arith}
-use mathlib.Core.Option.{some}
+use Rattle.std.specs.Prelude.{Some}
 use Rattle.definition.specs.Number.{magnitude}
 use Rattle.number.specs.Number.{up_by, decimal}
 use Rattle.number.proofs.Limits.{wrong_is, power_is, down_few}
@@ -19,6 +19,6 @@ returns c =
     let up = c.up_by in
     let a = c.args in
     c.judge.ensures
-    ∙ ap (λ (n : ℕ). magnitude (some (decimal a.v n (a.places + down.result)))) up.ensures
-    ∙ ap (λ (n : ℕ). magnitude (some (decimal a.v (up_by a.p) (a.places + n)))) down.ensures
+    ∙ ap (λ (n : ℕ). magnitude (Some (decimal a.v n (a.places + down.result)))) up.ensures
+    ∙ ap (λ (n : ℕ). magnitude (Some (decimal a.v (up_by a.p) (a.places + n)))) down.ensures
     ∙ power_is a.v a.places a.p (sym c.is_wrong.ensures ∙ c.if-is_wrong.false)

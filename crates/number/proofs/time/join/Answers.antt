@@ -1,5 +1,5 @@
 use Rattle.std.proofs.Common.{sym, ap, ◌∙◌}
-use mathlib.Core.Option.{some}
+use Rattle.std.specs.Prelude.{Some}
 use Rattle.text.specs.Answers.{u16_of}
 use Rattle.text.specs.declared.U16Answer.{U16Answer}
 use Rattle.number.specs.Time.{joined}
@@ -10,4 +10,4 @@ returns-in-Is-minutes c =
     let m = c.args.minutes in
     c.time_at.ensures
     ∙ sym (ap (λ (h : U16Answer). joined (u16_of h) (u16_of m)) c.in-Is.is
-    ∙ ap (λ (n : U16Answer). joined (some c.in-Is.h) (u16_of n)) c.in-Is-minutes.is)
+    ∙ ap (λ (n : U16Answer). joined (Some c.in-Is.h) (u16_of n)) c.in-Is-minutes.is)

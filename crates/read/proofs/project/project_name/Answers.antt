@@ -1,6 +1,6 @@
 use mathlib.Core.Path.{sym, ap, ◌∙◌}
 use mathlib.Core.List.{[]}
-use mathlib.Core.Option.{Option}
+use Rattle.std.specs.Prelude.{Option}
 use Rattle.definition.specs.Base.{◌or◌, ◌or_else◌}
 use Rattle.definition.specs.Text.{Text}
 use Rattle.definition.specs.Field.{text_in}

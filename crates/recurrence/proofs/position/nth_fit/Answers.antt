@@ -1,8 +1,8 @@
 use Rattle.recurrence.proofs.Items.{nth_hit, nth_yes, nth_no, nth_end}
 use Prim.Native.Nat.{ℕ, ◌+◌, ◌-◌}
 use mathlib.Core.Path.{refl, ap, sym, ◌∙◌}
-use mathlib.Core.Option.{Option}
-use lib.ListN.{get_elem?}
+use Rattle.std.specs.Prelude.{Option}
+use Rattle.std.specs.Prelude.{slice_get}
 use lib.IntN.{pos}
 use Rattle.definition.specs.Base.{◌or◌, keep, count}
 use Rattle.definition.specs.Recurrence.{item_fits}
@@ -22,7 +22,7 @@ loop-d-preserved c =
     let d = c.loop-d.d in
     let end = c.args.end in
     let k = c.loop-d.k in
-    let rest : ℕ → Option ℕ = get_elem? (keep p (count (d + 1) (end - (d + 1)))) in
+    let rest : ℕ → Option ℕ = slice_get (keep p (count (d + 1) (end - (d + 1)))) in
     let is = sym c.item_fits.ensures in
     elim c.if-item_fits.branch [
       | then-item_fits+else-k-eq0 w ↦ c.loop-d.invariant ∙ nth_yes p d end k c.loop-d-test.true (is ∙ w.if-item_fits.true) w.if-k-eq0.false ∙ ap rest (sym w.k-is)

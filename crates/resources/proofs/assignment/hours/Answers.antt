@@ -1,5 +1,5 @@
 use mathlib.Core.Path.{refl, sym, ap, subst}
-use mathlib.Core.Option.{Option, some}
+use Rattle.std.specs.Prelude.{Option, Some}
 use Prim.Native.Nat.{ℕ, ◌^◌, ◌≤◌}
 use native.Mathlib.Omega.{arith}
 use lib.IntN.{ℤ, nat_abs}
@@ -18,7 +18,7 @@ overflow_cast-result-in-Is c = search rules
 pub returns-in-Is : goal.returns-in-Is
 returns-in-Is c =
     let h = to_z_pos w64 _ (overflow_cast-result-in-Is (goal.at.returns-in-Is c).In-Is).sfits in
-    record { is = arm minutes_means (λ (o : Option ℕ). o >>= hours_from) c.minutes_in.ensures c.in-Is.is (ap some h); small = subst (λ (z : ℤ). nat_abs z ≤ 10 ^ 18) (sym h) (omega arith) }
+    record { is = arm minutes_means (λ (o : Option ℕ). o >>= hours_from) c.minutes_in.ensures c.in-Is.is (ap Some h); small = subst (λ (z : ℤ). nat_abs z ≤ 10 ^ 18) (sym h) (omega arith) }
 
 pub returns-in-Absent : goal.returns-in-Absent
 returns-in-Absent c = record { is = arm minutes_means (λ (o : Option ℕ). o >>= hours_from) c.minutes_in.ensures c.in-Absent.is refl; small = omega arith }

@@ -1,5 +1,5 @@
 use mathlib.Core.Path.{ap, ◌∙◌}
-use mathlib.Core.Option.{Option}
+use Rattle.std.specs.Prelude.{Option}
 use lib.IntN.{ℤ, pos}
 use Rattle.definition.specs.Field.{number_in}
 use Rattle.definition.specs.Resource.{other_than}

@@ -1,5 +1,5 @@
 use Rattle.std.proofs.Common.{ℕ, ap, ◌∙◌}
-use mathlib.Core.Option.{Option}
+use Rattle.std.specs.Prelude.{Option}
 use Rattle.definition.specs.Base.{◌or_else◌, first, numbered}
 use Rattle.definition.specs.Tree.{Element}
 use Rattle.tree.specs.Root.{root_at}

@@ -1,5 +1,5 @@
 use Rattle.std.proofs.Common.{sym, ap, ◌∙◌}
-use mathlib.Core.Option.{Option}
+use Rattle.std.specs.Prelude.{Option}
 use Rattle.definition.specs.Base.{◌>>=◌}
 use Rattle.definition.specs.Text.{Text}
 use Rattle.tree.specs.Place.{element_at}

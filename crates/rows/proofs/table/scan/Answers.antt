@@ -1,5 +1,5 @@
 use Rattle.std.proofs.Common.{◌%◌, ◌^◌, List, sym, refl, ap, ◌∙◌, rules}
-use mathlib.Core.Option.{some}
+use Rattle.std.specs.Prelude.{Some}
 use Rattle.definition.specs.Base.{◌>>=◌}
 use Rattle.definition.specs.Tree.{Element}
 use Rattle.definition.specs.Task.{row_of}
@@ -16,7 +16,7 @@ enum_told-1 c = search rules
 pub returns-in_default : goal.returns-in_default
 returns-in_default c =
     row_end c.loop-e.invariant (lists_end _ _ c.in_default.is)
-    ∙ ap (λ (es : List Element). row_of es c.args.uid.now >>= λ n. some (n % 2 ^ 32)) (sym c.first_listed-e.ensures.is)
+    ∙ ap (λ (es : List Element). row_of es c.args.uid.now >>= λ n. Some (n % 2 ^ 32)) (sym c.first_listed-e.ensures.is)
 
 pub loop-e-smaller : goal.loop-e-smaller
 loop-e-smaller c = lists_less c.in-Is.is c.next_listed-e.ensures refl

@@ -1,5 +1,5 @@
 use mathlib.Core.Path.{refl, sym, ap, ◌∙◌}
-use mathlib.Core.Option.{Option, some}
+use Rattle.std.specs.Prelude.{Option, Some}
 use Prim.Native.Nat.{ℕ}
 use lib.IntN.{pos}
 use Rattle.definition.specs.Base.{◌>>=◌}
@@ -17,13 +17,13 @@ pub returns-in-Is : goal.returns-in-Is
 unfolding minutes_in
 returns-in-Is c =
     rw (sym c.under_way.ensures ∙ c.if-under_way.true)
-    (arm minutes_means (λ (o : Option ℕ). o >>= λ m. some (pos m)) c.minutes_in.ensures c.in-Is.is (ap some (held c.in-Is.m (overflow_cast-result (goal.at.returns-in-Is c).In-Is).sfits)))
+    (arm minutes_means (λ (o : Option ℕ). o >>= λ m. Some (pos m)) c.minutes_in.ensures c.in-Is.is (ap Some (held c.in-Is.m (overflow_cast-result (goal.at.returns-in-Is c).In-Is).sfits)))
 
 pub returns-in-Absent : goal.returns-in-Absent
 unfolding minutes_in
 returns-in-Absent c =
     rw (sym c.under_way.ensures ∙ c.if-under_way.true)
-    (arm minutes_means (λ (o : Option ℕ). o >>= λ m. some (pos m)) c.minutes_in.ensures c.in-Absent.is refl)
+    (arm minutes_means (λ (o : Option ℕ). o >>= λ m. Some (pos m)) c.minutes_in.ensures c.in-Absent.is refl)
 
 pub returns-else-under_way : goal.returns-else-under_way
 returns-else-under_way c = rw (sym c.under_way.ensures ∙ c.if-under_way.false)
