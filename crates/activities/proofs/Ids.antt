@@ -1,5 +1,7 @@
 -- The tables of ids behind the columns. Assumes nothing.
 use Prim.Native.Nat.{ℕ, ◌+◌, ◌-◌, ◌^◌, ◌≤◌, ◌<◌, min}
+use Rattle.index.specs.declared.Table.{Table}
+use Rattle.names.specs.declared.ids.Ids.{Ids}
 use native.Mathlib.Decide.{dec_lt}
 use native.Mathlib.Omega.{arith}
 use mathlib.Core.Path.{◌≡◌, sym, ap, ◌∙◌}
@@ -18,7 +20,6 @@ use Rattle.bits.specs.declared.Place.{Place}
 use Rattle.index.specs.Below.{SameBelow, below_then}
 use Rattle.index.specs.Chains.{end_in}
 use Rattle.index.specs.Last.{last_below}
-use Rattle.index.specs.declared.Made.{Made}
 use Rattle.model.specs.declared.records.Kind.TheVariants.{Activities}
 use Rattle.names.specs.Cleared.{below_cap}
 use Rattle.names.specs.Context.{context_at}
@@ -30,7 +31,6 @@ use Rattle.names.specs.Noted.{cleared_same}
 use Rattle.names.specs.Sought.{end_names}
 use Rattle.names.specs.Texts.{texts_at}
 use Rattle.names.specs.declared.uids.CalendarTable.{CalendarTable}
-use Rattle.names.specs.declared.ids.IdsMade.{IdsMade}
 use Rattle.pack.specs.Value.{starred_by}
 use Rattle.tree.specs.Place.{element_at}
 use Rattle.activities.specs.Climbing.{parents_are, held_kept, held_more, noted_below, noted_in}
@@ -49,7 +49,7 @@ end_small {columns} r h k = by (dec_lt 0 columns.rows)
     by (no l) = omega arith
 
 -- the calendars behind the table of the tasks, the columns behind them, and the ids
-pub own_begun : {columns : Columns} {ids : IdsMade} {tasks : Made} {d : List ℕ} {start : Place} {w w₁ w₂ : List ℕ} {bytes end : ℕ} {c : Place} {s : Text} {root : Element} {t : CalendarTable}
+pub own_begun : {columns : Columns} {ids : Option Ids} {tasks : Option Table} {d : List ℕ} {start : Place} {w w₁ w₂ : List ℕ} {bytes end : ℕ} {c : Place} {s : Text} {root : Element} {t : CalendarTable}
     → end ≡ min (end_in tasks) (length w) → Makes d c s root end w w₁ t → Room columns (length w₁) bytes × Behind columns t.end
     → (ids ≡ ids_for (length d) start (length w₁) (end_of columns) columns.rows) × (w₂ ≡ begun w₁ ids)
     → OwnRoom (record { calendars = t.table; columns = columns; ids = ids }) tasks d start w₂ bytes × SameBelow (end_in tasks) w w₂ × Finds (context_at d c root) s t.table w₂
@@ -79,13 +79,13 @@ own_begun {columns} {ids} {tasks} {d} {start} {w} {w₁} {w₂} {t = t} e m r (i
 -- ---- a row
 
 -- its parent is noted first
-pub ids_moved : {ids : IdsMade} {columns : Columns} {start : Place} {len : ℕ} → IdsOpen ids columns start len → {d w : List ℕ} {row : ℕ} → NotedIn Activities ids d start w row → (at : ℕ) (o : Option ℕ) {w' : List ℕ} → w' ≡ noted columns row at o w
+pub ids_moved : {ids : Option Ids} {columns : Columns} {start : Place} {len : ℕ} → IdsOpen ids columns start len → {d w : List ℕ} {row : ℕ} → NotedIn Activities ids d start w row → (at : ℕ) (o : Option ℕ) {w' : List ℕ} → w' ≡ noted columns row at o w
     → NotedIn Activities ids d start w' row
 ids_moved {columns = columns} open_at {w = w} {row} h at o e =
     rw e (noted_words (λ i g. let x = open_at i g in (noted_in columns row at o w x.behind, noted_in columns row at o w x.behind_wanted)) h)
 
 -- stars that are free
-pub stars_moved : {ids : IdsMade} {columns : Columns} {start : Place} {d : List ℕ} → IdsOpen ids columns start (length d) → (p : Place) {w : List ℕ} {row : ℕ} → (inside (length d) p ≡ true → NotedIn Activities ids d start w row)
+pub stars_moved : {ids : Option Ids} {columns : Columns} {start : Place} {d : List ℕ} → IdsOpen ids columns start (length d) → (p : Place) {w : List ℕ} {row : ℕ} → (inside (length d) p ≡ true → NotedIn Activities ids d start w row)
     → (at : ℕ) (o : Option ℕ) {w' : List ℕ} → w' ≡ noted columns row at o w → (u : Text) (stars : ℕ) → starred_by u stars ≡ starred_in Activities d start p w' ids row u
     → inside (length d) p ≡ true → starred_by u stars ≡ free (texts_at Activities d start row) u
 stars_moved open_at p h at o e u stars z i = z ∙ stars_free (ids_moved open_at (h i) at o e) p i u

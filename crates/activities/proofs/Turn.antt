@@ -1,5 +1,6 @@
 -- A turn of the loop over the kept tasks: what is read in the buffer is what was put. Assumes nothing.
 use Prim.Native.Nat.{ℕ, ◌+◌, ◌%◌, ◌^◌, ◌≤◌, ◌<◌}
+use Rattle.std.specs.Prelude.{Some}
 use native.Mathlib.Omega.{arith}
 use mathlib.Core.Path.{◌≡◌, refl, sym, ap, subst, ◌∙◌}
 use mathlib.Core.Bool.{true}
@@ -25,8 +26,6 @@ use Rattle.bits.specs.declared.Place.{Place}
 use Rattle.links.specs.Entered.{entered_is}
 use Rattle.index.specs.Below.{SameBelow, below_refl, below_in}
 use Rattle.index.specs.Chains.{end_of, end_in}
-use Rattle.index.specs.declared.Made.{Made}
-use Rattle.index.specs.declared.Made.TheVariants.{Ready as ReadyTable}
 use Rattle.index.specs.declared.Table.{Table}
 use Rattle.links.specs.Fates.{Finder, task_in, links_by, is_entered}
 use Rattle.model.specs.declared.records.Kind.TheVariants.{Activities}
@@ -42,8 +41,6 @@ use Rattle.pack.specs.Writes.{Writes}
 use Rattle.pack.specs.declared.record.Records.{Records}
 use Rattle.rows.specs.Tables.{no_element}
 use Rattle.rows.specs.Tabled.{row_same}
-use Rattle.rows.specs.declared.kept.KeptAnswer.{KeptAnswer}
-use Rattle.rows.specs.declared.kept.KeptAnswer.TheVariants.{Is}
 use Rattle.rows.specs.declared.table.Listed.TheVariants.{Tasks}
 use Rattle.tree.specs.Root.{root_at}
 use Rattle.tree.specs.declared.root.Root.{Root}
@@ -54,15 +51,15 @@ use Rattle.activities.proofs.Ids.{ids_moved}
 use Rattle.activities.proofs.Loop.{Written, next_of, written_more, next_put, tasks_before, ids_of}
 
 -- what a turn leaves of the words: those of the tables before them, and those of the rows before
-pub record Stays (s : Text) (root : Element) (tasks : Made) (own : Own) (start : Place) (w₀ w d : List ℕ) (q : Place) (row : ℕ) (task : KeptAnswer) : Type 0 where
+pub record Stays (s : Text) (root : Element) (tasks : Option Table) (own : Own) (start : Place) (w₀ w d : List ℕ) (q : Place) (row : ℕ) (task : Option (ℕ × ℕ)) : Type 0 where
   pub same : SameBelow (end_in tasks) w₀ w
   pub names : SameBelow (end_names own.calendars) w₀ w
   pub held : row ≤ own.columns.rows → Held s root own.columns.at row w
   pub ids : inside (length d) q ≡ true → NotedIn Activities own.ids d start w row
-  pub there : (at left : ℕ) → task ≡ Is at left → at < length s
+  pub there : (at left : ℕ) → task ≡ Some (at, left) → at < length s
 
-module _ {s : Text} {root : Element} {tasks : Made} {own : Own} {start : Place} {w₀ : List ℕ} where
-  pub stays_begin : {d : List ℕ} {bytes : ℕ} → OwnRoom own tasks d start w₀ bytes → {q : Place} {task : KeptAnswer} → ((at left : ℕ) → task ≡ Is at left → at < length s) → Stays s root tasks own start w₀ w₀ d q 0 task
+module _ {s : Text} {root : Element} {tasks : Option Table} {own : Own} {start : Place} {w₀ : List ℕ} where
+  pub stays_begin : {d : List ℕ} {bytes : ℕ} → OwnRoom own tasks d start w₀ bytes → {q : Place} {task : Option (ℕ × ℕ)} → ((at left : ℕ) → task ≡ Some (at, left) → at < length s) → Stays s root tasks own start w₀ w₀ d q 0 task
   stays_begin r h = record {
     same = below_refl _ w₀;
     names = below_refl _ w₀;
@@ -71,15 +68,15 @@ module _ {s : Text} {root : Element} {tasks : Made} {own : Own} {start : Place} 
     there = h;
   }
 
-  module _ {w d : List ℕ} {q : Place} {row : ℕ} {task : KeptAnswer} (x : Stays s root tasks own start w₀ w d q row task) where
-    pub stays_ready : {d₀ : List ℕ} → OwnRoom own tasks d₀ start w₀ (length s) → {at left : ℕ} → task ≡ Is at left → row ≤ length (kept_tasks root) → Ready s root own.columns row at w
+  module _ {w d : List ℕ} {q : Place} {row : ℕ} {task : Option (ℕ × ℕ)} (x : Stays s root tasks own start w₀ w d q row task) where
+    pub stays_ready : {d₀ : List ℕ} → OwnRoom own tasks d₀ start w₀ (length s) → {at left : ℕ} → task ≡ Some (at, left) → row ≤ length (kept_tasks root) → Ready s root own.columns row at w
     stays_ready r {at} {left} e few = record { own_room = rw x.same.long r.room; held = x.held; few = few; there = x.there at left e }
 
 -- the same rows are found
-pub found_same : (s : Text) (root : Root) (tasks : Made) {w w' : List ℕ} → SameBelow (end_in tasks) w w' → task_in s root w' tasks ≡ task_in s root w tasks
+pub found_same : (s : Text) (root : Root) (tasks : Option Table) {w w' : List ℕ} → SameBelow (end_in tasks) w w' → task_in s root w' tasks ≡ task_in s root w tasks
 found_same s root tasks {w} {w'} x = row_same s (root_at s root) Tasks (record { same = λ t e. below_in x (by e) })
   where
-    by : {t : Table} → tasks ≡ ReadyTable t → end_of t ≤ end_in tasks
+    by : {t : Table} → tasks ≡ Some t → end_of t ≤ end_in tasks
     by e = rw e (omega arith)
 
 pub writes_found : (root : Element) {f find : Finder} → f ≡ find → (x : Context) {d : List ℕ} {p : Place} {d' : List ℕ} {r : Records} → Writes (whole activity) (activities x (entered (links_by f (context_of root)))) d p d' r
@@ -101,7 +98,7 @@ module _ (find : Finder) {d₀ : List ℕ} (c : Place) (root : Element) {p : Pla
       (sym (ap (λ (l : List Element). get_or l row no_element) (sym e) ∙ get_or_at w.before t ts no_element row w.tasks_are), omega (arith, w.tasks_are))
 
   -- words that say the calendars' names say them still
-  pub goes_finds : {s : Text} {k : Made} {u₀ u : List ℕ} → SameBelow (end_names k) u₀ u → Finds (context_at d₀ c root) s k u₀ → Finds (context_at d c root) s k u
+  pub goes_finds : {s : Text} {k : Option Table} {u₀ u : List ℕ} → SameBelow (end_names k) u₀ u → Finds (context_at d₀ c root) s k u₀ → Finds (context_at d c root) s k u
   goes_finds {s} {k} {u = u} y h = subst (λ (x : Context). Finds x s k u) (sym (context_carried w.puts.step c root stand)) (finds_kept y h)
 
   module _ {f : Finder} (found : f ≡ find) {d' : List ℕ} {r : Place} (h : Puts (whole activity) (activity_of (context_at d c root) (texts_at Activities d p row) (map level_of (take row (kept_tasks root))) (is_entered f t) t) d q d' r) (n : row ≤ most_tasks) (s : Small t) where

@@ -1,5 +1,6 @@
 -- Laws of an activity's values. Assumes nothing.
 use Rattle.std.specs.Prelude.{if◌then◌else◌}
+use Rattle.index.specs.declared.Table.{Table}
 use Prim.Native.Nat.{ℕ}
 use mathlib.Core.Path.{◌≡◌, refl, sym, ap, ◌∙◌}
 use mathlib.Core.Bool.{Bool, true, false, true≢false, ◌&&◌, not}
@@ -28,12 +29,10 @@ use Rattle.links.specs.Given.{given_none, given_some}
 use Rattle.pack.specs.Record.{activity_by}
 use Rattle.pack.specs.Value.{starred_by, name_meaning}
 use Rattle.pack.specs.Writes.{put_any}
-use Rattle.index.specs.declared.Made.{Made}
 use Rattle.names.specs.Context.{wanted_name}
 use Rattle.names.specs.Named.{named_in, elapsed_in, calendar_name}
 use Rattle.names.specs.Naming.{Finds}
 use Rattle.names.specs.declared.named.CalendarName.{CalendarName}
-use Rattle.pack.specs.declared.stars.NameAnswer.{NameAnswer}
 use Rattle.pack.specs.declared.record.Plan.{Plan}
 use Rattle.pack.specs.declared.record.Dates.{Dates}
 use Rattle.pack.specs.declared.record.Progress.{Progress}
@@ -79,7 +78,7 @@ own_calendar : (o : Option Text) (f : Text → Option Text) → (given o && not 
 own_calendar None f h = absurd (true≢false (sym h))
 own_calendar (Some u) f h = rw h
 
-module _ (x : Context) (s : Text) (w : List ℕ) (k : Made) (t : Element) {e : Bool} where
+module _ (x : Context) (s : Text) (w : List ℕ) (k : Option Table) (t : Element) {e : Bool} where
   pub by_elapsed : e ≡ true → (r : CalendarName) → name_meaning elapsed_name r.name ≡ elapsed_in x w k → name_found s e r ≡ calendar_in x s w k e t
   by_elapsed i r h = rw i h
 
@@ -90,7 +89,7 @@ module _ (x : Context) (s : Text) (w : List ℕ) (k : Made) (t : Element) {e : B
         ∙ ap (λ (u : Text). names_calendar u) j
         ∙ ap (λ (b : Bool). b && not (same (text_in t "CalendarUID" or []) (bytes "-1"))) (length_given t (bytes "CalendarUID"))
 
-    pub by_none : not b ≡ true → (p : ℕ) → name_found s e (record { at = p; name = NameAnswer.Absent }) ≡ calendar_in x s w k e t
+    pub by_none : not b ≡ true → (p : ℕ) → name_found s e (record { at = p; name = None }) ≡ calendar_in x s w k e t
     unfolding name_meaning
     by_none h p = rw (i, no_calendar (text_in t "CalendarUID") (named_in x s w k) (sym names_is ∙ not-true b h))
 
@@ -106,7 +105,7 @@ module _ (s : Text) {e : Bool} (r : CalendarName) where
   name_own i h = rw (i, h)
 
 -- words that say the names give the calendar's
-pub calendar_found : {x : Context} {s : Text} {k : Made} {w : List ℕ} → Finds x s k w → (e : Bool) (t : Element) → calendar_in x s w k e t ≡ calendar_by x e t
+pub calendar_found : {x : Context} {s : Text} {k : Option Table} {w : List ℕ} → Finds x s k w → (e : Bool) (t : Element) → calendar_in x s w k e t ≡ calendar_by x e t
 calendar_found f true t = f.elapsed
 calendar_found {x} {s} {k} {w} f false t = go (text_in t "CalendarUID")
   where
@@ -136,7 +135,7 @@ constraint_years k (Some d) h = dated (eqb k 1) (within 2 7 k)
 
 -- ---- the record
 
-module _ (id : Text) (stars : ℕ) (name : Text) (plan : Plan) (notes calendar : Text) (named : NameAnswer) (dates : Dates) (progress : Progress) (uid : Text) {t : Element} where
+module _ (id : Text) (stars : ℕ) (name : Text) (plan : Plan) (notes calendar : Text) (named : Option ℕ) (dates : Dates) (progress : Progress) (uid : Text) {t : Element} where
   pub activity_is : name ≡ (text_in t "Name" or []) → notes ≡ (text_in t "Notes" or []) → DatesOf t dates → ProgressOf t progress → uid ≡ (text_in t "UID" or [])
       → activity_by id stars name plan notes calendar named dates progress uid ≡ activity_planned (name_meaning calendar named) (starred_by id stars) plan t
   unfolding activity_planned

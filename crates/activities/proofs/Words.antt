@@ -5,11 +5,9 @@ use mathlib.Core.Path.{◌≡◌, refl, sym, ap, ◌∙◌}
 use mathlib.Core.List.{List, map}
 use Rattle.std.specs.Prelude.{Option, Some, None}
 use lib.ListN.{length, set, take}
-use Rattle.definition.specs.Answer.{row_meaning}
 use Rattle.definition.specs.Task.{level_of, kept_tasks, parent_of}
 use Rattle.definition.specs.Text.{Text}
 use Rattle.definition.specs.Tree.{Element}
-use Rattle.definition.specs.declared.RowAnswer.{RowAnswer}
 use Rattle.index.specs.Last.{last_below, word_of}
 use Rattle.tree.specs.Place.{element_at}
 use Rattle.activities.specs.Climbing.{parents_are, held_lower, held_climbs, noted_not, noted_is}
@@ -18,11 +16,11 @@ use Rattle.activities.specs.declared.parents.Columns.{Columns}
 
 -- ---- a row as a word
 
-pub word_none : (w : ℕ) → w ≡ 0 → {r : RowAnswer} → r ≡ RowAnswer.Absent → word_of (row_meaning r) ≡ w
+pub word_none : (w : ℕ) → w ≡ 0 → {r : Option ℕ} → r ≡ None → word_of r ≡ w
 unfolding row_meaning
 word_none w e i = rw i (sym e)
 
-pub word_some : (w : ℕ) → (w ≡ 0 → ⊥) → word_of (row_meaning (RowAnswer.Is (w - 1))) ≡ w
+pub word_some : (w : ℕ) → (w ≡ 0 → ⊥) → word_of (Some (w - 1)) ≡ w
 unfolding row_meaning
 word_some w e = by w e
   where

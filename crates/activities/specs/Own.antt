@@ -1,18 +1,17 @@
 -- The section's own words, with the tables of ids behind the columns of parents: what they hold. Assumes nothing: these are definitions.
 use Rattle.std.specs.Prelude.{ℕ, ◌^◌, ◌≤◌, ◌<◌, ◌≡◌, Bool, true, List, length}
+use Rattle.index.specs.declared.Table.{Table}
+use Rattle.std.specs.Prelude.{Some}
 use Rattle.std.specs.Prelude.{Option}
 use Rattle.definition.specs.Calendar.{free}
 use Rattle.definition.specs.Text.{Text}
 use Rattle.bits.specs.declared.Place.{Place}
 use Rattle.index.specs.Chains.{end_in}
-use Rattle.index.specs.declared.Made.{Made}
 use Rattle.model.specs.declared.records.Kind.TheVariants.{Activities}
 use Rattle.names.specs.Ids.{noted_by}
 use Rattle.names.specs.Lent.{NotedIn}
 use Rattle.names.specs.Sought.{end_names}
 use Rattle.names.specs.declared.ids.Ids.{Ids}
-use Rattle.names.specs.declared.ids.IdsMade.{IdsMade}
-use Rattle.names.specs.declared.ids.IdsMade.TheVariants.{Ready}
 use Rattle.pack.specs.Value.{starred_by}
 use Rattle.activities.specs.Parents.{end_of, Room, Behind, noted}
 use Rattle.activities.specs.declared.own.Own.{Own}
@@ -26,11 +25,11 @@ pub record Open (i : Ids) (columns : Columns) (start : Place) (len : ℕ) : Type
   pub whole : start.bit ≡ 0
   pub short : len < 2 ^ 32
 
-abbrev pub IdsOpen : IdsMade → Columns → Place → ℕ → Type 0
-IdsOpen ids columns start len = (i : Ids) → ids ≡ Ready i → Open i columns start len
+abbrev pub IdsOpen : Option Ids → Columns → Place → ℕ → Type 0
+IdsOpen ids columns start len = (i : Ids) → ids ≡ Some i → Open i columns start len
 
 -- all words of the section, before its first row
-pub record OwnRoom (own : Own) (tasks : Made) (d : List ℕ) (start : Place) (w : List ℕ) (bytes : ℕ) : Type 0 where
+pub record OwnRoom (own : Own) (tasks : Option Table) (d : List ℕ) (start : Place) (w : List ℕ) (bytes : ℕ) : Type 0 where
   pub room : Room own.columns (length w) bytes
   pub behind : Behind own.columns (end_in tasks)
   pub behind_names : Behind own.columns (end_names own.calendars)

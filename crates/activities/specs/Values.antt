@@ -1,7 +1,7 @@
 -- What an activity's values are to be, each from the task. Assumes nothing: these are definitions.
 use Rattle.std.specs.Prelude.{if◌then◌else◌, ℕ, ◌≡◌, Bool, ◌&&◌, not, List, [], eqb, length}
+use Rattle.index.specs.declared.Table.{Table}
 use Rattle.std.specs.Prelude.{Option, Some}
-use Rattle.definition.specs.Answer.{row_meaning}
 use Rattle.definition.specs.Ascii.{bytes}
 use Rattle.definition.specs.Base.{◌>>=◌, ◌or◌, when, same}
 use Rattle.definition.specs.Calendar.{elapsed_name, name_of}
@@ -10,8 +10,6 @@ use Rattle.definition.specs.Model.{Activity}
 use Rattle.definition.specs.Task.{Context, duration_days, duration_minutes, duration_type_of, constraint_of, percent_of, remaining_of, unless_main}
 use Rattle.definition.specs.Text.{Text}
 use Rattle.definition.specs.Tree.{Element}
-use Rattle.text.specs.Answers.{i64_of}
-use Rattle.index.specs.declared.Made.{Made}
 use Rattle.names.specs.Context.{wanted_name}
 use Rattle.names.specs.Named.{named_in, elapsed_in}
 use Rattle.names.specs.declared.named.CalendarName.{CalendarName}
@@ -32,8 +30,8 @@ day_by elapsed per_day = if elapsed then 1440 else per_day
 pub record PlanOf (day : ℕ) (parent : Option ℕ) (entered : Bool) (t : Element) (r : Plan) : Type 0 where
   pub kind_is : r.kind ≡ kind_by entered t
   pub days_is : r.duration.days ≡ duration_days (minutes_in t "Duration" or 0) day
-  pub minutes_is : i64_of r.duration.minutes ≡ duration_minutes (minutes_in t "Duration" or 0) day
-  pub parent_is : row_meaning r.parent ≡ parent
+  pub minutes_is : r.duration.minutes ≡ duration_minutes (minutes_in t "Duration" or 0) day
+  pub parent_is : r.parent ≡ parent
 
 pub record DatesOf (t : Element) (r : Dates) : Type 0 where
   pub constraint_is : constraint_given r.constraint ≡ constraint_of t
@@ -42,9 +40,9 @@ pub record DatesOf (t : Element) (r : Dates) : Type 0 where
   pub finish_is : date_given r.finish ≡ date_in t "ActualFinish"
 
 pub record ProgressOf (t : Element) (r : Progress) : Type 0 where
-  pub percent_is : i64_of r.percent ≡ percent_of t
+  pub percent_is : r.percent ≡ percent_of t
   pub type_is : r.duration_type ≡ duration_type_of t
-  pub remaining_is : i64_of r.remaining ≡ remaining_of t
+  pub remaining_is : r.remaining ≡ remaining_of t
 
 -- ---- its calendar
 
@@ -59,7 +57,7 @@ calendar_by x elapsed t =
     (text_in t "CalendarUID" >>= λ u. when (not (same u (bytes "-1"))) u >>= name_of x.built)) >>= unless_main x
 
 -- the same, as words say it where there is a table
-abbrev pub calendar_in : Context → Text → List ℕ → Made → Bool → Element → Option Text
+abbrev pub calendar_in : Context → Text → List ℕ → Option Table → Bool → Element → Option Text
 calendar_in x s w k elapsed t =
     if elapsed then elapsed_in x w k else (text_in t "CalendarUID" >>= λ u. when (not (same u (bytes "-1"))) u >>= named_in x s w k)
 
@@ -75,8 +73,8 @@ activity_planned calendar id plan t = record {
   name = text_in t "Name" or [];
   kind = plan.kind;
   duration = plan.duration.days;
-  minutes = i64_of plan.duration.minutes;
-  parent = row_meaning plan.parent;
+  minutes = plan.duration.minutes;
+  parent = plan.parent;
   notes = text_in t "Notes" or [];
   calendar = calendar;
   constraint = constraint_of t;

@@ -16,12 +16,11 @@ ghost use Rattle.names.specs.Context.{context_at, calendars_before};
 ghost use Rattle.names.specs.Naming.{Finds};
 ghost use Rattle.activities.specs.Own.{OwnRoom};
 
+use index::Table;
 use crate::own::{Own, own_for};
 use crate::record::put_row;
 use bits::{PAST, Place};
-use index::Made;
 use pack::Records;
-use rows::KeptAnswer;
 use tree::Root;
 
 mod own; // words for calendars, parents and ids
@@ -37,7 +36,7 @@ fn put_tasks(
     root: Root,
     c: Place,
     words: &mut [u32],
-    tasks: Made,
+    tasks: Option<Table>,
     own: Own,
 ) -> Records
     requires { (calendars_before out.old c (root_at s.now root) p ≡ true) × OwnRoom own tasks out.old p words.old (length s.now) × Finds (context_at out.old c (root_at s.now root)) s.now own.calendars words.old }
@@ -48,7 +47,7 @@ fn put_tasks(
     let mut row: u32 = 0;
     let mut task = rows::first_kept(s, root);
     loop {
-        let KeptAnswer::Is(at, left) = task else {
+        let Some((at, left)) = task else {
             return Records {
                 count: row,
                 next: q,
@@ -69,7 +68,7 @@ pub fn put_activities(
     root: Root,
     c: Place,
     words: &mut [u32],
-    tasks: Made,
+    tasks: Option<Table>,
 ) -> Records
     ensures { WritesIf (calendars_before out.old c (root_at s.now root) p) (whole activity) (activities_of (context_at out.old c (root_at s.now root)) (entered (links_by (task_in s.now root words.old tasks) (context_of (root_at s.now root))))) out.old p out.new result × (words.new ≡ cleared (end_in tasks) words.old) }
 {

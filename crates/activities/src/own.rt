@@ -7,17 +7,17 @@ ghost use Rattle.names.specs.Naming.{Finds};
 ghost use Rattle.tree.specs.Root.{root_at};
 ghost use Rattle.activities.specs.Own.{OwnRoom};
 
+use names::Ids;
+use index::Table;
 use crate::parents::{Columns, columns_for};
 use bits::Place;
-use index::Made;
-use names::IdsMade;
 use tree::Root;
 
 #[derive(Clone, Copy)]
 pub(crate) struct Own {
-    pub calendars: Made,
+    pub calendars: Option<Table>,
     pub columns: Columns,
-    pub ids: IdsMade,
+    pub ids: Option<Ids>,
 }
 
 // For a section that begins at p. The calendars stand at c.
@@ -28,7 +28,7 @@ pub(crate) fn own_for(
     root: Root,
     c: Place,
     words: &mut [u32],
-    tasks: Made,
+    tasks: Option<Table>,
 ) -> Own
     ensures { OwnRoom result tasks out.now p words.new (length s.now) × SameBelow (end_in tasks) words.old words.new × Finds (context_at out.now c (root_at s.now root)) s.now result.calendars words.new }
 {

@@ -1,15 +1,13 @@
 // The nearest row before a task that has a lower level, without a look at all rows: for each row two lent words, where its element stands in the tree
 // and its parent row plus 1, 0 for none. The parent of a row is the row before it, or a row above that one.
 ghost use Rattle.std.specs.Prelude.{◌≡◌, map, ◌<◌, take};
-ghost use Rattle.definition.specs.Answer.{row_meaning};
 ghost use Rattle.definition.specs.Task.{level_of, kept_tasks, parent_of};
 ghost use Rattle.index.specs.Last.{last_below, word_of};
 ghost use Rattle.tree.specs.Place.{element_at};
 ghost use Rattle.tree.specs.Root.{root_at};
 ghost use Rattle.activities.specs.Parents.{lower, level_in, Climbs, noted, Room, Behind, Ready};
 
-use definition::RowAnswer;
-use index::Made;
+use index::Table;
 use tree::Root;
 
 // Where the words begin, and for how many rows there are some.
@@ -22,10 +20,10 @@ pub(crate) struct Columns {
 const NONE: Columns = Columns { at: 0, rows: 0 };
 
 // From a place on, for as many rows as the table of the kept tasks has, where there is room and 32 bits hold each position in the tree.
-pub(crate) fn columns_for(tasks: Made, from: usize, len: usize, bytes: usize) -> Columns
+pub(crate) fn columns_for(tasks: Option<Table>, from: usize, len: usize, bytes: usize) -> Columns
     ensures { Room result len bytes × Behind result from }
 {
-    let Made::Ready(t) = tasks else {
+    let Some(t) = tasks else {
         return NONE;
     };
     if 4294967295 < bytes {
@@ -60,13 +58,13 @@ fn climb(s: &[u8], words: &[u32], first: usize, row: u32, level: u64) -> u32
 }
 
 // The row that a word names.
-fn row_of(word: u32) -> RowAnswer
-    ensures { word_of (row_meaning result) ≡ word }
+fn row_of(word: u32) -> Option<u32>
+    ensures { word_of result ≡ word }
 {
     if word == 0 {
-        return RowAnswer::Absent;
+        return None;
     }
-    RowAnswer::Is(word - 1)
+    Some(word - 1)
 }
 
 // The parent of the task at `at`, which has the row; noted where there are words for the row.
@@ -77,9 +75,9 @@ pub(crate) fn parent_of(
     words: &mut [u32],
     own: Columns,
     row: u32,
-) -> RowAnswer
+) -> Option<u32>
     requires { Ready s.now (root_at s.now root) own row at words.old }
-    ensures { (row_meaning result ≡ parent_of (map level_of (take row (kept_tasks (root_at s.now root)))) (level_of (element_at s.now at))) × (words.new ≡ noted own row at (row_meaning result) words.old) }
+    ensures { (result ≡ parent_of (map level_of (take row (kept_tasks (root_at s.now root)))) (level_of (element_at s.now at))) × (words.new ≡ noted own row at result words.old) }
 {
     let level = tasks::level_of(s, at);
     if own.rows <= row {

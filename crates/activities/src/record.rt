@@ -18,14 +18,14 @@ ghost use Rattle.activities.specs.Own.{IdsOpen, RowNoted};
 ghost use Rattle.activities.specs.Parents.{Ready};
 ghost use Rattle.activities.specs.Values.{name_found, activity_planned};
 
+use index::Table;
 use crate::own::Own;
 use crate::parents::parent_of;
 use crate::value::{calendar_for, dates_of, day_of, plan_of, progress_of, wanted_id};
 use bits::Place;
-use index::Made;
 use model::records::Kind;
 use names::CalendarName;
-use pack::{NameAnswer, Plan};
+use pack::{Plan};
 use tree::Root;
 
 // The task at `at` with its id, its plan and its calendar's name.
@@ -38,7 +38,7 @@ fn put_named(
     stars: u32,
     plan: Plan,
     calendar: &[u8],
-    named: NameAnswer,
+    named: Option<u32>,
 ) -> Place
     ensures { Puts (whole activity) (activity_planned (name_meaning calendar.now named) (starred_by id.now stars) plan (element_at s.now at)) out.old p out.new result }
 {
@@ -85,7 +85,7 @@ pub(crate) fn put_row(
     row: u32,
     c: Place,
     words: &mut [u32],
-    tasks: Made,
+    tasks: Option<Table>,
     own: Own,
     per_day: u64,
 ) -> Place

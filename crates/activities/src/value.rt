@@ -1,21 +1,17 @@
 // What an activity's record holds, each value from the task in the tree.
 ghost use Rattle.std.specs.Prelude.{◌≡◌};
-ghost use Rattle.definition.specs.Answer.{row_meaning};
 ghost use Rattle.definition.specs.Base.{◌or◌};
 ghost use Rattle.definition.specs.Task.{wanted_id};
-ghost use Rattle.fields.specs.Answers.{minutes_means};
 ghost use Rattle.links.specs.Fates.{task_in, is_entered};
 ghost use Rattle.names.specs.Context.{context_at};
 ghost use Rattle.tree.specs.Place.{element_at};
 ghost use Rattle.tree.specs.Root.{root_at};
 ghost use Rattle.activities.specs.Values.{kind_by, day_by, names_calendar, name_found, calendar_in, PlanOf, DatesOf, ProgressOf};
 
+use index::Table;
 use bits::Place;
-use definition::RowAnswer;
-use fields::MinutesAnswer;
-use index::Made;
 use names::CalendarName;
-use pack::{Dates, NameAnswer, Plan, Progress};
+use pack::{Dates, Plan, Progress};
 use tree::Root;
 
 // WBS, else ID, else UID.
@@ -48,7 +44,7 @@ pub(crate) fn calendar_for(
     root: Root,
     at: usize,
     words: &[u32],
-    calendars: Made,
+    calendars: Option<Table>,
     elapsed: bool,
 ) -> CalendarName
     ensures { name_found s.now elapsed result ≡ calendar_in (context_at out.now c (root_at s.now root)) s.now words.now calendars elapsed (element_at s.now at) }
@@ -61,7 +57,7 @@ pub(crate) fn calendar_for(
     if !names_calendar(uid) {
         return CalendarName {
             at: s.len(),
-            name: NameAnswer::Absent,
+            name: None,
         };
     }
     names::calendar_in(out, c, s, root, words, calendars, uid)
@@ -69,12 +65,12 @@ pub(crate) fn calendar_for(
 
 // ---- what an activity is
 
-fn minutes_or_0(a: MinutesAnswer) -> u32
-    ensures { result ≡ minutes_means a or 0 }
+fn minutes_or_0(a: Option<u32>) -> u32
+    ensures { result ≡ a or 0 }
 {
     match a {
-        MinutesAnswer::Is(n) => n,
-        MinutesAnswer::Absent => 0,
+        Some(n) => n,
+        None => 0,
     }
 }
 
@@ -86,7 +82,7 @@ pub(crate) fn day_of(elapsed: bool, per_day: u64) -> u64
 }
 
 // 0 a task, 1 a start milestone, 2 a finish milestone: one that a kept link enters.
-fn kind_of(s: &[u8], root: Root, at: usize, words: &[u32], tasks: Made) -> u32
+fn kind_of(s: &[u8], root: Root, at: usize, words: &[u32], tasks: Option<Table>) -> u32
     ensures { result ≡ kind_by (is_entered (task_in s.now root words.now tasks) (element_at s.now at)) (element_at s.now at) }
 {
     if !tasks::milestone(s, at) {
@@ -104,11 +100,11 @@ pub(crate) fn plan_of(
     root: Root,
     at: usize,
     words: &[u32],
-    tasks: Made,
+    tasks: Option<Table>,
     day: u64,
-    parent: RowAnswer,
+    parent: Option<u32>,
 ) -> Plan
-    ensures { PlanOf day (row_meaning parent) (is_entered (task_in s.now root words.now tasks) (element_at s.now at)) (element_at s.now at) result }
+    ensures { PlanOf day parent (is_entered (task_in s.now root words.now tasks) (element_at s.now at)) (element_at s.now at) result }
 {
     let kind = kind_of(s, root, at, words, tasks);
     let minutes = minutes_or_0(fields::minutes_in(s, at, b"Duration"));

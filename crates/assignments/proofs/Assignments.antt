@@ -1,21 +1,17 @@
 -- Assignments, one after another. Assumes nothing.
 use Rattle.std.proofs.Common.{◌≡◌, ℕ, ◌+◌, ◌%◌, ◌^◌, true, List, [], ◌∷◌, ◌++◌, map, sym, refl, ap, ◌∙◌, append_assoc, append-nil}
+use Rattle.std.specs.Prelude.{ℤ}
 use Rattle.std.specs.Prelude.{Option, Some, None}
 use Rattle.definition.specs.Base.{◌>>=◌, present}
-use Rattle.definition.specs.Answer.{row_meaning}
 use Rattle.definition.specs.Text.{Text}
 use Rattle.definition.specs.Tree.{Element}
-use Rattle.definition.specs.declared.RowAnswer.{RowAnswer}
 use Rattle.definition.specs.Format.{whole}
 use Rattle.definition.specs.Pack.{assignment}
 use Rattle.definition.specs.Model.{Assignment}
 use Rattle.definition.specs.Resource.{hours_in, rate_of, assignment_from, assignment_elements}
 use Rattle.bits.specs.Steps.{Puts, put_same}
 use Rattle.bits.specs.declared.Place.{Place}
-use Rattle.text.specs.Answers.{i64_of}
-use Rattle.text.specs.declared.I64Answer.{I64Answer}
 use Rattle.tree.specs.Place.{element_at}
-use Rattle.tree.specs.declared.Found.{Found}
 use Rattle.rows.specs.Rows.{found_meaning}
 use Rattle.resources.specs.Assignment.{Means}
 use Rattle.resources.specs.declared.assignment.Amounts.{Amounts}
@@ -30,7 +26,7 @@ use Rattle.assignments.proofs.Turns.{wrote_more, wrote_as, writes, writes_none, 
 
 -- ---- one
 
-by_means : (t n : ℕ) {w : Amounts} (rate : I64Answer) (a : Element) → Means w (hours_in a "Work") (hours_in a "ActualWork") (hours_in a "RemainingWork") → i64_of rate ≡ rate_of a
+by_means : (t n : ℕ) {w : Amounts} (rate : Option ℤ) (a : Element) → Means w (hours_in a "Work") (hours_in a "ActualWork") (hours_in a "RemainingWork") → rate ≡ rate_of a
     → assignment_by t n w rate ≡ assignment_from t n a
 unfolding assignment_from
 by_means t n rate a m e = rw (m.planned_is, m.actual_is, m.remaining_is, e)
@@ -51,34 +47,34 @@ adds_one h n p = record { goes = λ d₀ xs u w. wrote_more w h n }
 abbrev Rowed : Option ℕ → Option ℕ → Element → Option Assignment
 Rowed task row a = task >>= λ t. row >>= λ n. Some (assignment_from t n a)
 
-module _ (task resource : RowAnswer) (a : Element) {d : List ℕ} {r : Done} where
-  pub adds_no_task : task ≡ RowAnswer.Absent → AddsAssignment (Rowed (row_meaning task) (row_meaning resource) a) d r d r
+module _ (task resource : Option ℕ) (a : Element) {d : List ℕ} {r : Done} where
+  pub adds_no_task : task ≡ None → AddsAssignment (Rowed task resource a) d r d r
   unfolding row_meaning
   adds_no_task e = adds_none (rw e)
 
-  pub adds_no_row : resource ≡ RowAnswer.Absent → AddsAssignment (Rowed (row_meaning task) (row_meaning resource) a) d r d r
+  pub adds_no_row : resource ≡ None → AddsAssignment (Rowed task resource a) d r d r
   unfolding row_meaning
-  adds_no_row e = adds_none (rw e (by (row_meaning task)))
+  adds_no_row e = adds_none (rw e (by task))
     where
       by : (o : Option ℕ) → Rowed o None a ≡ None
       by None = refl
       by (Some t) = refl
 
-  pub adds_rows : {t m : ℕ} (w : Amounts) (rate : I64Answer) {d' : List ℕ} {q : Place} {r' : Done} → task ≡ RowAnswer.Is t → resource ≡ RowAnswer.Is m
-      → Means w (hours_in a "Work") (hours_in a "ActualWork") (hours_in a "RemainingWork") → i64_of rate ≡ rate_of a
+  pub adds_rows : {t m : ℕ} (w : Amounts) (rate : Option ℤ) {d' : List ℕ} {q : Place} {r' : Done} → task ≡ Some t → resource ≡ Some m
+      → Means w (hours_in a "Work") (hours_in a "ActualWork") (hours_in a "RemainingWork") → rate ≡ rate_of a
       → Puts (whole assignment) (assignment_by t m w rate) d r.next d' q → (r'.count ≡ (r.count + 1) % 2 ^ 64) × (r'.next ≡ q)
-      → AddsAssignment (Rowed (row_meaning task) (row_meaning resource) a) d r d' r'
+      → AddsAssignment (Rowed task resource a) d r d' r'
   unfolding row_meaning
   adds_rows {t} {m} w rate et er i j h n = rw (et, er) (adds_one (put_same (by_means t m rate a i j) h) n)
 
 -- ---- by the cost resource, which wins
 
-module _ (s : Text) {f : Found} (g : Finders) (a : Element) (e : found_meaning s f ≡ cost_by g a) where
-  pub cost_wins : {q : ℕ} → f ≡ Found.At q → {d : List ℕ} {r : Done} → AddsAssignment (assignment_for g a) d r d r
+module _ (s : Text) {f : Option ℕ} (g : Finders) (a : Element) (e : found_meaning s f ≡ cost_by g a) where
+  pub cost_wins : {q : ℕ} → f ≡ Some q → {d : List ℕ} {r : Done} → AddsAssignment (assignment_for g a) d r d r
   unfolding assignment_for found_meaning
   cost_wins {q} z = let k : Some (element_at s q) ≡ cost_by g a = sym (rw z) ∙ e in adds_none (rw (← k))
 
-  pub no_cost : f ≡ Found.Nothing → {task work : Option ℕ} → task ≡ task_by g a → work ≡ work_by g a → {d : List ℕ} {r : Done} {d' : List ℕ} {r' : Done}
+  pub no_cost : f ≡ None → {task work : Option ℕ} → task ≡ task_by g a → work ≡ work_by g a → {d : List ℕ} {r : Done} {d' : List ℕ} {r' : Done}
       → AddsAssignment (Rowed task work a) d r d' r' → AddsAssignment (assignment_for g a) d r d' r'
   unfolding assignment_for found_meaning
   no_cost z t w h = let k : None ≡ cost_by g a = sym (rw z) ∙ e in rw (← k, ← t, ← w) h

@@ -1,5 +1,6 @@
 -- What is made of a tree's elements fits its fields, so it is read back as it was put. Assumes nothing.
 use Rattle.std.specs.Prelude.{if◌then◌else◌}
+use Rattle.index.specs.declared.Table.{Table}
 use Rattle.std.proofs.Common.{◌≡◌, ℕ, ◌+◌, ◌^◌, ◌<◌, ◌≤◌, Bool, true, false, List, [], ◌∷◌, ◌++◌, map, length, refl, arith, length-append}
 use Rattle.std.specs.Prelude.{Option, Some, None}
 use lib.ListN.{length-map}
@@ -24,8 +25,6 @@ use Rattle.tree.specs.declared.root.Root.{Root}
 use Rattle.bits.specs.declared.Place.{Place}
 use Rattle.names.specs.Context.{context_at, calendars_before}
 use Rattle.names.specs.Naming.{Finds}
-use Rattle.index.specs.declared.Made.{Made}
-use Rattle.index.specs.declared.Made.TheVariants.{Ready, NoRoom}
 use Rattle.index.specs.Chains.{place_of}
 use Rattle.rows.specs.Rows.{has_uid}
 use Rattle.rows.specs.Small.{small_at, small_root}
@@ -38,10 +37,10 @@ use Rattle.assignments.specs.Resources.{is_work, FewResources}
 -- ---- expenses
 
 module _ (s : Text) (b : Bytes s) (root : Root) (w : List ℕ) where
-  cost_small : (m : Made) (u : Text) → Perhaps Small (cost_in s (root_at s root) w m u)
+  cost_small : (m : Option Table) (u : Text) → Perhaps Small (cost_in s (root_at s root) w m u)
   unfolding cost_in
-  cost_small NoRoom u = each_last (has_uid u) (each_keep is_cost (each_keep is_resource (holds_in (holds_child (small_root s root b) (bytes "Resources")) (bytes "Resource"))))
-  cost_small (Ready t) u = perhaps_any {P = Small} (sought_in s w t u) (λ r. there (small_at s b (place_of w t r)))
+  cost_small None u = each_last (has_uid u) (each_keep is_cost (each_keep is_resource (holds_in (holds_child (small_root s root b) (bytes "Resources")) (bytes "Resource"))))
+  cost_small (Some t) u = perhaps_any {P = Small} (sought_in s w t u) (λ r. there (small_at s b (place_of w t r)))
 
   pub expense_fits : (t : Tables) (a : Element) → ((e : Expense) → expense_for (finders_at s root w t) a ≡ Some e → e.activity < 2 ^ 32) → Perhaps (FitsExpenseBy Short) (expense_for (finders_at s root w t) a)
   unfolding expense_for expense_from
@@ -109,6 +108,6 @@ fine_on {rows} x b {e} fs h xs f = by (is_work e) f.few
         let m : length ids ≤ 5000000 = rw length-map (omega (arith, f.most)) in
         record { fit = each_append f.fit (next (fit_resource slim_texts x ids h b m) empty); few = omega arith; most = f.most }
 
-pub fine_few : (c p : Place) (s : Text) (root : Element) (k : Made) {w : List ℕ} {rows : ℕ} {d : List ℕ} (e : Element) (fs : List Element) → calendars_before d c root p ≡ true → Finds (context_at d c root) s k w
+pub fine_few : (c p : Place) (s : Text) (root : Element) (k : Option Table) {w : List ℕ} {rows : ℕ} {d : List ℕ} (e : Element) (fs : List Element) → calendars_before d c root p ≡ true → Finds (context_at d c root) s k w
     → (xs : List Resource) → FineResources rows (e ∷ fs) xs → FewResources c p s root k w rows (e ∷ []) d xs
 fine_few c p s root k e fs b h xs f = record { stand = b; finds = h; fit = f.fit; room = omega (arith, f.few, kept_some e fs); few = omega (arith, f.most) }

@@ -23,10 +23,6 @@ use Rattle.bits.specs.Places.{room_fits, at, inside, place_at_lem}
 use Rattle.bits.specs.Steps.{Puts}
 use Rattle.bits.specs.declared.Place.{Place}
 use Rattle.index.specs.declared.Table.{Table}
-use Rattle.index.specs.declared.Made.{Made}
-use Rattle.index.specs.declared.Made.TheVariants.{Ready, NoRoom}
-use Rattle.index.specs.declared.Row.{Row}
-use Rattle.index.specs.declared.Row.TheVariants as row
 use Rattle.index.specs.Chains.{zeros, added, first_of, next_of, place_of, chain_of, as_row}
 use Rattle.index.specs.Last.{last_below, rows_of}
 use Rattle.index.specs.Law.{Fits, Seeks, seeks_first, seeks_none, seeks_here, seeks_next}
@@ -113,24 +109,24 @@ used_at d v t activity name r = is_expense_at d (byte_at (place_of v t r)) activ
 abbrev pub used_row : List ℕ → List ℕ → Table → ℕ → Text → Option ℕ
 used_row d v t activity name = find (used_at d v t activity name) (chain_of v t (key_of activity name))
 
-as_given : (o : Option ℕ) {r : ℕ} → row.At r ≡ as_row o → true ≡ given o
+as_given : (o : Option ℕ) {r : ℕ} → Some r ≡ as_row o → true ≡ given o
 as_given None e = let y : ◌≡◌ {A = ℕ} 0 1 = cc in absurd (omega arith)
 as_given (Some k) e = refl
 
-as_none : (o : Option ℕ) → row.None ≡ as_row o → false ≡ given o
+as_none : (o : Option ℕ) → None ≡ as_row o → false ≡ given o
 as_none None e = refl
 as_none (Some k) e = let y : ◌≡◌ {A = ℕ} 0 1 = cc in absurd (omega arith)
 
 module _ (d : List ℕ) {v : List ℕ} {t : Table} (activity : ℕ) (name : Text) where
-  pub used_first : {key : ℕ} {at : Row} → key ≡ key_of activity name → at ≡ first_of v t key → Seeks v t (used_at d v t activity name) (used_row d v t activity name) at
+  pub used_first : {key : ℕ} {at : Option ℕ} → key ≡ key_of activity name → at ≡ first_of v t key → Seeks v t (used_at d v t activity name) (used_row d v t activity name) at
   used_first i e = rw (← i) (seeks_first _ e)
 
-  module _ {at : Row} (h : Seeks v t (used_at d v t activity name) (used_row d v t activity name) at) where
-    pub used_none : at ≡ row.None → false ≡ is_used d v t activity name
+  module _ {at : Option ℕ} (h : Seeks v t (used_at d v t activity name) (used_row d v t activity name) at) where
+    pub used_none : at ≡ None → false ≡ is_used d v t activity name
     unfolding is_used
     used_none e = as_none (used_row d v t activity name) (seeks_none h e)
 
-    module _ {r : ℕ} (e : at ≡ row.At r) {p : ℕ} (i : p ≡ place_of v t r) {b : Bool} (j : b ≡ is_expense_at d (byte_at p) activity name) where
+    module _ {r : ℕ} (e : at ≡ Some r) {p : ℕ} (i : p ≡ place_of v t r) {b : Bool} (j : b ≡ is_expense_at d (byte_at p) activity name) where
       here : used_at d v t activity name r ≡ b
       here = sym (j ∙ ap (λ (p : ℕ). is_expense_at d (byte_at p) activity name) i)
 
@@ -138,7 +134,7 @@ module _ (d : List ℕ) {v : List ℕ} {t : Table} (activity : ℕ) (name : Text
       unfolding is_used
       used_here k = as_given (used_row d v t activity name) (seeks_here h e (here ∙ k))
 
-      pub used_on : b ≡ false → {on : Row} → on ≡ next_of v t r → Seeks v t (used_at d v t activity name) (used_row d v t activity name) on
+      pub used_on : b ≡ false → {on : Option ℕ} → on ≡ next_of v t r → Seeks v t (used_at d v t activity name) (used_row d v t activity name) on
       used_on k n = seeks_next h e (here ∙ k) n
 
 -- ---- one more
@@ -167,22 +163,22 @@ noted_none start v fits e = record { places = λ r. 0; indexed = rw e (indexed_n
 -- ---- what is noted
 
 -- where there is a table still, it was there, and has one more
-record NotedIn (v : List ℕ) (m : Made) (row : ℕ) (p : Place) (key : ℕ) (t : Table) (v' : List ℕ) : Type 0 where
-  was : m ≡ Ready t
+record NotedIn (v : List ℕ) (m : Option Table) (row : ℕ) (p : Place) (key : ℕ) (t : Table) (v' : List ℕ) : Type 0 where
+  was : m ≡ Some t
   whole_byte : p.bit ≡ 0
   few : row < t.rows
   words : v' ≡ added v t row key p.byte
 
 module _ (v : List ℕ) (row : ℕ) (p : Place) (key : ℕ) where
-  abbrev stored : Bool → Table → Made × List ℕ
-  stored b t = if b then (Ready t, added v t row key p.byte) else (NoRoom, v)
+  abbrev stored : Bool → Table → (Option Table) × List ℕ
+  stored b t = if b then (Some t, added v t row key p.byte) else (None, v)
 
-  noted_in : (m : Made) {t : Table} → (noted_by v m row p key).0 ≡ Ready t → NotedIn v m row p key t (noted_by v m row p key).1
+  noted_in : (m : Option Table) {t : Table} → (noted_by v m row p key).0 ≡ Some t → NotedIn v m row p key t (noted_by v m row p key).1
   unfolding noted_by
-  noted_in NoRoom e = let y : ◌≡◌ {A = ℕ} 0 1 = cc in absurd (omega arith)
-  noted_in (Ready u) {t} e = by (has_room u row p) refl e
+  noted_in None e = let y : ◌≡◌ {A = ℕ} 0 1 = cc in absurd (omega arith)
+  noted_in (Some u) {t} e = by (has_room u row p) refl e
     where
-      by : (b : Bool) → has_room u row p ≡ b → (stored b u).0 ≡ Ready t → NotedIn v (Ready u) row p key t (stored b u).1
+      by : (b : Bool) → has_room u row p ≡ b → (stored b u).0 ≡ Some t → NotedIn v (Some u) row p key t (stored b u).1
       by false h e = let y : ◌≡◌ {A = ℕ} 0 1 = cc in absurd (omega arith)
       by true h e =
           let z : u ≡ t = cc in
@@ -190,10 +186,10 @@ module _ (v : List ℕ) (row : ℕ) (p : Place) (key : ℕ) where
           let (f, g) = both (ltb p.byte (2 ^ 32)) (ltb row u.rows) c in
           record { was = e; whole_byte = eqb-true _ _ a; few = rw (← z) (ltb-true _ _ g); words = rw z }
 
-  noted_below : (m : Made) (n : ℕ) → Behind n m → SameBelow n v (noted_by v m row p key).1
+  noted_below : (m : Option Table) (n : ℕ) → Behind n m → SameBelow n v (noted_by v m row p key).1
   unfolding noted_by
-  noted_below NoRoom n h = below_refl n v
-  noted_below (Ready t) n h = by (has_room t row p)
+  noted_below None n h = below_refl n v
+  noted_below (Some t) n h = by (has_room t row p)
     where
       by : (b : Bool) → SameBelow n v (stored b t).1
       by false = below_refl n v
@@ -222,17 +218,17 @@ no_room_not t row p e = by (has_room t row p) refl
         let z : no_room_at t row p ≡ false = rw (a, le-ltb 4294967295 p.byte x, lt-leb t.rows row (ltb-true row t.rows g)) in
         absurd (true≢false (sym e ∙ z))
 
-module _ (v : List ℕ) (row : ℕ) (p : Place) (key : ℕ) {m : Made} where
-  pub note_none : m ≡ NoRoom → (NoRoom ≡ (noted_by v m row p key).0) × (v ≡ (noted_by v m row p key).1)
+module _ (v : List ℕ) (row : ℕ) (p : Place) (key : ℕ) {m : Option Table} where
+  pub note_none : m ≡ None → (None ≡ (noted_by v m row p key).0) × (v ≡ (noted_by v m row p key).1)
   unfolding noted_by
   note_none e = (rw e, rw e)
 
-  module _ {t : Table} (e : m ≡ Ready t) where
-    pub note_full : no_room_at t row p ≡ true → (NoRoom ≡ (noted_by v m row p key).0) × (v ≡ (noted_by v m row p key).1)
+  module _ {t : Table} (e : m ≡ Some t) where
+    pub note_full : no_room_at t row p ≡ true → (None ≡ (noted_by v m row p key).0) × (v ≡ (noted_by v m row p key).1)
     unfolding noted_by
     note_full h = let z = no_room_not t row p h in (rw (e, z), rw (e, z))
 
-    pub note_more : no_room_at t row p ≡ false → {v' : List ℕ} → v' ≡ added v t row key p.byte → (Ready t ≡ (noted_by v m row p key).0) × (v' ≡ (noted_by v m row p key).1)
+    pub note_more : no_room_at t row p ≡ false → {v' : List ℕ} → v' ≡ added v t row key p.byte → (Some t ≡ (noted_by v m row p key).0) × (v' ≡ (noted_by v m row p key).1)
     unfolding noted_by
     note_more h k =
         let (a, (b, c)) = room_at t row p h in
@@ -247,7 +243,7 @@ module _ {start : Place} {d : List ℕ} {u : Used} {w : List ℕ} {activity : �
   in_use_past h = record { told = λ d₀ xs ok k n i. absurd (omega (arith, (room_fits (length d) u.done.next 0 i).bit)) }
 
   -- by the table
-  pub in_use_table : {t : Table} → u.made ≡ Ready t → {b : Bool} → b ≡ is_used d w t activity name → InUse start d u w activity name b
+  pub in_use_table : {t : Table} → u.made ≡ Some t → {b : Bool} → b ≡ is_used d w t activity name → InUse start d u w activity name b
   in_use_table {t} e j = record { told = λ d₀ xs ok k n i. j ∙ used_is ok k i (n.noted t e i) activity name }
 
   -- by a scan
@@ -291,9 +287,9 @@ module _ {start : Place} {d : List ℕ} {u : Used} {w : List ℕ} (e : Expense) 
 
   -- it is new
   module _ (b : t ≡ false) {d' : List ℕ} {q : Place} {r : Done} (x : Puts (whole expense) e d u.done.next d' q) (c : (r.count ≡ (u.done.count + 1) % 2 ^ 64) × (r.next ≡ q))
-      {key : ℕ} (y : key ≡ key_of e.activity e.name) {m : Made} {w' : List ℕ}
+      {key : ℕ} (y : key ≡ key_of e.activity e.name) {m : Option Table} {w' : List ℕ}
       (z : (m ≡ (noted_by w u.made u.done.count u.done.next key).0) × (w' ≡ (noted_by w u.made u.done.count u.done.next key).1)) where
-    now_noted : (d₀ : List ℕ) (xs : List Expense) → FewExpenses d₀ xs → Wrote (whole expense) false xs d₀ start d u.done → Noting start xs d u w → (v : Table) → m ≡ Ready v
+    now_noted : (d₀ : List ℕ) (xs : List Expense) → FewExpenses d₀ xs → Wrote (whole expense) false xs d₀ start d u.done → Noting start xs d u w → (v : Table) → m ≡ Some v
         → inside (length d) u.done.next ≡ true → Noted start (firsts xs (present (Some e ∷ []))) w' v
     now_noted d₀ xs ok k n v f i =
         let g = noted_in w u.done.count u.done.next key u.made (sym z.0 ∙ f) in

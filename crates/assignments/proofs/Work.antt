@@ -1,5 +1,7 @@
 -- The work resources: how many there are, and one by one. Assumes nothing.
 use Rattle.std.specs.Prelude.{if◌then◌else◌}
+use Rattle.index.specs.declared.Table.{Table}
+use Rattle.names.specs.declared.ids.Ids.{Ids}
 use Rattle.std.proofs.Common.{◌≡◌, ℕ, suc, ◌+◌, ◌%◌, ◌^◌, ◌<◌, ◌≤◌, min, Bool, true, false, not, ◌&&◌, leb, List, [], ◌∷◌, ◌++◌, map, length, ℤ, sym, refl, ap, ◌∙◌, subst, mod-eq_of_lt, zero-add, arith, length-append, le-leb, leb-false, leb-true}
 use mathlib.Core.Bool.{and-eq-true_iff}
 use Rattle.std.specs.Prelude.{Option, Some, None}
@@ -25,14 +27,10 @@ use Rattle.bits.specs.Places.{inside}
 use Rattle.bits.specs.Steps.{Puts, put_same}
 use Rattle.index.specs.Below.{SameBelow}
 use Rattle.bits.specs.declared.Place.{Place}
-use Rattle.index.specs.declared.Made.{Made}
 use Rattle.model.specs.declared.records.Kind.TheVariants.{Resources}
 use Rattle.tree.specs.Place.{element_at}
-use Rattle.text.specs.Answers.{i64_of}
-use Rattle.text.specs.declared.I64Answer.{I64Answer}
 use Rattle.pack.specs.Value.{starred_by, name_meaning}
 use Rattle.pack.specs.Record.{resource_by}
-use Rattle.pack.specs.declared.stars.NameAnswer.{NameAnswer}
 use Rattle.pack.specs.Writes.{no_records, WritesIf, put_any, writes_if, writes_not}
 use Rattle.pack.specs.declared.record.Records.{Records}
 use Rattle.names.specs.Texts.{texts_at}
@@ -48,7 +46,6 @@ use Rattle.names.specs.Carried.{context_carried}
 use Rattle.names.specs.Short.{built_short}
 use Rattle.names.specs.declared.named.CalendarName.{CalendarName}
 use Rattle.names.specs.declared.uids.CalendarTable.{CalendarTable}
-use Rattle.names.specs.declared.ids.IdsMade.{IdsMade}
 use Rattle.assignments.specs.declared.section.Done.{Done}
 use Rattle.assignments.specs.Section.{Wrote}
 use Rattle.assignments.specs.Resources.{is_work, wanted_id, resource_with, HeldIn, FewResources, AddsResources, PutsResources}
@@ -139,8 +136,8 @@ few_is m n e = by (leb m most_elements) refl
 
 -- ---- one
 
-pub resource_is : (r : Element) {id name unit : Text} (calendar : Text) (stars : ℕ) {kind : ℕ} {units : ℤ} (named : NameAnswer) (price : I64Answer)
-    → id ≡ wanted_id r → name ≡ (text_in r "Name" or []) → kind ≡ resource_kind r → unit ≡ (text_in r "MaterialLabel" or []) → units ≡ max_units r → i64_of price ≡ price_of r
+pub resource_is : (r : Element) {id name unit : Text} (calendar : Text) (stars : ℕ) {kind : ℕ} {units : ℤ} (named : Option ℕ) (price : Option ℤ)
+    → id ≡ wanted_id r → name ≡ (text_in r "Name" or []) → kind ≡ resource_kind r → unit ≡ (text_in r "MaterialLabel" or []) → units ≡ max_units r → price ≡ price_of r
     → resource_by id stars name kind unit units calendar named price ≡ resource_with (name_meaning calendar named) (starred_by (wanted_id r) stars) r
 unfolding resource_with
 resource_is r calendar stars named price a c d e f h = rw (ap (λ (t : Text). starred_by t stars) a, c, d, e, f, h)
@@ -152,7 +149,7 @@ unfolding resource_with resource_of
 resource_free x ids r h e = rw (h, e)
 
 -- the words say the name
-name_found_lem : (x : Context) {s : Text} {k : Made} {w : List ℕ} → Finds x s k w → (o : Option Text) → (o >>= named_in x s w k) ≡ (o >>= name_of x.built >>= unless_main x)
+name_found_lem : (x : Context) {s : Text} {k : Option Table} {w : List ℕ} → Finds x s k w → (o : Option Text) → (o >>= named_in x s w k) ≡ (o >>= name_of x.built >>= unless_main x)
 name_found_lem x f None = refl
 name_found_lem x f (Some u) = f.named u
 
@@ -202,7 +199,7 @@ one_room : (e : Element) (n rows : ℕ) → is_work e ≡ true → n + length (k
 unfolding keep
 one_room e n rows t h = let k : n + 1 ≤ rows = rw t at h in omega arith
 
-module _ (c : Place) (s : Text) (root : Element) (k : Made) {start : Place} {d : List ℕ} {r : Done} {d' : List ℕ} {q : Place} {r' : Done} (a : Element) (t : is_work a ≡ true) (m : IdsMade) (w w' : List ℕ) (stars : ℕ) {name : Option Text}
+module _ (c : Place) (s : Text) (root : Element) (k : Option Table) {start : Place} {d : List ℕ} {r : Done} {d' : List ℕ} {q : Place} {r' : Done} (a : Element) (t : is_work a ≡ true) (m : Option Ids) (w w' : List ℕ) (stars : ℕ) {name : Option Text}
     (say : starred_by (wanted_id a) stars ≡ starred_in Resources d start r.next w m (r.count % 2 ^ 32) (wanted_id a))
     (named : name ≡ (text_in a "CalendarUID" >>= named_in (context_at d c root) s w k)) (puts : Puts (whole resource) (resource_with name (starred_by (wanted_id a) stars) a) d r.next d' q)
     (notes : w' ≡ noted_by w m (r.count % 2 ^ 32) (wanted_id a) stars (r.next.byte % 2 ^ 32))
@@ -272,7 +269,7 @@ module _ (c : Place) (s : Text) (root : Element) (k : Made) {start : Place} {d :
   }
 
 -- not a work resource
-pub adds_other : (c : Place) (s : Text) (root : Element) {start : Place} (k : Made) (m : IdsMade) {d w : List ℕ} {r : Done} (a : Element) → is_work a ≡ false → AddsResources c start s root (a ∷ []) k m d w r d w r
+pub adds_other : (c : Place) (s : Text) (root : Element) {start : Place} (k : Option Table) (m : Option Ids) {d w : List ℕ} {r : Done} (a : Element) → is_work a ≡ false → AddsResources c start s root (a ∷ []) k m d w r d w r
 adds_other c s root k m a t = record {
   adds = λ rows. record { goes = λ d₀ xs ok wrote. wrote_as (no_work (context_at d₀ c root) xs a t) wrote };
   holds = λ rows d₀ xs ok held wrote f. held;
@@ -282,7 +279,7 @@ adds_other c s root k m a t = record {
 -- ---- what the callees say, about the element's own texts
 
 -- a work resource is put
-pub adds_said : (c : Place) (s : Text) (root : Element) (k : Made) {start : Place} {d : List ℕ} {r : Done} {d' : List ℕ} {q : Place} {r' : Done} (a : Element) → is_work a ≡ true → (m : IdsMade) (w : List ℕ) {w' : List ℕ}
+pub adds_said : (c : Place) (s : Text) (root : Element) (k : Option Table) {start : Place} {d : List ℕ} {r : Done} {d' : List ℕ} {q : Place} {r' : Done} (a : Element) → is_work a ≡ true → (m : Option Ids) (w : List ℕ) {w' : List ℕ}
     → {id : Text} (stars : ℕ) → id ≡ wanted_id a → starred_by id stars ≡ starred_in Resources d start r.next w m (r.count % 2 ^ 32) id
     → (found : CalendarName) → calendar_name s found ≡ (text_in a "CalendarUID" >>= named_in (context_at d c root) s w k) → {calendar : Text} → calendar ≡ wanted_name (element_at s found.at)
     → Puts (whole resource) (resource_with (name_meaning calendar found.name) (starred_by (wanted_id a) stars) a) d r.next d' q
@@ -298,13 +295,13 @@ abbrev GoingOn : ℕ → Context → List Element → List Element → List ℕ 
 GoingOn rows x es fs = Going (whole resource) true (λ xs es. resources_after x xs (keep is_work es)) (FineResources rows fs) es fs
 
 -- in a buffer in which the calendars stand, with words that say their names before those of the ids
-pub record Going-in (c : Place) (s : Text) (root : Element) (k : Made) (m : IdsMade) (es fs : List Element) (d : List ℕ) (p : Place) (w d' w' : List ℕ) (r : Done) : Type 0 where
+pub record Going-in (c : Place) (s : Text) (root : Element) (k : Option Table) (m : Option Ids) (es fs : List Element) (d : List ℕ) (p : Place) (w d' w' : List ℕ) (r : Done) : Type 0 where
   pub going : calendars_before d c root p ≡ true → length (keep is_work es) ≤ most_elements → HeldIn m p d w (record { count = 0; next = p })
       → Finds (context_at d c root) s k w → Behind (end_names k) m
       → GoingOn (length (keep is_work es)) (context_at d c root) es fs d p d' r × HeldIn m p d' w' r
   pub keeps : (from : ℕ) → Behind from m → cleared from w' ≡ cleared from w
 
-module _ (c : Place) (s : Text) (root : Element) (k : Made) (m : IdsMade) {es : List Element} {d : List ℕ} {p : Place} {w : List ℕ} where
+module _ (c : Place) (s : Text) (root : Element) (k : Option Table) (m : Option Ids) {es : List Element} {d : List ℕ} {p : Place} {w : List ℕ} where
   pub go_all : Going-in c s root k m es es d p w d w (record { count = 0; next = p })
   go_all = record { going = λ b h held f l. (going_all (fine_all es h), held); keeps = λ from h. refl }
 
@@ -339,7 +336,7 @@ module _ (c : Place) (s : Text) (root : Element) (k : Made) (m : IdsMade) {es : 
 
 -- ---- the tables
 
-behind_less : {from to : ℕ} → from ≤ to → {m : IdsMade} → Behind to m → Behind from m
+behind_less : {from to : ℕ} → from ≤ to → {m : Option Ids} → Behind to m → Behind from m
 behind_less k h i e = let (a, b) = h i e in (omega arith, omega arith)
 
 -- ---- all
@@ -365,7 +362,7 @@ module _ (d : List ℕ) (c : Place) (root : Element) (p : Place) {n : ℕ} {u : 
     pub resources_none : all_in (child root (bytes "Resources")) (bytes "Resource") ≡ [] → WritesIf (Tested d c root p) (whole resource) (resources (context_at d c root) root) d p d (record { count = 0; next = p })
     resources_none e = let x = context_at d c root in writes_if (whole resource) holds (writes_none (all_resources x root e ∙ no_resources x []))
 
-    pub resources_all : {es : List Element} → all_in (child root (bytes "Resources")) (bytes "Resource") ≡ es → {s : Text} {from : ℕ} {t : CalendarTable} {m : IdsMade} {w w₁ w₂ w₃ d' : List ℕ} {r : Done} {a : Records}
+    pub resources_all : {es : List Element} → all_in (child root (bytes "Resources")) (bytes "Resource") ≡ es → {s : Text} {from : ℕ} {t : CalendarTable} {m : Option Ids} {w w₁ w₂ w₃ d' : List ℕ} {r : Done} {a : Records}
         → Makes d c s root from w w₁ t → (m ≡ ids_for (length d) p (length w₁) t.end n) × (w₂ ≡ begun w₁ m) → PutsResources c p s root es t.table m d w₂ d' w₃ r → (a.count ≡ r.count % 2 ^ 32) × (a.next ≡ r.next)
         → WritesIf (Tested d c root p) (whole resource) (resources (context_at d c root) root) d p d' a × (cleared from w₃ ≡ cleared from w)
     resources_all {es} e {s} {from} {t} {m} {w} {w₁} {w₂} i (j, v) g o =

@@ -4,27 +4,22 @@ use native.Mathlib.Nat.{mod-add-mod}
 use Rattle.std.specs.Prelude.{Option, Some, None}
 use lib.Seq.{take-length}
 use Rattle.definition.specs.Base.{present}
-use Rattle.definition.specs.Answer.{row_meaning}
 use Rattle.definition.specs.Text.{Text}
 use Rattle.definition.specs.Tree.{Element}
 use Rattle.definition.specs.Format.{whole}
 use Rattle.definition.specs.Model.{Expense}
 use Rattle.definition.specs.Pack.{expense}
 use Rattle.definition.specs.Resource.{expense_from, firsts, assignment_elements}
-use Rattle.definition.specs.declared.RowAnswer.{RowAnswer}
 use Rattle.laws.specs.Bits.{Bytes}
 use Rattle.bits.specs.Clear.{cleared}
 use Rattle.bits.specs.declared.Place.{Place}
 use Rattle.index.specs.declared.Table.{Table}
-use Rattle.index.specs.declared.Made.{Made}
-use Rattle.index.specs.declared.Made.TheVariants.{Ready, NoRoom}
 use Rattle.index.specs.Chains.{table_of, zeros}
 use Rattle.index.specs.Law.{table_placed}
 use Rattle.index.specs.Below.{SameBelow, below_refl, below_then, below_zeros, below_take}
 use Rattle.tree.specs.Place.{element_at}
 use Rattle.tree.specs.Root.{root_at}
 use Rattle.tree.specs.declared.root.Root.{Root}
-use Rattle.tree.specs.declared.Found.{Found}
 use Rattle.rows.specs.Rows.{found_meaning}
 use Rattle.assignments.specs.declared.section.Done.{Done}
 use Rattle.assignments.specs.declared.section.Tables.{Tables}
@@ -39,21 +34,21 @@ use Rattle.assignments.proofs.Noting.{noted_none, notes_missing}
 
 -- ---- that of one element
 
-module _ {task : RowAnswer} (f : Finders) (a : Element) (et : row_meaning task ≡ task_by f a) {start : Place} {d : List ℕ} {u : Used} {w : List ℕ} where
-  pub no_task : task ≡ RowAnswer.Absent → Notes start (expense_for f a) d u w d u w
-  unfolding row_meaning expense_for
+module _ {task : Option ℕ} (f : Finders) (a : Element) (et : task ≡ task_by f a) {start : Place} {d : List ℕ} {u : Used} {w : List ℕ} where
+  pub no_task : task ≡ None → Notes start (expense_for f a) d u w d u w
+  unfolding expense_for
   no_task z = let k : None ≡ task_by f a = sym (rw z) ∙ et in notes_missing (rw (← k))
 
-  module _ (s : Text) {c : Found} (ec : found_meaning s c ≡ cost_by f a) {n : ℕ} (z : task ≡ RowAnswer.Is n) where
-    pub no_cost_there : c ≡ Found.Nothing → Notes start (expense_for f a) d u w d u w
-    unfolding row_meaning found_meaning expense_for
+  module _ (s : Text) {c : Option ℕ} (ec : found_meaning s c ≡ cost_by f a) {n : ℕ} (z : task ≡ Some n) where
+    pub no_cost_there : c ≡ None → Notes start (expense_for f a) d u w d u w
+    unfolding found_meaning expense_for
     no_cost_there y =
         let k : Some n ≡ task_by f a = sym (rw z) ∙ et in
         let m : None ≡ cost_by f a = sym (rw y) ∙ ec in
         notes_missing (rw (← k, ← m))
 
-    pub cost_there : {q : ℕ} → c ≡ Found.At q → {d' : List ℕ} {u' : Used} {w' : List ℕ} → Notes start (Some (expense_from n (element_at s q) a)) d u w d' u' w' → Notes start (expense_for f a) d u w d' u' w'
-    unfolding row_meaning found_meaning expense_for
+    pub cost_there : {q : ℕ} → c ≡ Some q → {d' : List ℕ} {u' : Used} {w' : List ℕ} → Notes start (Some (expense_from n (element_at s q) a)) d u w d' u' w' → Notes start (expense_for f a) d u w d' u' w'
+    unfolding found_meaning expense_for
     cost_there {q} y h =
         let k : Some n ≡ task_by f a = sym (rw z) ∙ et in
         let m : Some (element_at s q) ≡ cost_by f a = sym (rw y) ∙ ec in
@@ -83,7 +78,7 @@ pub record Writing (s : Text) (at n : ℕ) (f : Finders) (es fs : List Element) 
   pub below : SameBelow n w w'
   pub behind : Behind n u.made
 
-pub go_all : {s : Text} {at n : ℕ} (f : Finders) {es : List Element} {d : List ℕ} {p : Place} {w : List ℕ} {m : Made} → Behind n m → ((t : Table) → m ≡ Ready t → Noted p [] w t)
+pub go_all : {s : Text} {at n : ℕ} (f : Finders) {es : List Element} {d : List ℕ} {p : Place} {w : List ℕ} {m : Option Table} → Behind n m → ((t : Table) → m ≡ Some t → Noted p [] w t)
     → Writing s at n f es es d p w d (record { done = record { count = 0; next = p }; made = m }) w
 go_all {n = n} f {w = w} h k = record {
   done = [];
@@ -133,7 +128,7 @@ module _ {s : Text} (b : Bytes s) (few : length s < 2 ^ 63) (root : Root) (t : T
 
 -- ---- the table
 
-module _ (n : ℕ) (w : List ℕ) (rows : ℕ) {end : ℕ} (h : end ≡ min n (length w)) {m : Made} (e : m ≡ table_of (length w) end rows) where
+module _ (n : ℕ) (w : List ℕ) (rows : ℕ) {end : ℕ} (h : end ≡ min n (length w)) {m : Option Table} (e : m ≡ table_of (length w) end rows) where
   pub table_behind : Behind n m
   table_behind = record {
     behind = λ t i.
@@ -143,21 +138,21 @@ module _ (n : ℕ) (w : List ℕ) (rows : ℕ) {end : ℕ} (h : end ≡ min n (l
   }
 
   module _ {w' : List ℕ} (k : w' ≡ emptied w m) where
-    pub table_none : (start : Place) (t : Table) → m ≡ Ready t → Noted start [] w' t
+    pub table_none : (start : Place) (t : Table) → m ≡ Some t → Noted start [] w' t
     table_none start t i = noted_none start w (table_placed (length w) end rows (sym i ∙ e)).fits (k ∙ rw i)
 
     pub table_below : SameBelow n w w'
     table_below = rw k (by m table_behind)
       where
-        by : (m : Made) → Behind n m → SameBelow n w (emptied w m)
-        by NoRoom b = below_refl n w
-        by (Ready t) b = below_zeros t w (b.behind t refl)
+        by : (m : Option Table) → Behind n m → SameBelow n w (emptied w m)
+        by None b = below_refl n w
+        by (Some t) b = below_zeros t w (b.behind t refl)
 
-module _ (w : List ℕ) (end rows : ℕ) {m : Made} (e : m ≡ table_of (length w) end rows) where
-  pub empty_none : m ≡ NoRoom → (NoRoom ≡ table_of (length w) end rows) × (w ≡ emptied w NoRoom)
+module _ (w : List ℕ) (end rows : ℕ) {m : Option Table} (e : m ≡ table_of (length w) end rows) where
+  pub empty_none : m ≡ None → (None ≡ table_of (length w) end rows) × (w ≡ emptied w None)
   empty_none i = (sym i ∙ e, refl)
 
-  pub empty_table : {t : Table} → m ≡ Ready t → {w' : List ℕ} → w' ≡ zeros w t.at t.rows → (Ready t ≡ table_of (length w) end rows) × (w' ≡ emptied w (Ready t))
+  pub empty_table : {t : Table} → m ≡ Some t → {w' : List ℕ} → w' ≡ zeros w t.at t.rows → (Some t ≡ table_of (length w) end rows) × (w' ≡ emptied w (Some t))
   empty_table i k = (sym i ∙ e, k)
 
 -- how many elements there are

@@ -1,5 +1,6 @@
 -- Assignments and expenses by finders: how a task's row, a work resource's row and a cost resource are found by their UIDs. Assumes nothing.
 use Rattle.std.specs.Prelude.{if◌then◌else◌, ◌≡◌, ℕ, ◌+◌, ◌%◌, ◌^◌, ◌≤◌, max, Bool, true, false, List, [], ◌∷◌, ◌++◌, map, length}
+use Rattle.index.specs.declared.Table.{Table}
 use Rattle.std.proofs.Common.{arith, ◌∙◌}
 use Rattle.std.proofs.Math.Path.{refl, ap, fun_ext}
 use Rattle.std.specs.Prelude.{Option, Some, None}
@@ -17,7 +18,6 @@ use Rattle.definition.specs.Resource.{work_resources, cost_resources, assignment
 use Rattle.laws.specs.Bits.{enc_low}
 use Rattle.bits.specs.Steps.{Puts, said}
 use Rattle.bits.specs.declared.Place.{Place}
-use Rattle.index.specs.declared.Made.{Made}
 use Rattle.index.specs.Chains.{end_in}
 use Rattle.index.specs.Below.{SameBelow, below_in}
 use Rattle.rows.specs.Rows.{has_uid}
@@ -33,7 +33,7 @@ pub record Finders : Type 0 where
   pub cost : Text → Option Element
 
 -- as words say it where there are tables
-abbrev pub finders_in : Text → Element → List ℕ → Made → Made → Made → Finders
+abbrev pub finders_in : Text → Element → List ℕ → Option Table → Option Table → Option Table → Finders
 finders_in s root w tasks work cost = record {
   task = row_in s root Listed.Tasks w tasks;
   work = row_in s root Listed.Work w work;
@@ -41,7 +41,7 @@ finders_in s root w tasks work cost = record {
 }
 
 -- where three tables end
-abbrev pub ends_of : Made → Made → Made → ℕ
+abbrev pub ends_of : Option Table → Option Table → Option Table → ℕ
 ends_of tasks work cost = max (end_in tasks) (max (end_in work) (end_in cost))
 
 -- the task, the work resource and the cost resource that an assignment names
@@ -68,10 +68,10 @@ expenses_by f root = firsts [] (present (map (expense_for f) (assignment_element
 
 -- ---- words that agree as far as the tables go
 
-same_for : {n : ℕ} {w w' : List ℕ} → SameBelow n w w' → (m : Made) → end_in m ≤ n → SameFor m w w'
+same_for : {n : ℕ} {w w' : List ℕ} → SameBelow n w w' → (m : Option Table) → end_in m ≤ n → SameFor m w w'
 same_for h m k = record { same = λ t e. below_in h (rw e at k) }
 
-pub finders_same : (s : Text) (root : Element) (tasks work cost : Made) {w w' : List ℕ} → SameBelow (ends_of tasks work cost) w w'
+pub finders_same : (s : Text) (root : Element) (tasks work cost : Option Table) {w w' : List ℕ} → SameBelow (ends_of tasks work cost) w w'
     → finders_in s root w' tasks work cost ≡ finders_in s root w tasks work cost
 finders_same s root tasks work cost h =
     rw (row_same s root Listed.Tasks (same_for h tasks (omega arith)), row_same s root Listed.Work (same_for h work (omega arith)), cost_same s root (same_for h cost (omega arith)))

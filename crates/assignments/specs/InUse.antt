@@ -11,8 +11,6 @@ use Rattle.definition.specs.Resource.{firsts}
 use Rattle.bits.specs.Places.{at, inside}
 use Rattle.bits.specs.declared.Place.{Place}
 use Rattle.index.specs.declared.Table.{Table}
-use Rattle.index.specs.declared.Made.{Made}
-use Rattle.index.specs.declared.Made.TheVariants.{Ready, NoRoom}
 use Rattle.index.specs.Hash.{hash_of}
 use Rattle.index.specs.Chains.{zeros, added, place_of, chain_of}
 use Rattle.index.specs.Law.{Indexed}
@@ -26,9 +24,9 @@ use Rattle.assignments.specs.Records.{is_expense_at, FewExpenses}
 -- ---- the words
 
 -- a table with none in it
-abbrev pub emptied : List ℕ → Made → List ℕ
-emptied w NoRoom = w
-emptied w (Ready t) = zeros w t.at t.rows
+abbrev pub emptied : List ℕ → Option Table → List ℕ
+emptied w None = w
+emptied w (Some t) = zeros w t.at t.rows
 
 -- the hash of an activity's row and a name
 abbrev pub key_of : ℕ → Text → ℕ
@@ -45,9 +43,9 @@ is_used d w t activity name = given (find (λ r. is_expense_at d (byte_at (place
 abbrev pub has_room : Table → ℕ → Place → Bool
 has_room t row p = p.bit == 0 && (nat_lt p.byte (2 ^ 32) && nat_lt row t.rows)
 
-unfoldable pub noted_by : List ℕ → Made → ℕ → Place → ℕ → Made × List ℕ
-noted_by w NoRoom row p key = (NoRoom, w)
-noted_by w (Ready t) row p key = if has_room t row p then (Ready t, added w t row key p.byte) else (NoRoom, w)
+unfoldable pub noted_by : List ℕ → Option Table → ℕ → Place → ℕ → (Option Table) × List ℕ
+noted_by w None row p key = (None, w)
+noted_by w (Some t) row p key = if has_room t row p then (Some t, added w t row key p.byte) else (None, w)
 
 -- ---- what they stand for
 
@@ -70,7 +68,7 @@ pub record Noted (start : Place) (xs : List Expense) (w : List ℕ) (t : Table) 
 
 -- as long as they fit into the buffer
 pub record Noting (start : Place) (xs : List Expense) (d : List ℕ) (u : Used) (w : List ℕ) : Type 0 where
-  pub noted : (t : Table) → u.made ≡ Ready t → inside (length d) u.done.next ≡ true → Noted start xs w t
+  pub noted : (t : Table) → u.made ≡ Some t → inside (length d) u.done.next ≡ true → Noted start xs w t
 
 -- whether an expense is of an activity and has a name
 abbrev pub is_of : ℕ → Text → Expense → Bool
@@ -82,8 +80,8 @@ pub record InUse (start : Place) (d : List ℕ) (u : Used) (w : List ℕ) (activ
       → inside (length d) u.done.next ≡ true → t ≡ some? (is_of activity name) xs
 
 -- the words of a table stand behind so many
-pub record Behind (n : ℕ) (m : Made) : Type 0 where
-  pub behind : (t : Table) → m ≡ Ready t → n ≤ t.at
+pub record Behind (n : ℕ) (m : Option Table) : Type 0 where
+  pub behind : (t : Table) → m ≡ Some t → n ≤ t.at
 
 -- one that may be missing is written and noted, unless there is an equal one
 pub record Notes (start : Place) (o : Option Expense) (d : List ℕ) (u : Used) (w : List ℕ) (d' : List ℕ) (u' : Used) (w' : List ℕ) : Type 0 where
@@ -93,7 +91,7 @@ pub record Notes (start : Place) (o : Option Expense) (d : List ℕ) (u : Used) 
       → Noting start (firsts xs (present (o ∷ []))) d' u' w'
   pub row : (e : Expense) → o ≡ Some e → e.activity < 2 ^ 32
   pub below : (n : ℕ) → Behind n u.made → SameBelow n w w'
-  pub still : (t : Table) → u'.made ≡ Ready t → u.made ≡ Ready t
+  pub still : (t : Table) → u'.made ≡ Some t → u.made ≡ Some t
 
 -- some are written from a place on, and the words below a number stay
 pub record WroteBeside (n : ℕ) (xs : List Expense) (d : List ℕ) (p : Place) (w : List ℕ) (d' : List ℕ) (r : Done) (w' : List ℕ) : Type 0 where

@@ -1,7 +1,6 @@
 // The assignments. What is right is said in the crate definition, specs/Resource.antt.
 ghost use Rattle.std.specs.Prelude.{◌≡◌, true, ◌∷◌};
 ghost use Rattle.definition.specs.Ascii.{bytes};
-ghost use Rattle.definition.specs.Answer.{row_meaning};
 ghost use Rattle.definition.specs.Base.{◌>>=◌ as bind};
 ghost use Rattle.definition.specs.Format.{whole};
 ghost use Rattle.definition.specs.Pack.{assignment};
@@ -16,20 +15,19 @@ ghost use Rattle.assignments.specs.Records.{finders_at, assignments_in, AddsAssi
 
 use crate::section::{Done, Tables, more, records_of};
 use bits::Place;
-use definition::RowAnswer;
-use index::Made;
+use index::Table;
 use pack::Records;
 use rows::Listed;
-use tree::{Found, Root};
+use tree::{Root};
 
 // ---- what an Assignment names
 
 // The row of its task.
-pub(crate) fn task_of(s: &[u8], root: Root, words: &[u32], t: Tables, at: usize) -> RowAnswer
-    ensures { row_meaning result ≡ task_by (finders_at s.now root words.now t) (element_at s.now at) }
+pub(crate) fn task_of(s: &[u8], root: Root, words: &[u32], t: Tables, at: usize) -> Option<u32>
+    ensures { result ≡ task_by (finders_at s.now root words.now t) (element_at s.now at) }
 {
     if !fields::given(s, at, b"TaskUID") {
-        return RowAnswer::Absent;
+        return None;
     }
     let tasks = t.tasks;
     let uid = tree::text_of(s, at, b"TaskUID");
@@ -37,11 +35,11 @@ pub(crate) fn task_of(s: &[u8], root: Root, words: &[u32], t: Tables, at: usize)
 }
 
 // Its cost resource.
-pub(crate) fn cost_of(s: &[u8], root: Root, words: &[u32], t: Tables, at: usize) -> Found
+pub(crate) fn cost_of(s: &[u8], root: Root, words: &[u32], t: Tables, at: usize) -> Option<usize>
     ensures { found_meaning s.now result ≡ cost_by (finders_at s.now root words.now t) (element_at s.now at) }
 {
     if !fields::given(s, at, b"ResourceUID") {
-        return Found::Nothing;
+        return None;
     }
     let cost = t.cost;
     let uid = tree::text_of(s, at, b"ResourceUID");
@@ -49,11 +47,11 @@ pub(crate) fn cost_of(s: &[u8], root: Root, words: &[u32], t: Tables, at: usize)
 }
 
 // The row of its work resource.
-fn work_of(s: &[u8], root: Root, words: &[u32], t: Tables, at: usize) -> RowAnswer
-    ensures { row_meaning result ≡ work_by (finders_at s.now root words.now t) (element_at s.now at) }
+fn work_of(s: &[u8], root: Root, words: &[u32], t: Tables, at: usize) -> Option<u32>
+    ensures { result ≡ work_by (finders_at s.now root words.now t) (element_at s.now at) }
 {
     if !fields::given(s, at, b"ResourceUID") {
-        return RowAnswer::Absent;
+        return None;
     }
     let work = t.work;
     let uid = tree::text_of(s, at, b"ResourceUID");
@@ -68,15 +66,15 @@ fn put_rows(
     done: Done,
     s: &[u8],
     at: usize,
-    task: RowAnswer,
-    resource: RowAnswer,
+    task: Option<u32>,
+    resource: Option<u32>,
 ) -> Done
-    ensures { AddsAssignment (bind (row_meaning task) (λ t. bind (row_meaning resource) (λ n. Some (assignment_from t n (element_at s.now at))))) out.old done out.new result }
+    ensures { AddsAssignment (bind task (λ t. bind resource (λ n. Some (assignment_from t n (element_at s.now at))))) out.old done out.new result }
 {
-    let RowAnswer::Is(task) = task else {
+    let Some(task) = task else {
         return done;
     };
-    let RowAnswer::Is(resource) = resource else {
+    let Some(resource) = resource else {
         return done;
     };
     let work = resources::work(s, at);
@@ -99,8 +97,8 @@ fn put_one(
     ensures { AddsAssignment (assignment_for (finders_at s.now root words.now t) (element_at s.now at)) out.old done out.new result }
 {
     match cost_of(s, root, words, t, at) {
-        Found::At(_) => done,
-        Found::Nothing => {
+        Some(_) => done,
+        None => {
             let task = task_of(s, root, words, t, at);
             put_rows(out, done, s, at, task, work_of(s, root, words, t, at))
         }
@@ -123,7 +121,7 @@ fn put_from(
     let mut at = first;
     loop {
         done = put_one(out, done, s, root, words, t, at);
-        let Found::At(next) = tree::next_child(s, at, b"Assignment") else {
+        let Some(next) = tree::next_child(s, at, b"Assignment") else {
             return done;
         };
         at = next;
@@ -137,15 +135,15 @@ pub fn put_assignments(
     s: &[u8],
     root: Root,
     words: &[u32],
-    tasks: Made,
-    work: Made,
-    cost: Made,
+    tasks: Option<Table>,
+    work: Option<Table>,
+    cost: Option<Table>,
 ) -> Records
     ensures { Writes (whole assignment) (assignments_by (finders_in s.now (root_at s.now root) words.now tasks work cost) (root_at s.now root)) out.old p out.new result }
 {
     let t = Tables { tasks, work, cost };
     match tree::child(s, root.assignments, b"Assignment") {
-        Found::Nothing => Records { count: 0, next: p },
-        Found::At(first) => records_of(put_from(out, p, s, root, words, t, first)),
+        None => Records { count: 0, next: p },
+        Some(first) => records_of(put_from(out, p, s, root, words, t, first)),
     }
 }

@@ -16,17 +16,16 @@ ghost use Rattle.assignments.specs.InUse.{key_of, is_used, emptied, noted_by, In
 use crate::assignment::{cost_of, task_of};
 use crate::section::{Done, Tables, more, records_of};
 use bits::Place;
-use definition::RowAnswer;
-use index::{Made, Row, Table};
+use index::{Table};
 use model::records::Kind;
 use pack::Records;
-use tree::{Found, Root};
+use tree::{Root};
 
 // What is written, and a table of it by activity and name, with the byte of each record; none once one does not fit there.
 #[derive(Clone, Copy)]
 struct Used {
     done: Done,
-    made: Made,
+    made: Option<Table>,
 }
 
 // ---- those that stand in the buffer
@@ -71,7 +70,7 @@ fn seek(out: &[u8], words: &[u32], t: Table, activity: u32, name: &[u8]) -> bool
 {
     let mut row = index::first(words, t, key_of(activity, name));
     loop {
-        let Row::At(r) = row else {
+        let Some(r) = row else {
             return false;
         };
         let byte = index::place(words, t, r) as usize;
@@ -92,20 +91,20 @@ fn in_use(out: &[u8], start: Place, used: Used, words: &[u32], activity: u32, na
     }
     let made = used.made;
     match made {
-        Made::Ready(t) => seek(out, words, t, activity, name),
-        Made::NoRoom => is_there(out, start, done.count, activity, name),
+        Some(t) => seek(out, words, t, activity, name),
+        None => is_there(out, start, done.count, activity, name),
     }
 }
 
 // One more at a place, where the table has a row for it and 32 bits hold its byte; else no table from here on.
-fn note(words: &mut [u32], made: Made, row: usize, p: Place, key: u32) -> Made
+fn note(words: &mut [u32], made: Option<Table>, row: usize, p: Place, key: u32) -> Option<Table>
     ensures { (result ≡ (noted_by words.old made row p key).0) × (words.new ≡ (noted_by words.old made row p key).1) }
 {
-    let Made::Ready(t) = made else {
-        return Made::NoRoom;
+    let Some(t) = made else {
+        return None;
     };
     if (p.bit != 0) | (4294967295 < p.byte) | (t.rows as usize <= row) {
-        return Made::NoRoom;
+        return None;
     }
     index::put(words, t, row as u32, key, p.byte as u32);
     made
@@ -132,15 +131,15 @@ fn ends_of(t: Tables, len: usize) -> usize
 }
 
 // A table of so many rows behind a place, with none in it.
-fn table_behind(words: &mut [u32], end: usize, rows: u32) -> Made
+fn table_behind(words: &mut [u32], end: usize, rows: u32) -> Option<Table>
     ensures { (result ≡ table_of (length words.old) end rows) × (words.new ≡ emptied words.old result) }
 {
     let made = index::table_at(words.len(), end, rows);
-    let Made::Ready(t) = made else {
-        return Made::NoRoom;
+    let Some(t) = made else {
+        return None;
     };
     index::clear(words, t);
-    Made::Ready(t)
+    Some(t)
 }
 
 // How many an Assignment and its later siblings are, as 32 bits hold it.
@@ -150,7 +149,7 @@ fn count_from(s: &[u8], first: usize) -> u32
     let mut at = first;
     let mut n: u32 = 1;
     loop {
-        let Found::At(next) = tree::next_child(s, at, b"Assignment") else {
+        let Some(next) = tree::next_child(s, at, b"Assignment") else {
             return n;
         };
         n = std::num::wrapping_add_u32(n, 1);
@@ -202,10 +201,10 @@ fn put_one(
 ) -> Used
     ensures { Notes start (expense_for (finders_at s.now root words.old t) (element_at s.now at)) out.old used words.old out.new result words.new }
 {
-    let RowAnswer::Is(activity) = task_of(s, root, words, t, at) else {
+    let Some(activity) = task_of(s, root, words, t, at) else {
         return used;
     };
-    let Found::At(resource) = cost_of(s, root, words, t, at) else {
+    let Some(resource) = cost_of(s, root, words, t, at) else {
         return used;
     };
     put_new(out, start, used, s, at, activity, resource, words)
@@ -232,7 +231,7 @@ fn put_from(
     let mut at = first;
     loop {
         used = put_one(out, p, used, s, root, at, words, t);
-        let Found::At(next) = tree::next_child(s, at, b"Assignment") else {
+        let Some(next) = tree::next_child(s, at, b"Assignment") else {
             let done = used.done;
             return done;
         };
@@ -245,8 +244,8 @@ fn put_all(out: &mut [u8], p: Place, s: &[u8], root: Root, words: &mut [u32], t:
     ensures { WroteBeside (ends_of t.tasks t.work t.cost) (expenses_by (finders_at s.now root words.old t) (root_at s.now root)) out.old p words.old out.new result words.new }
 {
     match tree::child(s, root.assignments, b"Assignment") {
-        Found::Nothing => Done { count: 0, next: p },
-        Found::At(first) => put_from(out, p, s, root, first, words, t),
+        None => Done { count: 0, next: p },
+        Some(first) => put_from(out, p, s, root, first, words, t),
     }
 }
 
@@ -257,9 +256,9 @@ pub fn put_expenses(
     s: &[u8],
     root: Root,
     words: &mut [u32],
-    tasks: Made,
-    work: Made,
-    cost: Made,
+    tasks: Option<Table>,
+    work: Option<Table>,
+    cost: Option<Table>,
 ) -> Records
     ensures { WritesIn (whole expense) (expenses_by (finders_in s.now (root_at s.now root) words.old tasks work cost) (root_at s.now root)) out.old p out.new result × (words.new ≡ cleared (ends_of tasks work cost) words.old) }
 {

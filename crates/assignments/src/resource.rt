@@ -17,13 +17,13 @@ ghost use Rattle.names.specs.Context.{context_at, calendars_before};
 ghost use Rattle.names.specs.Named.{named_in, calendar_name};
 ghost use Rattle.assignments.specs.Resources.{is_work, wanted_id, resource_with, AddsResources, PutsResources};
 
+use index::Table;
 use crate::section::{Done, more, records_of};
 use bits::{PAST, Place};
-use index::Made;
 use model::records::Kind;
-use names::{CalendarName, IdsMade};
-use pack::{NameAnswer, Records};
-use tree::{Found, Root};
+use names::{CalendarName, Ids};
+use pack::{Records};
+use tree::{Root};
 
 // ---- how many there are
 
@@ -48,7 +48,7 @@ fn count_from(s: &[u8], first: usize) -> u32
     let mut n: u32 = 0;
     loop {
         n = counted(n, is_work(s, at));
-        let Found::At(next) = tree::next_child(s, at, b"Resource") else {
+        let Some(next) = tree::next_child(s, at, b"Resource") else {
             return n;
         };
         at = next;
@@ -60,8 +60,8 @@ fn count_work(s: &[u8], root: Root) -> u32
     ensures { result ≡ min (length (work_resources (root_at s.now root))) (suc most_elements) }
 {
     match tree::child(s, root.resources, b"Resource") {
-        Found::Nothing => 0,
-        Found::At(first) => count_from(s, first),
+        None => 0,
+        Some(first) => count_from(s, first),
     }
 }
 
@@ -86,14 +86,14 @@ fn calendar_of(
     root: Root,
     at: usize,
     words: &[u32],
-    calendars: Made,
+    calendars: Option<Table>,
 ) -> CalendarName
     ensures { calendar_name s.now result ≡ bind (text_in (element_at s.now at) "CalendarUID") (named_in (context_at out.now c (root_at s.now root)) s.now words.now calendars) }
 {
     if !fields::given(s, at, b"CalendarUID") {
         return CalendarName {
             at: s.len(),
-            name: NameAnswer::Absent,
+            name: None,
         };
     }
     let uid = tree::text_of(s, at, b"CalendarUID");
@@ -110,7 +110,7 @@ fn put_said(
     at: usize,
     stars: u32,
     calendar: &[u8],
-    named: NameAnswer,
+    named: Option<u32>,
 ) -> Place
     ensures { Puts (whole resource) (resource_with (name_meaning calendar.now named) (starred_by (wanted_id (element_at s.now at)) stars) (element_at s.now at)) out.old p out.new result }
 {
@@ -135,8 +135,8 @@ fn put_one(
     at: usize,
     c: Place,
     words: &mut [u32],
-    calendars: Made,
-    ids: IdsMade,
+    calendars: Option<Table>,
+    ids: Option<Ids>,
 ) -> Done
     ensures { AddsResources c start s.now (root_at s.now root) (element_at s.now at ∷ []) calendars ids out.old words.old done out.new words.new result }
 {
@@ -164,8 +164,8 @@ fn put_from(
     first: usize,
     c: Place,
     words: &mut [u32],
-    calendars: Made,
-    ids: IdsMade,
+    calendars: Option<Table>,
+    ids: Option<Ids>,
 ) -> Done
     ensures { PutsResources c p s.now (root_at s.now root) (element_at s.now first ∷ later_at s.now (bytes "Resource") first) calendars ids out.old words.old out.new words.new result }
 {
@@ -173,7 +173,7 @@ fn put_from(
     let mut at = first;
     loop {
         done = put_one(out, p, done, s, root, at, c, words, calendars, ids);
-        let Found::At(next) = tree::next_child(s, at, b"Resource") else {
+        let Some(next) = tree::next_child(s, at, b"Resource") else {
             return done;
         };
         at = next;
@@ -200,8 +200,8 @@ fn put_all(
         };
     }
     match tree::child(s, root.resources, b"Resource") {
-        Found::Nothing => Records { count: 0, next: p },
-        Found::At(first) => {
+        None => Records { count: 0, next: p },
+        Some(first) => {
             let calendars = names::index_calendars(out, c, s, root, words, at);
             let table = calendars.table;
             let ids = names::ids_for(out.len(), p, words, calendars.end, count);

@@ -2,15 +2,15 @@
 ghost use Rattle.std.specs.Prelude.{◌≡◌, ◌+◌, ◌%◌, ◌^◌};
 
 use bits::Place;
-use index::Made;
+use index::Table;
 use pack::Records;
 
 // The tables of tasks, of work resources and of cost resources, in lent words.
 #[derive(Clone, Copy)]
 pub(crate) struct Tables {
-    pub tasks: Made,
-    pub work: Made,
-    pub cost: Made,
+    pub tasks: Option<Table>,
+    pub work: Option<Table>,
+    pub cost: Option<Table>,
 }
 
 #[derive(Clone, Copy)]

@@ -12,24 +12,23 @@ use Rattle.definition.specs.Calendar.{recurring, calendar_elements, skipped}
 use Rattle.laws.specs.Keep.{keep_more}
 use Rattle.recurrence.specs.Element.{rule_by}
 use Rattle.recurrence.specs.declared.Rule.{Rule}
-use Rattle.recurrence.specs.declared.RuleAnswer.{RuleAnswer}
 use Rattle.calendar.specs.Skipped.{one_if, without_rule, in_all}
 
 -- ---- one exception: whether it has a rule
 
-pub one_rule : (x : Element) (r : RuleAnswer) → r ≡ rule_by (rule_of x) → (m : Rule) → r ≡ RuleAnswer.Is m → 0 ≡ one_if x
+pub one_rule : (x : Element) (r : Option Rule) → r ≡ rule_by (rule_of x) → (m : Rule) → r ≡ Some m → 0 ≡ one_if x
 unfolding recurrence_days
 one_rule x r e m k = by (rule_of x) (sym k ∙ e)
   where
-    by : (o : Option D.Rule) → RuleAnswer.Is m ≡ rule_by o → ◌≡◌ {A = ℕ} 0 (if not (given (o >>= λ r. Some (days_of_rule r))) then 1 else 0)
+    by : (o : Option D.Rule) → Some m ≡ rule_by o → ◌≡◌ {A = ℕ} 0 (if not (given (o >>= λ r. Some (days_of_rule r))) then 1 else 0)
     by None e = let i : ◌≡◌ {A = ℕ} 0 1 = cc in absurd (omega arith)
     by (Some r) e = refl
 
-pub no_rule : (x : Element) (r : RuleAnswer) → r ≡ rule_by (rule_of x) → r ≡ RuleAnswer.Absent → 1 ≡ one_if x
+pub no_rule : (x : Element) (r : Option Rule) → r ≡ rule_by (rule_of x) → r ≡ None → 1 ≡ one_if x
 unfolding recurrence_days
 no_rule x r e k = by (rule_of x) (sym k ∙ e)
   where
-    by : (o : Option D.Rule) → RuleAnswer.Absent ≡ rule_by o → ◌≡◌ {A = ℕ} 1 (if not (given (o >>= λ r. Some (days_of_rule r))) then 1 else 0)
+    by : (o : Option D.Rule) → None ≡ rule_by o → ◌≡◌ {A = ℕ} 1 (if not (given (o >>= λ r. Some (days_of_rule r))) then 1 else 0)
     by None e = refl
     by (Some r) e = let i : ◌≡◌ {A = ℕ} 0 1 = cc in absurd (omega arith)
 

@@ -9,16 +9,15 @@ use Rattle.definition.specs.Tree.{Element}
 use Rattle.definition.specs.Field.{yes_in}
 use Rattle.definition.specs.Model.{Calendar}
 use Rattle.definition.specs.Calendar.{place_of, week_days, week_by, works, calendar_of}
-use Rattle.calendar.specs.declared.week.PlaceAnswer.{PlaceAnswer}
 
 -- ---- the place in the week by DayType, Monday 0
 
 abbrev pub place_by : Option ℕ → Option ℕ
 place_by o = o >>= λ t. when (within 1 7 t) ((t + 5) % 7)
 
-unfoldable pub place_meaning : PlaceAnswer → Option ℕ
-place_meaning (PlaceAnswer.Is k) = Some k
-place_meaning PlaceAnswer.Absent = None
+unfoldable pub place_meaning : Option ℕ → Option ℕ
+place_meaning (Some k) = Some k
+place_meaning None = None
 
 -- ---- the flags
 

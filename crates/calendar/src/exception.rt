@@ -9,16 +9,15 @@ ghost use Rattle.tree.specs.Place.{element_at, later_at};
 ghost use Rattle.tree.specs.Root.{root_at};
 ghost use Rattle.calendar.specs.Skipped.{without_rule, in_all, one_if};
 
-use recurrence::RuleAnswer;
-use tree::{Found, Root};
+use tree::{Root};
 
 // 1 for an Exception that gives no rule.
 fn one_if(s: &[u8], at: usize) -> u32
     ensures { result ≡ one_if (element_at s.now at) }
 {
     match recurrence::rule_of(s, at) {
-        RuleAnswer::Is(_) => 0,
-        RuleAnswer::Absent => 1,
+        Some(_) => 0,
+        None => 1,
     }
 }
 
@@ -30,7 +29,7 @@ fn skipped_from(s: &[u8], first: usize) -> u32
     let mut n: u32 = 0;
     loop {
         n = std::num::wrapping_add_u32(n, one_if(s, p));
-        let Found::At(q) = tree::next_child(s, p, b"Exception") else {
+        let Some(q) = tree::next_child(s, p, b"Exception") else {
             return n;
         };
         p = q;
@@ -41,8 +40,8 @@ fn skipped_in(s: &[u8], at: usize) -> u32
     ensures { result ≡ without_rule (all (element_at s.now at) (bytes "Exception")) % 2 ^ 32 }
 {
     match tree::child(s, at, b"Exception") {
-        Found::Nothing => 0,
-        Found::At(p) => skipped_from(s, p),
+        None => 0,
+        Some(p) => skipped_from(s, p),
     }
 }
 
@@ -51,8 +50,8 @@ fn skipped_by(s: &[u8], at: usize) -> u32
     ensures { result ≡ without_rule (recurring (element_at s.now at)) % 2 ^ 32 }
 {
     match tree::child(s, at, b"Exceptions") {
-        Found::Nothing => 0,
-        Found::At(p) => skipped_in(s, p),
+        None => 0,
+        Some(p) => skipped_in(s, p),
     }
 }
 
@@ -64,7 +63,7 @@ fn skipped_on(s: &[u8], first: usize) -> u32
     let mut n: u32 = 0;
     loop {
         n = std::num::wrapping_add_u32(n, skipped_by(s, p));
-        let Found::At(q) = tree::next_child(s, p, b"Calendar") else {
+        let Some(q) = tree::next_child(s, p, b"Calendar") else {
             return n;
         };
         p = q;
@@ -76,7 +75,7 @@ pub fn skipped(s: &[u8], root: Root) -> u32
     ensures { result ≡ skipped_in (root_at s.now root) % 2 ^ 32 }
 {
     match tree::child(s, root.calendars, b"Calendar") {
-        Found::Nothing => 0,
-        Found::At(p) => skipped_on(s, p),
+        None => 0,
+        Some(p) => skipped_on(s, p),
     }
 }

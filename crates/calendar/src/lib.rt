@@ -8,5 +8,5 @@ mod week;
 
 pub use base::has_base;
 pub use exception::skipped;
-pub use hours::{WorkingTime, WorkingTimeAnswer, working_time};
-pub use week::{PlaceAnswer, day_place, day_working, is_old_exception, week_of, works};
+pub use hours::{WorkingTime, working_time};
+pub use week::{day_place, day_working, is_old_exception, week_of, works};

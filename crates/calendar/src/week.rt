@@ -6,61 +6,49 @@ ghost use Rattle.definition.specs.Field.{yes_in};
 ghost use Rattle.definition.specs.Format.{bit as bit_of};
 ghost use Rattle.definition.specs.Tree.{all};
 ghost use Rattle.definition.specs.Calendar.{day_type, place_of, week_days, week_by};
-ghost use Rattle.text.specs.Answers.{u64_of};
-ghost use Rattle.date.specs.Answer.{weekday_meaning};
 ghost use Rattle.tree.specs.Place.{element_at, later_at};
 ghost use Rattle.calendar.specs.Week.{place_meaning, place_by, flags_in, word_of, replaced, week_on, week_with, flag_on, works_on};
 
-use date::WeekdayAnswer;
 use definition::Date;
-use text::U64Answer;
-use tree::Found;
 
-// A place in the week, Monday 0, or none.
-#[derive(Clone, Copy)]
-pub enum PlaceAnswer {
-    Is(u32),
-    Absent,
-}
-
-fn day_type(s: &[u8], at: usize) -> U64Answer
-    ensures { u64_of result ≡ day_type (element_at s.now at) }
+fn day_type(s: &[u8], at: usize) -> Option<u64>
+    ensures { result ≡ day_type (element_at s.now at) }
 {
     text::u64_of(tree::text_of(s, at, b"DayType"))
 }
 
 // Sunday is 1, and the week begins on Monday.
-fn place_at(t: u64) -> PlaceAnswer
+fn place_at(t: u64) -> Option<u32>
     ensures { place_meaning result ≡ place_by (Some t) }
 {
     if (1 <= t) & (t <= 7) {
-        return PlaceAnswer::Is(((t + 5) % 7) as u32);
+        return Some(((t + 5) % 7) as u32);
     }
-    PlaceAnswer::Absent
+    None
 }
 
-fn place_by(a: U64Answer) -> PlaceAnswer
-    ensures { place_meaning result ≡ place_by (u64_of a) }
+fn place_by(a: Option<u64>) -> Option<u32>
+    ensures { place_meaning result ≡ place_by a }
 {
     match a {
-        U64Answer::Is(t) => place_at(t),
-        U64Answer::Absent => PlaceAnswer::Absent,
+        Some(t) => place_at(t),
+        None => None,
     }
 }
 
 // The place of a WeekDay in the week, Monday 0.
-pub fn day_place(s: &[u8], at: usize) -> PlaceAnswer
+pub fn day_place(s: &[u8], at: usize) -> Option<u32>
     ensures { place_meaning result ≡ place_of (element_at s.now at) }
 {
     place_by(day_type(s, at))
 }
 
-fn type_or_1(a: U64Answer) -> u64
-    ensures { result ≡ (u64_of a or 1) }
+fn type_or_1(a: Option<u64>) -> u64
+    ensures { result ≡ (a or 1) }
 {
     match a {
-        U64Answer::Is(t) => t,
-        U64Answer::Absent => 1,
+        Some(t) => t,
+        None => 1,
     }
 }
 
@@ -123,12 +111,12 @@ fn with_flag(week: u32, k: u32, on: bool) -> u32
     with_bit(low(week, 7), 6 - k, on)
 }
 
-fn with_place(week: u32, place: PlaceAnswer, on: bool) -> u32
+fn with_place(week: u32, place: Option<u32>, on: bool) -> u32
     ensures { flags_in result ≡ week_on (place_meaning place) «on» (flags_in week) }
 {
     match place {
-        PlaceAnswer::Is(k) => with_flag(week, k, on),
-        PlaceAnswer::Absent => week,
+        Some(k) => with_flag(week, k, on),
+        None => week,
     }
 }
 
@@ -148,7 +136,7 @@ fn week_from(s: &[u8], first: usize, base: u32) -> u32
     let mut week = base;
     loop {
         week = with_day(s, p, week);
-        let Found::At(q) = tree::next_child(s, p, b"WeekDay") else {
+        let Some(q) = tree::next_child(s, p, b"WeekDay") else {
             return week;
         };
         p = q;
@@ -159,8 +147,8 @@ fn week_in(s: &[u8], at: usize, base: u32) -> u32
     ensures { flags_in result ≡ week_by (all (element_at s.now at) (bytes "WeekDay")) (flags_in base) }
 {
     match tree::child(s, at, b"WeekDay") {
-        Found::Nothing => base,
-        Found::At(p) => week_from(s, p, base),
+        None => base,
+        Some(p) => week_from(s, p, base),
     }
 }
 
@@ -168,8 +156,8 @@ fn week_under(s: &[u8], at: usize, base: u32) -> u32
     ensures { flags_in result ≡ week_by (week_days (element_at s.now at)) (flags_in base) }
 {
     match tree::child(s, at, b"WeekDays") {
-        Found::Nothing => base,
-        Found::At(p) => week_in(s, p, base),
+        None => base,
+        Some(p) => week_in(s, p, base),
     }
 }
 
@@ -180,12 +168,12 @@ pub fn week_of(s: &[u8], at: usize, base: u32) -> u32
     low(week_under(s, at, base), 7)
 }
 
-fn works_at(week: u32, weekday: WeekdayAnswer) -> bool
-    ensures { result ≡ flag_on (flags_in week) (weekday_meaning weekday) }
+fn works_at(week: u32, weekday: Option<u32>) -> bool
+    ensures { result ≡ flag_on (flags_in week) weekday }
 {
     match weekday {
-        WeekdayAnswer::Is(k) => flag_at(week, k),
-        WeekdayAnswer::Absent => false,
+        Some(k) => flag_at(week, k),
+        None => false,
     }
 }
 

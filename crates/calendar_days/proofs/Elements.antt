@@ -1,5 +1,8 @@
 -- The elements of a calendar's exceptions, found one by one. Assumes nothing.
 use Rattle.std.proofs.Common.{◌≡◌, ℕ, ◌+◌, ◌<◌, ◌≤◌, Bool, true, false, not, eqb, List, [], ◌∷◌, length, drop, sym, refl, ap, ◌∙◌, subst, arith, drop-drop}
+use Rattle.recurrence.specs.declared.Range.{Range}
+use Rattle.recurrence.specs.declared.Rule.{Rule}
+use Rattle.std.specs.Prelude.{None, Some}
 use Rattle.std.specs.Prelude.{Option}
 use Rattle.definition.specs.Base.{◌or◌, given, some?}
 use Rattle.definition.specs.Ascii.{bytes}
@@ -9,56 +12,52 @@ use Rattle.definition.specs.Format.{Period}
 use Rattle.definition.specs.Calendar.{week_days, recurring, periods_of, is_empty, day_type, working_time}
 use Rattle.tree.specs.Place.{later_at, list_of, Past, Starts}
 use Rattle.tree.specs.Answer.{found_list, none_list, found_on}
-use Rattle.tree.specs.declared.Found.{Found}
-use Rattle.tree.specs.declared.Found.TheVariants.{At, Nothing}
 use Rattle.recurrence.specs.Element.{rule_days, RuleRead, RangeRead}
-use Rattle.recurrence.specs.declared.RuleAnswer.{RuleAnswer}
-use Rattle.recurrence.specs.declared.RangeAnswer.{RangeAnswer}
 use Rattle.calendar_days.specs.Exceptions.{name_of, items_of, On, days_at, days_in, Ruled, is_time}
 use Rattle.calendar_days.proofs.Changes.{names_hours}
 
-past_less : (s : Text) (m k : ℕ) → k ≤ m → (r : Found) → Past s m r → Past s k r
+past_less : (s : Text) (m k : ℕ) → k ≤ m → (r : Option ℕ) → Past s m r → Past s k r
 unfolding Past
-past_less s m k h (At p) o = (omega (arith, o.0), o.1)
-past_less s m k h Nothing o = tt
+past_less s m k h (Some p) o = (omega (arith, o.0), o.1)
+past_less s m k h None o = tt
 
 module _ {s n : Text} where
-  pub starts_from : {l : List Element} {m : ℕ} {r : Found} (k : ℕ) → k ≤ m → Starts s n l m r → Starts s n l k r
+  pub starts_from : {l : List Element} {m : ℕ} {r : Option ℕ} (k : ℕ) → k ≤ m → Starts s n l m r → Starts s n l k r
   starts_from {m = m} {r = r} k h x = record { is = x.is; on = past_less s m k h r x.on }
 
-  starts_none : Starts s n [] 0 Nothing
+  starts_none : Starts s n [] 0 None
   unfolding list_of Past
   starts_none = record { is = refl; on = tt }
 
   -- the next one
-  pub on_at : {f r : Found} {p m : ℕ} → f ≡ At p → Starts s n (later_at s n p) m r → On s n f r
+  pub on_at : {f r : Option ℕ} {p m : ℕ} → f ≡ Some p → Starts s n (later_at s n p) m r → On s n f r
   on_at {r = r} e x = record { on = λ l h. subst (λ t. Starts s n (drop 1 t) 0 r) (sym (found_list h e)) (starts_from 0 (omega arith) x) }
 
-  pub on_none : {f : Found} → f ≡ Nothing → On s n f Nothing
-  on_none e = record { on = λ l h. subst (λ t. Starts s n (drop 1 t) 0 Nothing) (sym (none_list h e)) starts_none }
+  pub on_none : {f : Option ℕ} → f ≡ None → On s n f None
+  on_none e = record { on = λ l h. subst (λ t. Starts s n (drop 1 t) 0 None) (sym (none_list h e)) starts_none }
 
 -- ---- how many
 
-pub record Counting (s n : Text) (l : List Element) (f : Found) (k : ℕ) : Type 0 where
+pub record Counting (s n : Text) (l : List Element) (f : Option ℕ) (k : ℕ) : Type 0 where
   pub others : List Element
   pub starts : Starts s n others k f
   pub all : length l ≡ k + length others
 
 module _ {s n : Text} where
-  pub count_none : {l : List Element} {f : Found} → Starts s n l 0 f → Counting s n l f 0
+  pub count_none : {l : List Element} {f : Option ℕ} → Starts s n l 0 f → Counting s n l f 0
   count_none {l} h = record { others = l; starts = h; all = omega arith }
 
-  pub count_end : {l : List Element} {f : Found} {k : ℕ} → Counting s n l f k → f ≡ Nothing → k ≡ length l
+  pub count_end : {l : List Element} {f : Option ℕ} {k : ℕ} → Counting s n l f k → f ≡ None → k ≡ length l
   count_end h e = omega (arith, h.all, ap length (none_list h.starts e))
 
-  module _ {l : List Element} {f : Found} {k p : ℕ} (h : Counting s n l f k) (e : f ≡ At p) where
+  module _ {l : List Element} {f : Option ℕ} {k p : ℕ} (h : Counting s n l f k) (e : f ≡ Some p) where
     pub count_less : k < length l
     count_less = omega (arith, h.all, ap length (found_list h.starts e))
 
     pub count_within : k < length s
     count_within = omega (arith, found_on h.starts e)
 
-    pub count_more : {r : Found} → Starts s n (later_at s n p) (p + 1) r → Counting s n l r (k + 1)
+    pub count_more : {r : Option ℕ} → Starts s n (later_at s n p) (p + 1) r → Counting s n l r (k + 1)
     count_more x = record {
       others = later_at s n p;
       starts = starts_from (k + 1) (omega (arith, found_on h.starts e)) x;
@@ -68,19 +67,19 @@ module _ {s n : Text} where
 -- ---- by the kind of element
 
 module _ {s : Text} {o : Bool} where
-  pub old_first : (e : Element) {m : ℕ} {r : Found} → o ≡ true → Starts s (bytes "WeekDay") (week_days e) m r → Starts s (name_of o) (items_of o e) 0 r
+  pub old_first : (e : Element) {m : ℕ} {r : Option ℕ} → o ≡ true → Starts s (bytes "WeekDay") (week_days e) m r → Starts s (name_of o) (items_of o e) 0 r
   unfolding name_of items_of
   old_first e h x = rw h (starts_from 0 (omega arith) x)
 
-  pub new_first : (e : Element) {m : ℕ} {r : Found} → o ≡ false → Starts s (bytes "Exception") (recurring e) m r → Starts s (name_of o) (items_of o e) 0 r
+  pub new_first : (e : Element) {m : ℕ} {r : Option ℕ} → o ≡ false → Starts s (bytes "Exception") (recurring e) m r → Starts s (name_of o) (items_of o e) 0 r
   unfolding name_of items_of
   new_first e h x = rw h (starts_from 0 (omega arith) x)
 
-  pub old_next : (p : ℕ) {m : ℕ} {r : Found} → o ≡ true → Starts s (bytes "WeekDay") (later_at s (bytes "WeekDay") p) m r → Starts s (name_of o) (later_at s (name_of o) p) m r
+  pub old_next : (p : ℕ) {m : ℕ} {r : Option ℕ} → o ≡ true → Starts s (bytes "WeekDay") (later_at s (bytes "WeekDay") p) m r → Starts s (name_of o) (later_at s (name_of o) p) m r
   unfolding name_of
   old_next p h x = rw h x
 
-  pub new_next : (p : ℕ) {m : ℕ} {r : Found} → o ≡ false → Starts s (bytes "Exception") (later_at s (bytes "Exception") p) m r → Starts s (name_of o) (later_at s (name_of o) p) m r
+  pub new_next : (p : ℕ) {m : ℕ} {r : Option ℕ} → o ≡ false → Starts s (bytes "Exception") (later_at s (bytes "Exception") p) m r → Starts s (name_of o) (later_at s (name_of o) p) m r
   unfolding name_of
   new_next p h x = rw h x
 
@@ -112,23 +111,23 @@ time_is t e h = sym (e ∙ ap given h)
 
 -- the one behind the first
 module _ {s n : Text} (l : List Element) where
-  pub nth_more : (i : ℕ) {f r : Found} → Starts s n (drop i l) 0 f → On s n f r → Starts s n (drop (i + 1) l) 0 r
+  pub nth_more : (i : ℕ) {f r : Option ℕ} → Starts s n (drop i l) 0 f → On s n f r → Starts s n (drop (i + 1) l) 0 r
   nth_more i {f} {r} h k = subst (λ t. Starts s n t 0 r) (drop-drop 1 i l) (k.on (drop i l) h)
 
-  pub nth_end : (i m : ℕ) {f : Found} → i ≤ m → m ≤ i → Starts s n (drop i l) 0 f → Starts s n (drop m l) 0 f
+  pub nth_end : (i m : ℕ) {f : Option ℕ} → i ≤ m → m ≤ i → Starts s n (drop i l) 0 f → Starts s n (drop m l) 0 f
   nth_end i m {f} a b h = let e : i ≡ m = omega arith in subst (λ k. Starts s n (drop k l) 0 f) e h
 
 -- ---- their days
 
 module _ {o : Bool} (x : Element) where
-  pub new_days : {r : RuleAnswer} → o ≡ false → RuleRead x r → days_in r ≡ days_at o x
+  pub new_days : {r : Option Rule} → o ≡ false → RuleRead x r → days_in r ≡ days_at o x
   unfolding days_in days_at
   new_days e h = rw (e, h.days)
 
-  pub not_old : {t : Bool} → o ≡ true → t ≡ eqb (day_type x or 1) 0 → t ≡ false → days_in RuleAnswer.Absent ≡ days_at o x
+  pub not_old : {t : Bool} → o ≡ true → t ≡ eqb (day_type x or 1) 0 → t ≡ false → days_in None ≡ days_at o x
   unfolding days_in days_at rule_days
   not_old e h k = let z : eqb (day_type x or 1) 0 ≡ false = sym h ∙ k in rw (e, z)
 
-  pub old_days : {t : Bool} {a : RangeAnswer} {r : RuleAnswer} → o ≡ true → t ≡ eqb (day_type x or 1) 0 → t ≡ true → RangeRead x a → Ruled a r → days_in r ≡ days_at o x
+  pub old_days : {t : Bool} {a : Option Range} {r : Option Rule} → o ≡ true → t ≡ eqb (day_type x or 1) 0 → t ≡ true → RangeRead x a → Ruled a r → days_in r ≡ days_at o x
   unfolding days_at
   old_days e h k i j = let z : eqb (day_type x or 1) 0 ≡ true = sym h ∙ k in rw (e, z) (j.days x i)

@@ -24,13 +24,10 @@ use Rattle.recurrence.specs.Meaning.{as_rule, sound, meaning, days_by, to_come, 
 use Rattle.recurrence.specs.Scale.{day_date, scaled_by, month_meaning}
 use Rattle.recurrence.specs.Sequence.{from_on}
 use Rattle.recurrence.specs.declared.Rule.{Rule}
-use Rattle.recurrence.specs.declared.RuleAnswer.{RuleAnswer}
 use Rattle.recurrence.specs.declared.Range.{Range}
-use Rattle.recurrence.specs.declared.RangeAnswer.{RangeAnswer}
 use Rattle.recurrence.specs.declared.Cursor.{Cursor}
 use Rattle.recurrence.specs.declared.Step.{Step}
 use Rattle.recurrence.specs.declared.Step.TheVariants.{Day, Done, Skipped}
-use Rattle.calendar_days.specs.declared.exceptions.DayAnswer.{DayAnswer}
 use Rattle.calendar_days.specs.Exceptions.{days_at, days_in, daily, Ruled, coming, Next, Follows}
 use Rattle.calendar_days.proofs.Runs.{each_count, each_kept, kept_length, count_length, rises_count, rises_keep, rises_take, first_run}
 
@@ -111,19 +108,19 @@ module _ (r : Rule) (c : Cursor) {s : Step} (h : (s ≡ step_of r c) × (said r 
       by_come (Some (x ∷ l)) z = absurd (n (day_date x) (after c x) (h.0 ∙ ap (step_by c) z))
 
   -- the next day, or none
-  pub day_follows : (d : DateIs) (c' : Cursor) → s ≡ Day d c' → Follows r c (DayAnswer.Is d c')
+  pub day_follows : (d : DateIs) (c' : Cursor) → s ≡ Day d c' → Follows r c (Some (d, c'))
   day_follows d c' e = record {
     day = λ d2 c2 z.
         let ed : d ≡ d2 = cc in
         let ec : c' ≡ c2 = cc in
         subst (λ x. Next r c x c2) ed (subst (λ y. Next r c d y) ec (next_day e));
-    None = λ z. let n : ◌≡◌ {A = ℕ} 0 1 = cc in absurd (omega arith);
+    none = λ z. let n : ◌≡◌ {A = ℕ} 0 1 = cc in absurd (omega arith);
   }
 
-  pub none_follows : {t : Step} → s ≡ t → ((d : DateIs) (c' : Cursor) → t ≡ Day d c' → ⊥) → Follows r c DayAnswer.Absent
+  pub none_follows : {t : Step} → s ≡ t → ((d : DateIs) (c' : Cursor) → t ≡ Day d c' → ⊥) → Follows r c None
   none_follows e n = record {
     day = λ d2 c2 z. let n : ◌≡◌ {A = ℕ} 0 1 = cc in absurd (omega arith);
-    None = λ z. no_day (λ d c' k. n d c' (sym e ∙ k));
+    none = λ z. no_day (λ d c' k. n d c' (sym e ∙ k));
   }
 
 pub no_done : (d : DateIs) (c' : Cursor) → Done ≡ Day d c' → ⊥
@@ -132,7 +129,7 @@ no_done d c' e = let n : ◌≡◌ {A = ℕ} 0 1 = cc in omega arith
 pub no_skipped : (d : DateIs) (c' : Cursor) → Skipped ≡ Day d c' → ⊥
 no_skipped d c' e = let n : ◌≡◌ {A = ℕ} 0 1 = cc in omega arith
 
-pub from_start : (r : Rule) (c : Cursor) → to_come r c ≡ days_by r → coming r c ≡ days_in (RuleAnswer.Is r)
+pub from_start : (r : Rule) (c : Cursor) → to_come r c ≡ days_by r → coming r c ≡ days_in (Some r)
 unfolding days_in rule_days
 from_start r c e = ap (λ (o : Option (List Date)). o or []) e
 
@@ -185,7 +182,7 @@ no_count : (a : ℕ) → count a 0 ≡ []
 unfolding count
 no_count a = refl
 
-days_are : (r : Rule) {m : D.Rule} → meaning r ≡ Some m → days_in (RuleAnswer.Is r) ≡ days_of_rule m
+days_are : (r : Rule) {m : D.Rule} → meaning r ≡ Some m → days_in (Some r) ≡ days_of_rule m
 unfolding days_in rule_days days_by
 days_are r e = rw e
 
@@ -218,14 +215,14 @@ module _ (r : Range) where
       ∙ ap (λ (many : ℕ). take many (keep (fits rule) (count from (suc n + k)))) e
       ∙ g ∙ ap (count from) (sym e)
 
-  pub daily_days : (w : Element) → RangeRead w (RangeAnswer.Is r) → days_in (RuleAnswer.Is (daily r)) ≡ days_of w
+  pub daily_days : (w : Element) → RangeRead w (Some r) → days_in (Some (daily r)) ≡ days_of w
   unfolding range_days
   daily_days w h = by_count r.count refl
     where
-      by_count : (n : ℕ) → r.count ≡ n → days_in (RuleAnswer.Is (daily r)) ≡ days_of w
+      by_count : (n : ℕ) → r.count ≡ n → days_in (Some (daily r)) ≡ days_of w
       by_count zero e =
           let z : [] ≡ days_of w = sym (no_count from) ∙ ap (count from) (sym e) ∙ h.days in
-          let u : RangeAnswer.Is r ≡ RangeAnswer.Absent = h.is ∙ ap range_by (sym z) in
+          let u : Some r ≡ None = h.is ∙ ap range_by (sym z) in
           let o : ◌≡◌ {A = ℕ} 0 1 = cc in
           absurd (omega arith)
       by_count (suc n) e =
@@ -235,12 +232,12 @@ module _ (r : Range) where
           days_are (daily r) (daily_is first) ∙ daily_run n e first last.1 (omega (arith, run.short, count_length from (suc n))) ∙ h.days
 
 -- the rule of an answer
-pub ruled : {a : RangeAnswer} (r : Range) → a ≡ RangeAnswer.Is r → {b : RuleAnswer} → b ≡ RuleAnswer.Is (daily r) → Ruled a b
-ruled r e {b} f = subst (λ a. Ruled a b) (sym e) (subst (λ b. Ruled (RangeAnswer.Is r) b) (sym f) (record { days = daily_days r }))
+pub ruled : {a : Option Range} (r : Range) → a ≡ Some r → {b : Option Rule} → b ≡ Some (daily r) → Ruled a b
+ruled r e {b} f = subst (λ a. Ruled a b) (sym e) (subst (λ b. Ruled (Some r) b) (sym f) (record { days = daily_days r }))
 
-pub not_ruled : {a : RangeAnswer} → a ≡ RangeAnswer.Absent → Ruled a RuleAnswer.Absent
+pub not_ruled : {a : Option Range} → a ≡ None → Ruled a None
 unfolding days_in rule_days range_days
-not_ruled e = subst (λ a. Ruled a RuleAnswer.Absent) (sym e) (record { days = λ w h. h.days })
+not_ruled e = subst (λ a. Ruled a None) (sym e) (record { days = λ w h. h.days })
 
 -- ---- the days of an element rise
 

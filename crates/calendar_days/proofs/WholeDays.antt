@@ -1,5 +1,7 @@
 -- The three lists of a calendar's days over those of its base. Assumes nothing.
 use Rattle.std.proofs.Common.{◌≡◌, ℕ, ◌<◌, ◌≤◌, Bool, true, false, eqb, ltb, leb, List, length, drop, sym, refl, ap, ◌∙◌, subst, arith, ltb-false, ltb-true, eq-eqb, eqb-true, le-leb, leb-true}
+use Rattle.calendar_days.specs.declared.base.Lists.{Lists}
+use Rattle.std.specs.Prelude.{None}
 use Rattle.std.specs.Prelude.{Option, Some}
 use Rattle.definition.specs.Base.{◌>>=◌, ◌or◌, when}
 use Rattle.definition.specs.Bits.{Bits, bits_of}
@@ -16,8 +18,6 @@ use Rattle.bits.specs.Reads.{Reads, rest, rest_in, rest_out, rest_past, spot_at,
 use Rattle.bits.specs.declared.Place.{Place}
 use Rattle.model.specs.Passes.{Passes, Told, refusing, reading, told, stood, ◌⨾◌}
 use Rattle.names.specs.Kept.{reads_kept}
-use Rattle.calendar_days.specs.declared.base.Base.{Base}
-use Rattle.calendar_days.specs.declared.base.Base.TheVariants.{At, Default}
 use Rattle.calendar_days.specs.Items.{IsDay}
 use Rattle.calendar_days.specs.Days.{Day, exceptions, BaseHolidays, BaseExtraDays, BaseExceptions, PutsOver}
 use Rattle.calendar_days.specs.Over.{Over, Lasts}
@@ -95,7 +95,7 @@ read_told {A} {f} {s} {p} {q} {l} z h = by_told (told h)
 
 module _ {d : List ℕ} {from extra days end : Place} (p : Place) (x : Passes dates d from extra) (y : Passes dates d extra days) (z : Passes exceptions d days end) where
   -- none stand there
-  pub base_cut : inside (length d) end ≡ false → BaseLists Default d p (lists_at d from p)
+  pub base_cut : inside (length d) end ≡ false → BaseLists None d p (lists_at d from p)
   unfolding BaseLists lists_at
   base_cut i = by_told (told (x ⨾ y ⨾ z))
     where
@@ -115,11 +115,11 @@ module _ {d : List ℕ} {from extra days end : Place} (p : Place) (x : Passes da
         ((a, (b, e)), ((ra, (rb, re)), read-⊗ ra (read-⊗ rb re)))
 
     -- they end behind the place
-    pub base_behind : not_behind end p ≡ false → BaseLists Default d p (lists_at d from p)
+    pub base_behind : not_behind end p ≡ false → BaseLists None d p (lists_at d from p)
     unfolding BaseLists
     base_behind k = let (l, (o, r)) = parts in lists_read p r i ∙ rw k
 
-    pub base_stands : not_behind end p ≡ true → BaseLists (At record { holidays = from; extra = extra; exceptions = days }) d p (lists_at d from p)
+    pub base_stands : not_behind end p ≡ true → BaseLists (Some record { holidays = from; extra = extra; exceptions = days }) d p (lists_at d from p)
     unfolding BaseLists
     base_stands k =
         let (l, ((ra, (rb, re)), r)) = parts in
@@ -130,30 +130,30 @@ module _ {d : List ℕ} {from extra days end : Place} (p : Place) (x : Passes da
 
 -- each list, where all stand
 module _ (d : List ℕ) (p : Place) where
-  pub holidays_there : (b : Base) (l : DayLists) → BaseLists b d p l → BaseHolidays b d p l.0
+  pub holidays_there : (b : Option Lists) (l : DayLists) → BaseLists b d p l → BaseHolidays b d p l.0
   unfolding BaseLists BaseHolidays
-  holidays_there (At r) l i =
+  holidays_there (Some r) l i =
       let (f5, (l5, i5)) = read_from good_exceptions i.exceptions i.inner in
       let (f4, (l4, i4)) = read_from good_dates i.extra i5 in
       record { reads = i.holidays; within = i4; upto = omega (arith, l4, l5, i.before) }
-  holidays_there Default l i = rw i
+  holidays_there None l i = rw i
 
-  pub extra_there : (b : Base) (l : DayLists) → BaseLists b d p l → BaseExtraDays b d p l.1.0
+  pub extra_there : (b : Option Lists) (l : DayLists) → BaseLists b d p l → BaseExtraDays b d p l.1.0
   unfolding BaseLists BaseExtraDays
-  extra_there (At r) l i =
+  extra_there (Some r) l i =
       let (f5, (l5, i5)) = read_from good_exceptions i.exceptions i.inner in
       record { reads = i.extra; within = i5; upto = omega (arith, l5, i.before) }
-  extra_there Default l i = rw i
+  extra_there None l i = rw i
 
-  pub exceptions_there : (b : Base) (l : DayLists) → BaseLists b d p l → BaseExceptions b d p l.1.1
+  pub exceptions_there : (b : Option Lists) (l : DayLists) → BaseLists b d p l → BaseExceptions b d p l.1.1
   unfolding BaseLists BaseExceptions
-  exceptions_there (At r) l i = record { to = i.end; holds = record { reads = i.exceptions; within = i.inner; upto = i.before } }
-  exceptions_there Default l i = rw i
+  exceptions_there (Some r) l i = record { to = i.end; holds = record { reads = i.exceptions; within = i.inner; upto = i.before } }
+  exceptions_there None l i = rw i
 
 -- all of them last
-pub base_lasts : (b : Base) → Lasts (BaseLists b)
+pub base_lasts : (b : Option Lists) → Lasts (BaseLists b)
 unfolding BaseLists
-base_lasts (At r) = record {
+base_lasts (Some r) = record {
   lasts = λ d p d' q k le l h.
       let (f5, (l5, i5)) = read_from good_exceptions h.exceptions h.inner in
       let (f4, (l4, i4)) = read_from good_dates h.extra i5 in
@@ -166,10 +166,10 @@ base_lasts (At r) = record {
         before = omega (arith, h.before);
       };
 }
-base_lasts Default = record { lasts = λ d p d' q k le l h. h }
+base_lasts None = record { lasts = λ d p d' q k le l h. h }
 
 -- one list after another
-pub lists_over : (b : Base) {A B : List Date → List Date} {C : List Day → List Day} {d : List ℕ} {p : Place} {d1 : List ℕ} {p1 : Place} {d2 : List ℕ} {p2 : Place} {d3 : List ℕ} {p3 : Place}
+pub lists_over : (b : Option Lists) {A B : List Date → List Date} {C : List Day → List Day} {d : List ℕ} {p : Place} {d1 : List ℕ} {p1 : Place} {d2 : List ℕ} {p2 : Place} {d3 : List ℕ} {p3 : Place}
     → PutsOver dates (BaseHolidays b d p) A d p d1 p1 → PutsOver dates (BaseExtraDays b d1 p1) B d1 p1 d2 p2 → PutsOver exceptions (BaseExceptions b d2 p2) C d2 p2 d3 p3
     → Over day_lists (BaseLists b) (λ l. (A l.0, (B l.1.0, C l.1.1))) d p d3 p3
 lists_over b x y z =

@@ -1,6 +1,7 @@
 -- The exceptions of a calendar by its elements: WeekDays, of which those of DayType 0 are exceptions in the old form, or Exceptions. Assumes
 -- nothing: these are definitions.
 use Rattle.std.specs.Prelude.{if◌then◌else◌, ◌≡◌, ◌<◌, Bool, true, false, not, List, [], ◌∷◌, drop, pos, ◌==◌}
+use Rattle.std.specs.Prelude.{None, Option, Some, ℕ}
 use Rattle.definition.specs.Base.{◌or◌, given}
 use Rattle.definition.specs.Ascii.{bytes}
 use Rattle.definition.specs.Text.{Text}
@@ -13,17 +14,12 @@ use Rattle.definition.specs.Calendar.{Exception, exception_on, day_type, week_da
 use Rattle.laws.specs.Fields.{InYears}
 use Rattle.pack.specs.Value.{date_by}
 use Rattle.definition.specs.declared.Date.{Date as DateIs}
-use Rattle.calendar_days.specs.declared.exceptions.DayAnswer.{DayAnswer}
 use Rattle.tree.specs.Place.{Starts}
-use Rattle.tree.specs.declared.Found.{Found}
 use Rattle.recurrence.specs.Element.{rule_days, RangeRead}
 use Rattle.recurrence.specs.Meaning.{to_come}
 use Rattle.recurrence.specs.declared.Cursor.{Cursor}
 use Rattle.recurrence.specs.declared.Rule.{Rule}
-use Rattle.recurrence.specs.declared.RuleAnswer.{RuleAnswer}
 use Rattle.recurrence.specs.declared.Range.{Range}
-use Rattle.recurrence.specs.declared.RangeAnswer.{RangeAnswer}
-use Rattle.recurrence.specs.declared.MonthAnswer.{MonthAnswer}
 
 -- ---- the elements
 
@@ -36,7 +32,7 @@ items_of true e = week_days e
 items_of false e = recurring e
 
 -- the next of some elements
-pub record On (s n : Text) (f r : Found) : Type 0 where
+pub record On (s n : Text) (f r : Option ℕ) : Type 0 where
   pub on : (l : List Element) → Starts s n l 0 f → Starts s n (drop 1 l) 0 r
 
 -- ---- their days
@@ -49,7 +45,7 @@ abbrev pub exception_at : Bool → Element → Exception
 exception_at old x = exception_on x (days_at old x)
 
 -- those of a rule, if there is one
-unfoldable pub days_in : RuleAnswer → List Date
+unfoldable pub days_in : Option Rule → List Date
 days_in r = rule_days r or []
 
 -- days in a row, as a rule
@@ -61,14 +57,14 @@ daily r =
       last = record { 0 = pos 2932896 };
       most = r.count;
       period = 1;
-      month = MonthAnswer.Absent;
+      month = None;
       day = 0;
       item = 0;
       position = 0;
       weekdays = 0;
     }
 
-pub record Ruled (r : RangeAnswer) (a : RuleAnswer) : Type 0 where
+pub record Ruled (r : Option Range) (a : Option Rule) : Type 0 where
   pub days : (w : Element) → RangeRead w r → days_in a ≡ days_of w
 
 -- the days of a rule that are still to come
@@ -81,9 +77,9 @@ pub record Next (r : Rule) (c : Cursor) (d : DateIs) (c' : Cursor) : Type 0 wher
   pub years : InYears (date_by d.0)
   pub less : c'.left < c.left
 
-pub record Follows (r : Rule) (c : Cursor) (a : DayAnswer) : Type 0 where
-  pub day : (d : DateIs) (c' : Cursor) → a ≡ DayAnswer.Is d c' → Next r c d c'
-  pub none : a ≡ DayAnswer.Absent → coming r c ≡ []
+pub record Follows (r : Rule) (c : Cursor) (a : Option (DateIs × Cursor)) : Type 0 where
+  pub day : (d : DateIs) (c' : Cursor) → a ≡ Some (d, c') → Next r c d c'
+  pub none : a ≡ None → coming r c ≡ []
 
 abbrev pub is_time : Element → Bool
 is_time t = given (working_time t)

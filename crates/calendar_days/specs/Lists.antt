@@ -1,5 +1,6 @@
 -- A calendar's lists of days: holidays, extra days and days with hours; those of its base, which stand in a buffer before a place. Assumes nothing.
 use Rattle.std.specs.Prelude.{◌≡◌, ℕ, ◌≤◌, Bool, true, ◌&&◌, ◌||◌, ltb, List, [], length, ◌==◌, nat_le, nat_lt}
+use Rattle.std.specs.Prelude.{None, Some}
 use mathlib.Core.List.{flat_map}
 use Rattle.std.specs.Prelude.{Option}
 use Rattle.definition.specs.Base.{◌>>=◌, ◌or◌, when}
@@ -13,8 +14,6 @@ use Rattle.bits.specs.Reads.{Reads, rest, spot}
 use Rattle.bits.specs.declared.Place.{Place}
 use Rattle.calendar_days.specs.Days.{Day, exceptions}
 use Rattle.calendar_days.specs.declared.base.Lists.{Lists}
-use Rattle.calendar_days.specs.declared.base.Base.{Base}
-use Rattle.calendar_days.specs.declared.base.Base.TheVariants.{At, Default}
 
 abbrev pub DayLists : Type 0
 DayLists = List Date × (List Date × List Day)
@@ -61,6 +60,6 @@ pub record ListsIn (r : Lists) (d : List ℕ) (p : Place) (l : DayLists) : Type 
   pub inner : inside (length d) end ≡ true
   pub before : at end ≤ at p
 
-unfoldable pub BaseLists : Base → List ℕ → Place → DayLists → Type 0
-BaseLists (At r) d p l = ListsIn r d p l
-BaseLists Default d p l = l ≡ no_lists
+unfoldable pub BaseLists : Option Lists → List ℕ → Place → DayLists → Type 0
+BaseLists (Some r) d p l = ListsIn r d p l
+BaseLists None d p l = l ≡ no_lists

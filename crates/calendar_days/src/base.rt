@@ -12,13 +12,6 @@ pub(crate) struct Lists {
     pub(crate) exceptions: Place,
 }
 
-// They stand in the buffer, or there are none, as of the default calendar.
-#[derive(Clone, Copy)]
-pub(crate) enum Base {
-    At(Lists),
-    Default,
-}
-
 // Whether a place is not behind another.
 fn not_behind(p: Place, q: Place) -> bool
     ensures { result ≡ not_behind p q }
@@ -27,19 +20,19 @@ fn not_behind(p: Place, q: Place) -> bool
 }
 
 // The lists that stand from a place on, if they end before p.
-pub(crate) fn base_at(s: &[u8], from: Place, p: Place) -> Base
+pub(crate) fn base_at(s: &[u8], from: Place, p: Place) -> Option<Lists>
     ensures { BaseLists result s.now p (lists_at s.now from p) }
 {
     let extra = model::lists::skip_days(s, from, false);
     let exceptions = model::lists::skip_days(s, extra, false);
     let end = model::lists::skip_days(s, exceptions, true);
     if !bits::inside(s.len(), end) {
-        return Base::Default;
+        return None;
     }
     if !not_behind(end, p) {
-        return Base::Default;
+        return None;
     }
-    Base::At(Lists {
+    Some(Lists {
         holidays: from,
         extra,
         exceptions,

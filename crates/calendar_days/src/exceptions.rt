@@ -8,15 +8,14 @@ ghost use Rattle.tree.specs.Place.{element_at, later_at, Starts};
 ghost use Rattle.calendar.specs.Hours.{working_meaning};
 ghost use Rattle.calendar_days.specs.Exceptions.{name_of, items_of, days_at, days_in, daily as daily_by, Ruled, Follows, is_time, On};
 
-use calendar::WorkingTimeAnswer;
+use calendar::WorkingTime;
 use definition::Date;
-use recurrence::{Cursor, MonthAnswer, Range, RangeAnswer, Rule, RuleAnswer, Step};
-use tree::Found;
+use recurrence::{Cursor, Range, Rule, Step};
 
 // ---- the elements
 
 // The first WeekDay or Exception of a Calendar.
-pub(crate) fn first_of(s: &[u8], at: usize, old: bool) -> Found
+pub(crate) fn first_of(s: &[u8], at: usize, old: bool) -> Option<usize>
     ensures { Starts s.now (name_of «old») (items_of «old» (element_at s.now at)) 0 result }
 {
     if old {
@@ -25,7 +24,7 @@ pub(crate) fn first_of(s: &[u8], at: usize, old: bool) -> Found
     rows::first_in(s, at, b"Exceptions", b"Exception")
 }
 
-pub(crate) fn next_of(s: &[u8], at: usize, old: bool) -> Found
+pub(crate) fn next_of(s: &[u8], at: usize, old: bool) -> Option<usize>
     ensures { Starts s.now (name_of «old») (later_at s.now (name_of «old») at) (at + 1) result }
 {
     if old {
@@ -34,17 +33,17 @@ pub(crate) fn next_of(s: &[u8], at: usize, old: bool) -> Found
     tree::next_child(s, at, b"Exception")
 }
 
-fn after(s: &[u8], f: Found, old: bool) -> Found
+fn after(s: &[u8], f: Option<usize>, old: bool) -> Option<usize>
     ensures { On s.now (name_of «old») f result }
 {
     match f {
-        Found::At(p) => next_of(s, p, old),
-        Found::Nothing => Found::Nothing,
+        Some(p) => next_of(s, p, old),
+        None => None,
     }
 }
 
 // The one behind the first n.
-pub(crate) fn nth_of(s: &[u8], at: usize, old: bool, n: usize) -> Found
+pub(crate) fn nth_of(s: &[u8], at: usize, old: bool, n: usize) -> Option<usize>
     ensures { Starts s.now (name_of «old») (drop n (items_of «old» (element_at s.now at))) 0 result }
 {
     let mut f = first_of(s, at, old);
@@ -62,7 +61,7 @@ pub(crate) fn count_of(s: &[u8], at: usize, old: bool) -> usize
     let mut f = first_of(s, at, old);
     let mut n = 0;
     loop {
-        let Found::At(p) = f else {
+        let Some(p) = f else {
             return n;
         };
         f = next_of(s, p, old);
@@ -83,7 +82,7 @@ fn daily(r: Range) -> Rule
         last: Date(2932896),
         most: r.count,
         period: 1,
-        month: MonthAnswer::Absent,
+        month: None,
         day: 0,
         item: 0,
         position: 0,
@@ -91,53 +90,46 @@ fn daily(r: Range) -> Rule
     }
 }
 
-fn rule_by(r: RangeAnswer) -> RuleAnswer
+fn rule_by(r: Option<Range>) -> Option<Rule>
     ensures { Ruled r result }
 {
     match r {
-        RangeAnswer::Is(r) => RuleAnswer::Is(daily(r)),
-        RangeAnswer::Absent => RuleAnswer::Absent,
+        Some(r) => Some(daily(r)),
+        None => None,
     }
 }
 
 // The rule of the days of a WeekDay or an Exception; none where there are no days.
-pub(crate) fn rule_at(s: &[u8], at: usize, old: bool) -> RuleAnswer
+pub(crate) fn rule_at(s: &[u8], at: usize, old: bool) -> Option<Rule>
     ensures { days_in result ≡ days_at «old» (element_at s.now at) }
 {
     if !old {
         return recurrence::rule_of(s, at);
     }
     if !calendar::is_old_exception(s, at) {
-        return RuleAnswer::Absent;
+        return None;
     }
     rule_by(recurrence::days_of(s, at))
 }
 
-// The next day of a rule, with the cursor behind it.
-#[derive(Clone, Copy)]
-pub(crate) enum DayAnswer {
-    Is(Date, Cursor),
-    Absent,
-}
-
-pub(crate) fn day_after(r: Rule, c: Cursor) -> DayAnswer
+pub(crate) fn day_after(r: Rule, c: Cursor) -> Option<(Date, Cursor)>
     ensures { Follows r c result }
 {
     match recurrence::next(r, c) {
-        Step::Day(d, after) => DayAnswer::Is(d, after),
-        Step::Done => DayAnswer::Absent,
-        Step::Skipped => DayAnswer::Absent,
+        Step::Day(d, after) => Some((d, after)),
+        Step::Done => None,
+        Step::Skipped => None,
     }
 }
 
 // ---- the hours
 
-fn is_time(t: WorkingTimeAnswer) -> bool
+fn is_time(t: Option<WorkingTime>) -> bool
     ensures { result ≡ given (working_meaning t) }
 {
     match t {
-        WorkingTimeAnswer::Is(_) => true,
-        WorkingTimeAnswer::Absent => false,
+        Some(_) => true,
+        None => false,
     }
 }
 
@@ -150,7 +142,7 @@ fn any_time(s: &[u8], first: usize) -> bool
         if is_time(calendar::working_time(s, at)) {
             return true;
         }
-        let Found::At(next) = tree::next_child(s, at, b"WorkingTime") else {
+        let Some(next) = tree::next_child(s, at, b"WorkingTime") else {
             return false;
         };
         at = next;
@@ -162,7 +154,7 @@ pub(crate) fn has_periods(s: &[u8], at: usize) -> bool
     ensures { result ≡ not (is_empty (periods_of (element_at s.now at))) }
 {
     match rows::first_in(s, at, b"WorkingTimes", b"WorkingTime") {
-        Found::Nothing => false,
-        Found::At(first) => any_time(s, first),
+        None => false,
+        Some(first) => any_time(s, first),
     }
 }

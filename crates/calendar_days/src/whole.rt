@@ -7,7 +7,7 @@ ghost use Rattle.calendar.specs.Week.{flags_in};
 ghost use Rattle.calendar_days.specs.Over.{Over};
 ghost use Rattle.calendar_days.specs.Lists.{day_lists, days_over, lists_at, BaseLists};
 
-use crate::base::{Base, base_at};
+use crate::base::{Lists, base_at};
 use crate::dates::{put_extra_days, put_holidays};
 use crate::days::put_exceptions;
 use crate::reach::{Reach, reach_in};
@@ -20,7 +20,7 @@ fn put_lists(
     s: &[u8],
     at: usize,
     week: u32,
-    base: Base,
+    base: Option<Lists>,
     words: &mut [u32],
     own: Reach,
 ) -> Place

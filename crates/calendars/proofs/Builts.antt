@@ -1,5 +1,6 @@
 -- Calendars built one after another behind each other; the default one, the main one and the elapsed one. Assumes nothing.
 use Rattle.std.specs.Prelude.{if◌then◌else◌}
+use Rattle.names.specs.declared.ids.Ids.{Ids}
 use Rattle.std.proofs.Common.{◌≡◌, ℕ, suc, ◌+◌, ◌%◌, ◌^◌, ◌<◌, ◌≤◌, Bool, true, false, not, ◌&&◌, eqb, leb, List, [], ◌∷◌, ◌++◌, map, length, take, drop, sym, refl, ap, ◌∙◌, subst, true≢false, append_assoc, append-nil, arith, length-append, eqb-true, leb-true}
 use mathlib.Core.List.{map-append}
 use Rattle.std.specs.Prelude.{Option, Some, None}
@@ -36,8 +37,6 @@ use Rattle.pack.specs.Value.{starred_by}
 use Rattle.pack.specs.Writes.{Writes, WritesIf, no_records, put_any, writes_if, writes_not}
 use Rattle.pack.specs.declared.record.Records.{Records}
 use Rattle.rows.specs.Rows.{in_order, main_in, calendar_meaning}
-use Rattle.rows.specs.declared.CalendarAnswer.{CalendarAnswer}
-use Rattle.rows.specs.declared.CalendarAnswer.TheVariants.{Is, Absent}
 use Rattle.names.specs.Context.{wanted_name}
 use Rattle.names.specs.Cleared.{below_cleared, cleared_below, below_less}
 use Rattle.names.specs.Ids.{ids_for, begun, end_ids, noted_by, starred_in, place_in}
@@ -45,7 +44,6 @@ use Rattle.names.specs.Lent.{NotedIn, begun_open, begun_behind, begun_before, be
 use Rattle.names.specs.Sought.{uids_kept, uids_find, uids_behind, uids_below}
 use Rattle.names.specs.Texts.{texts_at, place_of_row}
 use Rattle.names.specs.Uids.{MakesUids, calendar_by}
-use Rattle.names.specs.declared.ids.IdsMade.{IdsMade}
 use Rattle.names.specs.declared.uids.CalendarTable.{CalendarTable}
 use Rattle.laws.specs.FitLists.{each_keep}
 use Rattle.laws.specs.FitRecords.{Short, FitsCalendarBy, CalendarParts}
@@ -57,9 +55,7 @@ use Rattle.laws.specs.FitCalendars.{FitsNamedBy}
 use Rattle.laws.proofs.FitCalendars.{fit_build}
 use Rattle.names.specs.Kept.{There, there_at, there_inside, there_split, there_reads, reads_there}
 use Rattle.names.specs.Records.{calendar_fields, same_calendars, front_calendars, plain_calendars, plain_calendars_lem, good_raw, parted, calendars_lie, Lies, row_reads, texts_calendars}
-use Rattle.calendars.specs.declared.base.Base.{Base}
 use Rattle.calendars.specs.declared.built.Tables.{Tables}
-use Rattle.calendars.specs.declared.base.Base.TheVariants.{At, Default}
 use Rattle.calendars.specs.Base.{Based, BaseIs}
 use Rattle.calendars.specs.Record.{PutsCalendar}
 use Rattle.calendars.proofs.Orders.{get_out, get_in, built_in_order, built_more, made, of_length, found_base, base_given, no_base, main_row_lem, main_none}
@@ -102,14 +98,14 @@ row_based {r} {d} {m} {e} {q} {c} t le fit a =
     let (s4, s5) = split-⊗ here s3 a.hours in
     record { week = s2; hours = s4; lists = record { end = end; reads = s5; inner = inner; before = omega (arith, there_at y, le) } }
 
-module _ {m : IdsMade} {start : Place} {count : ℕ} {d w : List ℕ} where
+module _ {m : Option Ids} {start : Place} {count : ℕ} {d w : List ℕ} where
   -- a row that is not built
-  pub row_none : {row : ℕ} → count ≤ row → Finds (λ cs. row_or cs row) m start count d w Default
+  pub row_none : {row : ℕ} → count ≤ row → Finds (λ cs. row_or cs row) m start count d w None
   unfolding BaseIs
   row_none {row} le = record { finds = λ d₀ cs q noted fit s i. ap (λ (o : Option Calendar). o or default_calendar) (get_out cs row (omega (arith, s.counts))) }
 
   -- that of a row
-  pub row_at : {row : ℕ} {p : Place} {r : CalendarPlaces} → row < count → p ≡ place_in Calendars d start w m count row → CalendarAt d p r → Finds (λ cs. row_or cs row) m start count d w (At r)
+  pub row_at : {row : ℕ} {p : Place} {r : CalendarPlaces} → row < count → p ≡ place_in Calendars d start w m count row → CalendarAt d p r → Finds (λ cs. row_or cs row) m start count d w (Some r)
   unfolding BaseIs
   row_at {row} {p} {r} lt em a = record {
     finds = λ d₀ cs q noted fit s i.
@@ -123,16 +119,16 @@ module _ {m : IdsMade} {start : Place} {count : ℕ} {d w : List ℕ} where
         subst (λ c. Based r d q c) (sym v) (row_based (rw k at t) le f a);
   }
 
-  pub base_absent : BaseFound Absent m start count d w Default
+  pub base_absent : BaseFound None m start count d w None
   unfolding BaseIs
   base_absent = record { finds = λ d₀ cs q noted fit s i. refl }
 
 module _ (s : Text) (root e : Element) (t : Tables) (start : Place) (count : ℕ) (d w : List ℕ) where
-  pub base_none : given (base_of e) ≡ false → BaseIn s root e t start count d w Default
+  pub base_none : given (base_of e) ≡ false → BaseIn s root e t start count d w None
   unfolding BaseIs
   base_none h = record { finds = λ d₀ done todo q z f noted fit st i. ap (λ (o : Option Text). (o >>= λ u. with_uid u (build [] done)) or default_calendar) (no_base e h) }
 
-pub base_found : (s : Text) {root e : Element} {t : Tables} {start : Place} {count : ℕ} {d w : List ℕ} {b : Base} → given (base_of e) ≡ true → (found : CalendarAnswer) {u : Text} → u ≡ (text_in e "BaseCalendarUID" or [])
+pub base_found : (s : Text) {root e : Element} {t : Tables} {start : Place} {count : ℕ} {d w : List ℕ} {b : Option CalendarPlaces} → given (base_of e) ≡ true → (found : Option (ℕ × ℕ)) {u : Text} → u ≡ (text_in e "BaseCalendarUID" or [])
     → calendar_meaning s found ≡ calendar_by s root w t.uids u → BaseFound found t.names start count d w b → BaseIn s root e t start count d w b
 base_found s {root} {e} {t} {start} {count} {d} {w} {b} g found {u} j m h = record {
   finds = λ d₀ done todo q z f noted fit st i.
@@ -160,7 +156,7 @@ record Turn (s : Text) (root e : Element) (t : Tables) (start : Place) (d w : Li
   held : Held s root t start d w r
   stand : Stand (built_of done) d₀ start d r
 
-module _ {s : Text} {root e : Element} {t : Tables} {start : Place} {d w : List ℕ} {r : Records} (stars : ℕ) {b : Base} {d' : List ℕ} {q : Place}
+module _ {s : Text} {root e : Element} {t : Tables} {start : Place} {d w : List ℕ} {r : Records} (stars : ℕ) {b : Option CalendarPlaces} {d' : List ℕ} {q : Place}
     (st : starred_by (wanted_name e) stars ≡ starred_in Calendars d start r.next w t.names r.count (wanted_name e)) (base : BaseIn s root e t start r.count d w b) (put : PutsCalendar e stars b d r.next d' q) where
   module _ {d₀ : List ℕ} {done todo : List Element} (x : Turn s root e t start d w r d₀ done todo) where
     fits_now : Each (FitsCalendarBy Short) (built_of done)
@@ -231,7 +227,7 @@ module _ {s : Text} {root e : Element} {t : Tables} {start : Place} {d w : List 
   }
 
 -- as the callees say it, about the text that was asked for
-pub adds_said : {s : Text} {root e : Element} {t : Tables} {start : Place} {d w : List ℕ} {r : Records} (stars : ℕ) {b : Base} {d' : List ℕ} {q : Place} {name : Text} → name ≡ wanted_name e
+pub adds_said : {s : Text} {root e : Element} {t : Tables} {start : Place} {d w : List ℕ} {r : Records} (stars : ℕ) {b : Option CalendarPlaces} {d' : List ℕ} {q : Place} {name : Text} → name ≡ wanted_name e
     → starred_by name stars ≡ starred_in Calendars d start r.next w t.names r.count name → BaseIn s root e t start r.count d w b → PutsCalendar e stars b d r.next d' q
     → (w₁ : List ℕ) {w₂ : List ℕ} {r' : Records} → cleared t.from w₁ ≡ cleared t.from w → w₂ ≡ noted_by w₁ t.names r.count name stars (r.next.byte % 2 ^ 32) → r'.count ≡ (r.count + 1) % 2 ^ 32 → r'.next ≡ q
     → Adds s root (e ∷ []) t start d w r d' w₂ r'
@@ -294,7 +290,7 @@ default_put {d} {r} {d'} {q} h x = record { adds = λ d₀ start cs s. by_list c
     by_list (c ∷ cs) s = absurd (omega (arith, s.counts))
 
 -- the tables, before the first one
-pub tables_begin : {s : Text} {root : Element} {d : List ℕ} {start : Place} {at : ℕ} {w w₁ w₂ : List ℕ} {u : CalendarTable} {m : IdsMade} (rows : ℕ) {from : ℕ} → MakesUids s root at w w₁ u
+pub tables_begin : {s : Text} {root : Element} {d : List ℕ} {start : Place} {at : ℕ} {w w₁ w₂ : List ℕ} {u : CalendarTable} {m : Option Ids} (rows : ℕ) {from : ℕ} → MakesUids s root at w w₁ u
     → (m ≡ ids_for (length d) start (length w₁) u.end rows) × (w₂ ≡ begun w₁ m) → from ≡ end_ids m u.end (length w₂) → Begins s root d start at w w₂ (record { uids = u.table; names = m; from = from })
 tables_begin {d = d} {start} {w = w} {w₁} {w₂} {u} {m} rows i (j, v) z =
     let (first, end) = uids_behind i in
@@ -340,10 +336,10 @@ main_default root = by_uid (text_in root "CalendarUID")
     by_uid None = refl
     by_uid (Some u) = refl
 
-pub main_first_lem : (s : Text) (root : Element) (found : CalendarAnswer) → calendar_meaning s found ≡ main_in root → Small root → length (in_order root) ≤ most_elements → {d₀ : List ℕ} {start : Place} {d : List ℕ} {r : Records} {d' : List ℕ}
+pub main_first_lem : (s : Text) (root : Element) (found : Option (ℕ × ℕ)) → calendar_meaning s found ≡ main_in root → Small root → length (in_order root) ≤ most_elements → {d₀ : List ℕ} {start : Place} {d : List ℕ} {r : Records} {d' : List ℕ}
     → start.bit % 8 ≡ 0 → Stand (or_default (calendars_in (built_calendars root))) d₀ start d r → TurnsMain found start d d' → Stand (main_first root) d₀ start d' r
 unfolding calendar_meaning TurnsMain build keep
-main_first_lem s root (Is row x) m small few {d₀} {start} {d} {r} {d'} b st t =
+main_first_lem s root (Some (row, x)) m small few {d₀} {start} {d} {r} {d'} b st t =
     let w : built_calendars root ≡ build [] (in_order root) = built_in_order root in
     let cs = calendars_in (built_calendars root) in
     let c = main_calendar root (built_calendars root) in
@@ -353,7 +349,7 @@ main_first_lem s root (Is row x) m small few {d₀} {start} {d} {r} {d'} b st t 
     let few'' : length cs ≤ 5000000 = rw w (omega (arith, of_length (in_order root))) in
     let y : Stand (turned cs row c) d₀ start d' r = t.turns b d₀ cs c r few'' fit g (rw (or_same cs row c g) at st) in
     subst (λ l. Stand (c ∷ l) d₀ start d' r) (sym o) y
-main_first_lem s root Absent m small few {d₀} {start} {d} {r} {d'} b st t =
+main_first_lem s root None m small few {d₀} {start} {d} {r} {d'} b st t =
     let none_built : built_calendars root ≡ [] = built_in_order root ∙ ap (build []) (main_none root (sym m)) in
     let st' : Stand (default_calendar ∷ []) d₀ start d r = rw none_built at st in
     rw (t, none_built, main_default root) st'
@@ -379,7 +375,7 @@ elapsed_length root = by_test (some? is_elapsed (kept_tasks root))
 pub few_counted : (n : ℕ) (b : Bool) → not (leb n 5000000 && b) ≡ false → n ≤ 5000000
 few_counted n b h = leb-true n 5000000 (both (leb n 5000000) b (not-false _ h)).0
 
-pub calendars_written : (s : Text) (root : Element) (found : CalendarAnswer) → calendar_meaning s found ≡ main_in root → Small root → length (calendar_elements root) ≤ most_elements → {d : List ℕ} {p : Place} {d1 : List ℕ} {r : Records} {d2 d3 : List ℕ} {r' : Records}
+pub calendars_written : (s : Text) (root : Element) (found : Option (ℕ × ℕ)) → calendar_meaning s found ≡ main_in root → Small root → length (calendar_elements root) ≤ most_elements → {d : List ℕ} {p : Place} {d1 : List ℕ} {r : Records} {d2 d3 : List ℕ} {r' : Records}
     → p.bit % 8 ≡ 0 → PutsBuilt root d p d1 r → TurnsMain found p d1 d2 → AddsElapsed root d2 r d3 r' → Writes (whole calendar) (calendars_of (context_of root)) d p d3 r'
 unfolding calendars_of context_of
 calendars_written s root found m small few {d} {p} b built t e =
@@ -395,7 +391,7 @@ calendars_written s root found m small few {d} {p} b built t e =
     record { puts = z.puts; counts = z.counts ∙ omega (arith, elapsed_length root) }
 
 module _ (s : Text) (root : Element) {d : List ℕ} {p : Place} {n : ℕ} (is : n ≡ length (calendar_elements root)) where
-  pub calendars_if : Small root → (leb n 5000000 && eqb (p.bit % 8) 0) ≡ true → (found : CalendarAnswer) → calendar_meaning s found ≡ main_in root → {d1 : List ℕ} {r : Records} {d2 d3 : List ℕ} {r' : Records}
+  pub calendars_if : Small root → (leb n 5000000 && eqb (p.bit % 8) 0) ≡ true → (found : Option (ℕ × ℕ)) → calendar_meaning s found ≡ main_in root → {d1 : List ℕ} {r : Records} {d2 d3 : List ℕ} {r' : Records}
       → PutsBuilt root d p d1 r → TurnsMain found p d1 d2 → AddsElapsed root d2 r d3 r' → WritesIf (leb (length (calendar_elements root)) most_elements && eqb (p.bit % 8) 0) (whole calendar) (calendars_of (context_of root)) d p d3 r'
   calendars_if small e found m built t el =
       let e' : (leb (length (calendar_elements root)) most_elements && eqb (p.bit % 8) 0) ≡ true = rw is at e in

@@ -1,5 +1,7 @@
 -- A calendar's base behind what was put, and its lists of days. Assumes nothing.
 use Rattle.std.proofs.Common.{◌≡◌, ℕ, Bool, true, false, List, length, refl, ap, ◌∙◌, arith}
+use Rattle.model.specs.declared.parts.CalendarPlaces.{CalendarPlaces}
+use Rattle.std.specs.Prelude.{None, Option, Some}
 use Rattle.definition.specs.Model.{Calendar}
 use Rattle.definition.specs.Calendar.{default_calendar}
 use Rattle.laws.specs.Formats.{good_times}
@@ -14,13 +16,11 @@ use Rattle.calendar_days.specs.Over.{Over, Lasts}
 use Rattle.calendar_days.specs.Lists.{DayLists, day_lists, lists_at}
 use Rattle.calendar_days.proofs.Overs.{read_from}
 use Rattle.calendar_days.proofs.WholeDays.{good_lists, lists_there, lists_past, lists_last}
-use Rattle.calendars.specs.declared.base.Base.{Base}
-use Rattle.calendars.specs.declared.base.Base.TheVariants.{At, Default}
 use Rattle.calendars.specs.Base.{lists_of, BaseIs, days_place}
 
-pub base_lasts : (b : Base) → Lasts (BaseIs b)
+pub base_lasts : (b : Option CalendarPlaces) → Lasts (BaseIs b)
 unfolding BaseIs
-base_lasts (At r) = record {
+base_lasts (Some r) = record {
   lasts = λ d p d' q k le c h.
       let (f3, (l3, i3)) = read_from good_lists h.lists.reads h.lists.inner in
       let (f2, (l2, i2)) = read_from (good_times 7 good_periods) h.hours i3 in
@@ -30,15 +30,15 @@ base_lasts (At r) = record {
         lists = (lists_last r.holidays).lasts d p d' q k le (lists_of c) h.lists;
       };
 }
-base_lasts Default = record { lasts = λ d p d' q k le c h. h }
+base_lasts None = record { lasts = λ d p d' q k le c h. h }
 
-lists_are : (d : List ℕ) (p : Place) (b : Base) (c : Calendar) → inside (length d) p ≡ true → BaseIs b d p c → lists_at d (days_place b) p ≡ lists_of c
+lists_are : (d : List ℕ) (p : Place) (b : Option CalendarPlaces) (c : Calendar) → inside (length d) p ≡ true → BaseIs b d p c → lists_at d (days_place b) p ≡ lists_of c
 unfolding BaseIs days_place default_calendar
-lists_are d p (At r) c i h = lists_there i h.lists
-lists_are d p Default c i h = lists_past d p ∙ rw h
+lists_are d p (Some r) c i h = lists_there i h.lists
+lists_are d p None c i h = lists_past d p ∙ rw h
 
 -- lists over those that stand where the base's do
-pub over_days : (b : Base) (T : DayLists → DayLists) {from : Place} {d : List ℕ} {p : Place} {d' : List ℕ} {q : Place} → from ≡ days_place b → Puts day_lists (T (lists_at d from p)) d p d' q
+pub over_days : (b : Option CalendarPlaces) (T : DayLists → DayLists) {from : Place} {d : List ℕ} {p : Place} {d' : List ℕ} {q : Place} → from ≡ days_place b → Puts day_lists (T (lists_at d from p)) d p d' q
     → Over day_lists (BaseIs b) (λ c. T (lists_of c)) d p d' q
 over_days b T {from} {d} {p} {d'} {q} e x = record { puts = λ c k. by_room c k (inside (length d) p) refl }
   where

@@ -26,10 +26,7 @@ use Rattle.bits.specs.Round.{stood_from}
 use Rattle.bits.specs.Steps.{Puts, Pads, put_same, put_no, put_more}
 use Rattle.bits.specs.declared.Place.{Place}
 use Rattle.calendar.specs.Week.{flags_in, word_of, place_meaning}
-use Rattle.calendar.specs.declared.week.PlaceAnswer.{PlaceAnswer}
 use Rattle.tree.specs.Place.{element_at}
-use Rattle.tree.specs.declared.Found.{Found}
-use Rattle.tree.specs.declared.Found.TheVariants.{At as FoundAt, Nothing}
 use Rattle.rows.specs.Rows.{found_meaning}
 use Rattle.model.specs.Lax.{lax_same}
 use Rattle.model.specs.Passes.{Passes}
@@ -45,8 +42,6 @@ use Rattle.calendar_days.proofs.Overs.{read_from, lasts_put, over_plain, over_as
 use Rattle.calendar_days.proofs.WholeDays.{good_lists}
 use Rattle.calendar_days.specs.Over.{Over}
 use Rattle.calendar_days.specs.Lists.{DayLists, day_lists, days_over}
-use Rattle.calendars.specs.declared.base.Base.{Base}
-use Rattle.calendars.specs.declared.base.Base.TheVariants.{At, Default}
 use Rattle.calendars.specs.Base.{lists_of, Based, BaseIs}
 use Rattle.calendars.proofs.Overs.{base_lasts}
 use Rattle.calendars.specs.Record.{WeekRead, is_place, on_place, later_found, hours_of, day_hours, CopiesHours, BaseHours, PutsHours, PutsWeekHours, named, PutsCalendar}
@@ -95,28 +90,28 @@ week_there {r} {d} {p} {c} b v e =
     let t : v ≡ dec (map bit c.week) = e ∙ ap (λ x. x.value) (take_whole d r.week 7 f) ∙ ap (λ (l : Bits). dec (take 7 l)) (stood_from st) ∙ ap dec (take_at (put_all flag (at r.week) c.week) _ 7 m ∙ k) in
     ap flags_in t ∙ flags_word c.week seven
 
-pub week_at : {r : CalendarPlaces} {d : List ℕ} {v : ℕ} → v ≡ (taken_at d r.week 7).value → WeekRead (At r) d v
+pub week_at : {r : CalendarPlaces} {d : List ℕ} {v : ℕ} → v ≡ (taken_at d r.week 7).value → WeekRead (Some r) d v
 unfolding BaseIs
 week_at {r} {d} {v} e = record { week = λ p c i. week_there i v e }
 
-pub week_default : (d : List ℕ) → WeekRead Default d 124
+pub week_default : (d : List ℕ) → WeekRead None d 124
 unfolding BaseIs default_calendar flags_in enc
 week_default d = record { week = λ p c i. rw i }
 
 -- ---- the last WeekDay of a day
 
-module _ (s : Text) (at day : ℕ) (found : Found) (a : PlaceAnswer) {t : Bool} (p : place_meaning a ≡ place_of (element_at s at)) (e : t ≡ is_place day (place_meaning a)) where
+module _ (s : Text) (at day : ℕ) (found : Option ℕ) (a : Option ℕ) {t : Bool} (p : place_meaning a ≡ place_of (element_at s at)) (e : t ≡ is_place day (place_meaning a)) where
   on_place_lem : on_place day (element_at s at) ≡ t
   on_place_lem = ap (is_place day) (sym p) ∙ sym e
 
-  pub later_found_lem : t ≡ true → found_meaning s (FoundAt at) ≡ later_found (on_place day (element_at s at)) (element_at s at) (found_meaning s found)
+  pub later_found_lem : t ≡ true → found_meaning s (Some at) ≡ later_found (on_place day (element_at s at)) (element_at s at) (found_meaning s found)
   unfolding found_meaning
   later_found_lem h = rw (on_place_lem ∙ h)
 
   pub later_not : t ≡ false → found_meaning s found ≡ later_found (on_place day (element_at s at)) (element_at s at) (found_meaning s found)
   later_not h = rw (on_place_lem ∙ h)
 
-pub last_start : (s : Text) (o : Option Element) → o ≡ (o or_else found_meaning s Nothing)
+pub last_start : (s : Text) (o : Option Element) → o ≡ (o or_else found_meaning s None)
 unfolding found_meaning
 last_start s None = refl
 last_start s (Some e) = refl
@@ -172,12 +167,12 @@ day_hours_lem (w ∷ ws) hours day h = day_hours_lem ws (hours_with w hours (pla
     by_later None = one_day w hours day h (place_of w)
     by_later (Some v) = refl
 
-hours_seven : (b : Base) (d : List ℕ) (p : Place) (c : Calendar) → BaseIs b d p c → length c.hours ≡ 7
+hours_seven : (b : Option CalendarPlaces) (d : List ℕ) (p : Place) (c : Calendar) → BaseIs b d p c → length c.hours ≡ 7
 unfolding BaseIs default_calendar
-hours_seven (At r) d p c i =
+hours_seven (Some r) d p c i =
     let (f3, (l3, i3)) = read_from good_lists i.lists.reads i.lists.inner in
     (read_from (good_times 7 good_periods) i.hours i3).0.many
-hours_seven Default d p c i = rw i
+hours_seven None d p c i = rw i
 
 first_is : {A : Type 0} (l : List A) (k : ℕ) (x d : A) (m : List A) → drop k l ≡ x ∷ m → get_or l k d ≡ x
 first_is l k x d m e = ap (λ (n : ℕ). get_or l n d) (omega arith) ∙ sym (get_or-drop k l 0 d) ∙ ap (λ (t : List _). get_or t 0 d) e
@@ -197,7 +192,7 @@ module _ {day : ℕ} {hours : Place} {d : List ℕ} {from to p : Place} {d' : Li
           put_same (sym (first_is hs day s.item [] _ s.is)) (copied good_periods free_periods (standing good_periods free_periods s.reads io) (omega arith) c)
 
 module _ {day : ℕ} {d : List ℕ} {p : Place} {d' : List ℕ} {q : Place} where
-  pub base_hours_at : {r : CalendarPlaces} → CopiesHours day r.hours d p d' q → BaseHours (At r) day d p d' q
+  pub base_hours_at : {r : CalendarPlaces} → CopiesHours day r.hours d p d' q → BaseHours (Some r) day d p d' q
   unfolding BaseIs
   base_hours_at {r} h = record {
     puts = λ lt. record {
@@ -208,29 +203,29 @@ module _ {day : ℕ} {d : List ℕ} {p : Place} {d' : List ℕ} {q : Place} wher
     };
   }
 
-  pub base_hours_default : Puts periods [] d p d' q → BaseHours Default day d p d' q
+  pub base_hours_default : Puts periods [] d p d' q → BaseHours None day d p d' q
   unfolding BaseIs default_calendar
   base_hours_default h = record { puts = λ lt. over_as (λ c. get_or c.hours day []) (λ c i. rw i (sym (get_or-replicate 7 day [] [] lt))) (over_plain h) }
 
   module _ (ws : List Element) where
-    pub hours_of_base : {b : Base} → find_last (on_place day) ws ≡ None → BaseHours b day d p d' q → PutsHours ws day b d p d' q
+    pub hours_of_base : {b : Option CalendarPlaces} → find_last (on_place day) ws ≡ None → BaseHours b day d p d' q → PutsHours ws day b d p d' q
     hours_of_base {b} e h = record {
       puts = λ lt. over_as (day_hours ws day) (λ c i. let n = hours_seven b d p c i in sym (day_hours_lem ws c.hours day (omega arith) ∙ rw e)) (h.puts lt);
     }
 
-    pub hours_of_day : (b : Base) {w : Element} → find_last (on_place day) ws ≡ Some w → Puts periods (hours_of w) d p d' q → PutsHours ws day b d p d' q
+    pub hours_of_day : (b : Option CalendarPlaces) {w : Element} → find_last (on_place day) ws ≡ Some w → Puts periods (hours_of w) d p d' q → PutsHours ws day b d p d' q
     hours_of_day b e h = record {
       puts = λ lt. over_as (day_hours ws day) (λ c i. let n = hours_seven b d p c i in sym (day_hours_lem ws c.hours day (omega arith) ∙ rw e)) (over_plain h);
     }
 
 -- of the first days of the week
-abbrev pub PutsDays : List Element → ℕ → Base → List ℕ → Place → List ℕ → Place → Type 0
+abbrev pub PutsDays : List Element → ℕ → Option CalendarPlaces → List ℕ → Place → List ℕ → Place → Type 0
 PutsDays ws day b = Over (times 7 periods) (BaseIs b) (λ c. take day (hours_by ws c.hours))
 
-pub hours_none : (ws : List Element) (b : Base) (d : List ℕ) (p : Place) → PutsDays ws 0 b d p d p
+pub hours_none : (ws : List Element) (b : Option CalendarPlaces) (d : List ℕ) (p : Place) → PutsDays ws 0 b d p d p
 hours_none ws b d p = record { puts = λ c k. put_no 7 periods d p }
 
-module _ (ws : List Element) {b : Base} {d₀ : List ℕ} {p₀ : Place} {d : List ℕ} {p : Place} where
+module _ (ws : List Element) {b : Option CalendarPlaces} {d₀ : List ℕ} {p₀ : Place} {d : List ℕ} {p : Place} where
   pub hours_more : {day : ℕ} {d' : List ℕ} {q : Place} → day < 7 → PutsDays ws day b d₀ p₀ d p → PutsHours ws day b d p d' q → PutsDays ws (day + 1) b d₀ p₀ d' q
   hours_more {day} {d'} {q} lt h i =
       over_as (λ c. take (day + 1) (hours_by ws c.hours))
@@ -243,7 +238,7 @@ module _ (ws : List Element) {b : Base} {d₀ : List ℕ} {p₀ : Place} {d : Li
       both : Over (times 7 periods) (BaseIs b) (λ c. take day (hours_by ws c.hours) ++ (day_hours ws day c ∷ [])) d₀ p₀ d' q
       both = record { puts = λ c k. let x = h.puts c k in put_more 7 x ((i.puts lt).puts c (λ e. lasts_put (base_lasts b) x e c k)) }
 
-pub hours_all : (ws : List Element) (b : Base) {d₀ : List ℕ} {p₀ : Place} {d : List ℕ} {p : Place} {day : ℕ} → 7 ≤ day → PutsDays ws day b d₀ p₀ d p → PutsWeekHours ws b d₀ p₀ d p
+pub hours_all : (ws : List Element) (b : Option CalendarPlaces) {d₀ : List ℕ} {p₀ : Place} {d : List ℕ} {p : Place} {day : ℕ} → 7 ≤ day → PutsDays ws day b d₀ p₀ d p → PutsWeekHours ws b d₀ p₀ d p
 hours_all ws b {d₀} {p₀} {day = day} le h =
     over_as (λ c. hours_by ws c.hours) (λ c j. let n = hours_seven b d₀ p₀ c j in let m = hours_length ws c.hours in take_all day (hours_by ws c.hours) (omega arith)) h
 
@@ -261,7 +256,7 @@ module _ (w : Element) {t : Bool} (e : t ≡ yes_in w "DayWorking") {d : List �
 abbrev fields_by : Element → Calendar → List Bool → List Bool × (List (List Period) × DayLists)
 fields_by e c week = (week, (hours_by (week_days e) c.hours, days_over e week (lists_of c)))
 
-module _ (e : Element) (stars : ℕ) {b : Base} {d d1 d2 d3 d4 d5 : List ℕ} {p p1 p2 p3 p4 p5 : Place} where
+module _ (e : Element) (stars : ℕ) {b : Option CalendarPlaces} {d d1 d2 d3 d4 d5 : List ℕ} {p p1 p2 p3 p4 p5 : Place} where
   pub calendar_over : {w week : ℕ} → Puts text (starred_by (text_in e "Name" or bytes "Calendar") stars) d p d1 p1 → WeekRead b d1 w → week ≡ word_of (week_by (week_days e) (flags_in w)) → Puts (times 7 flag) (flags_in week) d1 p1 d2 p2
       → PutsWeekHours (week_days e) b d2 p2 d3 p3 → Over day_lists (BaseIs b) (λ c. days_over e (flags_in week) (lists_of c)) d3 p3 d4 p4 → Pads d4 p4 d5 p5 → PutsCalendar e stars b d p d5 p5
   unfolding calendar_of

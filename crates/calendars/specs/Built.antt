@@ -1,5 +1,8 @@
 -- Calendars built one after another behind each other in a buffer; the main one turned to the front. Assumes nothing.
 use Rattle.std.specs.Prelude.{if◌then◌else◌, ◌≡◌, ℕ, suc, ◌%◌, ◌≤◌, true, List, [], ◌∷◌, ◌++◌, length, take, drop}
+use Rattle.model.specs.declared.parts.CalendarPlaces.{CalendarPlaces}
+use Rattle.names.specs.declared.ids.Ids.{Ids}
+use Rattle.std.specs.Prelude.{None, Option}
 use Rattle.std.specs.Prelude.{Some}
 use Rattle.std.specs.Prelude.{slice_get}
 use Rattle.definition.specs.Base.{◌>>=◌, ◌or◌, some?}
@@ -22,12 +25,8 @@ use Rattle.bits.specs.declared.Place.{Place}
 use Rattle.model.specs.declared.records.Kind.TheVariants.{Calendars}
 use Rattle.names.specs.Lent.{OpenIn, NotedIn, Behind, Before}
 use Rattle.names.specs.Sought.{end_names, FindsUids}
-use Rattle.names.specs.declared.ids.IdsMade.{IdsMade}
 use Rattle.pack.specs.declared.record.Records.{Records}
 use Rattle.rows.specs.Rows.{in_order}
-use Rattle.rows.specs.declared.CalendarAnswer.{CalendarAnswer}
-use Rattle.rows.specs.declared.CalendarAnswer.TheVariants.{Is, Absent}
-use Rattle.calendars.specs.declared.base.Base.{Base}
 use Rattle.calendars.specs.declared.built.Tables.{Tables}
 use Rattle.calendars.specs.Base.{BaseIs}
 
@@ -46,24 +45,24 @@ built_of es = calendars_in (build [] es)
 abbrev pub row_or : List Calendar → ℕ → Calendar
 row_or cs row = slice_get cs row or default_calendar
 
-abbrev pub found_or : List Calendar → CalendarAnswer → Calendar
-found_or cs (Is row at) = row_or cs row
-found_or cs Absent = default_calendar
+abbrev pub found_or : List Calendar → Option (ℕ × ℕ) → Calendar
+found_or cs (Some (row, at)) = row_or cs row
+found_or cs None = default_calendar
 
 -- a base that stands in the buffer before the place behind all, where the names so far are noted
-pub record Finds (pick : List Calendar → Calendar) (m : IdsMade) (start : Place) (count : ℕ) (d w : List ℕ) (b : Base) : Type 0 where
+pub record Finds (pick : List Calendar → Calendar) (m : Option Ids) (start : Place) (count : ℕ) (d w : List ℕ) (b : Option CalendarPlaces) : Type 0 where
   pub finds : (d₀ : List ℕ) (cs : List Calendar) (q : Place) → NotedIn Calendars m d start w count → Each (FitsCalendarBy Short) cs → Stand cs d₀ start d record { count = count; next = q } → inside (length d) q ≡ true → BaseIs b d q (pick cs)
 
-abbrev pub AtRow : ℕ → IdsMade → Place → ℕ → List ℕ → List ℕ → Base → Type 0
+abbrev pub AtRow : ℕ → Option Ids → Place → ℕ → List ℕ → List ℕ → Option CalendarPlaces → Type 0
 AtRow row = Finds (λ cs. row_or cs row)
 
-abbrev pub BaseFound : CalendarAnswer → IdsMade → Place → ℕ → List ℕ → List ℕ → Base → Type 0
+abbrev pub BaseFound : Option (ℕ × ℕ) → Option Ids → Place → ℕ → List ℕ → List ℕ → Option CalendarPlaces → Type 0
 BaseFound found = Finds (λ cs. found_or cs found)
 
 abbrev pub base_in : List Element → Element → Calendar
 base_in done e = (base_of e >>= λ u. with_uid u (build [] done)) or default_calendar
 
-pub record BaseIn (s : Text) (root e : Element) (t : Tables) (start : Place) (count : ℕ) (d w : List ℕ) (b : Base) : Type 0 where
+pub record BaseIn (s : Text) (root e : Element) (t : Tables) (start : Place) (count : ℕ) (d w : List ℕ) (b : Option CalendarPlaces) : Type 0 where
   pub finds : (d₀ : List ℕ) (done todo : List Element) (q : Place) → in_order root ≡ done ++ todo → FindsUids s root t.uids w → NotedIn Calendars t.names d start w count
       → Each (FitsCalendarBy Short) (built_of done) → Stand (built_of done) d₀ start d record { count = count; next = q } → inside (length d) q ≡ true → BaseIs b d q (base_in done e)
 
@@ -127,9 +126,9 @@ pub record Turns (row : ℕ) (start : Place) (d d' : List ℕ) : Type 0 where
   pub turns : start.bit % 8 ≡ 0 → (d₀ : List ℕ) (cs : List Calendar) (c : Calendar) (r : Records) → length cs ≤ 5000000 → Each (FitsCalendarBy Short) cs → slice_get cs row ≡ Some c → Stand cs d₀ start d r
       → Stand (turned cs row c) d₀ start d' r
 
-unfoldable pub TurnsMain : CalendarAnswer → Place → List ℕ → List ℕ → Type 0
-TurnsMain (Is row at) start d d' = Turns row start d d'
-TurnsMain Absent start d d' = d' ≡ d
+unfoldable pub TurnsMain : Option (ℕ × ℕ) → Place → List ℕ → List ℕ → Type 0
+TurnsMain (Some (row, at)) start d d' = Turns row start d d'
+TurnsMain None start d d' = d' ≡ d
 
 -- ---- the elapsed one
 

@@ -1,5 +1,6 @@
 -- One calendar over its base, part by part. Assumes nothing.
 use Rattle.std.specs.Prelude.{if◌then◌else◌, ◌≡◌, ℕ, ◌<◌, ◌≤◌, Bool, true, false, List, [], length, get_or, ◌==◌, slice_index_or}
+use Rattle.model.specs.declared.parts.CalendarPlaces.{CalendarPlaces}
 use Rattle.std.specs.Prelude.{Option, Some}
 use Rattle.definition.specs.Base.{◌>>=◌, ◌or◌}
 use Rattle.definition.specs.Tree.{Element}
@@ -14,13 +15,12 @@ use Rattle.bits.specs.Steps.{Puts}
 use Rattle.bits.specs.declared.Place.{Place}
 use Rattle.calendar.specs.Week.{flags_in}
 use Rattle.pack.specs.Value.{starred_by}
-use Rattle.calendars.specs.declared.base.Base.{Base}
 use Rattle.calendar_days.specs.Over.{Over}
 use Rattle.calendars.specs.Base.{BaseIs}
 
 -- ---- the week
 
-pub record WeekRead (b : Base) (d : List ℕ) (w : ℕ) : Type 0 where
+pub record WeekRead (b : Option CalendarPlaces) (d : List ℕ) (w : ℕ) : Type 0 where
   pub week : (p : Place) (c : Calendar) → BaseIs b d p c → flags_in w ≡ c.week
 
 -- ---- the hours
@@ -49,13 +49,13 @@ pub record CopiesHours (day : ℕ) (hours : Place) (d : List ℕ) (p : Place) (d
   pub puts : day < 7 → (hs : List (List Period)) (end : Place) → (inside (length d) p ≡ true → Reads (times 7 periods) d hours hs end × ((inside (length d) end ≡ true) × (at end ≤ at p)))
       → Puts periods (slice_index_or hs day []) d p d' q
 
-pub record BaseHours (b : Base) (day : ℕ) (d : List ℕ) (p : Place) (d' : List ℕ) (q : Place) : Type 0 where
+pub record BaseHours (b : Option CalendarPlaces) (day : ℕ) (d : List ℕ) (p : Place) (d' : List ℕ) (q : Place) : Type 0 where
   pub puts : day < 7 → Over periods (BaseIs b) (λ c. get_or c.hours day []) d p d' q
 
-pub record PutsHours (ws : List Element) (day : ℕ) (b : Base) (d : List ℕ) (p : Place) (d' : List ℕ) (q : Place) : Type 0 where
+pub record PutsHours (ws : List Element) (day : ℕ) (b : Option CalendarPlaces) (d : List ℕ) (p : Place) (d' : List ℕ) (q : Place) : Type 0 where
   pub puts : day < 7 → Over periods (BaseIs b) (day_hours ws day) d p d' q
 
-abbrev pub PutsWeekHours : List Element → Base → List ℕ → Place → List ℕ → Place → Type 0
+abbrev pub PutsWeekHours : List Element → Option CalendarPlaces → List ℕ → Place → List ℕ → Place → Type 0
 PutsWeekHours ws b = Over (times 7 periods) (BaseIs b) (λ c. hours_by ws c.hours)
 
 -- ---- the whole
@@ -63,5 +63,5 @@ PutsWeekHours ws b = Over (times 7 periods) (BaseIs b) (λ c. hours_by ws c.hour
 abbrev pub named : Element → ℕ → Calendar → Calendar
 named e stars c = renamed (starred_by (calendar_of e c).name stars) (calendar_of e c)
 
-abbrev pub PutsCalendar : Element → ℕ → Base → List ℕ → Place → List ℕ → Place → Type 0
+abbrev pub PutsCalendar : Element → ℕ → Option CalendarPlaces → List ℕ → Place → List ℕ → Place → Type 0
 PutsCalendar e stars b = Over (whole calendar) (BaseIs b) (named e stars)

@@ -12,24 +12,23 @@ ghost use Rattle.tree.specs.Root.{root_at};
 ghost use Rattle.pack.specs.Writes.{WritesIf};
 ghost use Rattle.calendars.specs.Built.{Begins, AtRow, BaseFound, BaseIn, Adds, AddsAll, AddsDefault, PutsBuilt, Turns, TurnsMain, AddsElapsed};
 
-use crate::base::Base;
+use index::Table;
+use model::parts::CalendarPlaces;
+use names::Ids;
 use crate::plain::{put_default_calendar, put_elapsed_calendar};
 use crate::record::put_calendar;
 use bits::{PAST, Place};
-use index::Made;
 use model::records::Kind;
-use names::IdsMade;
 use pack::Records;
-use rows::CalendarAnswer;
-use tree::{Found, Root};
+use tree::{Root};
 
 // ---- the section's words
 
 // The calendars by their UIDs, the names that are taken, and where the words behind them begin.
 #[derive(Clone, Copy)]
 pub(crate) struct Tables {
-    pub uids: Made,
-    pub names: IdsMade,
+    pub uids: Option<Table>,
+    pub names: Option<Ids>,
     pub from: usize,
 }
 
@@ -56,14 +55,14 @@ fn tables_for(
 // ---- one more
 
 // The calendar of a row, if it is built.
-fn base_at(out: &[u8], start: Place, count: u32, words: &[u32], names: IdsMade, row: usize) -> Base
+fn base_at(out: &[u8], start: Place, count: u32, words: &[u32], names: Option<Ids>, row: usize) -> Option<CalendarPlaces>
     ensures { AtRow row names start count out.now words.now result }
 {
     if count as usize <= row {
-        return Base::Default;
+        return None;
     }
     let p = names::place_in(out, Kind::Calendars, start, words, names, count, row as u32);
-    Base::At(model::parts::calendar_places(out, p))
+    Some(model::parts::calendar_places(out, p))
 }
 
 fn base_by(
@@ -71,14 +70,14 @@ fn base_by(
     start: Place,
     count: u32,
     words: &[u32],
-    names: IdsMade,
-    found: CalendarAnswer,
-) -> Base
+    names: Option<Ids>,
+    found: Option<(usize, usize)>,
+) -> Option<CalendarPlaces>
     ensures { BaseFound found names start count out.now words.now result }
 {
     match found {
-        CalendarAnswer::Is(row, _) => base_at(out, start, count, words, names, row),
-        CalendarAnswer::Absent => Base::Default,
+        Some((row, _)) => base_at(out, start, count, words, names, row),
+        None => None,
     }
 }
 
@@ -92,11 +91,11 @@ fn base_of(
     at: usize,
     words: &[u32],
     tables: Tables,
-) -> Base
+) -> Option<CalendarPlaces>
     ensures { BaseIn s.now (root_at s.now root) (element_at s.now at) tables start count out.now words.now result }
 {
     if !calendar::has_base(s, at) {
-        return Base::Default;
+        return None;
     }
     let uids = tables.uids;
     let names = tables.names;
@@ -151,7 +150,7 @@ fn put_each(
     };
     let mut found = rows::first_calendar(s, root);
     loop {
-        let Found::At(at) = found else {
+        let Some(at) = found else {
             return built;
         };
         built = put_next(out, start, built, s, root, at, words, tables);
@@ -203,12 +202,12 @@ fn turn(out: &mut [u8], start: Place, row: usize)
     bits::rotate(out, start, m, e);
 }
 
-fn turn_main(out: &mut [u8], start: Place, found: CalendarAnswer)
+fn turn_main(out: &mut [u8], start: Place, found: Option<(usize, usize)>)
     ensures { TurnsMain found start out.old out.new }
 {
     match found {
-        CalendarAnswer::Is(row, _) => turn(out, start, row),
-        CalendarAnswer::Absent => (),
+        Some((row, _)) => turn(out, start, row),
+        None => (),
     }
 }
 

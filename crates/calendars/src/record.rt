@@ -12,56 +12,54 @@ ghost use Rattle.rows.specs.Rows.{found_meaning};
 ghost use Rattle.calendars.specs.Base.{days_place};
 ghost use Rattle.calendars.specs.Record.{is_place, on_place, later_found, hours_of, WeekRead, CopiesHours, BaseHours, PutsHours, PutsWeekHours, PutsCalendar};
 
-use crate::base::Base;
+use model::parts::CalendarPlaces;
 use crate::plain::put_week;
 use bits::{PAST, Place};
-use calendar::PlaceAnswer;
 use calendar_days::{put_days, put_periods};
 use pack::put_count;
-use tree::Found;
 
 // ---- the week
 
 // The base's week, as a word.
-fn base_week(out: &[u8], base: Base) -> u32
+fn base_week(out: &[u8], base: Option<CalendarPlaces>) -> u32
     ensures { WeekRead base out.now result }
 {
     match base {
-        Base::At(c) => bits::take(out, c.week, 7).value as u32,
-        Base::Default => 0b1111100,
+        Some(c) => bits::take(out, c.week, 7).value as u32,
+        None => 0b1111100,
     }
 }
 
 // ---- the hours: of each day the last WeekDay of its place decides
 
-fn is_place(a: PlaceAnswer, day: usize) -> bool
+fn is_place(a: Option<u32>, day: usize) -> bool
     ensures { result ≡ is_place day (place_meaning a) }
 {
     match a {
-        PlaceAnswer::Is(k) => k as usize == day,
-        PlaceAnswer::Absent => false,
+        Some(k) => k as usize == day,
+        None => false,
     }
 }
 
 // This WeekDay if it is of the place, else the one that was found before it.
-fn later_day(s: &[u8], at: usize, day: usize, found: Found) -> Found
+fn later_day(s: &[u8], at: usize, day: usize, found: Option<usize>) -> Option<usize>
     ensures { found_meaning s.now result ≡ later_found (on_place day (element_at s.now at)) (element_at s.now at) (found_meaning s.now found) }
 {
     if is_place(calendar::day_place(s, at), day) {
-        return Found::At(at);
+        return Some(at);
     }
     found
 }
 
 // The last of a WeekDay and its later siblings.
-fn last_day_from(s: &[u8], first: usize, day: usize) -> Found
+fn last_day_from(s: &[u8], first: usize, day: usize) -> Option<usize>
     ensures { found_meaning s.now result ≡ find_last (on_place day) (element_at s.now first ∷ later_at s.now (bytes "WeekDay") first) }
 {
     let mut at = first;
-    let mut found = Found::Nothing;
+    let mut found = None;
     loop {
         found = later_day(s, at, day, found);
-        let Found::At(next) = tree::next_child(s, at, b"WeekDay") else {
+        let Some(next) = tree::next_child(s, at, b"WeekDay") else {
             return found;
         };
         at = next;
@@ -69,12 +67,12 @@ fn last_day_from(s: &[u8], first: usize, day: usize) -> Found
 }
 
 // The last WeekDay of a Calendar for a day, 0 for Monday.
-fn last_day(s: &[u8], at: usize, day: usize) -> Found
+fn last_day(s: &[u8], at: usize, day: usize) -> Option<usize>
     ensures { found_meaning s.now result ≡ find_last (on_place day) (week_days (element_at s.now at)) }
 {
     match rows::first_in(s, at, b"WeekDays", b"WeekDay") {
-        Found::Nothing => Found::Nothing,
-        Found::At(first) => last_day_from(s, first, day),
+        None => None,
+        Some(first) => last_day_from(s, first, day),
     }
 }
 
@@ -97,25 +95,25 @@ fn copy_hours(out: &mut [u8], p: Place, hours: Place, day: usize) -> Place
     bits::copy_bits(out, from, to, p)
 }
 
-fn put_base_hours(out: &mut [u8], p: Place, base: Base, day: usize) -> Place
+fn put_base_hours(out: &mut [u8], p: Place, base: Option<CalendarPlaces>, day: usize) -> Place
     ensures { BaseHours base day out.old p out.new result }
 {
     match base {
-        Base::At(c) => copy_hours(out, p, c.hours, day),
-        Base::Default => put_count(out, p, 0),
+        Some(c) => copy_hours(out, p, c.hours, day),
+        None => put_count(out, p, 0),
     }
 }
 
-fn put_hours_of(out: &mut [u8], p: Place, s: &[u8], at: usize, day: usize, base: Base) -> Place
+fn put_hours_of(out: &mut [u8], p: Place, s: &[u8], at: usize, day: usize, base: Option<CalendarPlaces>) -> Place
     ensures { PutsHours (week_days (element_at s.now at)) day base out.old p out.new result }
 {
     match last_day(s, at, day) {
-        Found::Nothing => put_base_hours(out, p, base, day),
-        Found::At(w) => put_own_hours(out, p, s, w),
+        None => put_base_hours(out, p, base, day),
+        Some(w) => put_own_hours(out, p, s, w),
     }
 }
 
-fn put_hours(out: &mut [u8], p: Place, s: &[u8], at: usize, base: Base) -> Place
+fn put_hours(out: &mut [u8], p: Place, s: &[u8], at: usize, base: Option<CalendarPlaces>) -> Place
     ensures { PutsWeekHours (week_days (element_at s.now at)) base out.old p out.new result }
 {
     let mut q = p;
@@ -130,12 +128,12 @@ fn put_hours(out: &mut [u8], p: Place, s: &[u8], at: usize, base: Base) -> Place
 // ---- the whole
 
 // Where the base's lists of days stand; those of the default one, which are empty, nowhere.
-fn days_place(base: Base) -> Place
+fn days_place(base: Option<CalendarPlaces>) -> Place
     ensures { result ≡ days_place base }
 {
     match base {
-        Base::At(c) => c.holidays,
-        Base::Default => PAST,
+        Some(c) => c.holidays,
+        None => PAST,
     }
 }
 
@@ -146,7 +144,7 @@ pub(crate) fn put_calendar(
     s: &[u8],
     at: usize,
     stars: u32,
-    base: Base,
+    base: Option<CalendarPlaces>,
     words: &mut [u32],
     from: usize,
 ) -> Place

@@ -6,21 +6,6 @@ use Rattle.definition.specs.Date.{Date, month_length, year_of, month_of, day_of,
 use Rattle.definition.specs.Text.{Text, before, after, unsigned_of}
 use Rattle.definition.specs.declared.Ymd.{Ymd}
 use Rattle.date.specs.declared.Civil.{Civil}
-use Rattle.date.specs.declared.YmdAnswer.{YmdAnswer}
-use Rattle.date.specs.declared.WeekdayAnswer.{WeekdayAnswer}
-use Rattle.date.specs.declared.LengthAnswer.{LengthAnswer}
-
-unfoldable pub ymd_meaning : YmdAnswer → Option Ymd
-ymd_meaning (YmdAnswer.Is c) = Some c
-ymd_meaning YmdAnswer.Absent = None
-
-unfoldable pub weekday_meaning : WeekdayAnswer → Option ℕ
-weekday_meaning (WeekdayAnswer.Is n) = Some n
-weekday_meaning WeekdayAnswer.Absent = None
-
-unfoldable pub length_meaning : LengthAnswer → Option ℕ
-length_meaning (LengthAnswer.Is n) = Some n
-length_meaning LengthAnswer.Absent = None
 
 -- year, month and day of a date
 abbrev pub civil_of : Date → Civil

@@ -7,32 +7,10 @@ ghost use Rattle.definition.specs.Base.{◌or◌};
 ghost use Rattle.definition.specs.Date.{leap, month_length, new_year, date_at, weekday, year_at, from_days, from_ymd, first_ten, date_parts, date_of};
 ghost use Rattle.laws.specs.Calendar.{MarchDay};
 ghost use Rattle.definition.specs.Answer.{date_meaning, day_number_of};
-ghost use Rattle.date.specs.Answer.{ymd_meaning, ymd_at, weekday_meaning, weekday_at, length_meaning, length_at, days_between};
+ghost use Rattle.date.specs.Answer.{ymd_at, weekday_at, length_at, days_between};
 ghost use Rattle.date.specs.Answer.{civil_of, is_day, raised_of, placed, day_part, month_part};
 
-use definition::{Date, DateAnswer, Ymd};
-use text::{I32Answer, U32Answer};
-
-// The day of the calendar of a date.
-#[derive(Clone, Copy)]
-pub enum YmdAnswer {
-    Is(Ymd),
-    Absent,
-}
-
-// A day of the week, Monday 0.
-#[derive(Clone, Copy)]
-pub enum WeekdayAnswer {
-    Is(u32),
-    Absent,
-}
-
-// How many days a month has.
-#[derive(Clone, Copy)]
-pub enum LengthAnswer {
-    Is(u32),
-    Absent,
-}
+use definition::{Date, Ymd};
 
 // A day of the calendar, its year counted from the year -10000.
 #[derive(Clone, Copy)]
@@ -187,17 +165,17 @@ fn date_of_number(n: i32) -> u32
 // ---- dates as they are written
 
 // The days of a month of the years -9999 to 9999.
-pub fn days_in_month(year: i32, month: u32) -> LengthAnswer
-    ensures { length_meaning result ≡ length_at year month }
+pub fn days_in_month(year: i32, month: u32) -> Option<u32>
+    ensures { result ≡ length_at year month }
 {
     let y = year_at(year);
     if y == 0 {
-        return LengthAnswer::Absent;
+        return None;
     }
     if (1 <= month) & (month <= 12) {
-        return LengthAnswer::Is(month_length(y, month));
+        return Some(month_length(y, month));
     }
-    LengthAnswer::Absent
+    None
 }
 
 // Whether a year has such a month and day.
@@ -217,40 +195,40 @@ fn is_day(y: u32, m: u32, d: u32) -> bool
 }
 
 // The date of a year, a month and a day, if there is one.
-pub fn from_ymd(year: i32, month: u32, day: u32) -> DateAnswer
+pub fn from_ymd(year: i32, month: u32, day: u32) -> Option<Date>
     ensures { date_meaning result ≡ day_number_of (from_ymd year month day) }
 {
     let y = year_at(year);
     if y == 0 {
-        return DateAnswer::Absent;
+        return None;
     }
     if is_day(y, month, day) {
         let d = day_at(y, month, day);
-        return DateAnswer::Is(Date(lowered(d, 4371953)));
+        return Some(Date(lowered(d, 4371953)));
     }
-    DateAnswer::Absent
+    None
 }
 
 // The date of a day number, if its year is in range.
-pub fn from_days(n: i32) -> DateAnswer
+pub fn from_days(n: i32) -> Option<Date>
     ensures { date_meaning result ≡ day_number_of (from_days n) }
 {
     if date_of_number(n) == 0 {
-        return DateAnswer::Absent;
+        return None;
     }
-    DateAnswer::Is(Date(n))
+    Some(Date(n))
 }
 
 // Year, month and day.
-pub fn ymd(d: Date) -> YmdAnswer
-    ensures { ymd_meaning result ≡ ymd_at d.0 }
+pub fn ymd(d: Date) -> Option<Ymd>
+    ensures { result ≡ ymd_at d.0 }
 {
     let n = date_of_number(d.0);
     if n == 0 {
-        return YmdAnswer::Absent;
+        return None;
     }
     let c = civil_of(n);
-    YmdAnswer::Is(Ymd {
+    Some(Ymd {
         year: lowered(c.year, 10000),
         month: c.month,
         day: c.day,
@@ -258,14 +236,14 @@ pub fn ymd(d: Date) -> YmdAnswer
 }
 
 // The day of the week; none outside the years -9999 to 9999.
-pub fn weekday(d: Date) -> WeekdayAnswer
-    ensures { weekday_meaning result ≡ weekday_at d.0 }
+pub fn weekday(d: Date) -> Option<u32>
+    ensures { result ≡ weekday_at d.0 }
 {
     let n = date_of_number(d.0);
     if n == 0 {
-        return WeekdayAnswer::Absent;
+        return None;
     }
-    WeekdayAnswer::Is(weekday_of(n))
+    Some(weekday_of(n))
 }
 
 // How many days b lies after a; 0 where it lies before.
@@ -296,43 +274,43 @@ fn first_ten(s: &[u8]) -> &[u8]
     &s[..10]
 }
 
-fn day_part(year: i32, month: u32, s: &[u8]) -> DateAnswer
+fn day_part(year: i32, month: u32, s: &[u8]) -> Option<Date>
     ensures { date_meaning result ≡ day_number_of (day_part year month s.now) }
 {
     match text::u32_of(s) {
-        U32Answer::Is(day) => from_ymd(year, month, day),
-        U32Answer::Absent => DateAnswer::Absent,
+        Some(day) => from_ymd(year, month, day),
+        None => None,
     }
 }
 
-fn month_part(year: i32, s: &[u8]) -> DateAnswer
+fn month_part(year: i32, s: &[u8]) -> Option<Date>
     ensures { date_meaning result ≡ day_number_of (month_part year s.now) }
 {
     let k = text::place(s, 45);
     if k < s.len() {
         return match text::u32_of(&s[..k]) {
-            U32Answer::Is(month) => day_part(year, month, &s[k + 1..]),
-            U32Answer::Absent => DateAnswer::Absent,
+            Some(month) => day_part(year, month, &s[k + 1..]),
+            None => None,
         };
     }
-    DateAnswer::Absent
+    None
 }
 
-fn date_parts(s: &[u8]) -> DateAnswer
+fn date_parts(s: &[u8]) -> Option<Date>
     ensures { date_meaning result ≡ day_number_of (date_parts s.now) }
 {
     let k = text::place(s, 45);
     if k < s.len() {
         return match text::i32_of(&s[..k]) {
-            I32Answer::Is(year) => month_part(year, &s[k + 1..]),
-            I32Answer::Absent => DateAnswer::Absent,
+            Some(year) => month_part(year, &s[k + 1..]),
+            None => None,
         };
     }
-    DateAnswer::Absent
+    None
 }
 
 // A date text: year, month and day with `-` between.
-pub fn date_of(s: &[u8]) -> DateAnswer
+pub fn date_of(s: &[u8]) -> Option<Date>
     ensures { date_meaning result ≡ day_number_of (date_of s.now) }
 {
     date_parts(text::trim(first_ten(s)))

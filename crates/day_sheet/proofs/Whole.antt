@@ -1,5 +1,8 @@
 -- A sheet from its parts: the lists of a calendar that was found, the bytes that were written, the answer. Assumes nothing.
 use mathlib.Core.Path.{◌≡◌, refl, sym, ap, ◌∙◌}
+use Rattle.definition.specs.declared.Refusal.{Refusal}
+use Rattle.definition.specs.declared.Refusal.TheVariants.{NoRoom}
+use Rattle.std.specs.Prelude.{Err, Ok, Result}
 use mathlib.Core.Bool.{true, false, ◌&&◌}
 use mathlib.Core.List.{List, [], ◌∷◌}
 use Rattle.std.specs.Prelude.{Option, Some, None}
@@ -39,15 +42,12 @@ use Rattle.model.specs.Splits.{Stands, read_stands}
 use Rattle.model.specs.Lists.{stands_rest, ahead_later, ahead_item}
 use Rattle.model.specs.Places.{CalendarAt, calendar_is}
 use Rattle.model.specs.Sections.{byte_at, byte_rest, Opens, Sectioned}
-use Rattle.model.specs.declared.Opened.{Opened}
 use Rattle.model.specs.declared.parts.CalendarPlaces.{CalendarPlaces}
 use Rattle.model.specs.declared.Sections.{Sections}
 use Rattle.model.specs.declared.records.Kind.TheVariants.{Calendars}
 use Rattle.day_sheet.specs.Days.{exceptions, Listed, DayIs, day_value}
 use Rattle.day_sheet.specs.Answer.{start, leaves, left_by, Finished}
 use Rattle.day_sheet.specs.declared.Day.{Day}
-use Rattle.day_sheet.specs.declared.SheetAnswer.{SheetAnswer}
-use Rattle.day_sheet.specs.declared.SheetAnswer.TheVariants as answer
 use Rattle.day_sheet.proofs.Walks.{listed}
 
 -- ---- the lists of a calendar
@@ -108,12 +108,12 @@ module _ {A : Type 0} (f : Format A) (a : A) {d₀ d : List ℕ} {end : Place} (
       omega (arith, length_bytes (length g / 8) g, whole_even f a, w.step.same)
 
   -- zeros alone, and the bytes with zeros behind them
-  pub left_short : {out : Text} → inside (length d) end ≡ false → out ≡ replicate (length d) 0 → leaves answer.Short out ≡ left_by (length d) (in_room (length d) (bytes_of ((whole f).put 0 a)))
+  pub left_short : {out : Text} → inside (length d) end ≡ false → out ≡ replicate (length d) 0 → leaves (Err NoRoom) out ≡ left_by (length d) (in_room (length d) (bytes_of ((whole f).put 0 a)))
   unfolding in_room
   left_short h e = rw (lt-leb _ _ (short h), e)
 
   pub left_written : {out : Text} → inside (length d) end ≡ true → ((i : ℕ) → get_or d i 0 < 256) → out ≡ cleared end.byte d
-      → leaves (answer.Written end.byte) out ≡ left_by (length d) (in_room (length d) (bytes_of ((whole f).put 0 a)))
+      → leaves (Ok end.byte) out ≡ left_by (length d) (in_room (length d) (bytes_of ((whole f).put 0 a)))
   unfolding in_room
   left_written h b e =
       let (is, le) = wrote h b in
@@ -143,12 +143,12 @@ element_in [] (suc i) e = absurd (never e)
 element_in (y ∷ xs) zero e = omega arith
 element_in (y ∷ xs) (suc i) e = omega (arith, element_in xs i e)
 
-module _ {s : Text} (row : ℕ) (z : ℤ) (room : ℕ) {o : Opened} (h : Opens s o) where
-  pub no_model : o ≡ Opened.NoModel → day_sheet_answer s row z room ≡ refused 6
+module _ {s : Text} (row : ℕ) (z : ℤ) (room : ℕ) {o : Option Sections} (h : Opens s o) where
+  pub no_model : o ≡ None → day_sheet_answer s row z room ≡ refused 6
   unfolding day_sheet_answer
   no_model e = rw (h.refused e)
 
-  module _ {r : Sections} (ok : o ≡ Opened.Model r) {w : ℕ} (is : w ≡ ((from_days z >>= λ d. Some (weekday d)) or 7)) where
+  module _ {r : Sections} (ok : o ≡ Some r) {w : ℕ} (is : w ≡ ((from_days z >>= λ d. Some (weekday d)) or 7)) where
     model_of : Sectioned s r
     model_of = h.model r ok
 
@@ -201,7 +201,7 @@ module _ {s : Text} (row : ℕ) (z : ℤ) (room : ℕ) {o : Opened} (h : Opens s
         }
 
 -- the sheet was put and finished
-pub answered : {s : Text} {day : ℕ} (row : ℕ) (z : ℤ) {d₀ d out : Text} {end : Place} {dd : Day} {c : Calendar} (r : SheetAnswer) → day_sheet_answer s row z (length d₀) ≡ in_room (length d₀) (day_sheet c day)
+pub answered : {s : Text} {day : ℕ} (row : ℕ) (z : ℤ) {d₀ d out : Text} {end : Place} {dd : Day} {c : Calendar} (r : Result ℕ Refusal) → day_sheet_answer s row z (length d₀) ≡ in_room (length d₀) (day_sheet c day)
     → DayIs s c day dd → ((l : List Period) → Listed s dd.hours l → Puts sheet (day_value dd l) d₀ start d end) → Finished d end r out → leaves r out ≡ left_by (length d₀) (day_sheet_answer s row z (length d₀))
 answered row z r e h w f =
     let u = w _ h.hours in

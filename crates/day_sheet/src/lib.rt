@@ -19,22 +19,9 @@ ghost use Rattle.day_sheet.specs.Days.{exceptions, weekday_on, is_on, Listed, Da
 ghost use Rattle.day_sheet.specs.Answer.{start, Finished, leaves, left_by};
 
 use bits::{PAST, Place};
-use date::WeekdayAnswer;
-use definition::{Date, DateAnswer};
-use model::Opened;
-use model::parts::{
-    PeriodAnswer, calendar_places, hours_place, skip_periods, take_date, take_period,
-};
+use definition::{Date, Refusal};
+use model::parts::{Period, calendar_places, hours_place, skip_periods, take_date, take_period};
 use model::records::{Kind, skip_records};
-
-// The bytes of the sheet, or why there is none.
-#[derive(Clone, Copy)]
-pub enum SheetAnswer {
-    Written(usize),
-    NoModel,
-    Outside,
-    Short,
-}
 
 // ---- what a calendar says of a date
 
@@ -43,18 +30,18 @@ fn weekday_of(day: Date) -> u32
     ensures { result ≡ weekday_on day.0 }
 {
     match date::weekday(day) {
-        WeekdayAnswer::Is(w) => w,
-        WeekdayAnswer::Absent => 7,
+        Some(w) => w,
+        None => 7,
     }
 }
 
 // Whether a date that was taken is a day.
-fn is_on(d: DateAnswer, day: Date) -> bool
+fn is_on(d: Option<Date>, day: Date) -> bool
     ensures { result ≡ is_on (date_meaning d) day.0 }
 {
     match d {
-        DateAnswer::Is(x) => x.0 == day.0,
-        DateAnswer::Absent => false,
+        Some(x) => x.0 == day.0,
+        None => false,
     }
 }
 
@@ -156,12 +143,12 @@ fn put_default(out: &mut [u8], p: Place) -> Place
 }
 
 // A period that was taken; from 0 to 0 where there is none.
-fn put_taken(out: &mut [u8], p: Place, t: PeriodAnswer) -> Place
+fn put_taken(out: &mut [u8], p: Place, t: Option<Period>) -> Place
     ensures { Puts period (period_meaning t or (0, 0)) out.old p out.new result }
 {
     match t {
-        PeriodAnswer::Is(x) => put_period(out, p, x.from as u64, x.to as u64),
-        PeriodAnswer::Absent => put_period(out, p, 0, 0),
+        Some(x) => put_period(out, p, x.from as u64, x.to as u64),
+        None => put_period(out, p, 0, 0),
     }
 }
 
@@ -206,33 +193,33 @@ fn put_day(s: &[u8], d: Day, out: &mut [u8]) -> Place
 }
 
 // The sheet up to a place, and zeros behind it; zeros alone where it did not fit.
-fn finish(out: &mut [u8], end: Place) -> SheetAnswer
+fn finish(out: &mut [u8], end: Place) -> Result<usize, Refusal>
     ensures { Finished out.old end result out.new }
 {
     if !bits::inside(out.len(), end) {
         bits::clear(out);
-        return SheetAnswer::Short;
+        return Err(Refusal::NoRoom);
     }
     let n = end.byte;
     bits::clear_from(out, n);
-    SheetAnswer::Written(n)
+    Ok(n)
 }
 
 // The day sheet of a day in the calendar of a row.
-pub fn day_sheet(s: &[u8], calendar: u32, date: Date, sheet: &mut [u8]) -> SheetAnswer
+pub fn day_sheet(s: &[u8], calendar: u32, date: Date, sheet: &mut [u8]) -> Result<usize, Refusal>
     ensures { leaves result sheet.new ≡ left_by (length sheet.old) (day_sheet_answer s.now calendar date.0 (length sheet.old)) }
 {
     let opened = model::open(s);
-    let Opened::Model(m) = opened else {
+    let Some(m) = opened else {
         bits::clear(sheet);
-        return SheetAnswer::NoModel;
+        return Err(Refusal::NoModel);
     };
     let weekday = weekday_of(date);
     let calendars = m.calendars;
     let there = (calendar < calendars.count) & (weekday < 7);
     if !there {
         bits::clear(sheet);
-        return SheetAnswer::Outside;
+        return Err(Refusal::Outside);
     }
     let first = Place {
         byte: calendars.at,

@@ -1,19 +1,37 @@
--- What the answers stand for that several crates share. Document 01: `Option` is an enum for each answer. Assumes nothing.
+-- What the answers stand for that several crates share. Assumes nothing.
 use Rattle.std.specs.Prelude.{ℕ, ℤ}
-use Rattle.std.specs.Prelude.{Option, Some, None}
+use Rattle.definition.specs.declared.Date.{Date as DayNumber}
+use Rattle.std.specs.Prelude.{Option, Some, None, Result, Ok, Err}
+use Rattle.definition.specs.declared.Refusal.{Refusal}
+use Rattle.definition.specs.declared.Refusal.TheVariants as refusal
 use Rattle.definition.specs.Base.{◌>>=◌}
 use Rattle.definition.specs.Date.{Date, day_number}
-use Rattle.definition.specs.declared.DateAnswer.{DateAnswer}
-use Rattle.definition.specs.declared.RowAnswer.{RowAnswer}
 
 -- a date by document 01's number
-unfoldable pub date_meaning : DateAnswer → Option ℤ
-date_meaning (DateAnswer.Is d) = Some d.0
-date_meaning DateAnswer.Absent = None
+unfoldable pub date_meaning : Option DayNumber → Option ℤ
+date_meaning (Some d) = Some d.0
+date_meaning None = None
 
 unfoldable pub day_number_of : Option Date → Option ℤ
 day_number_of d = d >>= λ d. Some (day_number d)
 
-unfoldable pub row_meaning : RowAnswer → Option ℕ
-row_meaning (RowAnswer.Is n) = Some n
-row_meaning RowAnswer.Absent = None
+-- document 01's number of a refusal
+abbrev pub refusal_number : Refusal → ℕ
+refusal_number refusal.Layout = 1
+refusal_number refusal.Utf8 = 2
+refusal_number refusal.TooMany = 3
+refusal_number refusal.NoProject = 4
+refusal_number refusal.TooLong = 5
+refusal_number refusal.NoModel = 6
+refusal_number refusal.ListBroken = 7
+refusal_number refusal.Outside = 8
+refusal_number refusal.NoRoom = 9
+
+-- the number that a call returns, 0 where there is a result; and how long that is
+abbrev pub answer_number : {A : Type 0} → Result A Refusal → ℕ
+answer_number (Ok x) = 0
+answer_number (Err e) = refusal_number e
+
+abbrev pub answer_length : Result ℕ Refusal → ℕ
+answer_length (Ok n) = n
+answer_length (Err e) = 0

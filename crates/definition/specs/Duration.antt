@@ -3,13 +3,16 @@
 -- above 1e9 is none, else rounded, halves away from zero. A repeated unit overwrites. `P` and `PT` are 0; `P1Y`, `PT5`, a piece below 0 are
 -- none. Pieces go left to right; an ill-formed one ends the reading with none, and a piece too long is refused. Document 02, E2: the reading answers
 -- two things, the minutes, and whether that f64 sum was a whole number before it was rounded. Assumes nothing.
+use Rattle.definition.specs.declared.Duration.{Duration}
 use Rattle.std.specs.Prelude.{if◌then◌else◌, ℕ, zero, suc, ◌+◌, ◌/◌, ◌%◌, Bool, ◌||◌, [], ◌∷◌, ◌++◌, ltb, eqb, Float}
+use Rattle.definition.specs.declared.Unread.TheVariants.{Absent, Long}
+use Rattle.std.specs.Prelude.{Err, Ok}
 use Rattle.std.specs.Float.{binary64}
 use Rattle.std.specs.Float.Ieee.{add, mul, div, le}
 use Rattle.definition.specs.Base.{◌or◌, same}
 use Rattle.definition.specs.Ascii.{bytes}
 use Rattle.definition.specs.Text.{Text, trim, before, after}
-use Rattle.definition.specs.Number.{Reading, absent, long, value, number_of, half_away, is_whole, float, zero_float}
+use Rattle.definition.specs.Number.{Reading, number_of, half_away, is_whole, float, zero_float}
 use Rattle.definition.specs.declared.Figures.{Figures}
 
 -- ---- the figures
@@ -34,9 +37,9 @@ set_unit unit x f =
     record { days = f.days; hours = f.hours; minutes = f.minutes; seconds = x }
 
 abbrev pub not_below_zero : Reading Float → Reading Float
-not_below_zero absent = absent
-not_below_zero long = long
-not_below_zero (value x) = if le zero_float x then value x else absent
+not_below_zero (Err Absent) = Err Absent
+not_below_zero (Err Long) = Err Long
+not_below_zero (Ok x) = if le zero_float x then Ok x else Err Absent
 
 -- a piece without its unit: a number that is not below 0
 unfoldable pub piece_of : Text → Reading Float
@@ -44,14 +47,14 @@ piece_of s = not_below_zero (number_of s)
 
 infixl 12 ◌then◌
 abbrev pub ◌then◌ : {A B : Type 0} → Reading A → (A → Reading B) → Reading B
-absent then f = absent
-long then f = long
-value a then f = f a
+(Err Absent) then f = Err Absent
+(Err Long) then f = Err Long
+Ok a then f = f a
 
 -- the figures that the rest of a time part gives, where `part` was read since the last unit
 unfoldable pub time_figures : Text → Text → Figures → Reading Figures
-time_figures [] [] f = value f
-time_figures [] (p ∷ part) f = absent
+time_figures [] [] f = Ok f
+time_figures [] (p ∷ part) f = Err Absent
 time_figures (b ∷ s) part f =
     if is_unit b then (piece_of part then λ x. time_figures s [] (set_unit b x f)) else time_figures s (part ++ (b ∷ [])) f
 
@@ -60,8 +63,8 @@ abbrev pub is_d : ℕ → Bool
 is_d = eqb 68
 
 unfoldable pub days_of : Text → Reading Float
-days_of [] = value zero_float
-days_of (b ∷ s) = if same (before is_d (b ∷ s) ++ bytes "D") (b ∷ s) then piece_of (before is_d (b ∷ s)) else absent
+days_of [] = Ok zero_float
+days_of (b ∷ s) = if same (before is_d (b ∷ s) ++ bytes "D") (b ∷ s) then piece_of (before is_d (b ∷ s)) else Err Absent
 
 abbrev pub day_figures : Float → Figures
 day_figures d = record { days = d; hours = zero_float; minutes = zero_float; seconds = zero_float }
@@ -70,9 +73,9 @@ abbrev pub is_t : ℕ → Bool
 is_t = eqb 84
 
 unfoldable pub figures_of : Text → Reading Figures
-figures_of [] = absent
+figures_of [] = Err Absent
 figures_of (b ∷ s) =
-    if eqb b 80 then (days_of (before is_t s) then λ d. time_figures (after is_t s or []) [] (day_figures d)) else absent
+    if eqb b 80 then (days_of (before is_t s) then λ d. time_figures (after is_t s or []) [] (day_figures d)) else Err Absent
 
 -- ---- the minutes
 
@@ -87,15 +90,11 @@ abbrev pub most_minutes : ℕ
 most_minutes = 1000000000
 
 -- a sum rounded to minutes, and whether it was whole
-pub record Duration : Type 0 where
-  pub minutes : ℕ
-  pub whole : Bool
-
 abbrev pub duration_at : Float → Duration
 duration_at x = record { minutes = half_away x; whole = is_whole x }
 
 unfoldable pub duration_from : Figures → Reading Duration
-duration_from f = if le (total_of f) (float most_minutes) then value (duration_at (total_of f)) else absent
+duration_from f = if le (total_of f) (float most_minutes) then Ok (duration_at (total_of f)) else Err Absent
 
 unfoldable pub duration_of : Text → Reading Duration
 duration_of s = figures_of (trim s) then duration_from

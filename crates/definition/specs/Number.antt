@@ -7,13 +7,15 @@ use Rattle.std.specs.Prelude.{if◌then◌else◌, ℕ, ◌+◌, ◌*◌, ◌/�
 use Rattle.std.specs.Prelude.{Option, Some, None}
 use Rattle.std.specs.Float.{nan, inf, fin, binary64}
 use Rattle.std.specs.Float.Ieee.{up, down, round, neg, le, mul}
+use Rattle.std.specs.Prelude.{Result, Ok, Err}
+use Rattle.definition.specs.declared.Unread.{Unread}
+use Rattle.definition.specs.declared.Unread.TheVariants.{Absent, Long}
 use Rattle.definition.specs.Base.{◌>>=◌, ◌or◌}
 use Rattle.definition.specs.Text.{Text, Sign, plus, minus, bare, sign_of, before, after, digits}
 
 -- what reading a text gives: nothing, a refusal since a number in it is too long, or a value
-pub data Reading (A : Type 0) : Type 0 where
-  absent long : Reading A
-  value : A → Reading A
+abbrev pub Reading : Type 0 → Type 0
+Reading A = Result A Unread
 
 -- ---- the grammar
 
@@ -74,13 +76,12 @@ unfoldable pub nearest : Decimal → Float
 nearest d = if eqb d.digits 0 then zero_float else round binary64 false (d.digits * 10 ^ d.up) (10 ^ d.down)
 
 abbrev pub magnitude : Option Decimal → Reading Float
-magnitude None = absent
-magnitude (Some d) = if short? d then value (nearest d) else long
+magnitude None = Err Absent
+magnitude (Some d) = if short? d then Ok (nearest d) else Err Long
 
 abbrev pub negated : Reading Float → Reading Float
-negated absent = absent
-negated long = long
-negated (value x) = value (neg x)
+negated (Err e) = Err e
+negated (Ok x) = Ok (neg x)
 
 abbrev pub number_by : Sign → Text → Reading Float
 number_by plus s = magnitude (decimal_of (drop 1 s))
@@ -92,9 +93,8 @@ number_of s = number_by (sign_of s) s
 
 -- the number where there is one; a tree with a long one is refused as a whole
 abbrev pub found : {A : Type 0} → Reading A → Option A
-found absent = None
-found long = None
-found (value x) = Some x
+found (Err e) = None
+found (Ok x) = Some x
 
 -- ---- whole numbers
 

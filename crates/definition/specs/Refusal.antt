@@ -4,13 +4,15 @@
 -- does not decode; 7 the check's list is broken; 8 value asked outside its range; 9 result longer than its buffer, or rows or
 -- work slice below what the outline needs. Assumes nothing.
 use Rattle.std.specs.Prelude.{if◌then◌else◌, ℕ, ◌-◌, ◌*◌, ◌/◌, Bool, true, false, ◌&&◌, ◌||◌, not, length, replicate, leb, ltb, ℤ, pos, negsuc}
+use Rattle.definition.specs.declared.Unread.TheVariants.{Absent, Long}
+use Rattle.std.specs.Prelude.{Err, Ok}
 use mathlib.Core.List.{List, [], ◌∷◌, ◌++◌, flat_map}
 use Rattle.std.specs.Prelude.{Option, Some, None}
 use Rattle.std.specs.Prelude.{slice_get}
 use Rattle.definition.specs.Base.{some?, every?, same}
 use Rattle.definition.specs.Ascii.{bytes}
 use Rattle.definition.specs.Text.{Text, is_utf8, trim}
-use Rattle.definition.specs.Number.{Reading, absent, long, value, number_of}
+use Rattle.definition.specs.Number.{Reading, number_of}
 use Rattle.definition.specs.Duration.{duration_of, duration_text, most_minutes}
 use Rattle.definition.specs.Time.{time_text, most_time}
 use Rattle.definition.specs.Date.{Date, from_days}
@@ -65,9 +67,9 @@ project? (root ∷ rs) = same root.name (bytes "Project")
 
 -- 5
 unfoldable pub long? : {A : Type 0} → Reading A → Bool
-long? absent = false
-long? long = true
-long? (value x) = false
+long? (Err Absent) = false
+long? (Err Long) = true
+long? (Ok x) = false
 
 abbrev pub number_names : List Text
 number_names =

@@ -1,6 +1,12 @@
 // The types that the definitions and the code share. What they mean is said in specs/.
 #![tactic(auto)]
 
+ghost use Rattle.std.specs.Prelude.{◌≡◌};
+ghost use Rattle.definition.specs.Answer.{refusal_number};
+
+use std::error::Error;
+use std::fmt;
+
 // The four figures of a duration text.
 #[derive(Clone, Copy)]
 pub struct Figures {
@@ -10,8 +16,22 @@ pub struct Figures {
     pub seconds: f64,
 }
 
+// The minutes of a duration text, and whether the sum was whole before it was rounded.
+#[derive(Clone, Copy, Debug, PartialEq, Eq)]
+pub struct Duration {
+    pub minutes: u32,
+    pub whole: bool,
+}
+
+// Why a text gives no value: it is none, or a number in it is too long to be read exactly, which refuses the tree.
+#[derive(Clone, Copy, Debug, PartialEq, Eq)]
+pub enum Unread {
+    Absent,
+    Long,
+}
+
 // A day of the calendar: year, month from 1, day from 1.
-#[derive(Clone, Copy)]
+#[derive(Clone, Copy, Debug, PartialEq, Eq, PartialOrd, Ord)]
 pub struct Ymd {
     pub year: i32,
     pub month: u32,
@@ -19,19 +39,56 @@ pub struct Ymd {
 }
 
 // A day: its number, 0 for 1 January 1970.
-#[derive(Clone, Copy)]
+#[derive(Clone, Copy, Debug, PartialEq, Eq, PartialOrd, Ord)]
 pub struct Date(pub i32);
 
-// A date that may be missing.
-#[derive(Clone, Copy)]
-pub enum DateAnswer {
-    Is(Date),
-    Absent,
+// Why a call is refused.
+#[derive(Clone, Copy, Debug, PartialEq, Eq)]
+pub enum Refusal {
+    Layout,
+    Utf8,
+    TooMany,
+    NoProject,
+    TooLong,
+    NoModel,
+    ListBroken,
+    Outside,
+    NoRoom,
 }
 
-// A row that may be missing.
-#[derive(Clone, Copy)]
-pub enum RowAnswer {
-    Is(u32),
-    Absent,
+// The numbers that a host sees.
+impl From<Refusal> for u32 {
+    ghost from_gives = { λ e n. n ≡ refusal_number e };
+
+    fn from(e: Refusal) -> u32 {
+        match e {
+            Refusal::Layout => 1,
+            Refusal::Utf8 => 2,
+            Refusal::TooMany => 3,
+            Refusal::NoProject => 4,
+            Refusal::TooLong => 5,
+            Refusal::NoModel => 6,
+            Refusal::ListBroken => 7,
+            Refusal::Outside => 8,
+            Refusal::NoRoom => 9,
+        }
+    }
 }
+
+impl fmt::Display for Refusal {
+    fn fmt<W: fmt::Write>(&self, f: &mut fmt::Formatter<W>) -> fmt::Result {
+        f.write_str(match self {
+            Refusal::Layout => "the tree breaks the layout",
+            Refusal::Utf8 => "a name or a text is not UTF-8",
+            Refusal::TooMany => "the tree has over 5,000,000 elements",
+            Refusal::NoProject => "the root is not a Project",
+            Refusal::TooLong => "a number is too long",
+            Refusal::NoModel => "the model does not decode",
+            Refusal::ListBroken => "the model does not keep the list of the check",
+            Refusal::Outside => "a value is asked for outside its range",
+            Refusal::NoRoom => "the result is longer than its buffer",
+        })
+    }
+}
+
+impl Error for Refusal {}

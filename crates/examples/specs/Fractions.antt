@@ -1,12 +1,13 @@
 -- Document 02, E2: durations that were not whole minutes. Which texts are such, and which tasks are counted. Assumes nothing.
 use Rattle.std.specs.Prelude.{ℕ, ◌+◌, ◌^◌, ◌≡◌, refl, List, [], ◌∷◌, ◌++◌, take, drop, replicate}
+use Rattle.definition.specs.declared.Unread.TheVariants.{Absent}
+use Rattle.std.specs.Prelude.{Err}
 use Prim.Native.String.{String}
 use Rattle.std.specs.Prelude.{Option, Some, None}
 use Rattle.definition.specs.Base.{◌>>=◌}
 use Rattle.definition.specs.Ascii.{bytes}
 use Rattle.definition.specs.Text.{Text}
 use Rattle.definition.specs.Date.{Date, date_of}
-use Rattle.definition.specs.Number.{absent}
 use Rattle.definition.specs.Tree.{Rec, element, packed}
 use Rattle.definition.specs.Model.{Project}
 use Rattle.definition.specs.Task.{context_of}
@@ -22,7 +23,7 @@ use Rattle.examples.specs.Hand.{Row, duration, whole, part, AllHold, element_at_
 abbrev pub texts : List Row
 texts =
     duration "PT60S" (whole 1) ∷ duration "PT90S" (part 2) ∷ duration "PT0.5M" (part 1) ∷ duration "PT1.5S" (part 0) ∷ duration "P0.0001D" (part 0) ∷
-    duration "P" (whole 0) ∷ duration "P-0DT-0H-0M-0S" (whole 0) ∷ duration "PT0.1H" (whole 6) ∷ duration "PT4.1H" (part 246) ∷ duration "PT16666666H40M1S" absent ∷ []
+    duration "P" (whole 0) ∷ duration "P-0DT-0H-0M-0S" (whole 0) ∷ duration "PT0.1H" (whole 6) ∷ duration "PT4.1H" (part 246) ∷ duration "PT16666666H40M1S" (Err Absent) ∷ []
 
 pub texts_are : AllHold texts
 unfolding opened

@@ -1,13 +1,16 @@
 -- Document 01, "Tried by hand": the cases marked *, as one table, and one theorem that every row holds. Assumes nothing.
 use Rattle.std.specs.Prelude.{ℕ, ◌≡◌, refl, true, false, ℤ, pos, negsuc}
+use Rattle.definition.specs.declared.Unread.TheVariants.{Absent}
+use Rattle.std.specs.Prelude.{Err, Ok}
 use Prim.Native.String.{String}
 use mathlib.Core.List.{List, [], ◌∷◌, map, flat_map}
 use Rattle.std.specs.Prelude.{Option, Some, None}
 use Rattle.definition.specs.Base.{present}
 use Rattle.definition.specs.Ascii.{bytes}
 use Rattle.definition.specs.Date.{date_of}
-use Rattle.definition.specs.Number.{Reading, absent, value}
-use Rattle.definition.specs.Duration.{Duration, duration_of}
+use Rattle.definition.specs.Number.{Reading}
+use Rattle.definition.specs.declared.Duration.{Duration}
+use Rattle.definition.specs.Duration.{duration_of}
 use Rattle.definition.specs.Time.{time_of}
 use Rattle.definition.specs.Tree.{Rec, element}
 use Rattle.definition.specs.Recurrence.{recurrence_days}
@@ -53,10 +56,10 @@ pub data Row : Type 0 where
 
 -- minutes that were whole, and minutes that were not (document 02, E2)
 abbrev pub whole : ℕ → Reading Duration
-whole n = value (record { minutes = n; whole = true })
+whole n = Ok (record { minutes = n; whole = true })
 
 abbrev pub part : ℕ → Reading Duration
-part n = value (record { minutes = n; whole = false })
+part n = Ok (record { minutes = n; whole = false })
 
 abbrev parents_of : List Activity → List (Option ℕ)
 parents_of = map (λ (a : Activity). a.parent)
@@ -87,7 +90,7 @@ table =
     duration "PT29S" (part 0) ∷
     duration "PT1H2H" (whole 120) ∷
     duration "PT16666666H40M" (whole 1000000000) ∷
-    duration "PT16666666H41M" absent ∷
+    duration "PT16666666H41M" (Err Absent) ∷
     time "24:00" (Some 1440) ∷
     time "24:01" None ∷
     levels ("1" ∷ "3" ∷ "2" ∷ "1" ∷ []) (None ∷ Some 0 ∷ Some 0 ∷ None ∷ []) (1 ∷ 2 ∷ 2 ∷ 1 ∷ []) ∷

@@ -5,9 +5,8 @@
 ghost use Rattle.std.specs.Prelude.{◌≡◌, nat_abs};
 ghost use Rattle.exception_days.specs.Line.{digit_of, iso_of};
 
-use date::{WeekdayAnswer, YmdAnswer};
 use definition::{Date, Ymd};
-use recurrence::{Cursor, Rule, RuleAnswer, Step};
+use recurrence::{Cursor, Rule, Step};
 
 // The streams' numbers.
 const STDIN_FILENO: i32 = 0;
@@ -75,10 +74,10 @@ fn put_ymd(c: Ymd) {
 }
 
 fn put_day(d: Date) {
-    if let YmdAnswer::Is(c) = date::ymd(d) {
+    if let Some(c) = date::ymd(d) {
         put_ymd(c);
     }
-    if let WeekdayAnswer::Is(w) = date::weekday(d) {
+    if let Some(w) = date::weekday(d) {
         put_weekday(w);
     }
 }
@@ -119,17 +118,13 @@ fn put_days(r: Rule) {
 }
 
 fn put_tree(s: &[u8]) {
-    let refusal = tree::judge(s);
-    if refusal == 1 {
-        return;
-    }
-    if refusal == 2 {
+    if let Err(Refusal::Layout | Refusal::Utf8) = tree::judge(s) {
         return;
     }
     if tree::name_is(s, 0, b"Exception") {
         match recurrence::rule_of(s, 0) {
-            RuleAnswer::Is(r) => put_days(r),
-            RuleAnswer::Absent => put_skipped(),
+            Some(r) => put_days(r),
+            None => put_skipped(),
         }
     }
 }

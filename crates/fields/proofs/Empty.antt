@@ -13,7 +13,8 @@ use Rattle.definition.specs.Base.{◌>>=◌, ◌or◌, given}
 use Rattle.definition.specs.Text.{Text, signed_of, sign_of, digits, trim, trim_front, trim_back, strip, before, after}
 use Rattle.definition.specs.Date.{date_of, date_parts, first_ten}
 use Rattle.definition.specs.Number.{Reading, number_of, found, decimal_of}
-use Rattle.definition.specs.Duration.{Duration, duration_of, figures_of}
+use Rattle.definition.specs.declared.Duration.{Duration}
+use Rattle.definition.specs.Duration.{duration_of, figures_of}
 use Rattle.definition.specs.Tree.{Element, child, text_of, non_empty}
 use Rattle.laws.specs.Options.{bind_or}
 

@@ -4,18 +4,6 @@ use Rattle.std.proofs.Common.{sym, ap, ◌∙◌}
 use Rattle.std.specs.Prelude.{Option, Some, None}
 use Rattle.definition.specs.Base.{◌or◌}
 use Rattle.definition.specs.Task.{not_below0}
-use Rattle.fields.specs.declared.value.FloatAnswer.{FloatAnswer}
-use Rattle.fields.specs.declared.value.FloatAnswer.TheVariants as float
-use Rattle.fields.specs.declared.value.MinutesAnswer.{MinutesAnswer}
-use Rattle.fields.specs.declared.value.MinutesAnswer.TheVariants as minutes
-
-abbrev pub float_means : FloatAnswer → Option Float
-float_means (float.Is x) = Some x
-float_means float.Absent = None
-
-abbrev pub minutes_means : MinutesAnswer → Option ℕ
-minutes_means (minutes.Is n) = Some n
-minutes_means minutes.Absent = None
 
 -- a number, with what stands for one below 0 and for a missing one
 unfoldable pub unsigned_or : ℕ → ℕ → Option ℤ → ℕ

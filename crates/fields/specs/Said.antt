@@ -8,7 +8,8 @@ use Rattle.definition.specs.Ascii.{bytes}
 use Rattle.definition.specs.Text.{Text, signed_of, is_yes}
 use Rattle.definition.specs.Date.{Date, date_of}
 use Rattle.definition.specs.Number.{number_of, found}
-use Rattle.definition.specs.Duration.{Duration, duration_of}
+use Rattle.definition.specs.declared.Duration.{Duration}
+use Rattle.definition.specs.Duration.{duration_of}
 use Rattle.definition.specs.Tree.{Element, text_of}
 use Rattle.definition.specs.Field.{yes_in, int_in, date_in, number_in, minutes_alone, minutes_in}
 

@@ -10,11 +10,11 @@ ghost use Rattle.definition.specs.Field.{not_whole};
 ghost use Rattle.text.specs.Answers.{signed_means};
 ghost use Rattle.tree.specs.Place.{element_at};
 ghost use Rattle.tree.specs.Root.{own_text};
-ghost use Rattle.fields.specs.Answers.{float_means, minutes_means, unsigned_or};
+ghost use Rattle.fields.specs.Answers.{unsigned_or};
 ghost use Rattle.fields.specs.Said.{yes_said, whole_said, date_said, number_said, duration_said, minutes_said};
 
-use crate::value::{FloatAnswer, MinutesAnswer, float_of, minutes_of, not_whole, unsigned_or};
-use definition::DateAnswer;
+use definition::Date;
+use crate::value::{float_of, minutes_of, not_whole, unsigned_or};
 use text::Signed;
 
 // Whether there is a text; an empty one counts as absent.
@@ -58,21 +58,21 @@ pub fn unsigned_in(s: &[u8], at: usize, name: &[u8], below: u64, absent: u64) ->
     unsigned_or(int_in(s, at, name), below, absent)
 }
 
-pub fn date_in(s: &[u8], at: usize, name: &[u8]) -> DateAnswer
+pub fn date_in(s: &[u8], at: usize, name: &[u8]) -> Option<Date>
     ensures { date_meaning result ≡ day_number_of (date_said (element_at s.now at) name.now) }
 {
     date::date_of(tree::text_of(s, at, name))
 }
 
 // One that is too long gives none.
-pub fn number_in(s: &[u8], at: usize, name: &[u8]) -> FloatAnswer
-    ensures { float_means result ≡ number_said (element_at s.now at) name.now }
+pub fn number_in(s: &[u8], at: usize, name: &[u8]) -> Option<f64>
+    ensures { result ≡ number_said (element_at s.now at) name.now }
 {
     float_of(number::number_of(tree::text_of(s, at, name)))
 }
 
-pub fn minutes_in(s: &[u8], at: usize, name: &[u8]) -> MinutesAnswer
-    ensures { minutes_means result ≡ minutes_said (element_at s.now at) name.now }
+pub fn minutes_in(s: &[u8], at: usize, name: &[u8]) -> Option<u32>
+    ensures { result ≡ minutes_said (element_at s.now at) name.now }
 {
     minutes_of(number::duration_of(tree::text_of(s, at, name)))
 }
@@ -85,14 +85,14 @@ pub fn fraction_in(s: &[u8], at: usize, name: &[u8]) -> bool
 }
 
 // What the element at `at` says itself.
-pub fn date_at(s: &[u8], at: usize) -> DateAnswer
+pub fn date_at(s: &[u8], at: usize) -> Option<Date>
     ensures { date_meaning result ≡ day_number_of (bind (own_text (element_at s.now at)) date_of) }
 {
     date::date_of(tree::own_text(s, at))
 }
 
-pub fn number_at(s: &[u8], at: usize) -> FloatAnswer
-    ensures { float_means result ≡ bind (own_text (element_at s.now at)) (λ t. found (number_of t)) }
+pub fn number_at(s: &[u8], at: usize) -> Option<f64>
+    ensures { result ≡ bind (own_text (element_at s.now at)) (λ t. found (number_of t)) }
 {
     float_of(number::number_of(tree::own_text(s, at)))
 }

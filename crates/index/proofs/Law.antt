@@ -5,7 +5,6 @@ use Rattle.std.specs.Prelude.{Option, Some, None}
 use Rattle.std.proofs.lemmas.Bool.{eqb-false}
 use Rattle.definition.specs.Base.{keep, find}
 use Rattle.index.specs.declared.Table.{Table}
-use Rattle.index.specs.declared.Row.{Row}
 use Rattle.index.specs.Chains.{next_at, place_at, zeros, added, row_below, first_of, next_of, place_of, as_row, chain, chain_of}
 use Rattle.index.specs.Last.{last_below, down, word_of, last_none, down_none, down_yes, down_no}
 use Rattle.index.proofs.Last.{last_yes, last_no, last_in, last_same, find_down}
@@ -131,7 +130,7 @@ module _ {t : Table} {f g : ℕ → ℕ} {n : ℕ} {w : List ℕ} (x : Indexed t
           let z : f m % t.rows ≡ b = eqb-true (f m % t.rows) b e in
           ap (λ (o : Option ℕ). chain w t (as_row o)) (last_yes (in_bucket t f b) m e)
           ∙ chain_at w t m
-          ∙ ap (λ (a : Row). m ∷ chain w t a) (next_is m (omega arith) ∙ ap (λ (b : ℕ). as_row (last_below (in_bucket t f b) m)) z)
+          ∙ ap (λ (a : Option ℕ). m ∷ chain w t a) (next_is m (omega arith) ∙ ap (λ (b : ℕ). as_row (last_below (in_bucket t f b) m)) z)
           ∙ ap (λ (l : List ℕ). m ∷ l) before
           ∙ sym (down_yes (in_bucket t f b) m e)
       go false e before = ap (λ (o : Option ℕ). chain w t (as_row o)) (last_no (in_bucket t f b) m e) ∙ before ∙ sym (down_no (in_bucket t f b) m e)
@@ -150,7 +149,7 @@ module _ {t : Table} {f g : ℕ → ℕ} {n : ℕ} {w : List ℕ} (x : Indexed t
 
   -- and behind a row, the last row before it that passes it
   pub find_next : (p : ℕ → Bool) (r : ℕ) → r < n → ((q : ℕ) → q < r → p q ≡ true → f q ≡ f r) → find p (chain w t (next_of w t r)) ≡ last_below p r
-  find_next p r h only = ap (λ (a : Row). find p (chain w t a)) (next_is r h) ∙ ap (find p) (chain_from (f r % t.rows) r (omega arith)) ∙ find_bucket p r (f r) only
+  find_next p r h only = ap (λ (a : Option ℕ). find p (chain w t a)) (next_is r h) ∙ ap (find p) (chain_from (f r % t.rows) r (omega arith)) ∙ find_bucket p r (f r) only
 
   -- the same where another test is made, which agrees on the rows
   pub find_like : (c p : ℕ → Bool) (h : ℕ) → ((r : ℕ) → r < n → c r ≡ p r) → ((r : ℕ) → r < n → p r ≡ true → f r ≡ h)

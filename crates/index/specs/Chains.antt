@@ -2,14 +2,10 @@
 use Rattle.std.specs.Prelude.{if◌then◌else◌, ℕ, zero, suc, ◌+◌, ◌-◌, ◌*◌, ◌%◌, ◌&&◌, List, [], ◌∷◌, get_or, set, ltb, leb}
 use Rattle.std.specs.Prelude.{Option, Some, None}
 use Rattle.index.specs.declared.Table.{Table}
-use Rattle.index.specs.declared.Row.{Row}
-use Rattle.index.specs.declared.Row.TheVariants.{At, None}
-use Rattle.index.specs.declared.Made.{Made}
-use Rattle.index.specs.declared.Made.TheVariants as made
 
 -- a table from a place on, where the words are long enough for it
-unfoldable pub table_of : ℕ → ℕ → ℕ → Made
-table_of len at rows = if ltb 0 rows && leb (at + 3 * rows) len then made.Ready (record { at = at; rows = rows }) else made.NoRoom
+unfoldable pub table_of : ℕ → ℕ → ℕ → Option Table
+table_of len at rows = if ltb 0 rows && leb (at + 3 * rows) len then Some (record { at = at; rows = rows }) else None
 
 -- where the word of a row's chain stands, and that of its place; and where the table ends
 abbrev pub next_at : Table → ℕ → ℕ
@@ -21,9 +17,9 @@ place_at t row = t.at + (2 * t.rows + row)
 abbrev pub end_of : Table → ℕ
 end_of t = t.at + 3 * t.rows
 
-abbrev pub end_in : Made → ℕ
-end_in made.NoRoom = 0
-end_in (made.Ready t) = end_of t
+abbrev pub end_in : Option Table → ℕ
+end_in None = 0
+end_in (Some t) = end_of t
 
 -- n zeros from a place on
 unfoldable pub zeros : List ℕ → ℕ → ℕ → List ℕ
@@ -38,13 +34,13 @@ added w t row h place =
     else w
 
 -- the row that a word names, 1 for row 0, if it is below a bound
-unfoldable pub row_below : ℕ → ℕ → Row
-row_below bound word = if ltb 0 word && leb word bound then At (word - 1) else None
+unfoldable pub row_below : ℕ → ℕ → Option ℕ
+row_below bound word = if ltb 0 word && leb word bound then Some (word - 1) else None
 
-abbrev pub first_of : List ℕ → Table → ℕ → Row
+abbrev pub first_of : List ℕ → Table → ℕ → Option ℕ
 first_of w t h = row_below t.rows (get_or w (t.at + h % t.rows) 0)
 
-abbrev pub next_of : List ℕ → Table → ℕ → Row
+abbrev pub next_of : List ℕ → Table → ℕ → Option ℕ
 next_of w t row = row_below row (get_or w (next_at t row) 0)
 
 abbrev pub place_of : List ℕ → Table → ℕ → ℕ
@@ -52,23 +48,23 @@ place_of w t row = get_or w (place_at t row) 0
 
 -- ---- walks
 
-abbrev pub as_row : Option ℕ → Row
+abbrev pub as_row : Option ℕ → Option ℕ
 as_row None = None
-as_row (Some r) = At r
+as_row (Some r) = Some r
 
 -- the rows of a walk from a row on, k at most
-unfoldable pub walk : List ℕ → Table → ℕ → Row → List ℕ
+unfoldable pub walk : List ℕ → Table → ℕ → Option ℕ → List ℕ
 walk w t zero at = []
 walk w t (suc k) None = []
-walk w t (suc k) (At r) = r ∷ walk w t k (next_of w t r)
+walk w t (suc k) (Some r) = r ∷ walk w t k (next_of w t r)
 
 -- how many rows are left where a walk stands: the row and those below it
-abbrev pub up_to : Row → ℕ
+abbrev pub up_to : Option ℕ → ℕ
 up_to None = 0
-up_to (At r) = suc r
+up_to (Some r) = suc r
 
 -- all rows from a row on
-abbrev pub chain : List ℕ → Table → Row → List ℕ
+abbrev pub chain : List ℕ → Table → Option ℕ → List ℕ
 chain w t at = walk w t (up_to at) at
 
 -- all rows of a hash's bucket, the last first

@@ -16,18 +16,6 @@ pub struct Table {
     pub rows: u32,
 }
 
-#[derive(Clone, Copy)]
-pub enum Row {
-    At(u32),
-    None,
-}
-
-#[derive(Clone, Copy)]
-pub enum Made {
-    Ready(Table),
-    NoRoom,
-}
-
 const LOW: u64 = 0x1_0000_0000;
 
 // Four bytes as a number, the first the least.
@@ -162,32 +150,32 @@ fn bucket(hash: u32, buckets: u32) -> usize
 }
 
 // The row that a word names, if it is below a bound.
-fn row_below(bound: u32, word: u32) -> Row
+fn row_below(bound: u32, word: u32) -> Option<u32>
     ensures { result ≡ row_below bound word }
 {
     if word == 0 {
-        return Row::None;
+        return None;
     }
     if bound < word {
-        return Row::None;
+        return None;
     }
-    Row::At(word - 1)
+    Some(word - 1)
 }
 
 // A table of so many rows in the words from a place on. It needs a row at least, and its words.
-pub fn table_at(len: usize, at: usize, rows: u32) -> Made
+pub fn table_at(len: usize, at: usize, rows: u32) -> Option<Table>
     ensures { result ≡ table_of len at rows }
 {
     if rows == 0 {
-        return Made::NoRoom;
+        return None;
     }
     if len <= at {
-        return Made::NoRoom;
+        return None;
     }
     if len - at < 3 * (rows as usize) {
-        return Made::NoRoom;
+        return None;
     }
-    Made::Ready(Table { at, rows })
+    Some(Table { at, rows })
 }
 
 // How many of n words from a place on there are.
@@ -239,7 +227,7 @@ pub fn put(words: &mut [u32], t: Table, row: u32, hash: u32, place: u32)
 }
 
 // The last row of a hash's bucket.
-pub fn first(words: &[u32], t: Table, hash: u32) -> Row
+pub fn first(words: &[u32], t: Table, hash: u32) -> Option<u32>
     ensures { result ≡ first_of words.now t hash }
 {
     let b = bucket(hash, t.rows);
@@ -248,7 +236,7 @@ pub fn first(words: &[u32], t: Table, hash: u32) -> Row
 }
 
 // The row before a row in its chain. It is smaller, whatever the words hold, so that every walk ends.
-pub fn next(words: &[u32], t: Table, row: u32) -> Row
+pub fn next(words: &[u32], t: Table, row: u32) -> Option<u32>
     ensures { result ≡ next_of words.now t row }
 {
     let w = word(words, t.at, t.rows as usize + row as usize);
@@ -263,10 +251,10 @@ pub fn place(words: &[u32], t: Table, row: u32) -> u32
 }
 
 // Where a table ends, 0 where there is none; no more than the length of the words.
-pub fn end_of(made: Made, len: usize) -> usize
+pub fn end_of(made: Option<Table>, len: usize) -> usize
     ensures { result ≡ min (end_in made) len }
 {
-    let Made::Ready(t) = made else {
+    let Some(t) = made else {
         return 0;
     };
     if len <= t.at {

@@ -1,5 +1,7 @@
 -- The figures of a duration text are not below 0, so their total is not, and its minutes are at most 10 ^ 9. Assumes nothing.
 use Rattle.std.specs.Prelude.{if◌then◌else◌, ◌≡◌, refl, Bool, true, false, ◌&&◌, [], ◌∷◌, ◌++◌, ℕ, ◌≤◌, T, eqb, pos, Float}
+use Rattle.definition.specs.declared.Unread.TheVariants.{Absent, Long}
+use Rattle.std.specs.Prelude.{Err, Ok}
 use Rattle.std.proofs.Common.{sym, ap, ◌∙◌, subst}
 use Prim.Native.String.{String}
 use Rattle.std.specs.Float.{fin, binary64}
@@ -7,8 +9,9 @@ use Rattle.std.specs.Float.Ieee.{add, mul, div, le, lt, eq}
 use Rattle.std.specs.Float.Ieee.Fits.{and_i, and_l, and_r}
 use Rattle.definition.specs.Base.{◌or◌, same}
 use Rattle.definition.specs.Text.{Text, before, after, trim}
-use Rattle.definition.specs.Number.{Reading, absent, long, value, float, zero_float, number_of, found}
-use Rattle.definition.specs.Duration.{is_unit, is_d, is_t, set_unit, not_below_zero, piece_of, ◌then◌, time_figures, days_of, day_figures, figures_of, total_of, most_minutes, Duration, duration_at, duration_from, duration_of}
+use Rattle.definition.specs.Number.{Reading, float, zero_float, number_of, found}
+use Rattle.definition.specs.declared.Duration.{Duration}
+use Rattle.definition.specs.Duration.{is_unit, is_d, is_t, set_unit, not_below_zero, piece_of, ◌then◌, time_figures, days_of, day_figures, figures_of, total_of, most_minutes, duration_at, duration_from, duration_of}
 use Rattle.definition.specs.Tree.{Element}
 use Rattle.definition.specs.Field.{text_in, minutes_in}
 use Rattle.definition.specs.declared.Figures.{Figures}
@@ -20,28 +23,28 @@ abbrev pub not_below : Figures → Bool
 not_below f = le zero_float f.days && (le zero_float f.hours && (le zero_float f.minutes && le zero_float f.seconds))
 
 abbrev pub none_below : Reading Figures → Bool
-none_below absent = true
-none_below long = true
-none_below (value f) = not_below f
+none_below (Err Absent) = true
+none_below (Err Long) = true
+none_below (Ok f) = not_below f
 
 -- ---- no figure is below 0
 abbrev least : Reading Float → Bool
-least absent = true
-least long = true
-least (value x) = le zero_float x
+least (Err Absent) = true
+least (Err Long) = true
+least (Ok x) = le zero_float x
 
 piece_least : (s : Text) → T (least (piece_of s))
 unfolding piece_of
 piece_least s = go (number_of s)
   where
-    pick : (x : Float) (t : Bool) → le zero_float x ≡ t → T (least (if t then value x else absent))
+    pick : (x : Float) (t : Bool) → le zero_float x ≡ t → T (least (if t then Ok x else (Err Absent)))
     pick x true e = subst T (sym e) tt
     pick x false e = tt
 
     go : (r : Reading Float) → T (least (not_below_zero r))
-    go absent = tt
-    go long = tt
-    go (value x) = pick x (le zero_float x) refl
+    go (Err Absent) = tt
+    go (Err Long) = tt
+    go (Ok x) = pick x (le zero_float x) refl
 
 zero_least : T (le zero_float zero_float)
 unfolding le lt eq
@@ -89,9 +92,9 @@ time_least (b ∷ s) part f q = go (is_unit b) (piece_of part) (piece_least part
   where
     go : (t : Bool) (r : Reading Float) → T (least r) → ((x : Float) → T (le zero_float x) → T (none_below (time_figures s [] (set_unit b x f)))) → T (none_below (time_figures s (part ++ (b ∷ [])) f))
         → T (none_below (if t then (r then λ x. time_figures s [] (set_unit b x f)) else time_figures s (part ++ (b ∷ [])) f))
-    go true absent l h k = tt
-    go true long l h k = tt
-    go true (value x) l h k = h x l
+    go true (Err Absent) l h k = tt
+    go true (Err Long) l h k = tt
+    go true (Ok x) l h k = h x l
     go false r l h k = k
 
 days_least : (s : Text) → T (least (days_of s))
@@ -99,7 +102,7 @@ unfolding days_of le lt eq
 days_least [] = tt
 days_least (b ∷ s) = go (same (before is_d (b ∷ s) ++ (68 ∷ [])) (b ∷ s))
   where
-    go : (t : Bool) → T (least (if t then piece_of (before is_d (b ∷ s)) else absent))
+    go : (t : Bool) → T (least (if t then piece_of (before is_d (b ∷ s)) else (Err Absent)))
     go true = piece_least (before is_d (b ∷ s))
     go false = tt
 
@@ -111,10 +114,10 @@ figures_least (b ∷ s) = go (eqb b 80) (days_of (before is_t s)) (days_least (b
     start : (d : Float) → T (le zero_float d) → T (not_below (day_figures d))
     start d p = to_test (day_figures d) (record { days = p; hours = zero_least; minutes = zero_least; seconds = zero_least })
 
-    go : (t : Bool) (r : Reading Float) → T (least r) → T (none_below (if t then (r then λ d. time_figures (after is_t s or []) [] (day_figures d)) else absent))
-    go true absent l = tt
-    go true long l = tt
-    go true (value d) l = time_least (after is_t s or []) [] (day_figures d) (start d l)
+    go : (t : Bool) (r : Reading Float) → T (least r) → T (none_below (if t then (r then λ d. time_figures (after is_t s or []) [] (day_figures d)) else (Err Absent)))
+    go true (Err Absent) l = tt
+    go true (Err Long) l = tt
+    go true (Ok d) l = time_least (after is_t s or []) [] (day_figures d) (start d l)
     go false r l = tt
 
 -- ---- the total
@@ -138,7 +141,7 @@ total_least f t =
 -- ---- up to 10 ^ 9
 
 found_most : (f : Figures) → T (not_below f) → (t : Bool) → le (total_of f) (float most_minutes) ≡ t
-    → Perhaps (λ (d : Duration). d.minutes ≤ most_minutes) (found (if t then value (duration_at (total_of f)) else absent))
+    → Perhaps (λ (d : Duration). d.minutes ≤ most_minutes) (found (if t then Ok (duration_at (total_of f)) else (Err Absent)))
 found_most f h true e = there (bound 1953125 9 (total_of f) (total_least f h) (subst (λ (x : Float). T (le (total_of f) x)) float-10⁹ (subst T (sym e) tt)))
 found_most f h false e = missing
 
@@ -147,9 +150,9 @@ unfolding duration_of duration_from
 duration_most s = by (figures_of (trim s)) (figures_least (trim s))
   where
     by : (r : Reading Figures) → T (none_below r) → Perhaps (λ (d : Duration). d.minutes ≤ most_minutes) (found (r then duration_from))
-    by absent h = missing
-    by long h = missing
-    by (value f) h = found_most f h (le (total_of f) (float most_minutes)) refl
+    by (Err Absent) h = missing
+    by (Err Long) h = missing
+    by (Ok f) h = found_most f h (le (total_of f) (float most_minutes)) refl
 
 pub minutes_most : (e : Element) (n : String) → Perhaps (λ m. m ≤ most_minutes) (minutes_in e n)
 unfolding minutes_in

@@ -1,6 +1,7 @@
 -- What becomes of link elements, and how many of each there are. `find` gives the row of a UID among the kept tasks. Assumes nothing: these are
 -- definitions.
 use Rattle.std.specs.Prelude.{if◌then◌else◌, ◌≡◌, ℕ, ◌+◌, ◌%◌, ◌^◌, Bool, true, false, List, [], ◌∷◌, ◌++◌, map, length}
+use Rattle.index.specs.declared.Table.{Table}
 use mathlib.Core.List.{flat_map}
 use Rattle.std.specs.Prelude.{Option, Some, None}
 use Rattle.definition.specs.Base.{◌>>=◌, keep, numbered, some?}
@@ -12,7 +13,6 @@ use Rattle.definition.specs.Model.{Link}
 use Rattle.definition.specs.Calendar.{default_calendar}
 use Rattle.definition.specs.Task.{Context}
 use Rattle.definition.specs.Link.{Fate, link_of, fate_by, kept_of, is_dangling, is_across}
-use Rattle.index.specs.declared.Made.{Made}
 use Rattle.tree.specs.Root.{root_at}
 use Rattle.tree.specs.declared.root.Root.{Root}
 use Rattle.rows.specs.Tables.{row_in}
@@ -25,7 +25,7 @@ abbrev pub Finder : Type 0
 Finder = Text → Option ℕ
 
 -- as the words say it, by the table of the kept tasks
-abbrev pub task_in : Text → Root → List ℕ → Made → Finder
+abbrev pub task_in : Text → Root → List ℕ → Option Table → Finder
 task_in s root w tasks = row_in s (root_at s root) Tasks w tasks
 
 -- ---- the definition's fates and links, by a finder

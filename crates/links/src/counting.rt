@@ -7,11 +7,10 @@ ghost use Rattle.tree.specs.Place.{element_at};
 ghost use Rattle.tree.specs.Root.{root_at};
 ghost use Rattle.links.specs.Fates.{task_in, fates_by, counted_by, counted_in, Counted};
 
+use index::Table;
 use crate::Fates;
 use crate::fate::{LinkFate, fate_of};
-use index::Made;
-use rows::KeptAnswer;
-use tree::{Found, Root};
+use tree::{Root};
 
 fn counted(n: Fates, fate: LinkFate) -> Fates
     ensures { result ≡ counted_by n fate }
@@ -30,13 +29,13 @@ fn counted(n: Fates, fate: LinkFate) -> Fates
 }
 
 // With those of the task at `at`.
-fn counted_in(s: &[u8], root: Root, at: usize, words: &[u32], tasks: Made, n: Fates) -> Fates
+fn counted_in(s: &[u8], root: Root, at: usize, words: &[u32], tasks: Option<Table>, n: Fates) -> Fates
     ensures { result ≡ counted_in (task_in s.now root words.now tasks) n (all (element_at s.now at) (bytes "PredecessorLink")) }
 {
     let mut count = n;
     let mut link = tree::child(s, at, b"PredecessorLink");
     loop {
-        let Found::At(p) = link else {
+        let Some(p) = link else {
             return count;
         };
         count = counted(count, fate_of(s, root, p, words, tasks));
@@ -45,7 +44,7 @@ fn counted_in(s: &[u8], root: Root, at: usize, words: &[u32], tasks: Made, n: Fa
 }
 
 // By the table of the kept tasks.
-pub fn count_fates(s: &[u8], root: Root, words: &[u32], tasks: Made) -> Fates
+pub fn count_fates(s: &[u8], root: Root, words: &[u32], tasks: Option<Table>) -> Fates
     ensures { Counted (fates_by (task_in s.now root words.now tasks) (context_of (root_at s.now root))) result }
 {
     let mut count = Fates {
@@ -54,7 +53,7 @@ pub fn count_fates(s: &[u8], root: Root, words: &[u32], tasks: Made) -> Fates
     };
     let mut task = rows::first_kept(s, root);
     loop {
-        let KeptAnswer::Is(at, left) = task else {
+        let Some((at, left)) = task else {
             return count;
         };
         count = counted_in(s, root, at, words, tasks, count);

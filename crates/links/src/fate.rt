@@ -1,13 +1,11 @@
 // What becomes of a link element.
 ghost use Rattle.std.specs.Prelude.{◌≡◌};
-ghost use Rattle.definition.specs.Answer.{row_meaning};
 ghost use Rattle.tree.specs.Place.{element_at};
 ghost use Rattle.links.specs.Fates.{task_in, is_entered, fate_by_row, fate_for, kept_fate};
 
-use definition::RowAnswer;
-use index::Made;
+use index::Table;
 use rows::Listed;
-use tree::{Found, Root};
+use tree::{Root};
 
 // A kept one has the row of its predecessor.
 #[derive(Clone, Copy)]
@@ -17,17 +15,17 @@ pub(crate) enum LinkFate {
     Kept(u32),
 }
 
-fn by_row(row: RowAnswer) -> LinkFate
-    ensures { result ≡ fate_by_row (row_meaning row) }
+fn by_row(row: Option<u32>) -> LinkFate
+    ensures { result ≡ fate_by_row row }
 {
     match row {
-        RowAnswer::Is(n) => LinkFate::Kept(n),
-        RowAnswer::Absent => LinkFate::Dangling,
+        Some(n) => LinkFate::Kept(n),
+        None => LinkFate::Dangling,
     }
 }
 
 // By the table of the kept tasks.
-pub(crate) fn fate_of(s: &[u8], root: Root, at: usize, words: &[u32], tasks: Made) -> LinkFate
+pub(crate) fn fate_of(s: &[u8], root: Root, at: usize, words: &[u32], tasks: Option<Table>) -> LinkFate
     ensures { result ≡ fate_for (task_in s.now root words.now tasks) (element_at s.now at) }
 {
     if tasks::is_across(s, at) {
@@ -51,12 +49,12 @@ fn is_kept(fate: LinkFate) -> bool
 }
 
 // Whether a kept link enters the task at `at`.
-pub fn is_entered(s: &[u8], root: Root, at: usize, words: &[u32], tasks: Made) -> bool
+pub fn is_entered(s: &[u8], root: Root, at: usize, words: &[u32], tasks: Option<Table>) -> bool
     ensures { result ≡ is_entered (task_in s.now root words.now tasks) (element_at s.now at) }
 {
     let mut link = tree::child(s, at, b"PredecessorLink");
     loop {
-        let Found::At(p) = link else {
+        let Some(p) = link else {
             return false;
         };
         if is_kept(fate_of(s, root, p, words, tasks)) {

@@ -11,12 +11,11 @@ ghost use Rattle.links.specs.Fates.{task_in, links_by, links_for, links_in};
 ghost use Rattle.links.specs.More.{More};
 ghost use Rattle.links.specs.declared.fate.LinkFate.TheVariants.{Kept as KeptFate};
 
+use index::Table;
 use crate::fate::{LinkFate, fate_of};
 use bits::Place;
-use index::Made;
 use pack::Records;
-use rows::KeptAnswer;
-use tree::{Found, Root};
+use tree::{Root};
 
 // The link element at `at`, from the row of its predecessor to that of its task.
 fn put_kept(
@@ -65,7 +64,7 @@ fn put_links_in(
     root: Root,
     at: usize,
     words: &[u32],
-    tasks: Made,
+    tasks: Option<Table>,
     per_day: u64,
     row: u32,
 ) -> Records
@@ -74,7 +73,7 @@ fn put_links_in(
     let mut r = done;
     let mut link = tree::child(s, at, b"PredecessorLink");
     loop {
-        let Found::At(p) = link else {
+        let Some(p) = link else {
             return r;
         };
         r = put_fate(
@@ -97,7 +96,7 @@ pub fn put_links(
     s: &[u8],
     root: Root,
     words: &[u32],
-    tasks: Made,
+    tasks: Option<Table>,
 ) -> Records
     ensures { Writes (whole link_format) (links_by (task_in s.now root words.now tasks) (context_of (root_at s.now root))) out.old p out.new result }
 {
@@ -106,7 +105,7 @@ pub fn put_links(
     let mut row: u32 = 0;
     let mut task = rows::first_kept(s, root);
     loop {
-        let KeptAnswer::Is(at, left) = task else {
+        let Some((at, left)) = task else {
             return r;
         };
         r = put_links_in(out, r, s, root, at, words, tasks, per_day, row);

@@ -36,7 +36,6 @@ use Rattle.model.specs.Answers.{read_at, counts_at, row_at, rows_at, date_at, na
 use Rattle.model.specs.Splits.{stands_is, not_refused}
 use Rattle.model.specs.Sections.{start, counts_by}
 use Rattle.model.specs.Places.{NameTaken, between, span_ends, name_is}
-use Rattle.model.specs.declared.parts.NameAnswer.{NameAnswer}
 use Rattle.model.specs.Rising.{Finds, PeriodKey, DayKey}
 use Rattle.model.specs.Parts.{raw, text_by}
 
@@ -357,7 +356,7 @@ module _ (s : List ℕ) (p : Place) {x : Flag} (e : x ≡ flag_at s p) where
 
   -- ---- names
 
-  pub name_missing : x.value ≡ false → NameTaken s p (record { name = NameAnswer.Absent; next = x.next })
+  pub name_missing : x.value ≡ false → NameTaken s p (record { name = None; next = x.next })
   unfolding name_at name_meaning
   name_missing h =
       record {
@@ -366,7 +365,7 @@ module _ (s : List ℕ) (p : Place) {x : Flag} (e : x ≡ flag_at s p) where
         text = λ o k. sym (stands_is k (read_none text (flag_as h)));
       }
     where
-      no_name : {a b : ℕ} → NameAnswer.Absent ≡ NameAnswer.At a b → ⊥
+      no_name : {a b : ℕ} → None ≡ Some (a, b) → ⊥
       no_name z = let y : ◌≡◌ {A = ℕ} 0 1 = cc in omega arith
 
   module _ {t : Span} (h : x.value ≡ true) (k : Spans s x.next t) where
@@ -383,7 +382,7 @@ module _ (s : List ℕ) (p : Place) {x : Flag} (e : x ≡ flag_at s p) where
         by_utf8 true z = refused (k.reads z) (far s t.next b)
         by_utf8 false z = k.refuses z
 
-    pub name_cut : 7 < t.next.bit → NameTaken s p (record { name = NameAnswer.Absent; next = past })
+    pub name_cut : 7 < t.next.bit → NameTaken s p (record { name = None; next = past })
     unfolding name_meaning
     name_cut b =
         record {
@@ -392,10 +391,10 @@ module _ (s : List ℕ) (p : Place) {x : Flag} (e : x ≡ flag_at s p) where
           text = λ o z. absurd (not_refused z (refuse_some (flag_as h) (no_text b)));
         }
       where
-        no_name : {a b : ℕ} → NameAnswer.Absent ≡ NameAnswer.At a b → ⊥
+        no_name : {a b : ℕ} → None ≡ Some (a, b) → ⊥
         no_name z = let y : ◌≡◌ {A = ℕ} 0 1 = cc in omega arith
 
-    pub name_given : t.next.bit ≤ 7 → NameTaken s p (record { name = NameAnswer.At t.start t.len; next = t.next })
+    pub name_given : t.next.bit ≤ 7 → NameTaken s p (record { name = Some (t.start, t.len); next = t.next })
     unfolding name_meaning
     name_given b =
         record {

@@ -14,7 +14,6 @@ use Rattle.bits.specs.Places.{at, Fits}
 use Rattle.bits.specs.Reads.{rest, Reads, rest_in, length_rest, chain}
 use Rattle.bits.specs.declared.Place.{Place}
 use Rattle.model.specs.declared.Sections.{Sections}
-use Rattle.model.specs.declared.Opened.{Opened}
 use Rattle.model.specs.declared.Counts.{Counts}
 use Rattle.model.specs.declared.Places.{Places}
 use Rattle.model.specs.Passes.{Passes, Bytewise, Told, refusing, reading, told, stood, bytewise, bytewise_all, ◌⨾◌}
@@ -87,12 +86,12 @@ module _ {s : List ℕ} {n : Counts} {w : Places} (k : (counts_in n, n.next) ≡
       by_body (reading b l e r) =
           ap at_end (chain {f = body (counts_in n)} to_model r ∙ ap (λ (o : Option Bits). o >>= λ m. to_model (b, m)) e) ∙ left_over b l e
 
-  open_refused : (rest s w.end ≡ Some [] → ⊥) → Opens s Opened.NoModel
+  open_refused : (rest s w.end ≡ Some [] → ⊥) → Opens s None
   open_refused n-end =
       let e = unended n-end in
       record { number = rw e; model = λ r z. absurd (never_model z); refused = λ z. e }
     where
-      never_model : {r : Sections} → Opened.NoModel ≡ Opened.Model r → ⊥
+      never_model : {r : Sections} → None ≡ Some r → ⊥
       never_model z = let y : ◌≡◌ {A = ℕ} 0 1 = cc in omega arith
 
   -- ---- it does
@@ -148,16 +147,16 @@ module _ {s : List ℕ} {n : Counts} {w : Places} (k : (counts_in n, n.next) ≡
         expenses = rw (← pn) (holds expense n.expenses e px pe t5.1);
       }
 
-  open_done : w.end.bit ≡ 0 → w.end.byte ≡ length s → Opens s (Opened.Model (sections_of n w))
+  open_done : w.end.bit ≡ 0 → w.end.byte ≡ length s → Opens s (Some (sections_of n w))
   open_done b y = by_body (told passes_body)
     where
       e : rest s w.end ≡ Some []
       e = at_end_lem s w.end b y
 
-      never_none : Opened.Model (sections_of n w) ≡ Opened.NoModel → ⊥
+      never_none : Some (sections_of n w) ≡ None → ⊥
       never_none z = let y : ◌≡◌ {A = ℕ} 0 1 = cc in omega arith
 
-      by_body : Told (body (counts_in n)) s n.next w.end → Opens s (Opened.Model (sections_of n w))
+      by_body : Told (body (counts_in n)) s n.next w.end → Opens s (Some (sections_of n w))
       by_body (refusing r z) = absurd (never (sym z ∙ e))
       by_body (reading b l z r) =
           let d : decode s ≡ Some (model_from b) =
@@ -178,20 +177,20 @@ module _ {s : List ℕ} {n : Counts} {w : Places} (k : (counts_in n, n.next) ≡
   pub opened : Opens s (sections_by (length s) n w)
   opened = by_end (eqb w.end.bit 0 && eqb w.end.byte (length s)) refl
     where
-      by_end : (t : Bool) → (eqb w.end.bit 0 && eqb w.end.byte (length s)) ≡ t → Opens s (if t then Opened.Model (sections_of n w) else Opened.NoModel)
+      by_end : (t : Bool) → (eqb w.end.bit 0 && eqb w.end.byte (length s)) ≡ t → Opens s (if t then Some (sections_of n w) else None)
       by_end true e =
           let k = both (eqb w.end.bit 0) (eqb w.end.byte (length s)) e in
           open_done (eqb-true w.end.bit 0 k.0) (eqb-true w.end.byte (length s) k.1)
       by_end false e = open_refused (λ z. false≢true (sym e ∙ rw (eq-eqb w.end.bit 0 (end_bit s w.end z), eq-eqb w.end.byte (length s) (end_byte s w.end z))))
 
   -- the sections of a model that was opened are those between the places, and the activities begin at a whole byte
-  pub opened_at : {m : Sections} → Opened.Model m ≡ sections_by (length s) n w → (m ≡ sections_of n w) × (w.activities ≡ byte_at w.activities.byte)
+  pub opened_at : {m : Sections} → Some m ≡ sections_by (length s) n w → (m ≡ sections_of n w) × (w.activities ≡ byte_at w.activities.byte)
   opened_at {m} = by_end (eqb w.end.bit 0 && eqb w.end.byte (length s)) refl
     where
-      never_model : Opened.Model m ≡ Opened.NoModel → ⊥
+      never_model : Some m ≡ None → ⊥
       never_model z = let y : ◌≡◌ {A = ℕ} 0 1 = cc in omega arith
 
-      by_end : (t : Bool) → (eqb w.end.bit 0 && eqb w.end.byte (length s)) ≡ t → Opened.Model m ≡ (if t then Opened.Model (sections_of n w) else Opened.NoModel)
+      by_end : (t : Bool) → (eqb w.end.bit 0 && eqb w.end.byte (length s)) ≡ t → Some m ≡ (if t then Some (sections_of n w) else None)
           → (m ≡ sections_of n w) × (w.activities ≡ byte_at w.activities.byte)
       by_end false e k = absurd (never_model k)
       by_end true e k =

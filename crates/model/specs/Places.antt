@@ -19,7 +19,6 @@ use Rattle.model.specs.Answers.{name_meaning, name_at, rows_at}
 use Rattle.model.specs.Parts.{text_by, activity_head, activity_parts, activity_notes, resource_head, record_of, regroup_five, lax_text, lax_activity_head, lax_resource_head}
 use Rattle.model.specs.Splits.{Stands, not_refused, stands_is, stands_reads, stands_first, stands_next, stands_pass, stands_named, stands_whole, stands_regroup, stands_or}
 use Rattle.model.specs.declared.records.Kind.TheVariants.{Activities}
-use Rattle.model.specs.declared.parts.NameAnswer.{NameAnswer}
 use Rattle.model.specs.declared.parts.NameField.{NameField}
 use Rattle.model.specs.declared.parts.CalendarPlaces.{CalendarPlaces}
 
@@ -35,7 +34,7 @@ name_in s o = o >>= λ x. Some (text_in s x)
 -- a flag, and where the text behind it stands if it is set; where an optional text stands, it is that
 pub record NameTaken (s : List ℕ) (p : Place) (r : NameField) : Type 0 where
   pub is : (name_meaning r.name, r.next) ≡ name_at s p
-  pub within : (start len : ℕ) → r.name ≡ NameAnswer.At start len → start + len ≤ length s
+  pub within : (start len : ℕ) → r.name ≡ Some (start, len) → start + len ≤ length s
   pub text : (o : Option Text) → Stands (optional text) s p o → o ≡ name_in s (name_meaning r.name)
 
 pub record CalendarAt (s : List ℕ) (p : Place) (r : CalendarPlaces) : Type 0 where

@@ -1,5 +1,6 @@
 -- What the decoding pass answers: whether the bytes are a model, and where its sections stand. Assumes nothing.
 use Rattle.std.specs.Prelude.{if◌then◌else◌, ◌≡◌, true, ◌&&◌, List, ℕ, ◌+◌, ◌-◌, ◌*◌, ◌%◌, ◌≤◌, ◌<◌, length, drop, eqb, ltb}
+use Rattle.std.specs.Prelude.{Option}
 use Rattle.std.proofs.Common.{◌∙◌, arith}
 use Rattle.std.specs.Prelude.{Some, None}
 use Rattle.std.proofs.Math.Nat.{sub-zero}
@@ -17,7 +18,6 @@ use Rattle.model.specs.Answers.{rest_fits}
 use Rattle.model.specs.Parts.{record_of}
 use Rattle.model.specs.Splits.{Step, step}
 use Rattle.model.specs.declared.records.Kind.{Kind}
-use Rattle.model.specs.declared.Opened.{Opened}
 use Rattle.model.specs.declared.Head.{Head}
 use Rattle.model.specs.declared.Section.{Section}
 use Rattle.model.specs.declared.Sections.{Sections}
@@ -108,13 +108,13 @@ sections_of n w = record {
   expenses = record { count = n.expenses; at = w.expenses.byte };
 }
 
-abbrev pub sections_by : ℕ → Counts → Places → Opened
-sections_by len n w = if eqb w.end.bit 0 && eqb w.end.byte len then Opened.Model (sections_of n w) else Opened.NoModel
+abbrev pub sections_by : ℕ → Counts → Places → Option Sections
+sections_by len n w = if eqb w.end.bit 0 && eqb w.end.byte len then Some (sections_of n w) else None
 
 -- document 01's number
-abbrev pub opened_number : Opened → ℕ
-opened_number (Opened.Model r) = 0
-opened_number Opened.NoModel = 6
+abbrev pub opened_number : Option Sections → ℕ
+opened_number (Some r) = 0
+opened_number None = 6
 
 -- bytes that decode, and the sections of the model
 pub record Sectioned (s : List ℕ) (r : Sections) : Type 0 where
@@ -123,10 +123,10 @@ pub record Sectioned (s : List ℕ) (r : Sections) : Type 0 where
   pub sections : Decoded s model r
 
 -- the answer: the sections if the bytes decode; else that they do not
-pub record Opens (s : List ℕ) (o : Opened) : Type 0 where
+pub record Opens (s : List ℕ) (o : Option Sections) : Type 0 where
   pub number : opened_number o ≡ (if given (decode s) then 0 else 6)
-  pub model : (r : Sections) → o ≡ Opened.Model r → Sectioned s r
-  pub refused : o ≡ Opened.NoModel → decode s ≡ None
+  pub model : (r : Sections) → o ≡ Some r → Sectioned s r
+  pub refused : o ≡ None → decode s ≡ None
 
 -- ---- laws for who walks a section
 

@@ -33,13 +33,6 @@ pub struct Sections {
     pub expenses: Section,
 }
 
-// What the decoding of some bytes comes to.
-#[derive(Clone, Copy)]
-pub enum Opened {
-    Model(Sections),
-    NoModel,
-}
-
 // The six counts, and the place behind them; where they cannot be read, zeros and a place past every end.
 #[derive(Clone, Copy)]
 pub struct Counts {
@@ -202,12 +195,12 @@ fn walk(s: &[u8], n: Counts) -> Places
 }
 
 // The sections of so many bytes, if the last one ends where they end.
-pub fn sections_of(len: usize, n: Counts, w: Places) -> Opened
+pub fn sections_of(len: usize, n: Counts, w: Places) -> Option<Sections>
     ensures { result ≡ sections_by len n w }
 {
     let end = w.end;
     if (end.bit == 0) & (end.byte == len) {
-        return Opened::Model(Sections {
+        return Some(Sections {
             calendars: Section {
                 count: n.calendars,
                 at: w.calendars.byte,
@@ -234,11 +227,11 @@ pub fn sections_of(len: usize, n: Counts, w: Places) -> Opened
             },
         });
     }
-    Opened::NoModel
+    None
 }
 
 // The one pass that decodes a model: it is refused, or these are its sections.
-pub fn open(s: &[u8]) -> Opened
+pub fn open(s: &[u8]) -> Option<Sections>
     ensures { Opens s.now result }
 {
     let n = take_counts(s);

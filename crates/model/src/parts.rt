@@ -3,7 +3,7 @@
 ghost use Rattle.std.specs.Prelude.{◌≡◌, false};
 ghost use Rattle.definition.specs.Base.{given};
 ghost use Rattle.definition.specs.Date.{from_days};
-ghost use Rattle.definition.specs.Answer.{row_meaning, date_meaning};
+ghost use Rattle.definition.specs.Answer.{date_meaning};
 ghost use Rattle.definition.specs.Format.{row, times, period, periods};
 ghost use Rattle.model.specs.Passes.{Passes};
 ghost use Rattle.model.specs.Parts.{text_by, activity_head, resource_head};
@@ -13,25 +13,25 @@ ghost use Rattle.model.specs.Places.{NameTaken, CalendarAt};
 use crate::fields::{skip, skip_code, skip_optional, skip_text};
 use crate::lists::{skip_days, skip_hours};
 use bits::{PAST, Place};
-use definition::{Date, DateAnswer, RowAnswer};
+use definition::{Date};
 
 // ---- what stands at a place. Where nothing can be read, a value is missing or 0, and the next place is past every end
 
 // An optional row, and the place behind it.
 #[derive(Clone, Copy)]
 pub struct RowField {
-    pub row: RowAnswer,
+    pub row: Option<u32>,
     pub next: Place,
 }
 
 pub fn take_row(s: &[u8], p: Place) -> RowField
-    ensures { (row_meaning result.row, result.next) ≡ row_at s.now p }
+    ensures { (result.row, result.next) ≡ row_at s.now p }
 {
     let f = bits::take_flag(s, p);
     let at = f.next;
     if !f.value {
         return RowField {
-            row: RowAnswer::Absent,
+            row: None,
             next: at,
         };
     }
@@ -39,27 +39,20 @@ pub fn take_row(s: &[u8], p: Place) -> RowField
     let next = v.next;
     if 7 < next.bit {
         return RowField {
-            row: RowAnswer::Absent,
+            row: None,
             next: PAST,
         };
     }
     RowField {
-        row: RowAnswer::Is(v.value as u32),
+        row: Some(v.value as u32),
         next,
     }
-}
-
-// Where the bytes of a text stand: the first of them, and how many there are.
-#[derive(Clone, Copy)]
-pub enum NameAnswer {
-    At(usize, usize),
-    Absent,
 }
 
 // An optional text, and the place behind it. It is not tested for UTF-8.
 #[derive(Clone, Copy)]
 pub struct NameField {
-    pub name: NameAnswer,
+    pub name: Option<(usize, usize)>,
     pub next: Place,
 }
 
@@ -70,7 +63,7 @@ pub fn take_name(s: &[u8], p: Place) -> NameField
     let at = f.next;
     if !f.value {
         return NameField {
-            name: NameAnswer::Absent,
+            name: None,
             next: at,
         };
     }
@@ -78,12 +71,12 @@ pub fn take_name(s: &[u8], p: Place) -> NameField
     let next = t.next;
     if 7 < next.bit {
         return NameField {
-            name: NameAnswer::Absent,
+            name: None,
             next: PAST,
         };
     }
     NameField {
-        name: NameAnswer::At(t.start, t.len),
+        name: Some((t.start, t.len)),
         next,
     }
 }
@@ -126,7 +119,7 @@ fn is_date(n: i32) -> bool
 // A date, and the place behind it.
 #[derive(Clone, Copy)]
 pub struct DateField {
-    pub date: DateAnswer,
+    pub date: Option<Date>,
     pub next: Place,
 }
 
@@ -138,18 +131,18 @@ pub fn take_date(s: &[u8], p: Place) -> DateField
     let day = f.value;
     if 7 < next.bit {
         return DateField {
-            date: DateAnswer::Absent,
+            date: None,
             next: PAST,
         };
     }
     if !is_date(day) {
         return DateField {
-            date: DateAnswer::Absent,
+            date: None,
             next: PAST,
         };
     }
     DateField {
-        date: DateAnswer::Is(Date(day)),
+        date: Some(Date(day)),
         next,
     }
 }
@@ -161,16 +154,10 @@ pub struct Period {
     pub to: u16,
 }
 
-#[derive(Clone, Copy)]
-pub enum PeriodAnswer {
-    Is(Period),
-    Absent,
-}
-
 // A period, and the place behind it.
 #[derive(Clone, Copy)]
 pub struct PeriodField {
-    pub period: PeriodAnswer,
+    pub period: Option<Period>,
     pub next: Place,
 }
 
@@ -182,18 +169,18 @@ pub fn take_period(s: &[u8], p: Place) -> PeriodField
     let next = to.next;
     if to.value <= from.value {
         return PeriodField {
-            period: PeriodAnswer::Absent,
+            period: None,
             next: PAST,
         };
     }
     if 1440 < to.value {
         return PeriodField {
-            period: PeriodAnswer::Absent,
+            period: None,
             next: PAST,
         };
     }
     PeriodField {
-        period: PeriodAnswer::Is(Period {
+        period: Some(Period {
             from: from.value as u16,
             to: to.value as u16,
         }),

@@ -1,5 +1,6 @@
 -- The rules of each record, from what the readers of its parts answer. Assumes nothing.
 use mathlib.Core.Path.{◌≡◌, refl, ap, ◌∙◌}
+use Rattle.std.specs.Prelude.{Some}
 use mathlib.Core.Bool.{Bool, true, not}
 use mathlib.Core.List.{List, [], ◌∷◌, map}
 use Rattle.std.specs.Prelude.{Option, None}
@@ -18,7 +19,6 @@ use Rattle.model.specs.Sections.{Decoded}
 use Rattle.model.specs.Answers.{row_at, rows_at, name_meaning}
 use Rattle.model.specs.Places.{NameTaken, text_in, link_rows, assignment_rows}
 use Rattle.model.specs.declared.Sections.{Sections}
-use Rattle.model.specs.declared.parts.NameAnswer.{NameAnswer}
 use Rattle.model.specs.declared.parts.NameField.{NameField}
 use Rattle.model.specs.declared.records.Kind.{Kind}
 use Rattle.model_check.specs.Kinds.{Item}
@@ -46,11 +46,11 @@ module _ (m : Model) (n : Text) where
   named_in = some_map (same_key (0, n)) (λ (c : Calendar). (0, c.name)) m.calendars ∙ named
 
 module _ {s : List ℕ} {p : Place} {r : NameField} {o : Option Text} (m : Model) (h : Stands (optional text) s p o) (e : NameTaken s p r) where
-  pub no_name : r.name ≡ NameAnswer.Absent → true ≡ if_given (is_calendar m) o
+  pub no_name : r.name ≡ None → true ≡ if_given (is_calendar m) o
   unfolding name_meaning
   no_name g = rw (e.text o h, g)
 
-  pub a_name : (start len : ℕ) → r.name ≡ NameAnswer.At start len → is_calendar m (text_in s (start, len)) ≡ if_given (is_calendar m) o
+  pub a_name : (start len : ℕ) → r.name ≡ Some (start, len) → is_calendar m (text_in s (start, len)) ≡ if_given (is_calendar m) o
   unfolding name_meaning
   a_name start len g = rw (e.text o h, g)
 

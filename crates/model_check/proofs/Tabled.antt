@@ -14,10 +14,6 @@ use lib.Seq.{take-length}
 use Rattle.definition.specs.Base.{given, find, some?}
 use Rattle.definition.specs.Format.{whole}
 use Rattle.index.specs.declared.Table.{Table}
-use Rattle.index.specs.declared.Row.{Row}
-use Rattle.index.specs.declared.Row.TheVariants.{At, None}
-use Rattle.index.specs.declared.Made.{Made}
-use Rattle.index.specs.declared.Made.TheVariants.{Ready, NoRoom}
 use Rattle.index.specs.Chains.{table_of, zeros, added, first_of, next_of, place_of, as_row, up_to, chain}
 use Rattle.index.specs.Law.{Seeks, table_placed, first_less, next_less, seeks_none, seeks_here}
 use Rattle.index.proofs.Law.{indexed_none, indexed_by, indexed_same, find_chain, find_next}
@@ -62,19 +58,19 @@ grown_below : (g : ℕ → ℕ) (n v r : ℕ) → r < n → g r ≡ grown g n v 
 grown_below g n v r h = rw (ne_eqb r n (omega arith))
 
 -- a table that was made, and cleared
-pub emptied : {s : List ℕ} (w : List ℕ) {m : Made} {at n : ℕ} {t : Table} {w₂ : List ℕ} → length s < 2 ^ 32 → m ≡ table_of (length w) at n → m ≡ Ready t
+pub emptied : {s : List ℕ} (w : List ℕ) {m : Option Table} {at n : ℕ} {t : Table} {w₂ : List ℕ} → length s < 2 ^ 32 → m ≡ table_of (length w) at n → m ≡ Some t
     → w₂ ≡ zeros w t.at t.rows → EmptyTable s at n w w₂ t
 emptied w {at = at} {n} {t} small e f z =
     let p = table_placed (length w) at n (sym f ∙ e) in
     record { small = small; is = p.is; empty = λ f g. rw z (indexed_none f g w p.fits); stays = λ u a. rw z (same_zeros t w a) }
 
-pub no_room : {t : Table} {A : Type 0} → NoRoom ≡ Ready t → A
+pub no_room : {t : Table} {A : Type 0} → None ≡ Some t → A
 no_room e = let y : ◌≡◌ {A = ℕ} 0 1 = cc in absurd (omega arith)
 
-pub none_made : (s : List ℕ) (at n : ℕ) (w : List ℕ) → EmptyAt s at n w w NoRoom
+pub none_made : (s : List ℕ) (at n : ℕ) (w : List ℕ) → EmptyAt s at n w w None
 none_made s at n w = record { ready = λ t e. no_room e; none = λ e. refl }
 
-pub one_made : {s : List ℕ} {at n : ℕ} {w w₂ : List ℕ} {t : Table} → EmptyTable s at n w w₂ t → EmptyAt s at n w w₂ (Ready t)
+pub one_made : {s : List ℕ} {at n : ℕ} {w w₂ : List ℕ} {t : Table} → EmptyTable s at n w w₂ t → EmptyAt s at n w w₂ (Some t)
 one_made {s} {at} {n} {w} {w₂} {t} x = record { ready = λ u e. let z : t ≡ u = cc in subst (EmptyTable s at n w w₂) z x; none = λ e. no_room (sym e) }
 
 module _ {kind : Kind} {s : List ℕ} {key : Item kind → Key} {xs : List (Item kind)} {end : ℕ} {t : Table} {w : List ℕ} {q : Place} where
@@ -125,22 +121,22 @@ module _ {kind : Kind} {s : List ℕ} {key : Item kind → Key} {xs : List (Item
 
 -- ---- a walk over a chain
 
-abbrev is_row : Row → Bool
+abbrev is_row : Option ℕ → Bool
 is_row None = false
-is_row (At r) = true
+is_row (Some r) = true
 
 row_given : (o : Option ℕ) → is_row (as_row o) ≡ given o
 row_given None = refl
 row_given (Some r) = refl
 
-module _ {w : List ℕ} {t : Table} {p : ℕ → Bool} {o : Option ℕ} {at : Row} (s : Seeks w t p o at) where
+module _ {w : List ℕ} {t : Table} {p : ℕ → Bool} {o : Option ℕ} {at : Option ℕ} (s : Seeks w t p o at) where
   pub walk_ends : at ≡ None → false ≡ given o
   walk_ends e = ap is_row (seeks_none s e) ∙ row_given o
 
-  pub walk_hits : {r : ℕ} → at ≡ At r → p r ≡ true → true ≡ given o
+  pub walk_hits : {r : ℕ} → at ≡ Some r → p r ≡ true → true ≡ given o
   walk_hits e h = ap is_row (seeks_here s e h) ∙ row_given o
 
-pub row_in : {at : Row} {r n : ℕ} → at ≡ At r → up_to at ≤ n → r < n
+pub row_in : {at : Option ℕ} {r n : ℕ} → at ≡ Some r → up_to at ≤ n → r < n
 row_in e h = let z = ap up_to e in omega arith
 
 -- ---- what a full table tells
@@ -152,28 +148,28 @@ module _ {lead : ℕ} {s : List ℕ} {ks : List Key} {t : Table} {w : List ℕ} 
   alike : (k : Key) (r : ℕ) → same_key k (get_or ks r no_key) ≡ true → hash_key (get_or ks r no_key) ≡ hash_key k
   alike k r h = ap hash_key (sym (key_is k (get_or ks r no_key) h))
 
-  pub first_in : (h : ℕ) {at : Row} → at ≡ first_of w t h → up_to at ≤ length ks
+  pub first_in : (h : ℕ) {at : Option ℕ} → at ≡ first_of w t h → up_to at ≤ length ks
   first_in h e = rw e (omega (arith, first_less w t h, x.full))
 
-  pub next_in : {i : ℕ} {at : Row} → i < length ks → at ≡ next_of w t i → up_to at ≤ length ks
-  next_in {i} h e = let z = next_less w t {at = At i} refl e in omega arith
+  pub next_in : {i : ℕ} {at : Option ℕ} → i < length ks → at ≡ next_of w t i → up_to at ≤ length ks
+  next_in {i} h e = let z = next_less w t {at = Some i} refl e in omega arith
 
   -- some key of the chain, and of all
-  pub some_key : (k : Key) {at : Row} {h : ℕ} → at ≡ first_of w t h → h ≡ hash_key k
+  pub some_key : (k : Key) {at : Option ℕ} {h : ℕ} → at ≡ first_of w t h → h ≡ hash_key k
       → given (find (λ r. same_key k (get_or ks r no_key)) (chain w t at)) ≡ some? (same_key k) ks
   some_key k e f =
       let p : ℕ → Bool = λ r. same_key k (get_or ks r no_key) in
       rw (e, f) (ap given (find_chain x.indexed p (hash_key k) (λ r h. alike k r)) ∙ some_below (same_key k) ks (length ks) (omega arith) ∙ ap (some? (same_key k)) (take-length ks))
 
   -- some key before that of a row
-  pub some_twin : (i : ℕ) {at : Row} → i < length ks → at ≡ next_of w t i
+  pub some_twin : (i : ℕ) {at : Option ℕ} → i < length ks → at ≡ next_of w t i
       → given (find (λ r. same_key (get_or ks i no_key) (get_or ks r no_key)) (chain w t at)) ≡ some? (same_key (get_or ks i no_key)) (take i ks)
   some_twin i h e =
       let k = get_or ks i no_key in
       let p : ℕ → Bool = λ r. same_key k (get_or ks r no_key) in
       rw e (ap given (find_next x.indexed p i h (λ r l. alike k r)) ∙ some_below (same_key k) ks i (omega arith))
 
-  pub lone : (i : ℕ) {at : Row} → i < length ks → at ≡ next_of w t i → at ≡ None → false ≡ some? (same_key (get_or ks i no_key)) (take i ks)
+  pub lone : (i : ℕ) {at : Option ℕ} → i < length ks → at ≡ next_of w t i → at ≡ None → false ≡ some? (same_key (get_or ks i no_key)) (take i ks)
   lone i {at} h e f =
       let p : ℕ → Bool = λ r. same_key (get_or ks i no_key) (get_or ks r no_key) in
       walk_ends {p = p} (record { finds = refl }) f ∙ some_twin i h e

@@ -1,5 +1,6 @@
 -- The activities, tested and put into a table while the model is decoded. Assumes nothing.
 use Rattle.std.specs.Prelude.{if◌then◌else◌}
+use Rattle.std.specs.Prelude.{Option, Some}
 use mathlib.Core.Path.{◌≡◌, refl, sym, ap, subst, ◌∙◌}
 use mathlib.Core.Bool.{Bool, true, false, ◌&&◌}
 use mathlib.Core.List.{List, [], map}
@@ -17,8 +18,6 @@ use Rattle.definition.specs.Check.{activity_right, keeps_list}
 use Rattle.definition.specs.Refusal.{check_answer}
 use Rattle.laws.specs.Options.{never as no_option}
 use Rattle.index.specs.declared.Table.{Table}
-use Rattle.index.specs.declared.Made.{Made}
-use Rattle.index.specs.declared.Made.TheVariants.{Ready, NoRoom}
 use Rattle.index.specs.Chains.{added, end_of, end_in}
 use Rattle.index.specs.Frame.{same_refl, same_then, same_added, apart_before, indexed_kept}
 use Rattle.bits.specs.Places.{room_short}
@@ -34,7 +33,6 @@ use Rattle.model.specs.Sections.{Holds, Decoded, Heads, Behind, Opens, walks, st
 use Rattle.model.specs.Opening.{opened, opened_at}
 use Rattle.model.specs.declared.Counts.{Counts}
 use Rattle.model.specs.declared.Head.{Head}
-use Rattle.model.specs.declared.Opened.{Opened}
 use Rattle.model.specs.declared.Places.{Places}
 use Rattle.model.specs.declared.Section.{Section}
 use Rattle.model.specs.declared.Sections.{Sections}
@@ -70,17 +68,17 @@ calendar_behind h b e i =
 
 -- ---- tables that stay
 
-pub table_kept : (lead : ℕ) (s : List ℕ) (ks : List Key) (m : Made) {w w' : List ℕ} → Kept m w w' → TableFor lead s ks m w → TableFor lead s ks m w'
-table_kept lead s ks NoRoom k x = tt
-table_kept lead s ks (Ready t) k x = record { places = x.places; indexed = indexed_kept (k.same t refl) x.indexed; full = x.full; stands = x.stands }
+pub table_kept : (lead : ℕ) (s : List ℕ) (ks : List Key) (m : Option Table) {w w' : List ℕ} → Kept m w w' → TableFor lead s ks m w → TableFor lead s ks m w'
+table_kept lead s ks None k x = tt
+table_kept lead s ks (Some t) k x = record { places = x.places; indexed = indexed_kept (k.same t refl) x.indexed; full = x.full; stands = x.stands }
 
-pub kept_none : {m : Made} (w : List ℕ) → Kept m w w
+pub kept_none : {m : Option Table} (w : List ℕ) → Kept m w w
 kept_none w = record { same = λ n e. same_refl n w }
 
-pub kept_then : {m : Made} {a b c : List ℕ} → Kept m a b → Kept m b c → Kept m a c
+pub kept_then : {m : Option Table} {a b c : List ℕ} → Kept m a b → Kept m b c → Kept m a c
 kept_then p q = record { same = λ n e. same_then (p.same n e) (q.same n e) }
 
-pub kept_added : {m : Made} (t : Table) (w : List ℕ) (row h place : ℕ) {w₂ : List ℕ} → ApartFrom m t → w₂ ≡ added w t row h place → Kept m w w₂
+pub kept_added : {m : Option Table} (t : Table) (w : List ℕ) (row h place : ℕ) {w₂ : List ℕ} → ApartFrom m t → w₂ ≡ added w t row h place → Kept m w w₂
 kept_added t w row h place a e = record { same = λ n f. rw e (same_added t w row h place (a n f)) }
 
 -- ---- one activity after another
@@ -133,31 +131,31 @@ module _ {s : List ℕ} {n : ℕ} {m : Model} {end i : ℕ} {right : Bool} {q : 
 -- ---- the tables of the walk
 
 -- a table that is filled lies within the words
-table_fits : (lead : ℕ) (s : List ℕ) (ks : List Key) (m : Made) (w : List ℕ) → TableFor lead s ks m w → (k : Table) → m ≡ Ready k → end_of k ≤ length w
-table_fits lead s ks NoRoom w x k g = no_room g
-table_fits lead s ks (Ready u) w x k g = let z : u ≡ k = cc in subst (λ (t : Table). end_of t ≤ length w) z x.indexed.fits.room
+table_fits : (lead : ℕ) (s : List ℕ) (ks : List Key) (m : Option Table) (w : List ℕ) → TableFor lead s ks m w → (k : Table) → m ≡ Some k → end_of k ≤ length w
+table_fits lead s ks None w x k g = no_room g
+table_fits lead s ks (Some u) w x k g = let z : u ≡ k = cc in subst (λ (t : Table). end_of t ≤ length w) z x.indexed.fits.room
 
 module _ {s : List ℕ} {at n : ℕ} {w w₂ : List ℕ} where
   -- one that is made behind another
-  made_behind : (names ids : Made) → EmptyAt s at n w w₂ ids → at ≡ min (end_in names) (length w) → ((k : Table) → names ≡ Ready k → end_of k ≤ length w) → ApartFrom names (table_in ids)
-  made_behind names NoRoom e f fit k g = λ j a b c d. omega arith
-  made_behind names (Ready u) e f fit k g =
+  made_behind : (names ids : Option Table) → EmptyAt s at n w w₂ ids → at ≡ min (end_in names) (length w) → ((k : Table) → names ≡ Some k → end_of k ≤ length w) → ApartFrom names (table_in ids)
+  made_behind names None e f fit k g = λ j a b c d. omega arith
+  made_behind names (Some u) e f fit k g =
       let z : u.at ≡ at = ap (λ (t : Table). t.at) (e.ready u refl).is in
       let y : end_in names ≡ end_of k = ap end_in g in
       apart_before k u (omega (arith, z, y, f, fit k g))
 
-  made_kept : (names ids : Made) → EmptyAt s at n w w₂ ids → ApartFrom names (table_in ids) → Kept names w w₂
-  made_kept names NoRoom e a = rw (e.none refl) (kept_none w)
-  made_kept names (Ready u) e a = record { same = λ k g. (e.ready u refl).stays k (a k g) }
+  made_kept : (names ids : Option Table) → EmptyAt s at n w w₂ ids → ApartFrom names (table_in ids) → Kept names w w₂
+  made_kept names None e a = rw (e.none refl) (kept_none w)
+  made_kept names (Some u) e a = record { same = λ k g. (e.ready u refl).stays k (a k g) }
 
-  ids_in : (ids : Made) {p : Place} {x : Section} {names : Made} {w₃ : List ℕ} {r : Judged} → EmptyAt s at n w w₂ ids → JudgedAll s p n x names (table_in ids) w₂ w₃ r → p.bit % 8 ≡ 0
+  ids_in : (ids : Option Table) {p : Place} {x : Section} {names : Option Table} {w₃ : List ℕ} {r : Judged} → EmptyAt s at n w w₂ ids → JudgedAll s p n x names (table_in ids) w₂ w₃ r → p.bit % 8 ≡ 0
       → (xs : List Activity) {next : ℕ} → Run Activities s p n xs next → TableFor 0 s (map id_key xs) ids w₃
-  ids_in NoRoom e j z xs u = tt
-  ids_in (Ready t) e j z xs u = let v = e.ready t refl in j.keys v.small z (ap (λ (t : Table). t.rows) v.is) v.empty xs _ u
+  ids_in None e j z xs u = tt
+  ids_in (Some t) e j z xs u = let v = e.ready t refl in j.keys v.small z (ap (λ (t : Table). t.rows) v.is) v.empty xs _ u
 
 -- ---- the walk
 
-pub walked : {s : List ℕ} {n : Counts} {head : Head} {at : ℕ} {names ids : Made} {t : Table} {w w₁ w₂ w₃ : List ℕ} {r : Judged} {places : Places} → Heads s n head
+pub walked : {s : List ℕ} {n : Counts} {head : Head} {at : ℕ} {names ids : Option Table} {t : Table} {w w₁ w₂ w₃ : List ℕ} {r : Judged} {places : Places} → Heads s n head
     → ((key : Calendar → Key) → Keyed Calendars s key → (xs : List Calendar) (end : ℕ) → Holds calendar s (record { count = n.calendars; at = head.calendars.byte }) xs end → TableFor 0 s (map key xs) names w₁)
     → at ≡ min (end_in names) (length w₁) → EmptyAt s at n.activities w₁ w₂ ids → t ≡ table_in ids
     → JudgedAll s head.activities n.activities (record { count = n.calendars; at = head.calendars.byte }) names t w₂ w₃ r → Behind s n head r.next places
@@ -183,13 +181,13 @@ walked {s} {n} {head} {at} {names} {ids} {t} {w} {w₁} {w₂} {w₃} {r} {place
 
 -- ---- the answer
 
-module _ {s : List ℕ} {n : Counts} {v : Walked} {w w₃ : List ℕ} (c : (counts_in n, n.next) ≡ counts_at s start) (k : ModelWalked s n w w₃ v) {o : Opened} (e : o ≡ sections_by (length s) n v.places) where
+module _ {s : List ℕ} {n : Counts} {v : Walked} {w w₃ : List ℕ} (c : (counts_in n, n.next) ≡ counts_at s start) (k : ModelWalked s n w w₃ v) {o : Option Sections} (e : o ≡ sections_by (length s) n v.places) where
   opens : Opens s o
   opens = rw e (opened c k.walks)
 
-  pub no_model : o ≡ Opened.NoModel → 6 ≡ check_answer s
+  pub no_model : o ≡ None → 6 ≡ check_answer s
   no_model z = refused opens z
 
-  pub judged : {m : Sections} {b g : Bool} → o ≡ Opened.Model m → ((x : Model) → Decoded s x m → Looked s x v.names v.ids v.right w₃ → b ≡ keeps_list x) → b ≡ g
+  pub judged : {m : Sections} {b g : Bool} → o ≡ Some m → ((x : Model) → Decoded s x m → Looked s x v.names v.ids v.right w₃ → b ≡ keeps_list x) → b ≡ g
       → (if g then 0 else 7) ≡ check_answer s
   judged z h u = let a = opened_at c k.walks (sym z ∙ e) in checked opens z (λ x d. h x d (k.looked x (subst (Decoded s x) a.0 d) a.1)) u

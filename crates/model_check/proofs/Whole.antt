@@ -1,5 +1,6 @@
 -- The check's list from the answers to its lines, and the number from both passes. Assumes nothing.
 use Rattle.std.specs.Prelude.{if◌then◌else◌}
+use Rattle.std.specs.Prelude.{None, Option, Some}
 use mathlib.Core.Path.{◌≡◌, refl, sym, ap}
 use mathlib.Core.Bool.{Bool, ◌&&◌, not}
 use mathlib.Core.List.{List, [], ◌∷◌, map}
@@ -11,7 +12,6 @@ use Rattle.definition.specs.Check.{distinct, keeps_list}
 use Rattle.definition.specs.Refusal.{check_answer}
 use Rattle.laws.specs.Tests.{some_map}
 use Rattle.model.specs.Sections.{Decoded, Opens}
-use Rattle.model.specs.declared.Opened.{Opened}
 use Rattle.model.specs.declared.Sections.{Sections}
 
 pub both : {a b c d : Bool} → a ≡ b → c ≡ d → a && c ≡ b && d
@@ -31,11 +31,11 @@ every_plain p i (x ∷ l) = ap (λ (b : Bool). p x && b) (every_plain p (suc i) 
 
 -- ---- the number
 
-module _ {s : Text} {o : Opened} (h : Opens s o) where
-  pub refused : o ≡ Opened.NoModel → 6 ≡ check_answer s
+module _ {s : Text} {o : Option Sections} (h : Opens s o) where
+  pub refused : o ≡ None → 6 ≡ check_answer s
   unfolding check_answer
   refused e = rw (h.refused e)
 
-  pub checked : {r : Sections} {b g : Bool} → o ≡ Opened.Model r → ((m : Model) → Decoded s m r → b ≡ keeps_list m) → b ≡ g → (if g then 0 else 7) ≡ check_answer s
+  pub checked : {r : Sections} {b g : Bool} → o ≡ Some r → ((m : Model) → Decoded s m r → b ≡ keeps_list m) → b ≡ g → (if g then 0 else 7) ≡ check_answer s
   unfolding check_answer
   checked {r} e k u = let m = h.model r e in rw (← u, k m.model m.sections, m.decodes)

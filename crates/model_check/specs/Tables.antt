@@ -1,9 +1,8 @@
 -- Keys in tables of words: each row's key by its hash, and the byte at which its record stands. Assumes nothing.
 use Rattle.std.specs.Prelude.{◌≡◌, List, map, ℕ, ◌^◌, ◌<◌, length, get_or}
+use Rattle.std.specs.Prelude.{None, Option, Some}
 use Rattle.definition.specs.Model.{Calendar, Model}
 use Rattle.index.specs.declared.Table.{Table}
-use Rattle.index.specs.declared.Made.{Made}
-use Rattle.index.specs.declared.Made.TheVariants.{Ready, NoRoom}
 use Rattle.index.specs.Law.{Indexed}
 use Rattle.index.specs.Frame.{SameIn, Apart}
 use Rattle.model.specs.Sections.{byte_at}
@@ -20,9 +19,9 @@ abbrev pub KeyTable : ℕ → List ℕ → List Key → Table → List ℕ → T
 KeyTable lead s ks t w = KeysIn lead s ks t (length ks) w
 
 -- where there is a table
-abbrev pub TableFor : ℕ → List ℕ → List Key → Made → List ℕ → Type 0
-TableFor lead s ks NoRoom w = Unit
-TableFor lead s ks (Ready t) w = KeyTable lead s ks t w
+abbrev pub TableFor : ℕ → List ℕ → List Key → Option Table → List ℕ → Type 0
+TableFor lead s ks None w = Unit
+TableFor lead s ks (Some t) w = KeyTable lead s ks t w
 
 -- no rows yet
 abbrev pub Emptied : Table → List ℕ → Type 0
@@ -35,10 +34,10 @@ pub record EmptyTable (s : List ℕ) (at rows : ℕ) (w w' : List ℕ) (t : Tabl
   pub empty : Emptied t w'
   pub stays : (u : Table) → Apart u t → SameIn u w w'
 
-pub record EmptyAt (s : List ℕ) (at rows : ℕ) (w w' : List ℕ) (r : Made) : Type 0 where
-  pub ready : (t : Table) → r ≡ Ready t → EmptyTable s at rows w w' t
-  pub none : r ≡ NoRoom → w' ≡ w
+pub record EmptyAt (s : List ℕ) (at rows : ℕ) (w w' : List ℕ) (r : Option Table) : Type 0 where
+  pub ready : (t : Table) → r ≡ Some t → EmptyTable s at rows w w' t
+  pub none : r ≡ None → w' ≡ w
 
 -- the names of a model's calendars
-abbrev pub NamesIn : List ℕ → Model → Made → List ℕ → Type 0
+abbrev pub NamesIn : List ℕ → Model → Option Table → List ℕ → Type 0
 NamesIn s m made w = TableFor 0 s (map (λ (c : Calendar). (0, c.name)) m.calendars) made w

@@ -1,13 +1,12 @@
 -- The walk that decodes a model, and what it tells of the activities that it passes. Assumes nothing.
 use Rattle.std.specs.Prelude.{◌≡◌, Bool, true, List, map, ℕ, ◌%◌, ◌^◌, ◌<◌, length}
+use Rattle.std.specs.Prelude.{None, Option, Some}
 use Rattle.definition.specs.Base.{every?, numbered}
 use Rattle.definition.specs.Format.{whole, times}
 use Rattle.definition.specs.Model.{Activity, Model}
 use Rattle.definition.specs.Pack.{calendar, activity}
 use Rattle.definition.specs.Check.{activity_right}
 use Rattle.index.specs.declared.Table.{Table}
-use Rattle.index.specs.declared.Made.{Made}
-use Rattle.index.specs.declared.Made.TheVariants.{Ready, NoRoom}
 use Rattle.index.specs.Frame.{SameIn, Apart}
 use Rattle.bits.specs.declared.Place.{Place}
 use Rattle.model.specs.Passes.{Passes}
@@ -25,17 +24,17 @@ use Rattle.model_check.specs.Tables.{Emptied, KeyTable, TableFor, NamesIn}
 
 -- ---- tables that may be missing
 
-abbrev pub table_in : Made → Table
-table_in NoRoom = record { at = 0; rows = 0 }
-table_in (Ready t) = t
+abbrev pub table_in : Option Table → Table
+table_in None = record { at = 0; rows = 0 }
+table_in (Some t) = t
 
 -- no word in common with a table
-abbrev pub ApartFrom : Made → Table → Type 0
-ApartFrom m t = (n : Table) → m ≡ Ready n → Apart n t
+abbrev pub ApartFrom : Option Table → Table → Type 0
+ApartFrom m t = (n : Table) → m ≡ Some n → Apart n t
 
 -- its words stay
-pub record Kept (m : Made) (w w' : List ℕ) : Type 0 where
-  pub same : (n : Table) → m ≡ Ready n → SameIn n w w'
+pub record Kept (m : Option Table) (w w' : List ℕ) : Type 0 where
+  pub same : (n : Table) → m ≡ Some n → SameIn n w w'
 
 -- ---- activities
 
@@ -43,13 +42,13 @@ abbrev pub id_key : Activity → Key
 id_key a = (0, a.id)
 
 -- the activity of a row at a place: whether it is right, and the place behind its record
-pub record JudgedAt (s : List ℕ) (p : Place) (own : ℕ) (x : Section) (names : Made) (w : List ℕ) (r : Judged) : Type 0 where
+pub record JudgedAt (s : List ℕ) (p : Place) (own : ℕ) (x : Section) (names : Option Table) (w : List ℕ) (r : Judged) : Type 0 where
   pub right : (m : Model) (end : ℕ) → Holds calendar s x m.calendars end → NamesIn s m names w → (a : Activity) → Stands (whole activity) s p a → r.right ≡ activity_right m (own, a)
   pub next : Passes (record_of true Activities) s p r.next
   pub even : r.next.bit % 8 ≡ 0
 
 -- n activities are passed over; where they stand there, whether all are right, and their ids in an empty table of as many rows
-pub record JudgedAll (s : List ℕ) (p : Place) (n : ℕ) (x : Section) (names : Made) (t : Table) (w w' : List ℕ) (r : Judged) : Type 0 where
+pub record JudgedAll (s : List ℕ) (p : Place) (n : ℕ) (x : Section) (names : Option Table) (t : Table) (w w' : List ℕ) (r : Judged) : Type 0 where
   pub passes : Passes (times n (record_of true Activities)) s p r.next
   pub kept : ApartFrom names t → Kept names w w'
   pub right : ApartFrom names t → (m : Model) (end : ℕ) → Holds calendar s x m.calendars end → NamesIn s m names w
@@ -60,7 +59,7 @@ pub record JudgedAll (s : List ℕ) (p : Place) (n : ℕ) (x : Section) (names :
 -- ---- the walk
 
 -- what it tells of a model: the names of its calendars and the ids of its activities are in tables, where there are any; whether all activities are right
-pub record Looked (s : List ℕ) (m : Model) (n i : Made) (activities : Bool) (w : List ℕ) : Type 0 where
+pub record Looked (s : List ℕ) (m : Model) (n i : Option Table) (activities : Bool) (w : List ℕ) : Type 0 where
   pub names : NamesIn s m n w
   pub ids : TableFor 0 s (map id_key m.activities) i w
   pub right : activities ≡ every? (activity_right m) (numbered 0 m.activities)

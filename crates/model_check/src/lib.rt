@@ -11,23 +11,25 @@ ghost use Rattle.std.specs.Prelude.{◌≡◌, List, ℕ, length, replicate};
 ghost use Rattle.definition.specs.Model.{Model};
 ghost use Rattle.definition.specs.Check.{keeps_list};
 ghost use Rattle.definition.specs.Refusal.{check_answer};
+ghost use Rattle.definition.specs.Answer.{answer_number};
 ghost use Rattle.model.specs.Sections.{Decoded};
 ghost use Rattle.model_check.specs.Walk.{Looked};
 
 use crate::rules::every_right;
 use crate::tables::{all_distinct, distinct_in};
 use crate::walk::walk_model;
-use index::Made;
+use definition::Refusal;
+use index::Table;
 use model::records::Kind;
-use model::{Opened, Sections, sections_of, take_counts};
+use model::{Sections, sections_of, take_counts};
 
 // What is left once the activities are looked at. The tables stand in the words until the records are looked at; then the keys of each section in turn.
 fn keeps_list(
     s: &[u8],
     w: Sections,
     words: &mut [u32],
-    names: Made,
-    ids: Made,
+    names: Option<Table>,
+    ids: Option<Table>,
     activities: bool,
 ) -> bool
     ensures { (m : Model) → Decoded s.now m w → Looked s.now m names ids activities words.old → result ≡ keeps_list m }
@@ -44,27 +46,26 @@ fn keeps_list(
             & (resource_ids & (resources & (links & (assignments & (expenses & expenses_differ))))))
 }
 
-// 0 for a model that is right; 6 for bytes that do not decode; 7 for a model that breaks the list.
-fn answer(s: &[u8], words: &mut [u32]) -> u32
-    ensures { result ≡ check_answer s.now }
+// Refused are bytes that do not decode, and a model that breaks the list.
+fn answer(s: &[u8], words: &mut [u32]) -> Result<(), Refusal>
+    ensures { answer_number result ≡ check_answer s.now }
 {
     let counts = take_counts(s);
     let walked = walk_model(s, counts, words);
-    let opened = sections_of(s.len(), counts, walked.places);
-    let Opened::Model(w) = opened else {
-        return 6;
+    let Some(w) = sections_of(s.len(), counts, walked.places) else {
+        return Err(Refusal::NoModel);
     };
     let names = walked.names;
     let ids = walked.ids;
     if !keeps_list(s, w, words, names, ids, walked.right) {
-        return 7;
+        return Err(Refusal::ListBroken);
     }
-    0
+    Ok(())
 }
 
 // The work slice may have any length; it is zeros at exit.
-pub fn check(s: &[u8], work: &mut [u32]) -> u32
-    ensures { ◌≡◌ {A = ℕ × List ℕ} (result, work.new) (check_answer s.now, replicate (length work.old) 0) }
+pub fn check(s: &[u8], work: &mut [u32]) -> Result<(), Refusal>
+    ensures { ◌≡◌ {A = ℕ × List ℕ} (answer_number result, work.new) (check_answer s.now, replicate (length work.old) 0) }
 {
     let r = answer(s, work);
     bits::clear_words_from(work, 0);

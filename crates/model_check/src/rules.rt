@@ -2,7 +2,6 @@
 ghost use Rattle.std.specs.Prelude.{◌≡◌, List, ℕ, ltb};
 ghost use Rattle.std.specs.Prelude.{Option};
 ghost use Rattle.definition.specs.Base.{every?, numbered};
-ghost use Rattle.definition.specs.Answer.{row_meaning};
 ghost use Rattle.definition.specs.Text.{Text};
 ghost use Rattle.definition.specs.Format.{whole, row, text, optional};
 ghost use Rattle.definition.specs.Model.{Model};
@@ -16,35 +15,33 @@ ghost use Rattle.model_check.specs.Rules.{rows_below, right_of};
 ghost use Rattle.model_check.specs.Tables.{NamesIn};
 ghost use Rattle.model_check.specs.Walk.{JudgedAt};
 
+use index::Table;
 use crate::keys::some_has_key;
 use crate::tables::table_has_key;
 use bits::Place;
-use definition::RowAnswer;
-use index::Made;
 use model::parts::{
-    NameAnswer, parent_place_by, resource_calendar_place, take_name, take_row, take_rows,
-};
+    parent_place_by, resource_calendar_place, take_name, take_row, take_rows};
 use model::records::{Kind, skip_from_notes, skip_record};
 use model::{Section, Sections};
 
 // Whether some calendar has a name, by the table of the calendars; by a scan where there is none.
-fn is_calendar(s: &[u8], x: Section, words: &[u32], names: Made, name: &[u8]) -> bool
+fn is_calendar(s: &[u8], x: Section, words: &[u32], names: Option<Table>, name: &[u8]) -> bool
     ensures { (m : Model) (end : ℕ) → Holds calendar s.now x m.calendars end → NamesIn s.now m names words.now → result ≡ is_calendar m name.now }
 {
     let first = Place { byte: x.at, bit: 0 };
     match names {
-        Made::Ready(t) => table_has_key(s, Kind::Calendars, words, t, 0, name),
-        Made::NoRoom => some_has_key(s, first, Kind::Calendars, x.count, 0, name),
+        Some(t) => table_has_key(s, Kind::Calendars, words, t, 0, name),
+        None => some_has_key(s, first, Kind::Calendars, x.count, 0, name),
     }
 }
 
 // Whether the optional name at a place is missing, or some calendar's.
-fn calendar_known(s: &[u8], p: Place, x: Section, words: &[u32], names: Made) -> bool
+fn calendar_known(s: &[u8], p: Place, x: Section, words: &[u32], names: Option<Table>) -> bool
     ensures { (m : Model) (end : ℕ) → Holds calendar s.now x m.calendars end → NamesIn s.now m names words.now → (o : Option Text) → Stands (optional text) s.now p o → result ≡ if_given (is_calendar m) o }
 {
     let n = take_name(s, p);
     let name = n.name;
-    let NameAnswer::At(start, len) = name else {
+    let Some((start, len)) = name else {
         return true;
     };
     let end = start + len;
@@ -52,12 +49,12 @@ fn calendar_known(s: &[u8], p: Place, x: Section, words: &[u32], names: Made) ->
 }
 
 // Whether a row is missing, or below another.
-fn is_below(row: RowAnswer, own: u32) -> bool
-    ensures { result ≡ if_given (λ (n : ℕ). ltb n own) (row_meaning row) }
+fn is_below(row: Option<u32>, own: u32) -> bool
+    ensures { result ≡ if_given (λ (n : ℕ). ltb n own) row }
 {
     match row {
-        RowAnswer::Is(n) => n < own,
-        RowAnswer::Absent => true,
+        Some(n) => n < own,
+        None => true,
     }
 }
 
@@ -75,7 +72,7 @@ pub(crate) fn judge_activity(
     own: u32,
     calendars: Section,
     words: &[u32],
-    names: Made,
+    names: Option<Table>,
 ) -> Judged
     ensures { JudgedAt s.now p own calendars names words.now result }
 {
@@ -114,7 +111,7 @@ fn is_right(
     own: u32,
     w: Sections,
     words: &[u32],
-    names: Made,
+    names: Option<Table>,
 ) -> bool
     ensures { (m : Model) → Decoded s.now m w → NamesIn s.now m names words.now → (a : Item kind) → Stands (whole (format_of kind)) s.now p a → result ≡ right_of m kind (own, a) }
 {
@@ -141,7 +138,7 @@ pub(crate) fn every_right(
     x: Section,
     w: Sections,
     words: &[u32],
-    names: Made,
+    names: Option<Table>,
 ) -> bool
     ensures { (m : Model) → Decoded s.now m w → NamesIn s.now m names words.now → (xs : List (Item kind)) (end : ℕ) → Holds (format_of kind) s.now x xs end → result ≡ every? (right_of m kind) (numbered 0 xs) }
 {

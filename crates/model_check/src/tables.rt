@@ -10,7 +10,7 @@ ghost use Rattle.model_check.specs.Tables.{Emptied, EmptyAt, KeyTable, TableFor}
 
 use crate::keys::{distinct, has_key, lead, text_at};
 use bits::Place;
-use index::{Made, Row, Table};
+use index::{Table};
 use model::Section;
 use model::records::{Kind, skip_record};
 
@@ -43,30 +43,30 @@ fn fill(s: &[u8], kind: Kind, x: Section, words: &mut [u32], t: Table)
 }
 
 // An empty table of so many rows in the words from a place on, where there is room for it and 32 bits hold each position in the model.
-pub(crate) fn empty_table(s: &[u8], words: &mut [u32], at: usize, rows: u32) -> Made
+pub(crate) fn empty_table(s: &[u8], words: &mut [u32], at: usize, rows: u32) -> Option<Table>
     ensures { EmptyAt s.now at rows words.old words.new result }
 {
     if 4294967295 < s.len() {
-        return Made::NoRoom;
+        return None;
     }
     let made = index::table_at(words.len(), at, rows);
-    let Made::Ready(t) = made else {
-        return Made::NoRoom;
+    let Some(t) = made else {
+        return None;
     };
     index::clear(words, t);
-    Made::Ready(t)
+    Some(t)
 }
 
 // A table of the keys of a section.
-pub(crate) fn index_keys(s: &[u8], kind: Kind, x: Section, words: &mut [u32]) -> Made
+pub(crate) fn index_keys(s: &[u8], kind: Kind, x: Section, words: &mut [u32]) -> Option<Table>
     ensures { (key : Item kind → Key) → Keyed kind s.now key → (xs : List (Item kind)) (end : ℕ) → Holds (format_of kind) s.now x xs end → TableFor (lead_of kind) s.now (map key xs) result words.new }
 {
     let made = empty_table(s, words, 0, x.count);
-    let Made::Ready(t) = made else {
-        return Made::NoRoom;
+    let Some(t) = made else {
+        return None;
     };
     fill(s, kind, x, words, t);
-    Made::Ready(t)
+    Some(t)
 }
 
 // Whether a row of a chain has a key.
@@ -75,7 +75,7 @@ fn chain_has_key(
     kind: Kind,
     words: &[u32],
     t: Table,
-    from: Row,
+    from: Option<u32>,
     row: u64,
     name: &[u8],
 ) -> bool
@@ -83,7 +83,7 @@ fn chain_has_key(
 {
     let mut at = from;
     loop {
-        let Row::At(r) = at else {
+        let Some(r) = at else {
             return false;
         };
         let byte = index::place(words, t, r) as usize;
@@ -114,7 +114,7 @@ fn has_twin(s: &[u8], kind: Kind, words: &[u32], t: Table, own: u32) -> bool
     ensures { (ks : List Key) → KeyTable (lead_of kind) s.now ks t words.now → own < length ks → result ≡ some? (same_key (get_or ks own no_key)) (take own ks) }
 {
     let from = index::next(words, t, own);
-    let Row::At(_) = from else {
+    let Some(_) = from else {
         return false;
     };
     let byte = index::place(words, t, own) as usize;
@@ -142,17 +142,17 @@ pub(crate) fn all_distinct(s: &[u8], kind: Kind, x: Section, words: &mut [u32]) 
 {
     let made = index_keys(s, kind, x, words);
     match made {
-        Made::Ready(t) => table_distinct(s, kind, words, t),
-        Made::NoRoom => distinct(s, kind, x),
+        Some(t) => table_distinct(s, kind, words, t),
+        None => distinct(s, kind, x),
     }
 }
 
 // The same, by a table that is filled; by another one where there is none.
-pub(crate) fn distinct_in(s: &[u8], kind: Kind, x: Section, words: &mut [u32], made: Made) -> bool
+pub(crate) fn distinct_in(s: &[u8], kind: Kind, x: Section, words: &mut [u32], made: Option<Table>) -> bool
     ensures { (key : Item kind → Key) → Keyed kind s.now key → (xs : List (Item kind)) (end : ℕ) → Holds (format_of kind) s.now x xs end → TableFor (lead_of kind) s.now (map key xs) made words.old → result ≡ distinct (λ (x y : Item kind). same_key (key x) (key y)) xs }
 {
     match made {
-        Made::Ready(t) => table_distinct(s, kind, words, t),
-        Made::NoRoom => all_distinct(s, kind, x, words),
+        Some(t) => table_distinct(s, kind, words, t),
+        None => all_distinct(s, kind, x, words),
     }
 }

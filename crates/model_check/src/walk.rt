@@ -5,17 +5,17 @@ ghost use Rattle.model_check.specs.Walk.{table_in, JudgedAll, ModelWalked};
 use crate::rules::{Judged, judge_activity};
 use crate::tables::{empty_table, hash_at, index_keys};
 use bits::Place;
-use index::{Made, Table};
+use index::{Table};
 use model::records::Kind;
 use model::{Counts, Places, Section, walk_behind, walk_head};
 
 // A table with no rows where there is none.
-fn table_of(made: Made) -> Table
+fn table_of(made: Option<Table>) -> Table
     ensures { result ≡ table_in made }
 {
     match made {
-        Made::Ready(t) => t,
-        Made::NoRoom => Table { at: 0, rows: 0 },
+        Some(t) => t,
+        None => Table { at: 0, rows: 0 },
     }
 }
 
@@ -26,7 +26,7 @@ fn judge_activities(
     count: u32,
     calendars: Section,
     words: &mut [u32],
-    names: Made,
+    names: Option<Table>,
     t: Table,
 ) -> Judged
     ensures { JudgedAll s.now p count calendars names t words.old words.new result }
@@ -53,8 +53,8 @@ fn judge_activities(
 #[derive(Clone, Copy)]
 pub(crate) struct Walked {
     pub(crate) places: Places,
-    pub(crate) names: Made,
-    pub(crate) ids: Made,
+    pub(crate) names: Option<Table>,
+    pub(crate) ids: Option<Table>,
     pub(crate) right: bool,
 }
 

@@ -1,14 +1,16 @@
 -- What is left after a model was written, from what the writing gives. Assumes nothing.
+use Rattle.definition.specs.Answer.{answer_length, answer_number}
 use mathlib.Core.Path.{◌≡◌, ap, ◌∙◌}
 use mathlib.Core.List.{List}
 use Prim.Native.Nat.{ℕ}
 use lib.ListN.{length, replicate}
 use Rattle.definition.specs.Refusal.{result, left, read_answer}
-use Rattle.read.specs.Answers.{refusal_of, length_of, Gives}
-use Rattle.read.specs.declared.ReadAnswer.{ReadAnswer}
+use Rattle.read.specs.Answers.{Gives}
+use Rattle.std.specs.Prelude.{Result, Ok, Err}
+use Rattle.definition.specs.declared.Refusal.{Refusal}
 use Rattle.mspdi.specs.Reads.{read_leaves}
 
-pub model_left : {s model work model' work' : List ℕ} {r : ReadAnswer} (number count : ℕ) → Gives s model work model' work' r → number ≡ refusal_of r → count ≡ length_of r
+pub model_left : {s model work model' work' : List ℕ} {r : Result ℕ Refusal} (number count : ℕ) → Gives s model work model' work' r → number ≡ answer_number r → count ≡ answer_length r
     → (number, model', work', count) ≡ read_leaves (length model) (length work) (read_answer s (length model))
 model_left {s} {model} {work} {model'} {work'} number count g e f =
     let a = read_answer s (length model) in

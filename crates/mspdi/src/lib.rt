@@ -2,20 +2,13 @@
 #![tactic(auto)]
 
 ghost use Rattle.std.specs.Prelude.{◌≡◌, List, ℕ, length, replicate};
-ghost use Rattle.number.specs.Written.{refusal_of, written_of};
+ghost use Rattle.definition.specs.Answer.{answer_number, answer_length};
 ghost use Rattle.definition.specs.Refusal.{read_answer, check_answer, duration_answer, time_answer, outline_answer, day_sheet_answer};
-ghost use Rattle.outline.specs.Answers.{refusal_of as outline_refusal, count_of as outline_count};
-ghost use Rattle.day_sheet.specs.Answer.{sheet_number, sheet_length};
-ghost use Rattle.read.specs.Answers.{refusal_of as read_refusal, length_of as read_length};
 ghost use Rattle.mspdi.specs.Outcome.{leaves, from_zero};
 ghost use Rattle.mspdi.specs.Outlines.{outline_leaves};
 ghost use Rattle.mspdi.specs.Reads.{read_leaves};
 
-use day_sheet::SheetAnswer;
-use definition::Date;
-use number::TextAnswer;
-use outline::OutlineAnswer;
-use read::ReadAnswer;
+use definition::{Date, Refusal};
 
 // n, or the largest number where n is below 0.
 fn from_zero(n: i64) -> u64
@@ -27,22 +20,18 @@ fn from_zero(n: i64) -> u64
     n as u64
 }
 
-// The number of an answer, and the length of its text.
-fn told(a: TextAnswer, written: &mut u64) -> u32
-    ensures { (result ≡ refusal_of a) × (written.new ≡ written_of a) }
+// The number of an answer, and how long its result is.
+fn told(a: Result<usize, Refusal>, written: &mut u64) -> u32
+    ensures { (result ≡ answer_number a) × (written.new ≡ answer_length a) }
 {
     match a {
-        TextAnswer::Written(n) => {
+        Ok(n) => {
             *written = n as u64;
             0
         }
-        TextAnswer::Outside => {
+        Err(e) => {
             *written = 0;
-            8
-        }
-        TextAnswer::Short => {
-            *written = 0;
-            9
+            u32::from(e)
         }
     }
 }
@@ -67,49 +56,9 @@ pub fn mspdi_time(minutes: u32, text: &mut [u8], written: &mut u64) -> u32
 pub fn mspdi_check(model: &[u8], work: &mut [u32]) -> u32
     ensures { ◌≡◌ {A = ℕ × List ℕ} (result, work.new) (check_answer model.now, replicate (length work.old) 0) }
 {
-    model_check::check(model, work)
-}
-
-// The number of an outline's answer, and how many rows it has.
-fn outline_told(a: OutlineAnswer, count: &mut u64) -> u32
-    ensures { (result ≡ outline_refusal a) × (count.new ≡ outline_count a) }
-{
-    match a {
-        OutlineAnswer::Rows(n) => {
-            *count = n as u64;
-            0
-        }
-        OutlineAnswer::NoModel => {
-            *count = 0;
-            6
-        }
-        OutlineAnswer::Short => {
-            *count = 0;
-            9
-        }
-    }
-}
-
-// The number of a sheet's answer, and the length of the sheet.
-fn sheet_number(a: SheetAnswer) -> u32
-    ensures { result ≡ sheet_number a }
-{
-    match a {
-        SheetAnswer::Written(_) => 0,
-        SheetAnswer::NoModel => 6,
-        SheetAnswer::Outside => 8,
-        SheetAnswer::Short => 9,
-    }
-}
-
-fn sheet_length(a: SheetAnswer) -> u64
-    ensures { result ≡ sheet_length a }
-{
-    match a {
-        SheetAnswer::Written(n) => n as u64,
-        SheetAnswer::NoModel => 0,
-        SheetAnswer::Outside => 0,
-        SheetAnswer::Short => 0,
+    match model_check::check(model, work) {
+        Ok(()) => 0,
+        Err(e) => u32::from(e),
     }
 }
 
@@ -118,7 +67,7 @@ pub fn mspdi_outline(model: &[u8], rows: &mut [u32], work: &mut [u32], count: &m
     ensures { (result, rows.new, work.new, count.new) ≡ outline_leaves (length rows.old) (length work.old) (outline_answer model.now (length rows.old) (length work.old)) }
 {
     let a = outline::outline(model, rows, work);
-    outline_told(a, count)
+    told(a.map(|n| n as usize), count)
 }
 
 // The day sheet of a date, by its day number, in the calendar of a row.
@@ -132,24 +81,7 @@ pub fn mspdi_day_sheet(
     ensures { (result, sheet.new, written.new) ≡ leaves (length sheet.old) (day_sheet_answer model.now calendar date (length sheet.old)) }
 {
     let a = day_sheet::day_sheet(model, calendar, Date(date), sheet);
-    *written = sheet_length(a);
-    sheet_number(a)
-}
-
-// The number of a read's answer, and the length of the model.
-fn read_told(a: ReadAnswer, written: &mut u64) -> u32
-    ensures { (result ≡ read_refusal a) × (written.new ≡ read_length a) }
-{
-    match a {
-        ReadAnswer::Written(n) => {
-            *written = n as u64;
-            0
-        }
-        ReadAnswer::Refused(n) => {
-            *written = 0;
-            n
-        }
-    }
+    told(a, written)
 }
 
 // The model of a tree: 0, or 1 to 5 or 9. The work slice may have any length; it is zeros at exit.
@@ -157,5 +89,5 @@ pub fn mspdi_read(tree: &[u8], model: &mut [u8], work: &mut [u32], written: &mut
     ensures { (result, model.new, work.new, written.new) ≡ read_leaves (length model.old) (length work.old) (read_answer tree.now (length model.old)) }
 {
     let a = read::read(tree, model, work);
-    read_told(a, written)
+    told(a, written)
 }

@@ -5,21 +5,15 @@ use mathlib.Core.Path.{◌≡◌, refl, sym, ap, ◌∙◌}
 use mathlib.Core.List.{List}
 use Rattle.std.specs.Prelude.{Option, Some, None}
 use lib.ListN.{get_or}
-use Rattle.definition.specs.Answer.{row_meaning}
 use Rattle.definition.specs.Base.{◌>>=◌}
 use Rattle.definition.specs.Calendar.{elapsed_name}
 use Rattle.definition.specs.Task.{Context, unless_main}
 use Rattle.definition.specs.Text.{Text}
 use Rattle.definition.specs.Tree.{Element}
-use Rattle.definition.specs.declared.RowAnswer.{RowAnswer}
 use Rattle.index.specs.declared.Table.{Table}
-use Rattle.index.specs.declared.Made.{Made}
-use Rattle.index.specs.declared.Made.TheVariants.{Ready, NoRoom}
 use Rattle.index.specs.Chains.{place_of}
 use Rattle.bits.specs.declared.Place.{Place}
 use Rattle.pack.specs.Value.{starred_by, name_meaning}
-use Rattle.pack.specs.declared.stars.NameAnswer.{NameAnswer}
-use Rattle.pack.specs.declared.stars.NameAnswer.TheVariants as name
 use Rattle.rows.specs.Rows.{with_uid_in}
 use Rattle.rows.specs.Tables.{sought_in}
 use Rattle.tree.specs.Place.{element_at}
@@ -29,59 +23,59 @@ use Rattle.names.specs.Naming.{named_by_lem}
 
 -- ---- a word
 
-pub word_none : {word : ℕ} → word ≡ 0 → (text : Text) → name_meaning text name.Absent ≡ name_by text word
+pub word_none : {word : ℕ} → word ≡ 0 → (text : Text) → name_meaning text None ≡ name_by text word
 unfolding name_meaning name_by
 word_none e text = rw e
 
-pub word_some : (word : ℕ) → (word ≡ 0 → ⊥) → (text : Text) → name_meaning text (name.Starred (word - 1)) ≡ name_by text word
+pub word_some : (word : ℕ) → (word ≡ 0 → ⊥) → (text : Text) → name_meaning text (Some (word - 1)) ≡ name_by text word
 unfolding name_meaning name_by
 word_some zero h text = absurd (h refl)
 word_some (suc k) h text = let z : suc k - 1 ≡ k = omega arith in ap (λ (n : ℕ). Some (starred_by text n)) z
 
 -- ---- a row
 
-module _ (s : Text) (w : List ℕ) (t : Table) {row : RowAnswer} where
-  pub row_there : {r : ℕ} → row ≡ RowAnswer.Is r → {p : ℕ} → p ≡ place_of w t r → {word : ℕ} → word ≡ get_or w (name_at t r) 0 → (a : NameAnswer) → ((text : Text) → name_meaning text a ≡ name_by text word)
-      → name_meaning (wanted_name (element_at s p)) a ≡ name_of_row s w t (row_meaning row)
+module _ (s : Text) (w : List ℕ) (t : Table) {row : Option ℕ} where
+  pub row_there : {r : ℕ} → row ≡ Some r → {p : ℕ} → p ≡ place_of w t r → {word : ℕ} → word ≡ get_or w (name_at t r) 0 → (a : Option ℕ) → ((text : Text) → name_meaning text a ≡ name_by text word)
+      → name_meaning (wanted_name (element_at s p)) a ≡ name_of_row s w t row
   unfolding row_meaning
   row_there {r} e {p} i {word} j a h =
       rw e (h (wanted_name (element_at s p)) ∙ ap (λ (p : ℕ). name_by (wanted_name (element_at s p)) word) i ∙ ap (name_by (wanted_name (element_at s (place_of w t r)))) j)
 
-  pub row_absent : (text : Text) → row ≡ RowAnswer.Absent → name_meaning text name.Absent ≡ name_of_row s w t (row_meaning row)
-  unfolding row_meaning name_meaning
+  pub row_absent : (text : Text) → row ≡ None → name_meaning text None ≡ name_of_row s w t row
+  unfolding name_meaning
   row_absent text e = rw e
 
 -- ---- by a look at all calendars
 
 module _ (d : List ℕ) (c : Place) (root : Element) (u : Text) where
-  pub scan_there : (row : ℕ) (e : Element) (r : NameAnswer) → with_uid_in root u ≡ Some (row, e) → name_meaning (wanted_name e) r ≡ unless_main (context_at d c root) (starred_by (wanted_name e) (stars_in d c root row e))
+  pub scan_there : (row : ℕ) (e : Element) (r : Option ℕ) → with_uid_in root u ≡ Some (row, e) → name_meaning (wanted_name e) r ≡ unless_main (context_at d c root) (starred_by (wanted_name e) (stars_in d c root row e))
       → name_meaning (wanted_name e) r ≡ named_by (context_at d c root) u
   scan_there row e r h k =
       k ∙ sym (named_by_lem d c root u ∙ ap (λ (o : Option (ℕ × Element)). o >>= λ y. unless_main (context_at d c root) (name_in d c root y)) h)
 
-  pub scan_absent : (text : Text) → with_uid_in root u ≡ None → name_meaning text name.Absent ≡ named_by (context_at d c root) u
+  pub scan_absent : (text : Text) → with_uid_in root u ≡ None → name_meaning text None ≡ named_by (context_at d c root) u
   unfolding name_meaning
   scan_absent text h = sym (named_by_lem d c root u ∙ ap (λ (o : Option (ℕ × Element)). o >>= λ y. unless_main (context_at d c root) (name_in d c root y)) h)
 
 -- ---- with a table or without one
 
-module _ (x : Context) (s : Text) (w : List ℕ) {m : Made} where
-  pub named_ready : (u : Text) {t : Table} → m ≡ Ready t → {o : Option ℕ} → o ≡ sought_in s w t u → {n : Option Text} → n ≡ name_of_row s w t o → n ≡ named_in x s w m u
+module _ (x : Context) (s : Text) (w : List ℕ) {m : Option Table} where
+  pub named_ready : (u : Text) {t : Table} → m ≡ Some t → {o : Option ℕ} → o ≡ sought_in s w t u → {n : Option Text} → n ≡ name_of_row s w t o → n ≡ named_in x s w m u
   unfolding named_in
   named_ready u {t} e i j = rw e (j ∙ ap (name_of_row s w t) i)
 
-  pub named_none : (u : Text) → m ≡ NoRoom → {n : Option Text} → n ≡ named_by x u → n ≡ named_in x s w m u
+  pub named_none : (u : Text) → m ≡ None → {n : Option Text} → n ≡ named_by x u → n ≡ named_in x s w m u
   unfolding named_in
   named_none u e i = rw e i
 
-module _ (x : Context) (w : List ℕ) {m : Made} where
-  pub elapsed_ready : {t : Table} → m ≡ Ready t → {word : ℕ} → word ≡ get_or w (t.at + 4 * t.rows) 0 → (a : NameAnswer) → ((text : Text) → name_meaning text a ≡ name_by text word)
+module _ (x : Context) (w : List ℕ) {m : Option Table} where
+  pub elapsed_ready : {t : Table} → m ≡ Some t → {word : ℕ} → word ≡ get_or w (t.at + 4 * t.rows) 0 → (a : Option ℕ) → ((text : Text) → name_meaning text a ≡ name_by text word)
       → name_meaning elapsed_name a ≡ elapsed_in x w m
   unfolding elapsed_in
   elapsed_ready {t} e {word} i a h =
       let z : t.at + 4 * t.rows ≡ name_at t t.rows = omega arith in
       rw e (h elapsed_name ∙ ap (name_by elapsed_name) (i ∙ ap (λ (k : ℕ). get_or w k 0) z))
 
-  pub elapsed_none : m ≡ NoRoom → {n : Option Text} → n ≡ unless_main x elapsed_name → n ≡ elapsed_in x w m
+  pub elapsed_none : m ≡ None → {n : Option Text} → n ≡ unless_main x elapsed_name → n ≡ elapsed_in x w m
   unfolding elapsed_in
   elapsed_none e i = rw e i

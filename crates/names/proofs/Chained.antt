@@ -17,18 +17,13 @@ use Rattle.index.specs.Hash.{hash_of}
 use Rattle.bits.specs.Places.{inside}
 use Rattle.bits.specs.declared.Place.{Place}
 use Rattle.index.specs.Chains.{as_row, added, place_of, end_in}
-use Rattle.index.specs.declared.Made.TheVariants.{Ready as MadeReady}
 use Rattle.index.specs.Law.{Seeks, seeks_none, seeks_here}
 use Rattle.index.specs.declared.Table.{Table}
-use Rattle.index.specs.declared.Row.{Row}
-use Rattle.index.specs.declared.Row.TheVariants.{At, None}
 use Rattle.pack.specs.Value.{starred_by}
 use Rattle.model.specs.declared.records.Kind.{Kind}
 use Rattle.names.specs.Texts.{place_of_row, texts_at}
 use Rattle.names.specs.Ids.{ids_of, behind, noted, no_ids, free_in, ids_for, begun, end_ids, starred_in, place_in, noted_by}
 use Rattle.names.specs.declared.ids.Ids.{Ids}
-use Rattle.names.specs.declared.ids.IdsMade.{IdsMade}
-use Rattle.names.specs.declared.ids.IdsMade.TheVariants.{Ready, NoRoom}
 use Rattle.names.proofs.Starred.{seen_text}
 
 -- ---- what was found
@@ -37,22 +32,22 @@ is_none : (o : Option ℕ) → None ≡ as_row o → o ≡ None
 is_none None e = refl
 is_none (Some r) e = let z : ◌≡◌ {A = ℕ} 0 1 = cc in absurd (omega arith)
 
-is_some : (o : Option ℕ) {r : ℕ} → At r ≡ as_row o → o ≡ Some r
+is_some : (o : Option ℕ) {r : ℕ} → Some r ≡ as_row o → o ≡ Some r
 is_some None e = let z : ◌≡◌ {A = ℕ} 0 1 = cc in absurd (omega arith)
 is_some (Some s) {r} e = let z : s ≡ r = cc in ap Some z
 
-module _ {w : List ℕ} {t : Table} {p : ℕ → Bool} {o : Option ℕ} {at : Row} (s : Seeks w t p o at) where
+module _ {w : List ℕ} {t : Table} {p : ℕ → Bool} {o : Option ℕ} {at : Option ℕ} (s : Seeks w t p o at) where
   pub not_given : at ≡ None → false ≡ given o
   not_given e = sym (ap given (is_none o (seeks_none s e)))
 
-  pub is_given_lem : {r : ℕ} → at ≡ At r → p r ≡ true → true ≡ given o
+  pub is_given_lem : {r : ℕ} → at ≡ Some r → p r ≡ true → true ≡ given o
   is_given_lem e h = sym (ap given (is_some o (seeks_here s e h)))
 
   -- a number of the row
   pub no_number : (f : ℕ → ℕ) → at ≡ None → 0 ≡ ((o >>= λ r. Some (f r)) or 0)
   no_number f e = sym (ap (λ (o : Option ℕ). (o >>= λ r. Some (f r)) or 0) (is_none o (seeks_none s e)))
 
-  pub its_number : (f : ℕ → ℕ) {r : ℕ} → at ≡ At r → p r ≡ true → f r ≡ ((o >>= λ r. Some (f r)) or 0)
+  pub its_number : (f : ℕ → ℕ) {r : ℕ} → at ≡ Some r → p r ≡ true → f r ≡ ((o >>= λ r. Some (f r)) or 0)
   its_number f e h = sym (ap (λ (o : Option ℕ). (o >>= λ r. Some (f r)) or 0) (is_some o (seeks_here s e h)))
 
 -- a text was compared with an id, which has no `*` more
@@ -74,15 +69,15 @@ behind_all stars count h = rw (le-ltb stars count h)
 -- ---- two tables
 
 module _ (len at rows : ℕ) where
-  pub ids_none : rows ≡ 0 → NoRoom ≡ ids_of len at rows
+  pub ids_none : rows ≡ 0 → None ≡ ids_of len at rows
   unfolding ids_of
   ids_none e = rw (le-ltb 0 rows (omega arith))
 
-  pub ids_short : 0 < rows → len < at + 6 * rows → NoRoom ≡ ids_of len at rows
+  pub ids_short : 0 < rows → len < at + 6 * rows → None ≡ ids_of len at rows
   unfolding ids_of
   ids_short h k = rw (lt-ltb 0 rows h, lt-leb (at + 6 * rows) len k)
 
-  pub ids_are : 0 < rows → at + 6 * rows ≤ len → Ready (record { ids = record { at = at; rows = rows }; wanted = record { at = at + 3 * rows; rows = rows } }) ≡ ids_of len at rows
+  pub ids_are : 0 < rows → at + 6 * rows ≤ len → Some (record { ids = record { at = at; rows = rows }; wanted = record { at = at + 3 * rows; rows = rows } }) ≡ ids_of len at rows
   unfolding ids_of
   ids_are h k = rw (lt-ltb 0 rows h, le-leb (at + 6 * rows) len k)
 
@@ -97,14 +92,14 @@ noted_by_lem w i row wanted stars byte {id} {hash} e a f b =
 -- ---- the ids of a section
 
 module _ (bytes : ℕ) (start : Place) (w : List ℕ) (at rows : ℕ) where
-  abbrev Starts : IdsMade → List ℕ → Type 0
+  abbrev Starts : Option Ids → List ℕ → Type 0
   Starts m w' = (m ≡ ids_for bytes start (length w) at rows) × (w' ≡ begun w m)
 
-  pub tables_none : (not (eqb start.bit 0) || ltb 4294967295 bytes) ≡ true → Starts NoRoom w
+  pub tables_none : (not (eqb start.bit 0) || ltb 4294967295 bytes) ≡ true → Starts None w
   unfolding ids_for
   tables_none h = (go (eqb start.bit 0) (ltb 4294967295 bytes) refl h, refl)
     where
-      go : (a b : Bool) → ltb 4294967295 bytes ≡ b → (not a || b) ≡ true → NoRoom ≡ (if a && leb bytes 4294967295 then ids_of (length w) at rows else NoRoom)
+      go : (a b : Bool) → ltb 4294967295 bytes ≡ b → (not a || b) ≡ true → None ≡ (if a && leb bytes 4294967295 then ids_of (length w) at rows else None)
       go false b e h = refl
       go true true e h = rw (lt-leb bytes 4294967295 (ltb-true 4294967295 bytes e))
       go true false e h = absurd (true≢false (sym h))
@@ -114,19 +109,19 @@ module _ (bytes : ℕ) (start : Place) (w : List ℕ) (at rows : ℕ) where
     unfolding ids_for
     tables_may = go (eqb start.bit 0) (ltb 4294967295 bytes) refl h
       where
-        go : (a b : Bool) → ltb 4294967295 bytes ≡ b → (not a || b) ≡ false → ids_of (length w) at rows ≡ (if a && leb bytes 4294967295 then ids_of (length w) at rows else NoRoom)
+        go : (a b : Bool) → ltb 4294967295 bytes ≡ b → (not a || b) ≡ false → ids_of (length w) at rows ≡ (if a && leb bytes 4294967295 then ids_of (length w) at rows else None)
         go false b e h = absurd (true≢false h)
         go true true e h = absurd (true≢false h)
         go true false e h = rw (le-leb bytes 4294967295 (ltb-false 4294967295 bytes e))
 
-    module _ {m : IdsMade} (i : m ≡ ids_of (length w) at rows) where
-      pub tables_refused : m ≡ NoRoom → Starts NoRoom w
+    module _ {m : Option Ids} (i : m ≡ ids_of (length w) at rows) where
+      pub tables_refused : m ≡ None → Starts None w
       tables_refused e = (sym e ∙ i ∙ tables_may, refl)
 
-      pub tables_ready : {t : Ids} → m ≡ Ready t → {w' : List ℕ} → w' ≡ no_ids w t → Starts (Ready t) w'
+      pub tables_ready : {t : Ids} → m ≡ Some t → {w' : List ℕ} → w' ≡ no_ids w t → Starts (Some t) w'
       tables_ready e z = (sym e ∙ i ∙ tables_may, z)
 
-module _ (kind : Kind) (d : List ℕ) (start p : Place) (w : List ℕ) (m : IdsMade) (n : ℕ) (u : Text) where
+module _ (kind : Kind) (d : List ℕ) (start p : Place) (w : List ℕ) (m : Option Ids) (n : ℕ) (u : Text) where
   abbrev Gives : ℕ → Type 0
   Gives k = starred_by u k ≡ starred_in kind d start p w m n u
 
@@ -135,11 +130,11 @@ module _ (kind : Kind) (d : List ℕ) (start p : Place) (w : List ℕ) (m : IdsM
   starred_past e = rw e
 
   module _ (e : inside (length d) p ≡ true) (k : ℕ) where
-    pub starred_scan : m ≡ NoRoom → starred_by u k ≡ free (texts_at kind d start n) u → Gives k
+    pub starred_scan : m ≡ None → starred_by u k ≡ free (texts_at kind d start n) u → Gives k
     unfolding starred_in
     starred_scan z h = rw (e, z) h
 
-    module _ {i : Ids} (z : m ≡ Ready i) where
+    module _ {i : Ids} (z : m ≡ Some i) where
       pub starred_few : i.ids.rows < n → starred_by u k ≡ free (texts_at kind d start n) u → Gives k
       unfolding starred_in
       starred_few l h = rw (e, z, lt-ltb i.ids.rows n l) h
@@ -148,12 +143,12 @@ module _ (kind : Kind) (d : List ℕ) (start p : Place) (w : List ℕ) (m : IdsM
       unfolding starred_in
       starred_by_lem l h = rw (e, z, le-ltb i.ids.rows n l) (ap (starred_by u) h)
 
-module _ (kind : Kind) (d : List ℕ) (start : Place) (w : List ℕ) (m : IdsMade) (n row : ℕ) where
-  pub place_scan : m ≡ NoRoom → {r : Place} → r ≡ place_of_row kind d start row → r ≡ place_in kind d start w m n row
+module _ (kind : Kind) (d : List ℕ) (start : Place) (w : List ℕ) (m : Option Ids) (n row : ℕ) where
+  pub place_scan : m ≡ None → {r : Place} → r ≡ place_of_row kind d start row → r ≡ place_in kind d start w m n row
   unfolding place_in
   place_scan z h = rw z h
 
-  module _ {i : Ids} (z : m ≡ Ready i) where
+  module _ {i : Ids} (z : m ≡ Some i) where
     pub place_few : i.ids.rows < n → {r : Place} → r ≡ place_of_row kind d start row → r ≡ place_in kind d start w m n row
     unfolding place_in
     place_few l h = rw (z, lt-ltb i.ids.rows n l) h
@@ -162,8 +157,8 @@ module _ (kind : Kind) (d : List ℕ) (start : Place) (w : List ℕ) (m : IdsMad
     unfolding place_in
     place_by_lem l h = rw (z, le-ltb i.ids.rows n l) (λ j. record { byte = h j; bit = 0 })
 
-pub noted_by_made : (w : List ℕ) (m : IdsMade) (row : ℕ) (u : Text) (stars byte : ℕ) {i : Ids} → m ≡ Ready i → {w' : List ℕ} → w' ≡ noted w i row u stars byte → w' ≡ noted_by w m row u stars byte
+pub noted_by_made : (w : List ℕ) (m : Option Ids) (row : ℕ) (u : Text) (stars byte : ℕ) {i : Ids} → m ≡ Some i → {w' : List ℕ} → w' ≡ noted w i row u stars byte → w' ≡ noted_by w m row u stars byte
 noted_by_made w m row u stars byte z h = rw z h
 
-pub ends_ready : {m : IdsMade} {i : Ids} → m ≡ Ready i → {r : ℕ} (at len : ℕ) → r ≡ min (end_in (MadeReady i.wanted)) len → r ≡ end_ids m at len
+pub ends_ready : {m : Option Ids} {i : Ids} → m ≡ Some i → {r : ℕ} (at len : ℕ) → r ≡ min (end_in (Some i.wanted)) len → r ≡ end_ids m at len
 ends_ready z at len h = rw z h

@@ -18,11 +18,7 @@ use Rattle.bits.specs.Places.{at, up_to}
 use Rattle.bits.specs.declared.Place.{Place}
 use Rattle.model.specs.declared.records.Kind.TheVariants.{Calendars}
 use Rattle.pack.specs.Value.{starred_by, name_meaning}
-use Rattle.pack.specs.declared.stars.NameAnswer.{NameAnswer}
-use Rattle.pack.specs.declared.stars.NameAnswer.TheVariants as name
 use Rattle.rows.specs.Rows.{calendar_meaning}
-use Rattle.rows.specs.declared.CalendarAnswer.{CalendarAnswer}
-use Rattle.rows.specs.declared.CalendarAnswer.TheVariants.{Is, Absent}
 use Rattle.tree.specs.Place.{element_at}
 use Rattle.model.specs.Answers.{read_at}
 use Rattle.model.specs.Parts.{raw}
@@ -33,12 +29,12 @@ use Rattle.names.specs.Context.{main_row, section_row, wanted_name, stars_by, st
 
 -- ---- what a look-up answered
 
-module _ (s : Text) (r : CalendarAnswer) {o : Option (ℕ × Element)} (h : calendar_meaning s r ≡ o) where
-  pub is_there : {row p : ℕ} → r ≡ Is row p → o ≡ Some (row, element_at s p)
+module _ (s : Text) (r : Option (ℕ × ℕ)) {o : Option (ℕ × Element)} (h : calendar_meaning s r ≡ o) where
+  pub is_there : {row p : ℕ} → r ≡ Some (row, p) → o ≡ Some (row, element_at s p)
   unfolding calendar_meaning
   is_there e = sym h ∙ rw e
 
-  pub is_absent : r ≡ Absent → o ≡ None
+  pub is_absent : r ≡ None → o ≡ None
   unfolding calendar_meaning
   is_absent e = sym h ∙ rw e
 
@@ -80,15 +76,15 @@ module _ (d : List ℕ) (c : Place) (root : Element) where
   -- ---- what the functions answer
 
   -- the text beside it and its `*`, as they were found
-  pub beside : (row : ℕ) (e : Element) {t : Text} {k : ℕ} (r : NameAnswer) → t ≡ wanted_name e → k ≡ stars_in d c root row e → name_meaning t r ≡ unless_main (context_at d c root) (starred_by t k)
+  pub beside : (row : ℕ) (e : Element) {t : Text} {k : ℕ} (r : Option ℕ) → t ≡ wanted_name e → k ≡ stars_in d c root row e → name_meaning t r ≡ unless_main (context_at d c root) (starred_by t k)
       → name_meaning (wanted_name e) r ≡ unless_main (context_at d c root) (starred_by (wanted_name e) (stars_in d c root row e))
   beside row e {t} {k} r h i x = ap (λ (t : Text). name_meaning t r) (sym h) ∙ x ∙ ap (λ (t : Text). unless_main (context_at d c root) (starred_by t k)) h ∙ ap (λ (k : ℕ). unless_main (context_at d c root) (starred_by (wanted_name e) k)) i
 
-  pub unless_is : (t : Text) (k : ℕ) → same (starred_by t k) (context_at d c root).main.name ≡ true → name_meaning t name.Absent ≡ unless_main (context_at d c root) (starred_by t k)
+  pub unless_is : (t : Text) (k : ℕ) → same (starred_by t k) (context_at d c root).main.name ≡ true → name_meaning t None ≡ unless_main (context_at d c root) (starred_by t k)
   unfolding name_meaning
   unless_is t k h = rw h
 
-  pub unless_other : (t : Text) (k : ℕ) → same (starred_by t k) (context_at d c root).main.name ≡ false → name_meaning t (name.Starred k) ≡ unless_main (context_at d c root) (starred_by t k)
+  pub unless_other : (t : Text) (k : ℕ) → same (starred_by t k) (context_at d c root).main.name ≡ false → name_meaning t (Some k) ≡ unless_main (context_at d c root) (starred_by t k)
   unfolding name_meaning
   unless_other t k h = rw h
 

@@ -31,8 +31,6 @@ use Rattle.rows.specs.Turns.{order_end, order_at}
 use Rattle.rows.specs.Walks.{order_by, later_in_order, Orders}
 use Rattle.rows.proofs.Filling.{drop_in, drop_out, drop_is, cons_head, cons_tail}
 use Rattle.tree.specs.Place.{element_at}
-use Rattle.tree.specs.declared.Found.{Found}
-use Rattle.tree.specs.declared.Found.TheVariants.{At, Nothing}
 use Rattle.names.specs.Uids.{names_end, how_many, of_row, Stays, Ripe, Stand, Chained}
 
 -- ---- words that stay
@@ -91,7 +89,7 @@ kept_there s p h = go (ltb p (length s)) refl
 
 -- ---- where each calendar stands
 
-pub record Placing (s : Text) (root : Element) (t : Table) (left : ℕ) (e : Found) (w w' : List ℕ) : Type 0 where
+pub record Placing (s : Text) (root : Element) (t : Table) (left : ℕ) (e : Option ℕ) (w w' : List ℕ) : Type 0 where
   pub few : left ≤ t.rows
   pub most : t.rows - left ≤ how_many root
   pub ahead : drop (t.rows - left) (in_order root) ≡ order_by s root e
@@ -99,7 +97,7 @@ pub record Placing (s : Text) (root : Element) (t : Table) (left : ℕ) (e : Fou
   pub stays : Stays t.at (names_end t) w w'
 
 module _ {s : Text} {root : Element} {t : Table} {w : List ℕ} (ripe : Ripe s root t (length w)) where
-  pub placing_begin : {n : ℕ} {e : Found} → Orders s root (in_order root) n e → Placing s root t t.rows e w w
+  pub placing_begin : {n : ℕ} {e : Option ℕ} → Orders s root (in_order root) n e → Placing s root t t.rows e w w
   placing_begin h =
       let z : t.rows - t.rows ≡ 0 = omega arith in
       record {
@@ -110,16 +108,16 @@ module _ {s : Text} {root : Element} {t : Table} {w : List ℕ} (ripe : Ripe s r
         stays = stays_refl t.at (names_end t) w;
       }
 
-  module _ {left : ℕ} {e : Found} {w₁ : List ℕ} (p : Placing s root t left e w w₁) where
-    none_left : e ≡ Nothing → t.rows - left ≡ how_many root
+  module _ {left : ℕ} {e : Option ℕ} {w₁ : List ℕ} (p : Placing s root t left e w w₁) where
+    none_left : e ≡ None → t.rows - left ≡ how_many root
     none_left i = omega (arith, drop_out (t.rows - left) (in_order root) (p.ahead ∙ order_end s root i), p.most)
 
-    pub placing_end : e ≡ Nothing → (t.rows - left ≡ how_many root) × Stand s root t 0 w₁ × Stays t.at (names_end t) w w₁
+    pub placing_end : e ≡ None → (t.rows - left ≡ how_many root) × Stand s root t 0 w₁ × Stays t.at (names_end t) w w₁
     placing_end i =
         let z = none_left i in
         (z, record { stands = λ r a b. p.stand.stands r (omega (arith, p.few, ripe.rows)) b }, p.stays)
 
-    module _ {at : ℕ} (i : e ≡ At at) where
+    module _ {at : ℕ} (i : e ≡ Some at) where
       split : drop (t.rows - left) (in_order root) ≡ element_at s at ∷ later_in_order s root at
       split = p.ahead ∙ order_at s root i
 
@@ -154,7 +152,7 @@ module _ {s : Text} {root : Element} {t : Table} {w : List ℕ} (ripe : Ripe s r
             ∙ ap (element_at s) (get_or-set_other w₁ (place_at t (left - 1)) (place_at t r) at 0 (λ q. y (omega arith)))
             ∙ p.stand.stands r (omega (arith, y)) b
 
-        pub placing_turn : {n : ℕ} {r : Found} → Orders s root (later_in_order s root at) n r → Placing s root t (left - 1) r w w₂
+        pub placing_turn : {n : ℕ} {r : Option ℕ} → Orders s root (later_in_order s root at) n r → Placing s root t (left - 1) r w w₂
         placing_turn h =
             let z : t.rows - left + 1 ≡ t.rows - (left - 1) = omega (arith, placing_more, p.few) in
             record {

@@ -20,8 +20,6 @@ use Rattle.definition.specs.Text.{Text, trim}
 use Rattle.definition.specs.Tree.{Element, child, non_empty, text_of}
 use Rattle.laws.specs.Options.{never}
 use Rattle.index.specs.declared.Table.{Table}
-use Rattle.index.specs.declared.Made.{Made}
-use Rattle.index.specs.declared.Made.TheVariants.{Ready, NoRoom}
 use Rattle.index.specs.Hash.{hash_of}
 use Rattle.index.specs.Chains.{place_at, place_of, end_of, table_of}
 use Rattle.index.specs.Law.{Fits}
@@ -35,12 +33,7 @@ use Rattle.model.specs.Passes.{Passes, pass_no, pass_more}
 use Rattle.model.specs.declared.records.Kind.TheVariants as kind
 use Rattle.pack.specs.Value.{starred_by}
 use Rattle.rows.specs.Rows.{in_order, has_uid, main_in, with_uid_in, calendar_meaning}
-use Rattle.definition.specs.Answer.{row_meaning}
-use Rattle.definition.specs.declared.RowAnswer.{RowAnswer}
-use Rattle.definition.specs.declared.RowAnswer.TheVariants.{Is as IsRow, Absent as NoRow}
 use Rattle.rows.specs.Tables.{uid_of, sought_in}
-use Rattle.rows.specs.declared.CalendarAnswer.{CalendarAnswer}
-use Rattle.rows.specs.declared.CalendarAnswer.TheVariants.{Is, Absent}
 use Rattle.tree.specs.Place.{element_at}
 use Rattle.names.specs.declared.named.Main.{Main}
 use Rattle.names.specs.declared.uids.CalendarTable.{CalendarTable}
@@ -298,18 +291,18 @@ module _ {s : Text} {root : Element} {t : Table} {w w₁ : List ℕ} {count : �
 -- ---- room for it
 
 module _ (s : Text) (root : Element) (len at : ℕ) where
-  pub room_long : 2 ^ 32 ≤ length s → NoRoom ≡ made_in s root len at
+  pub room_long : 2 ^ 32 ≤ length s → None ≡ made_in s root len at
   room_long h = rw (le-ltb (length s) (2 ^ 32) h)
 
   module _ (h : length s < 2 ^ 32) {n : ℕ} (k : n ≡ length (calendar_elements root)) where
     count : n ≡ how_many root
     count = k ∙ sym (order_length root)
 
-    pub room_many : most_elements < n → NoRoom ≡ made_in s root len at
+    pub room_many : most_elements < n → None ≡ made_in s root len at
     room_many l = rw (lt-ltb (length s) (2 ^ 32) h, lt-leb (how_many root) most_elements (omega (arith, count)))
 
     module _ (l : n ≤ most_elements) {rows : ℕ} (j : rows ≡ max 1 n) where
-      pub room_is : {r : Made} → r ≡ table_of (len - rows - 1) at rows → r ≡ made_in s root len at
+      pub room_is : {r : Option Table} → r ≡ table_of (len - rows - 1) at rows → r ≡ made_in s root len at
       room_is e =
           let z : len - rows - 1 ≡ len - suc rows = omega arith in
           e
@@ -317,24 +310,24 @@ module _ (s : Text) (root : Element) (len at : ℕ) where
           ∙ ap (λ (k : ℕ). table_of (len - suc k) at k) (j ∙ ap (max 1) count)
           ∙ sym (rw (lt-ltb (length s) (2 ^ 32) h, le-leb (how_many root) most_elements (omega (arith, count))))
 
-      pub room_short : len ≤ rows → NoRoom ≡ made_in s root len at
+      pub room_short : len ≤ rows → None ≡ made_in s root len at
       room_short i = room_is (table_short (len - rows - 1) at rows (omega arith) (omega arith))
 
-module _ {s : Text} {root : Element} {at : ℕ} {w : List ℕ} {m : Made} (h : m ≡ made_in s root (length w) at) where
-  pub uids_none : m ≡ NoRoom → MakesUids s root at w w (record { table = NoRoom; end = at })
+module _ {s : Text} {root : Element} {at : ℕ} {w : List ℕ} {m : Option Table} (h : m ≡ made_in s root (length w) at) where
+  pub uids_none : m ≡ None → MakesUids s root at w w (record { table = None; end = at })
   uids_none e = record { made = sym e ∙ h; end = refl; words = refl }
 
-  pub uids_ready : {t : Table} {w' : List ℕ} → m ≡ Ready t → Uids s root t w' × Stays t.at (names_end t) w w' → MakesUids s root at w w' (record { table = Ready t; end = t.at + 4 * t.rows + 1 })
+  pub uids_ready : {t : Table} {w' : List ℕ} → m ≡ Some t → Uids s root t w' × Stays t.at (names_end t) w w' → MakesUids s root at w w' (record { table = Some t; end = t.at + 4 * t.rows + 1 })
   uids_ready e x = record { made = sym e ∙ h; end = omega arith; words = x }
 
-pub makes_uids : {s : Text} {root : Element} {at : ℕ} {w w₁ : List ℕ} {r : CalendarTable} → MakesUids s root at w w₁ r → {t : Table} → r.table ≡ Ready t → Uids s root t w₁
+pub makes_uids : {s : Text} {root : Element} {at : ℕ} {w w₁ : List ℕ} {r : CalendarTable} → MakesUids s root at w w₁ r → {t : Table} → r.table ≡ Some t → Uids s root t w₁
 makes_uids {s} {root} {w = w} {w₁} h {t} e = let y : Uids s root t w₁ × Stays t.at (names_end t) w w₁ = rw e at h.words in y.0
 
 module _ {d : List ℕ} {c : Place} {s : Text} {root : Element} {at : ℕ} {w w₁ : List ℕ} {r : CalendarTable} (h : MakesUids s root at w w₁ r) where
-  pub makes_none : r.table ≡ NoRoom → Makes d c s root at w w₁ r
+  pub makes_none : r.table ≡ None → Makes d c s root at w w₁ r
   makes_none e = record { made = h.made; end = h.end; words = rw e (rw e at h.words) }
 
-  pub makes_ready : {t : Table} {w₂ : List ℕ} → r.table ≡ Ready t → Calendars d c s root t w₂ × Stays (end_of t) (names_end t) w₁ w₂ → Makes d c s root at w w₂ r
+  pub makes_ready : {t : Table} {w₂ : List ℕ} → r.table ≡ Some t → Calendars d c s root t w₂ × Stays (end_of t) (names_end t) w₁ w₂ → Makes d c s root at w w₂ r
   makes_ready {t} e x =
       let y : Uids s root t w₁ × Stays t.at (names_end t) w w₁ = rw e at h.words in
       record { made = h.made; end = h.end; words = rw e (x.0, stays_then y.1 (stays_wider (omega arith) (omega arith) x.1)) }
@@ -346,29 +339,29 @@ unfolding order_row calendar_meaning
 in_order_lem s w t None = refl
 in_order_lem s w t (Some r) = refl
 
-module _ (w : List ℕ) (t : Table) {a : RowAnswer} where
-  pub row_absent : a ≡ NoRow → Absent ≡ order_row w t (row_meaning a)
+module _ (w : List ℕ) (t : Table) {a : Option ℕ} where
+  pub row_absent : a ≡ None → None ≡ order_row w t a
   unfolding order_row row_meaning
   row_absent e = rw e
 
-  pub row_there : {r : ℕ} → a ≡ IsRow r → {row at : ℕ} → row ≡ t.rows - suc r → at ≡ place_of w t r → Is row at ≡ order_row w t (row_meaning a)
+  pub row_there : {r : ℕ} → a ≡ Some r → {row at : ℕ} → row ≡ t.rows - suc r → at ≡ place_of w t r → Some (row, at) ≡ order_row w t a
   unfolding order_row row_meaning
-  row_there e h i = rw e (λ j. Is (h j) (i j))
+  row_there e h i = rw e (λ j. Some ((h j), (i j)))
 
-module _ (s : Text) (root : Element) (w : List ℕ) {m : Made} (u : Text) where
-  pub by_table : {t : Table} → m ≡ Ready t → (o : RowAnswer) → row_meaning o ≡ sought_in s w t u → {a : CalendarAnswer} → a ≡ order_row w t (row_meaning o) → calendar_meaning s a ≡ calendar_by s root w m u
+module _ (s : Text) (root : Element) (w : List ℕ) {m : Option Table} (u : Text) where
+  pub by_table : {t : Table} → m ≡ Some t → (o : Option ℕ) → o ≡ sought_in s w t u → {a : Option (ℕ × ℕ)} → a ≡ order_row w t o → calendar_meaning s a ≡ calendar_by s root w m u
   unfolding calendar_by
-  by_table {t} e o h i = ap (calendar_meaning s) i ∙ in_order_lem s w t (row_meaning o) ∙ rw (e, h)
+  by_table {t} e o h i = ap (calendar_meaning s) i ∙ in_order_lem s w t o ∙ rw (e, h)
 
-  pub by_scan : m ≡ NoRoom → (a : CalendarAnswer) → calendar_meaning s a ≡ with_uid_in root u → calendar_meaning s a ≡ calendar_by s root w m u
+  pub by_scan : m ≡ None → (a : Option (ℕ × ℕ)) → calendar_meaning s a ≡ with_uid_in root u → calendar_meaning s a ≡ calendar_by s root w m u
   unfolding calendar_by
   by_scan e a h = rw e h
 
-module _ (s : Text) (root : Element) {a : CalendarAnswer} (h : calendar_meaning s a ≡ main_in root) where
-  pub main_missing : a ≡ Absent → main_in root ≡ None
+module _ (s : Text) (root : Element) {a : Option (ℕ × ℕ)} (h : calendar_meaning s a ≡ main_in root) where
+  pub main_missing : a ≡ None → main_in root ≡ None
   unfolding calendar_meaning
   main_missing e = sym h ∙ rw e
 
-  pub main_given : {d : List ℕ} {c : Place} {row at : ℕ} → a ≡ Is row at → {stars : ℕ} → stars ≡ stars_in d c root row (element_at s at) → MainOf d c s root (record { row = row; at = at; stars = stars })
+  pub main_given : {d : List ℕ} {c : Place} {row at : ℕ} → a ≡ Some (row, at) → {stars : ℕ} → stars ≡ stars_in d c root row (element_at s at) → MainOf d c s root (record { row = row; at = at; stars = stars })
   unfolding calendar_meaning
   main_given e i = record { there = sym h ∙ rw e; stars = i }

@@ -1,6 +1,7 @@
 -- Ids by tables in lent words: what the calls make of the words and read in them, and the law that it is what a look at all records gives. Assumes
 -- nothing.
 use Rattle.std.specs.Prelude.{if◌then◌else◌, Bool, ◌&&◌, List, [], ℕ, suc, ◌+◌, ◌-◌, ◌*◌, min, ltb, leb, eqb, length}
+use Rattle.std.specs.Prelude.{None, Option}
 use Rattle.std.specs.Prelude.{Some}
 use Rattle.definition.specs.Base.{◌>>=◌, ◌or◌, given, find, same}
 use Rattle.definition.specs.Calendar.{free}
@@ -16,15 +17,13 @@ use Rattle.pack.specs.Value.{starred_by}
 use Rattle.names.specs.Stars.{tries}
 use Rattle.names.specs.Texts.{place_of_row, texts_at}
 use Rattle.names.specs.declared.ids.Ids.{Ids}
-use Rattle.names.specs.declared.ids.IdsMade.{IdsMade}
-use Rattle.names.specs.declared.ids.IdsMade.TheVariants as made
 
 -- tables from a place on, where the words are long enough for both
-unfoldable pub ids_of : ℕ → ℕ → ℕ → IdsMade
+unfoldable pub ids_of : ℕ → ℕ → ℕ → Option Ids
 ids_of len at rows =
     if ltb 0 rows && leb (at + 6 * rows) len
-    then made.Ready (record { ids = record { at = at; rows = rows }; wanted = record { at = at + 3 * rows; rows = rows } })
-    else made.NoRoom
+    then Some (record { ids = record { at = at; rows = rows }; wanted = record { at = at + 3 * rows; rows = rows } })
+    else None
 
 abbrev pub no_ids : List ℕ → Ids → List ℕ
 no_ids w i = zeros (zeros w i.ids.at i.ids.rows) i.wanted.at i.wanted.rows
@@ -66,34 +65,34 @@ free_in d w i count wanted = let k = stars_from d w i count wanted in tries (cou
 -- ---- the ids of a section that is written, with tables or with none
 
 -- tables for a section that begins at a place of a buffer of so many bytes: each record begins at a whole byte, and 32 bits hold where
-unfoldable pub ids_for : ℕ → Place → ℕ → ℕ → ℕ → IdsMade
-ids_for bytes start len at rows = if eqb start.bit 0 && leb bytes 4294967295 then ids_of len at rows else made.NoRoom
+unfoldable pub ids_for : ℕ → Place → ℕ → ℕ → ℕ → Option Ids
+ids_for bytes start len at rows = if eqb start.bit 0 && leb bytes 4294967295 then ids_of len at rows else None
 
 -- none noted yet
-abbrev pub begun : List ℕ → IdsMade → List ℕ
-begun w made.NoRoom = w
-begun w (made.Ready i) = no_ids w i
+abbrev pub begun : List ℕ → Option Ids → List ℕ
+begun w None = w
+begun w (Some i) = no_ids w i
 
 -- where the words behind them begin
-abbrev pub end_ids : IdsMade → ℕ → ℕ → ℕ
-end_ids made.NoRoom at len = at
-end_ids (made.Ready i) at len = min (end_of i.wanted) len
+abbrev pub end_ids : Option Ids → ℕ → ℕ → ℕ
+end_ids None at len = at
+end_ids (Some i) at len = min (end_of i.wanted) len
 
 -- with the id of a row more
-abbrev pub noted_by : List ℕ → IdsMade → ℕ → Text → ℕ → ℕ → List ℕ
-noted_by w made.NoRoom row u stars byte = w
-noted_by w (made.Ready i) row u stars byte = noted w i row u stars byte
+abbrev pub noted_by : List ℕ → Option Ids → ℕ → Text → ℕ → ℕ → List ℕ
+noted_by w None row u stars byte = w
+noted_by w (Some i) row u stars byte = noted w i row u stars byte
 
 -- the text with the `*` that it needs among the first records, by tables that have words for so many, else by all records
-abbrev pub free_by : Kind → List ℕ → Place → List ℕ → IdsMade → ℕ → Text → Text
-free_by kind d start w made.NoRoom count u = free (texts_at kind d start count) u
-free_by kind d start w (made.Ready i) count u = if ltb i.ids.rows count then free (texts_at kind d start count) u else starred_by u (free_in d w i count u)
+abbrev pub free_by : Kind → List ℕ → Place → List ℕ → Option Ids → ℕ → Text → Text
+free_by kind d start w None count u = free (texts_at kind d start count) u
+free_by kind d start w (Some i) count u = if ltb i.ids.rows count then free (texts_at kind d start count) u else starred_by u (free_in d w i count u)
 
 -- with none once the place is past the end
-unfoldable pub starred_in : Kind → List ℕ → Place → Place → List ℕ → IdsMade → ℕ → Text → Text
+unfoldable pub starred_in : Kind → List ℕ → Place → Place → List ℕ → Option Ids → ℕ → Text → Text
 starred_in kind d start p w m count u = if inside (length d) p then free_by kind d start w m count u else starred_by u 0
 
 -- where the record of a row stands among so many
-unfoldable pub place_in : Kind → List ℕ → Place → List ℕ → IdsMade → ℕ → ℕ → Place
-place_in kind d start w made.NoRoom count row = place_of_row kind d start row
-place_in kind d start w (made.Ready i) count row = if ltb i.ids.rows count then place_of_row kind d start row else record { byte = place_of w i.ids row; bit = 0 }
+unfoldable pub place_in : Kind → List ℕ → Place → List ℕ → Option Ids → ℕ → ℕ → Place
+place_in kind d start w None count row = place_of_row kind d start row
+place_in kind d start w (Some i) count row = if ltb i.ids.rows count then place_of_row kind d start row else record { byte = place_of w i.ids row; bit = 0 }

@@ -8,8 +8,6 @@ use Rattle.definition.specs.Task.{Context, unless_main}
 use Rattle.definition.specs.Text.{Text}
 use Rattle.definition.specs.Tree.{Element}
 use Rattle.index.specs.declared.Table.{Table}
-use Rattle.index.specs.declared.Made.{Made}
-use Rattle.index.specs.declared.Made.TheVariants as made
 use Rattle.index.specs.Chains.{place_of, end_of}
 use Rattle.bits.specs.declared.Place.{Place}
 use Rattle.model.specs.Answers.{read_at}
@@ -52,13 +50,13 @@ abbrev pub name_of_row : Text → List ℕ → Table → Option ℕ → Option T
 name_of_row s w t row = row >>= λ r. name_by (wanted_name (element_at s (place_of w t r))) (get_or w (name_at t r) 0)
 
 -- the same, as words say it where there is a table
-unfoldable pub named_in : Context → Text → List ℕ → Made → Text → Option Text
-named_in x s w made.NoRoom u = named_by x u
-named_in x s w (made.Ready t) u = name_of_row s w t (sought_in s w t u)
+unfoldable pub named_in : Context → Text → List ℕ → Option Table → Text → Option Text
+named_in x s w None u = named_by x u
+named_in x s w (Some t) u = name_of_row s w t (sought_in s w t u)
 
-unfoldable pub elapsed_in : Context → List ℕ → Made → Option Text
-elapsed_in x w made.NoRoom = unless_main x elapsed_name
-elapsed_in x w (made.Ready t) = name_by elapsed_name (get_or w (name_at t t.rows) 0)
+unfoldable pub elapsed_in : Context → List ℕ → Option Table → Option Text
+elapsed_in x w None = unless_main x elapsed_name
+elapsed_in x w (Some t) = name_by elapsed_name (get_or w (name_at t t.rows) 0)
 
 -- what an answer means
 abbrev pub calendar_name : Text → CalendarName → Option Text
@@ -72,9 +70,9 @@ pub record Calendars (d : List ℕ) (c : Place) (s : Text) (root : Element) (t :
   pub names : (r : ℕ) → r < how_many root → get_or w (name_at t r) 0 ≡ name_word (context_at d c root).main.name (wanted_name (of_row root r)) (stars_in d c root (how_many root - suc r) (of_row root r))
   pub elapsed : get_or w (name_at t t.rows) 0 ≡ name_word (context_at d c root).main.name elapsed_name 0
 
-abbrev pub CalendarsIn : List ℕ → Place → Text → Element → Made → List ℕ → List ℕ → Type 0
-CalendarsIn d c s root made.NoRoom w w' = w' ≡ w
-CalendarsIn d c s root (made.Ready t) w w' = Calendars d c s root t w' × Stays t.at (names_end t) w w'
+abbrev pub CalendarsIn : List ℕ → Place → Text → Element → Option Table → List ℕ → List ℕ → Type 0
+CalendarsIn d c s root None w w' = w' ≡ w
+CalendarsIn d c s root (Some t) w w' = Calendars d c s root t w' × Stays t.at (names_end t) w w'
 
 pub record Makes (d : List ℕ) (c : Place) (s : Text) (root : Element) (at : ℕ) (w w' : List ℕ) (r : CalendarTable) : Type 0 where
   pub made : r.table ≡ made_in s root (length w) at

@@ -11,8 +11,6 @@ use Rattle.definition.specs.Task.{Context, unless_main}
 use Rattle.definition.specs.Text.{Text}
 use Rattle.definition.specs.Tree.{Element}
 use Rattle.index.specs.declared.Table.{Table}
-use Rattle.index.specs.declared.Made.{Made}
-use Rattle.index.specs.declared.Made.TheVariants.{Ready, NoRoom}
 use Rattle.index.specs.Below.{SameBelow, below_in}
 use Rattle.index.specs.Hash.{hash_of}
 use Rattle.index.specs.Last.{last_below}
@@ -64,7 +62,7 @@ module _ {d : List ℕ} {c : Place} {s : Text} {root : Element} {t : Table} {w :
       ∙ name_said (context_at d c root) (wanted_name (of_row root r)) (stars_in d c root (how_many root - suc r) (of_row root r))
 
   -- THE LAW
-  pub calendars_named : (u : Text) → named_in (context_at d c root) s w (Ready t) u ≡ named_by (context_at d c root) u
+  pub calendars_named : (u : Text) → named_in (context_at d c root) s w (Some t) u ≡ named_by (context_at d c root) u
   unfolding named_in
   calendars_named u =
       ap (name_of_row s w t) (sought x.uids u)
@@ -79,7 +77,7 @@ module _ {d : List ℕ} {c : Place} {s : Text} {root : Element} {t : Table} {w :
           let z : how_many root - suc r ≡ 0 + (how_many root - suc r) = omega arith in
           in_row r (h r refl) ∙ ap (λ (i : ℕ). unless_main (context_at d c root) (name_in d c root (i, of_row root r))) z
 
-  pub calendars_elapsed : elapsed_in (context_at d c root) w (Ready t) ≡ unless_main (context_at d c root) elapsed_name
+  pub calendars_elapsed : elapsed_in (context_at d c root) w (Some t) ≡ unless_main (context_at d c root) elapsed_name
   unfolding elapsed_in
   calendars_elapsed = ap (name_by elapsed_name) x.elapsed ∙ name_said (context_at d c root) elapsed_name 0 ∙ ap (unless_main (context_at d c root)) (star_none elapsed_name)
 
@@ -89,7 +87,7 @@ module _ (x : Context) (s : Text) (t : Table) {w w' : List ℕ} (y : SameBelow (
   in_table : SameIn t w w'
   in_table = below_in y (omega arith)
 
-  pub named_same : (u : Text) → named_in x s w' (Ready t) u ≡ named_in x s w (Ready t) u
+  pub named_same : (u : Text) → named_in x s w' (Some t) u ≡ named_in x s w (Some t) u
   unfolding named_in
   named_same u =
       ap (name_of_row s w' t) (find_same in_table (λ v. same (uid_of (element_at s v)) u) (hash_of u))
@@ -102,40 +100,40 @@ module _ (x : Context) (s : Text) (t : Table) {w w' : List ℕ} (y : SameBelow (
           ap (λ (p : ℕ). name_by (wanted_name (element_at s p)) (get_or w' (name_at t r) 0)) (place_same in_table r k)
           ∙ ap (name_by (wanted_name (element_at s (place_of w t r)))) (y.words (name_at t r) (omega arith))
 
-  pub elapsed_same : elapsed_in x w' (Ready t) ≡ elapsed_in x w (Ready t)
+  pub elapsed_same : elapsed_in x w' (Some t) ≡ elapsed_in x w (Some t)
   unfolding elapsed_in
   elapsed_same = ap (name_by elapsed_name) (y.words (name_at t t.rows) (omega arith))
 
 -- ---- whether there is a table or none
 
 -- words that say of each UID what the definition says
-pub record Finds (x : Context) (s : Text) (m : Made) (w : List ℕ) : Type 0 where
+pub record Finds (x : Context) (s : Text) (m : Option Table) (w : List ℕ) : Type 0 where
   pub named : (u : Text) → named_in x s w m u ≡ named_by x u
   pub elapsed : elapsed_in x w m ≡ unless_main x elapsed_name
 
-pub finds_kept : {x : Context} {s : Text} {m : Made} {w w' : List ℕ} → SameBelow (end_names m) w w' → Finds x s m w → Finds x s m w'
+pub finds_kept : {x : Context} {s : Text} {m : Option Table} {w w' : List ℕ} → SameBelow (end_names m) w w' → Finds x s m w → Finds x s m w'
 unfolding named_in elapsed_in
 finds_kept {x} {s} {m} {w} {w'} y h = go m y h
   where
-    go : (m : Made) → SameBelow (end_names m) w w' → Finds x s m w → Finds x s m w'
-    go NoRoom y h = record { named = λ u. refl; elapsed = refl }
-    go (Ready t) y h = record { named = λ u. named_same x s t y u ∙ h.named u; elapsed = elapsed_same x s t y ∙ h.elapsed }
+    go : (m : Option Table) → SameBelow (end_names m) w w' → Finds x s m w → Finds x s m w'
+    go None y h = record { named = λ u. refl; elapsed = refl }
+    go (Some t) y h = record { named = λ u. named_same x s t y u ∙ h.named u; elapsed = elapsed_same x s t y ∙ h.elapsed }
 
 module _ {d : List ℕ} {c : Place} {s : Text} {root : Element} {at : ℕ} {w w' : List ℕ} {r : CalendarTable} (h : Makes d c s root at w w' r) where
   pub makes_finds : Finds (context_at d c root) s r.table w'
   unfolding named_in elapsed_in
   makes_finds = go r.table h.words
     where
-      go : (m : Made) → CalendarsIn d c s root m w w' → Finds (context_at d c root) s m w'
-      go NoRoom x = record { named = λ u. refl; elapsed = refl }
-      go (Ready t) x = record { named = calendars_named x.0; elapsed = calendars_elapsed x.0 }
+      go : (m : Option Table) → CalendarsIn d c s root m w w' → Finds (context_at d c root) s m w'
+      go None x = record { named = λ u. refl; elapsed = refl }
+      go (Some t) x = record { named = calendars_named x.0; elapsed = calendars_elapsed x.0 }
 
   makes_uids : MakesUids s root at w w' r
   makes_uids = record { made = h.made; end = h.end; words = go r.table h.words }
     where
-      go : (m : Made) → CalendarsIn d c s root m w w' → UidsIn s root m w w'
-      go NoRoom x = x
-      go (Ready t) x = (x.0.uids, x.1)
+      go : (m : Option Table) → CalendarsIn d c s root m w w' → UidsIn s root m w w'
+      go None x = x
+      go (Some t) x = (x.0.uids, x.1)
 
   -- it stands behind the place, and what is before stays
   pub makes_behind : (at ≤ r.end) × (end_names r.table ≤ r.end)

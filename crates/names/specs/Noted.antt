@@ -33,7 +33,6 @@ use Rattle.names.specs.Records.{Plain, Fronts, Lies, place_last, text_front, pla
 use Rattle.names.specs.Stars.{star_same, TakenTo, taken_free, tries, tries_free}
 use Rattle.names.specs.Ids.{ids_of, no_ids, noted, id_at, is_id, wants, behind, taken_in, stars_from, free_in}
 use Rattle.names.specs.declared.ids.Ids.{Ids}
-use Rattle.names.specs.declared.ids.IdsMade.TheVariants.{Ready, NoRoom}
 
 -- ---- one of some rows
 
@@ -87,11 +86,11 @@ pub record Placed (from len : ℕ) (i : Ids) : Type 0 where
 abbrev tables_from : ℕ → ℕ → Ids
 tables_from from rows = record { ids = record { at = from; rows = rows }; wanted = record { at = from + 3 * rows; rows = rows } }
 
-pub ids_placed : (len from rows : ℕ) {i : Ids} → Ready i ≡ ids_of len from rows → Placed from len i × (i.ids.rows ≡ rows)
+pub ids_placed : (len from rows : ℕ) {i : Ids} → Some i ≡ ids_of len from rows → Placed from len i × (i.ids.rows ≡ rows)
 unfolding ids_of
 ids_placed len from rows {i} e = by (ltb 0 rows) (leb (from + 6 * rows) len) refl refl e
   where
-    by : (a b : Bool) → ltb 0 rows ≡ a → leb (from + 6 * rows) len ≡ b → Ready i ≡ (if a && b then Ready (tables_from from rows) else NoRoom) → Placed from len i × (i.ids.rows ≡ rows)
+    by : (a b : Bool) → ltb 0 rows ≡ a → leb (from + 6 * rows) len ≡ b → Some i ≡ (if a && b then Some (tables_from from rows) else None) → Placed from len i × (i.ids.rows ≡ rows)
     by true true g h e =
         let z : i ≡ tables_from from rows = cc in
         let k : 0 < rows = ltb-true 0 rows g in

@@ -11,8 +11,6 @@ use Rattle.definition.specs.Refusal.{most_elements}
 use Rattle.definition.specs.Text.{Text}
 use Rattle.definition.specs.Tree.{Element}
 use Rattle.index.specs.declared.Table.{Table}
-use Rattle.index.specs.declared.Made.{Made}
-use Rattle.index.specs.declared.Made.TheVariants.{Ready, NoRoom}
 use Rattle.index.specs.Below.{SameBelow, below_refl, below_in}
 use Rattle.index.specs.Hash.{hash_of, same_hash}
 use Rattle.index.specs.Last.{last_below, last_none}
@@ -87,7 +85,7 @@ module _ {s : Text} {root : Element} {t : Table} {w : List ℕ} (x : Uids s root
       (λ r h. ap (has_uid u) (x.stands r h)) (λ r h e. same_hash (uid_of (of_row root r)) u e)
 
   -- THE LAW
-  by_uid : (u : Text) → calendar_by s root w (Ready t) u ≡ with_uid_in root u
+  by_uid : (u : Text) → calendar_by s root w (Some t) u ≡ with_uid_in root u
   unfolding calendar_by
   by_uid u =
       ap (λ (o : Option ℕ). o >>= row_found s w t) (sought u)
@@ -104,12 +102,12 @@ module _ {s : Text} {root : Element} {t : Table} {w : List ℕ} (x : Uids s root
 
 -- ---- where it stands
 
-module _ (s : Text) (root : Element) (len at : ℕ) {t : Table} (e : Ready t ≡ made_in s root len at) where
+module _ (s : Text) (root : Element) (len at : ℕ) {t : Table} (e : Some t ≡ made_in s root len at) where
   placed : (length s < 2 ^ 32) × Placed (len - suc (rows_for root)) at (rows_for root) t
   placed = go (ltb (length s) (2 ^ 32)) (leb (how_many root) most_elements) refl refl e
     where
       go : (a b : Bool) → ltb (length s) (2 ^ 32) ≡ a → leb (how_many root) most_elements ≡ b
-          → Ready t ≡ (if a && b then table_of (len - suc (rows_for root)) at (rows_for root) else NoRoom) → (length s < 2 ^ 32) × Placed (len - suc (rows_for root)) at (rows_for root) t
+          → Some t ≡ (if a && b then table_of (len - suc (rows_for root)) at (rows_for root) else None) → (length s < 2 ^ 32) × Placed (len - suc (rows_for root)) at (rows_for root) t
       go true true f g e = (ltb-true (length s) (2 ^ 32) f, table_placed (len - suc (rows_for root)) at (rows_for root) e)
       go true false f g e = let y : ◌≡◌ {A = ℕ} 0 1 = cc in absurd (omega arith)
       go false b f g e = let y : ◌≡◌ {A = ℕ} 0 1 = cc in absurd (omega arith)
@@ -124,21 +122,21 @@ module _ (s : Text) (root : Element) (len at : ℕ) {t : Table} (e : Ready t ≡
 
 -- ---- whether there is a table or none
 
-abbrev pub end_names : Made → ℕ
+abbrev pub end_names : Option Table → ℕ
 end_names = end_from 0
 
 -- words that say of each UID what the definition says
-pub record FindsUids (s : Text) (root : Element) (m : Made) (w : List ℕ) : Type 0 where
+pub record FindsUids (s : Text) (root : Element) (m : Option Table) (w : List ℕ) : Type 0 where
   pub found : (u : Text) → calendar_by s root w m u ≡ with_uid_in root u
 
 -- nothing but its own words counts
-pub uids_kept : {s : Text} {root : Element} {m : Made} {w w' : List ℕ} → SameBelow (end_names m) w w' → FindsUids s root m w → FindsUids s root m w'
+pub uids_kept : {s : Text} {root : Element} {m : Option Table} {w w' : List ℕ} → SameBelow (end_names m) w w' → FindsUids s root m w → FindsUids s root m w'
 unfolding calendar_by
 uids_kept {s} {root} {m} {w} {w'} y h = go m y h
   where
-    go : (m : Made) → SameBelow (end_names m) w w' → FindsUids s root m w → FindsUids s root m w'
-    go NoRoom y h = record { found = λ u. refl }
-    go (Ready t) y h = record {
+    go : (m : Option Table) → SameBelow (end_names m) w w' → FindsUids s root m w → FindsUids s root m w'
+    go None y h = record { found = λ u. refl }
+    go (Some t) y h = record {
       found = λ u.
           ap (λ (o : Option ℕ). o >>= row_found s w' t) (find_same in_table (λ v. same (uid_of (element_at s v)) u) (hash_of u))
           ∙ at_row (sought_in s w t u) (λ r e. chain_row (λ r. same (uid_of (element_at s (place_of w t r))) u) w t (hash_of u) e)
@@ -157,21 +155,21 @@ module _ {s : Text} {root : Element} {at : ℕ} {w w' : List ℕ} {r : CalendarT
   unfolding calendar_by
   uids_find = go r.table h.words
     where
-      go : (m : Made) → UidsIn s root m w w' → FindsUids s root m w'
-      go NoRoom x = record { found = λ u. refl }
-      go (Ready t) x = record { found = by_uid x.0 }
+      go : (m : Option Table) → UidsIn s root m w w' → FindsUids s root m w'
+      go None x = record { found = λ u. refl }
+      go (Some t) x = record { found = by_uid x.0 }
 
   -- it stands behind the place, and what is before stays
   pub uids_behind : (at ≤ r.end) × (end_names r.table ≤ r.end)
   uids_behind = go r.table h.made h.end
     where
-      go : (m : Made) → m ≡ made_in s root (length w) at → r.end ≡ end_from at m → (at ≤ r.end) × (end_names m ≤ r.end)
-      go NoRoom i e = (omega arith, omega arith)
-      go (Ready t) i e = (omega (arith, made_at s root (length w) at i), omega arith)
+      go : (m : Option Table) → m ≡ made_in s root (length w) at → r.end ≡ end_from at m → (at ≤ r.end) × (end_names m ≤ r.end)
+      go None i e = (omega arith, omega arith)
+      go (Some t) i e = (omega (arith, made_at s root (length w) at i), omega arith)
 
   pub uids_below : SameBelow at w w'
   uids_below = go r.table h.made h.words
     where
-      go : (m : Made) → m ≡ made_in s root (length w) at → UidsIn s root m w w' → SameBelow at w w'
-      go NoRoom i x = rw x (below_refl at w)
-      go (Ready t) i x = record { long = x.1.long; words = λ j k. x.1.outside j (λ a b. omega (arith, made_at s root (length w) at i)) }
+      go : (m : Option Table) → m ≡ made_in s root (length w) at → UidsIn s root m w w' → SameBelow at w w'
+      go None i x = rw x (below_refl at w)
+      go (Some t) i x = record { long = x.1.long; words = λ j k. x.1.outside j (λ a b. omega (arith, made_at s root (length w) at i)) }

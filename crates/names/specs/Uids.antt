@@ -6,15 +6,11 @@ use Rattle.definition.specs.Refusal.{most_elements}
 use Rattle.definition.specs.Text.{Text}
 use Rattle.definition.specs.Tree.{Element}
 use Rattle.index.specs.declared.Table.{Table}
-use Rattle.index.specs.declared.Made.{Made}
-use Rattle.index.specs.declared.Made.TheVariants as made
 use Rattle.index.specs.Hash.{hash_of}
 use Rattle.index.specs.Chains.{table_of, place_of, end_of}
 use Rattle.index.specs.Law.{Indexed}
 use Rattle.rows.specs.Rows.{in_order, with_uid_in}
 use Rattle.rows.specs.Tables.{uid_of, sought_in, no_element}
-use Rattle.rows.specs.declared.CalendarAnswer.{CalendarAnswer}
-use Rattle.rows.specs.declared.CalendarAnswer.TheVariants.{Is, Absent}
 use Rattle.tree.specs.Place.{element_at}
 use Rattle.names.specs.declared.uids.CalendarTable.{CalendarTable}
 
@@ -28,9 +24,9 @@ abbrev pub rows_for : Element → ℕ
 rows_for root = max 1 (how_many root)
 
 -- where there is room for it and the words behind it, and 32 bits hold each position in the tree
-abbrev pub made_in : Text → Element → ℕ → ℕ → Made
+abbrev pub made_in : Text → Element → ℕ → ℕ → Option Table
 made_in s root len at =
-    if ltb (length s) (2 ^ 32) && leb (how_many root) most_elements then table_of (len - suc (rows_for root)) at (rows_for root) else made.NoRoom
+    if ltb (length s) (2 ^ 32) && leb (how_many root) most_elements then table_of (len - suc (rows_for root)) at (rows_for root) else None
 
 -- the calendar of a row: the last one first
 abbrev pub of_row : Element → ℕ → Element
@@ -52,14 +48,14 @@ pub record Uids (s : Text) (root : Element) (t : Table) (w : List ℕ) : Type 0 
   pub indexed : Indexed t (λ r. hash_of (uid_of (of_row root r))) (place_of w t) (how_many root) w
   pub stands : (r : ℕ) → r < how_many root → element_at s (place_of w t r) ≡ of_row root r
 
-abbrev pub UidsIn : Text → Element → Made → List ℕ → List ℕ → Type 0
-UidsIn s root made.NoRoom w w' = w' ≡ w
-UidsIn s root (made.Ready t) w w' = Uids s root t w' × Stays t.at (names_end t) w w'
+abbrev pub UidsIn : Text → Element → Option Table → List ℕ → List ℕ → Type 0
+UidsIn s root None w w' = w' ≡ w
+UidsIn s root (Some t) w w' = Uids s root t w' × Stays t.at (names_end t) w w'
 
 -- where the words behind a table begin, from a place on
-abbrev pub end_from : ℕ → Made → ℕ
-end_from at made.NoRoom = at
-end_from at (made.Ready t) = names_end t
+abbrev pub end_from : ℕ → Option Table → ℕ
+end_from at None = at
+end_from at (Some t) = names_end t
 
 pub record MakesUids (s : Text) (root : Element) (at : ℕ) (w w' : List ℕ) (r : CalendarTable) : Type 0 where
   pub made : r.table ≡ made_in s root (length w) at
@@ -69,17 +65,17 @@ pub record MakesUids (s : Text) (root : Element) (at : ℕ) (w w' : List ℕ) (r
 -- ---- a calendar by it
 
 -- its row in the order in which they are built, and where it stands
-unfoldable pub order_row : List ℕ → Table → Option ℕ → CalendarAnswer
-order_row w t None = Absent
-order_row w t (Some r) = Is (t.rows - suc r) (place_of w t r)
+unfoldable pub order_row : List ℕ → Table → Option ℕ → Option (ℕ × ℕ)
+order_row w t None = None
+order_row w t (Some r) = Some ((t.rows - suc r), (place_of w t r))
 
 abbrev pub row_found : Text → List ℕ → Table → ℕ → Option (ℕ × Element)
 row_found s w t r = Some (t.rows - suc r, element_at s (place_of w t r))
 
 -- the first with a UID, as words say it where there is a table
-unfoldable pub calendar_by : Text → Element → List ℕ → Made → Text → Option (ℕ × Element)
-calendar_by s root w made.NoRoom u = with_uid_in root u
-calendar_by s root w (made.Ready t) u = sought_in s w t u >>= row_found s w t
+unfoldable pub calendar_by : Text → Element → List ℕ → Option Table → Text → Option (ℕ × Element)
+calendar_by s root w None u = with_uid_in root u
+calendar_by s root w (Some t) u = sought_in s w t u >>= row_found s w t
 
 -- ---- while it is made
 

@@ -16,9 +16,7 @@ use crate::records::{place_of_row, raw_text};
 use crate::stars::same_starred;
 use bits::Place;
 use model::records::Kind;
-use pack::NameAnswer;
-use rows::CalendarAnswer;
-use tree::{Found, Root};
+use tree::{Root};
 
 // ---- how many
 
@@ -29,7 +27,7 @@ fn count_from(s: &[u8], first: usize) -> usize
     let mut p = first;
     let mut n = 1;
     loop {
-        let Found::At(q) = tree::next_child(s, p, b"Calendar") else {
+        let Some(q) = tree::next_child(s, p, b"Calendar") else {
             return n;
         };
         p = q;
@@ -42,8 +40,8 @@ pub fn count_calendars(s: &[u8], root: Root) -> usize
     ensures { result ≡ length (calendar_elements (root_at s.now root)) }
 {
     match tree::child(s, root.calendars, b"Calendar") {
-        Found::Nothing => 0,
-        Found::At(p) => count_from(s, p),
+        None => 0,
+        Some(p) => count_from(s, p),
     }
 }
 
@@ -93,8 +91,8 @@ fn main_row(s: &[u8], root: Root) -> usize
     ensures { result ≡ main_row (root_at s.now root) }
 {
     match rows::main_calendar(s, root) {
-        CalendarAnswer::Is(row, _) => row,
-        CalendarAnswer::Absent => 0,
+        Some((row, _)) => row,
+        None => 0,
     }
 }
 
@@ -136,11 +134,11 @@ fn is_main(out: &[u8], c: Place, s: &[u8], root: Root, text: &[u8], stars: u32) 
     ensures { result ≡ same (starred_by text.now stars) (context_at out.now c (root_at s.now root)).main.name }
 {
     match rows::main_calendar(s, root) {
-        CalendarAnswer::Is(row, at) => {
+        Some((row, at)) => {
             let m = stars_of(out, c, s, root, row, at);
             same_starred(text, stars, wanted_name(s, at, b"Calendar"), m)
         }
-        CalendarAnswer::Absent => same_starred(text, stars, b"Standard", 0),
+        None => same_starred(text, stars, b"Standard", 0),
     }
 }
 
@@ -152,17 +150,17 @@ pub(crate) fn unless_main(
     root: Root,
     text: &[u8],
     stars: u32,
-) -> NameAnswer
+) -> Option<u32>
     ensures { name_meaning text.now result ≡ unless_main (context_at out.now c (root_at s.now root)) (starred_by text.now stars) }
 {
     if is_main(out, c, s, root, text, stars) {
-        return NameAnswer::Absent;
+        return None;
     }
-    NameAnswer::Starred(stars)
+    Some(stars)
 }
 
 // The elapsed calendar's name, unless it is the main one's.
-pub(crate) fn elapsed_named(out: &[u8], c: Place, s: &[u8], root: Root) -> NameAnswer
+pub(crate) fn elapsed_named(out: &[u8], c: Place, s: &[u8], root: Root) -> Option<u32>
     ensures { name_meaning elapsed_name result ≡ unless_main (context_at out.now c (root_at s.now root)) elapsed_name }
 {
     unless_main(out, c, s, root, b"Elapsed (24 hours)", 0)

@@ -8,7 +8,7 @@ ghost use Rattle.names.specs.Ids.{ids_of, no_ids, noted, id_at, taken_in, stars_
 use crate::records::{free_stars, place_of_row, raw_text};
 use crate::stars::same_starred;
 use bits::Place;
-use index::{Made, Row, Table};
+use index::{Table};
 use model::records::Kind;
 
 #[derive(Clone, Copy)]
@@ -17,29 +17,23 @@ pub struct Ids {
     pub wanted: Table,
 }
 
-#[derive(Clone, Copy)]
-pub enum IdsMade {
-    Ready(Ids),
-    NoRoom,
-}
-
 // ---- both tables
 
 // Tables of so many rows in the words from a place on, where there is room for both.
-fn ids_at(len: usize, at: usize, rows: u32) -> IdsMade
+fn ids_at(len: usize, at: usize, rows: u32) -> Option<Ids>
     ensures { result ≡ ids_of len at rows }
 {
     if rows == 0 {
-        return IdsMade::NoRoom;
+        return None;
     }
     if len <= at {
-        return IdsMade::NoRoom;
+        return None;
     }
     let n = 3 * (rows as usize);
     if len - at < 2 * n {
-        return IdsMade::NoRoom;
+        return None;
     }
-    IdsMade::Ready(Ids {
+    Some(Ids {
         ids: Table { at, rows },
         wanted: Table { at: at + n, rows },
     })
@@ -77,7 +71,7 @@ fn taken_in(out: &[u8], words: &[u32], ids: Ids, wanted: &[u8], stars: u32) -> b
 {
     let mut row = index::first(words, ids.ids, index::hash_starred(wanted, stars));
     loop {
-        let Row::At(r) = row else {
+        let Some(r) = row else {
             return false;
         };
         if same_starred(wanted, stars, id_of(out, words, ids, r), 0) {
@@ -100,7 +94,7 @@ fn stars_from(out: &[u8], words: &[u32], ids: Ids, count: u32, wanted: &[u8]) ->
 {
     let mut row = index::first(words, ids.wanted, index::hash_of(wanted));
     loop {
-        let Row::At(r) = row else {
+        let Some(r) = row else {
             return 0;
         };
         let stars = index::place(words, ids.wanted, r);
@@ -129,29 +123,29 @@ fn free_in(out: &[u8], words: &[u32], ids: Ids, count: u32, wanted: &[u8]) -> u3
 
 // Tables for a section that begins at p in a buffer of so many bytes, none noted yet: where there is room in the words from a place on, each record begins
 // at a whole byte, and 32 bits hold where.
-pub fn ids_for(len: usize, p: Place, words: &mut [u32], at: usize, rows: u32) -> IdsMade
+pub fn ids_for(len: usize, p: Place, words: &mut [u32], at: usize, rows: u32) -> Option<Ids>
     ensures { (result ≡ ids_for len p (length words.old) at rows) × (words.new ≡ begun words.old result) }
 {
     if (p.bit != 0) | (4294967295 < len) {
-        return IdsMade::NoRoom;
+        return None;
     }
-    let IdsMade::Ready(ids) = ids_at(words.len(), at, rows) else {
-        return IdsMade::NoRoom;
+    let Some(ids) = ids_at(words.len(), at, rows) else {
+        return None;
     };
     clear_ids(words, ids);
-    IdsMade::Ready(ids)
+    Some(ids)
 }
 
 // Where the words behind them begin, the place itself where there are none.
-pub fn end_of_ids(ids: IdsMade, at: usize, len: usize) -> usize
+pub fn end_of_ids(ids: Option<Ids>, at: usize, len: usize) -> usize
     ensures { result ≡ end_ids ids at len }
 {
     match ids {
-        IdsMade::Ready(t) => {
+        Some(t) => {
             let wanted = t.wanted;
-            index::end_of(Made::Ready(wanted), len)
+            index::end_of(Some(wanted), len)
         }
-        IdsMade::NoRoom => at,
+        None => at,
     }
 }
 
@@ -163,7 +157,7 @@ pub fn stars_for(
     start: Place,
     p: Place,
     words: &[u32],
-    ids: IdsMade,
+    ids: Option<Ids>,
     row: u32,
     wanted: &[u8],
 ) -> u32
@@ -172,7 +166,7 @@ pub fn stars_for(
     if !bits::inside(out.len(), p) {
         return 0;
     }
-    let IdsMade::Ready(t) = ids else {
+    let Some(t) = ids else {
         return free_stars(out, start, kind, row, wanted);
     };
     if t.ids.rows < row {
@@ -187,13 +181,13 @@ pub fn place_in(
     kind: Kind,
     start: Place,
     words: &[u32],
-    ids: IdsMade,
+    ids: Option<Ids>,
     count: u32,
     row: u32,
 ) -> Place
     ensures { result ≡ place_in kind out.now start words.now ids count row }
 {
-    let IdsMade::Ready(t) = ids else {
+    let Some(t) = ids else {
         return place_of_row(out, start, kind, row as usize);
     };
     if t.ids.rows < count {
@@ -206,10 +200,10 @@ pub fn place_in(
 }
 
 // Notes the id of a row: a text with so many `*`, that stands at p.
-pub fn note_stars(words: &mut [u32], ids: IdsMade, row: u32, wanted: &[u8], stars: u32, p: Place)
+pub fn note_stars(words: &mut [u32], ids: Option<Ids>, row: u32, wanted: &[u8], stars: u32, p: Place)
     ensures { words.new ≡ noted_by words.old ids row wanted.now stars (p.byte % 2 ^ 32) }
 {
-    let IdsMade::Ready(t) = ids else {
+    let Some(t) = ids else {
         return;
     };
     note_id(words, t, row, wanted, stars, (p.byte % 4294967296) as u32);

@@ -1,7 +1,6 @@
 // The name of a calendar by its UID, from a table in lent words: behind that of the UIDs each row has a word for its name in the buffer, 0 where it is
 // the main calendar's, else how many `*` it has behind the wanted name, plus 1. A last word is for the elapsed calendar's name.
 ghost use Rattle.std.specs.Prelude.{if◌then◌else◌, ◌≡◌, ◌+◌, ◌^◌, ◌≤◌, ◌<◌, length};
-ghost use Rattle.definition.specs.Answer.{row_meaning};
 ghost use Rattle.definition.specs.Calendar.{elapsed_name};
 ghost use Rattle.definition.specs.Text.{Text};
 ghost use Rattle.index.specs.Chains.{end_of};
@@ -15,11 +14,8 @@ use crate::calendars::{elapsed_named, stars_at, stars_of, unless_main, wanted_na
 use crate::stars::same_starred;
 use crate::uids::{CalendarTable, index_uids};
 use bits::Place;
-use definition::RowAnswer;
-use index::{Made, Table};
+use index::{Table};
 use model::records::{Kind, skip_record};
-use pack::NameAnswer;
-use rows::CalendarAnswer;
 use tree::Root;
 
 // ---- the words of the names
@@ -92,7 +88,7 @@ fn note_all(out: &[u8], c: Place, s: &[u8], root: Root, words: &mut [u32], t: Ta
     requires { Uids s.now (root_at s.now root) t words.old }
     ensures { Calendars out.now c s.now (root_at s.now root) t words.new × Stays (end_of t) (names_end t) words.old words.new }
 {
-    let CalendarAnswer::Is(row, at) = rows::main_calendar(s, root) else {
+    let Some((row, at)) = rows::main_calendar(s, root) else {
         index::set_word(words, t.at, 4 * (t.rows as usize), 1);
         return;
     };
@@ -116,7 +112,7 @@ pub fn index_calendars(
 {
     let made = index_uids(s, root, words, at);
     let table = made.table;
-    let Made::Ready(t) = table else {
+    let Some(t) = table else {
         return made;
     };
     note_all(out, c, s, root, words, t);
@@ -126,33 +122,33 @@ pub fn index_calendars(
 // ---- names by it
 
 // What a word says of a name.
-fn by_word(word: u32) -> NameAnswer
+fn by_word(word: u32) -> Option<u32>
     ensures { (text : Text) → name_meaning text result ≡ name_by text word }
 {
     if word == 0 {
-        return NameAnswer::Absent;
+        return None;
     }
-    NameAnswer::Starred(word - 1)
+    Some(word - 1)
 }
 
 // Where a calendar stands, and its name beside its wanted name.
 #[derive(Clone, Copy)]
 pub struct CalendarName {
     pub at: usize,
-    pub name: NameAnswer,
+    pub name: Option<u32>,
 }
 
-fn name_of(s: &[u8], words: &[u32], t: Table, row: RowAnswer) -> CalendarName
-    ensures { calendar_name s.now result ≡ name_of_row s.now words.now t (row_meaning row) }
+fn name_of(s: &[u8], words: &[u32], t: Table, row: Option<u32>) -> CalendarName
+    ensures { calendar_name s.now result ≡ name_of_row s.now words.now t row }
 {
     match row {
-        RowAnswer::Is(r) => CalendarName {
+        Some(r) => CalendarName {
             at: index::place(words, t, r) as usize,
             name: by_word(index::word(words, t.at, 3 * (t.rows as usize) + r as usize)),
         },
-        RowAnswer::Absent => CalendarName {
+        None => CalendarName {
             at: s.len(),
-            name: NameAnswer::Absent,
+            name: None,
         },
     }
 }
@@ -161,7 +157,7 @@ fn scan(out: &[u8], c: Place, s: &[u8], root: Root, uid: &[u8]) -> CalendarName
     ensures { calendar_name s.now result ≡ named_by (context_at out.now c (root_at s.now root)) uid.now }
 {
     match rows::calendar_with(s, root, uid) {
-        CalendarAnswer::Is(row, at) => {
+        Some((row, at)) => {
             let stars = stars_of(out, c, s, root, row, at);
             let text = wanted_name(s, at, b"Calendar");
             CalendarName {
@@ -169,9 +165,9 @@ fn scan(out: &[u8], c: Place, s: &[u8], root: Root, uid: &[u8]) -> CalendarName
                 name: unless_main(out, c, s, root, text, stars),
             }
         }
-        CalendarAnswer::Absent => CalendarName {
+        None => CalendarName {
             at: s.len(),
-            name: NameAnswer::Absent,
+            name: None,
         },
     }
 }
@@ -183,14 +179,14 @@ pub fn calendar_in(
     s: &[u8],
     root: Root,
     words: &[u32],
-    table: Made,
+    table: Option<Table>,
     uid: &[u8],
 ) -> CalendarName
     ensures { calendar_name s.now result ≡ named_in (context_at out.now c (root_at s.now root)) s.now words.now table uid.now }
 {
     match table {
-        Made::Ready(t) => name_of(s, words, t, rows::seek(s, words, t, uid)),
-        Made::NoRoom => scan(out, c, s, root, uid),
+        Some(t) => name_of(s, words, t, rows::seek(s, words, t, uid)),
+        None => scan(out, c, s, root, uid),
     }
 }
 
@@ -201,12 +197,12 @@ pub fn elapsed_in(
     s: &[u8],
     root: Root,
     words: &[u32],
-    table: Made,
-) -> NameAnswer
+    table: Option<Table>,
+) -> Option<u32>
     ensures { name_meaning elapsed_name result ≡ elapsed_in (context_at out.now c (root_at s.now root)) words.now table }
 {
     match table {
-        Made::Ready(t) => by_word(index::word(words, t.at, 4 * (t.rows as usize))),
-        Made::NoRoom => elapsed_named(out, c, s, root),
+        Some(t) => by_word(index::word(words, t.at, 4 * (t.rows as usize))),
+        None => elapsed_named(out, c, s, root),
     }
 }

@@ -2,17 +2,14 @@
 // that the first one with a UID is found: its UID by its hash, and where its element stands in the tree. Behind the table there is a word for each row, and
 // one more, for what is to be noted of them.
 ghost use Rattle.std.specs.Prelude.{◌≡◌, suc, ◌-◌, ◌≤◌, max, length};
-ghost use Rattle.definition.specs.Answer.{row_meaning};
 ghost use Rattle.index.specs.Law.{Fits};
 ghost use Rattle.rows.specs.Rows.{calendar_meaning};
 ghost use Rattle.tree.specs.Root.{root_at};
 ghost use Rattle.names.specs.Uids.{how_many, made_in, names_end, Stays, Ripe, Stand, Chained, MakesUids, order_row, calendar_by};
 
 use crate::calendars::count_calendars;
-use definition::RowAnswer;
-use index::{Made, Table};
-use rows::CalendarAnswer;
-use tree::{Found, Root};
+use index::{Table};
+use tree::{Root};
 
 // ---- the table is made
 
@@ -24,19 +21,19 @@ fn rows_for(n: u32) -> u32
 }
 
 // Room for a table of all calendars, 4 words for each and one more, where 32 bits hold each position in the tree.
-fn room_for(s: &[u8], root: Root, len: usize, at: usize) -> Made
+fn room_for(s: &[u8], root: Root, len: usize, at: usize) -> Option<Table>
     ensures { result ≡ made_in s.now (root_at s.now root) len at }
 {
     if 4294967295 < s.len() {
-        return Made::NoRoom;
+        return None;
     }
     let n = count_calendars(s, root);
     if 5000000 < n {
-        return Made::NoRoom;
+        return None;
     }
     let rows = rows_for(n as u32);
     if len <= rows as usize {
-        return Made::NoRoom;
+        return None;
     }
     index::table_at(len - (rows as usize) - 1, at, rows)
 }
@@ -49,7 +46,7 @@ fn note_places(s: &[u8], root: Root, words: &mut [u32], t: Table) -> u32
     let mut left = t.rows;
     let mut e = rows::first_calendar(s, root);
     loop {
-        let Found::At(at) = e else {
+        let Some(at) = e else {
             return t.rows - left;
         };
         left -= 1;
@@ -81,7 +78,7 @@ fn chain_rows(s: &[u8], words: &mut [u32], t: Table, count: u32)
 // A table, and where the words behind it begin.
 #[derive(Clone, Copy)]
 pub struct CalendarTable {
-    pub table: Made,
+    pub table: Option<Table>,
     pub end: usize,
 }
 
@@ -90,16 +87,16 @@ pub fn index_uids(s: &[u8], root: Root, words: &mut [u32], at: usize) -> Calenda
     ensures { MakesUids s.now (root_at s.now root) at words.old words.new result }
 {
     let made = room_for(s, root, words.len(), at);
-    let Made::Ready(t) = made else {
+    let Some(t) = made else {
         return CalendarTable {
-            table: Made::NoRoom,
+            table: None,
             end: at,
         };
     };
     let count = note_places(s, root, words, t);
     chain_rows(s, words, t, count);
     CalendarTable {
-        table: Made::Ready(t),
+        table: Some(t),
         end: t.at + 4 * (t.rows as usize) + 1,
     }
 }
@@ -116,24 +113,24 @@ fn order_row(rows: u32, row: u32) -> usize
     0
 }
 
-fn in_order(words: &[u32], t: Table, row: RowAnswer) -> CalendarAnswer
-    ensures { result ≡ order_row words.now t (row_meaning row) }
+fn in_order(words: &[u32], t: Table, row: Option<u32>) -> Option<(usize, usize)>
+    ensures { result ≡ order_row words.now t row }
 {
     match row {
-        RowAnswer::Is(r) => CalendarAnswer::Is(
+        Some(r) => Some((
             order_row(t.rows, r),
             index::place(words, t, r) as usize,
-        ),
-        RowAnswer::Absent => CalendarAnswer::Absent,
+        )),
+        None => None,
     }
 }
 
 // The first calendar with a UID in the order in which they are built, by a table in the words; by a scan where there is none.
-pub fn calendar_by(s: &[u8], root: Root, words: &[u32], table: Made, uid: &[u8]) -> CalendarAnswer
+pub fn calendar_by(s: &[u8], root: Root, words: &[u32], table: Option<Table>, uid: &[u8]) -> Option<(usize, usize)>
     ensures { calendar_meaning s.now result ≡ calendar_by s.now (root_at s.now root) words.now table uid.now }
 {
     match table {
-        Made::Ready(t) => in_order(words, t, rows::seek(s, words, t, uid)),
-        Made::NoRoom => rows::calendar_with(s, root, uid),
+        Some(t) => in_order(words, t, rows::seek(s, words, t, uid)),
+        None => rows::calendar_with(s, root, uid),
     }
 }

@@ -1,10 +1,12 @@
 -- What the code puts together of a number's parts is the definition's number. Assumes nothing.
 use Rattle.std.proofs.Common.{◌≡◌, ℕ, zero, suc, ◌+◌, ◌-◌, ◌^◌, ◌<◌, ◌≤◌, min, Bool, true, false, leb, ◌⊎◌, [], ◌∷◌, ◌++◌, length, get_or, drop, sym, refl, ap, ◌∙◌, inl, inr, add-zero, add-suc, suc-add, zero-add, arith, length-drop, ne_eqb, leb-true}
+use Rattle.definition.specs.declared.Unread.TheVariants.{Absent}
+use Rattle.std.specs.Prelude.{Err}
 use Rattle.std.specs.Prelude.{Option, Some, None}
 use lib.Ieee.{Float}
 use Rattle.definition.specs.Base.{◌>>=◌, ◌or◌}
 use Rattle.definition.specs.Text.{Text, Sign, plus, minus, bare, sign_of, before, after, is_digit, digits}
-use Rattle.definition.specs.Number.{Reading, absent, is_dot, is_e, unsigned, scaled, powered, decimal_of, magnitude, negated, number_by, number_of}
+use Rattle.definition.specs.Number.{Reading, is_dot, is_e, unsigned, scaled, powered, decimal_of, magnitude, negated, number_by, number_of}
 use Rattle.number.specs.Number.{limit, hold, Ran, power_by, power_of, power_at, scaled_by, ended}
 use Rattle.number.specs.declared.decimal.Power.{Power}
 use Rattle.number.specs.declared.decimal.Power.TheVariants as power
@@ -37,7 +39,7 @@ number_other s e = go (sign_of s) e
 -- ---- the power
 -- the digits held, none where they are none
 abbrev scaled_of : Option ℕ → ℕ → Power → Reading Float
-scaled_of None places p = absent
+scaled_of None places p = Err Absent
 scaled_of (Some v) places p = scaled_by v places p
 
 abbrev power_after : Option Text → Power
@@ -153,7 +155,7 @@ behind_e c v places b s h e =
     let q : power_of s ≡ power_at (b ∷ s) = rw e in
     ap (λ (p : Power). scaled_of (hold (digits_from c v [])) places p) q ∙ behind c v places (b ∷ s) h
 
-behind_other : (c v places b : ℕ) (s : Text) → is_e b ≡ false → absent ≡ ended c v places (b ∷ s)
+behind_other : (c v places b : ℕ) (s : Text) → is_e b ≡ false → (Err Absent) ≡ ended c v places (b ∷ s)
 behind_other zero v places b s e = refl
 behind_other (suc c) v places b s e = rw e
 
@@ -186,7 +188,7 @@ module _ (v : ℕ) (h : v ≤ limit) where
       go false e =
           rw (before_on is_e b s e, after_on is_e b s e, from_other (k + c) v b (before is_e s) d) (behind_other (k + c) v c b s e)
 
-pub ended_none : (c v places : ℕ) (s : Text) → c ≡ 0 → ended c v places s ≡ absent
+pub ended_none : (c v places : ℕ) (s : Text) → c ≡ 0 → ended c v places s ≡ (Err Absent)
 ended_none zero v places s h = refl
 ended_none (suc c) v places s h = absurd (omega arith)
 

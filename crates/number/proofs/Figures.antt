@@ -1,16 +1,17 @@
 -- The figures of a duration text, piece by piece. Assumes nothing.
 use Rattle.std.specs.Prelude.{if◌then◌else◌}
+use Rattle.definition.specs.declared.Unread.{Unread}
+use Rattle.definition.specs.declared.Unread.TheVariants.{Absent}
+use Rattle.std.specs.Prelude.{Err, Ok, Result}
 use Rattle.std.proofs.Common.{◌≡◌, ℕ, suc, ◌+◌, ◌-◌, ◌<◌, ◌≤◌, Bool, true, false, eqb, [], ◌∷◌, ◌++◌, length, get_or, take, drop, sym, refl, ap, ◌∙◌, append_assoc, append-nil, add-one, arith, length-append, length-drop, get_or-drop, drop-drop, eq-eqb, ne_eqb}
 use lib.Dec.{eqb-suc-suc, eqb_refl}
 use lib.Ieee.{Float}
 use Rattle.definition.specs.Base.{◌or◌, same}
 use Rattle.definition.specs.Text.{Text, before, after}
-use Rattle.definition.specs.Number.{Reading, absent, value, zero_float}
+use Rattle.definition.specs.Number.{Reading, zero_float}
 use Rattle.definition.specs.Duration.{is_unit, is_d, is_t, set_unit, piece_of, ◌then◌, time_figures, days_of, day_figures, figures_of}
 use Rattle.definition.specs.declared.Figures.{Figures}
 use Rattle.number.specs.Tests.{is_true}
-use Rattle.number.specs.Number.{meaning}
-use Rattle.number.specs.declared.decimal.NumberAnswer.{NumberAnswer}
 use Rattle.text.specs.Parts.{at_end_lem, all_of}
 use Rattle.text.specs.Cut.{place_within, before_take, after_drop}
 pub use Rattle.laws.specs.Durations.{Least, of_test, figures_least}
@@ -31,14 +32,14 @@ onward (b ∷ s) part f h = go (is_unit b) h (onward s (part ++ (b ∷ [])) f)
     go true h e = rw append-nil
     go false h e = e (omega arith) ∙ rw append_assoc
 
-stops : (s part : Text) (f : Figures) → length s ≤ length (before is_unit s) → 0 < length part + length s → time_figures s part f ≡ absent
+stops : (s part : Text) (f : Figures) → length s ≤ length (before is_unit s) → 0 < length part + length s → time_figures s part f ≡ (Err Absent)
 unfolding before time_figures
 stops [] [] f h n = absurd (omega arith)
 stops [] (p ∷ part) f h n = refl
 stops (b ∷ s) part f h n = go (is_unit b) h (λ k. stops s (part ++ (b ∷ [])) f k (simp length-append (omega arith)))
   where
-    go : (t : Bool) → suc (length s) ≤ length (if t then [] else b ∷ before is_unit s) → (length s ≤ length (before is_unit s) → time_figures s (part ++ (b ∷ [])) f ≡ absent)
-        → (if t then (piece_of part then λ x. time_figures s [] (set_unit b x f)) else time_figures s (part ++ (b ∷ [])) f) ≡ absent
+    go : (t : Bool) → suc (length s) ≤ length (if t then [] else b ∷ before is_unit s) → (length s ≤ length (before is_unit s) → time_figures s (part ++ (b ∷ [])) f ≡ (Err Absent))
+        → (if t then (piece_of part then λ x. time_figures s [] (set_unit b x f)) else time_figures s (part ++ (b ∷ [])) f) ≡ (Err Absent)
     go true h e = absurd (omega arith)
     go false h e = e (omega arith)
 
@@ -64,17 +65,17 @@ module _ (s : Text) (from u : ℕ) (f : Figures) (at : u ≡ length (before is_u
       ∙ ap (λ (b : ℕ). piece_of (take (from + u - from) (drop from s)) then λ x. time_figures (drop (from + u + 1) s) [] (set_unit b x f)) g
 
   -- what reading the piece gives decides
-  pub read : (a : NumberAnswer) {b : NumberAnswer} → from + u < length s → meaning a ≡ piece_of (take (from + u - from) (drop from s)) → a ≡ b
-      → (meaning b then λ x. time_figures (drop (from + u + 1) s) [] (set_unit (get_or s (from + u) 0) x f)) ≡ time_figures (drop from s) [] f
+  pub read : (a : Result Float Unread) {b : Result Float Unread} → from + u < length s → a ≡ piece_of (take (from + u - from) (drop from s)) → a ≡ b
+      → (b then λ x. time_figures (drop (from + u + 1) s) [] (set_unit (get_or s (from + u) 0) x f)) ≡ time_figures (drop from s) [] f
   read a {b} h e g =
-      ap (λ (n : NumberAnswer). meaning n then λ x. time_figures (drop (from + u + 1) s) [] (set_unit (get_or s (from + u) 0) x f)) (sym g)
+      ap (λ (n : Result Float Unread). n then λ x. time_figures (drop (from + u + 1) s) [] (set_unit (get_or s (from + u) 0) x f)) (sym g)
       ∙ ap (λ (r : Reading Float). r then λ x. time_figures (drop (from + u + 1) s) [] (set_unit (get_or s (from + u) 0) x f)) e
       ∙ sym (one_piece h)
 
   pub unit_within : u ≤ length s - from
   unit_within = let l : length (drop from s) ≡ length s - from = length-drop from s in omega (arith, at_unit, place_within is_unit (drop from s), l)
 
-  pub no_unit : from < length s → length s ≤ from + u → time_figures (drop from s) [] f ≡ absent
+  pub no_unit : from < length s → length s ≤ from + u → time_figures (drop from s) [] f ≡ (Err Absent)
   no_unit h k =
       let l : length (drop from s) ≡ length s - from = length-drop from s in
       stops (drop from s) [] f (omega (arith, at_unit, l)) (omega (arith, l))
@@ -113,32 +114,32 @@ last_d (b ∷ s) = go (is_d b) refl (last_d s)
     go true e h = rw e (only s)
     go false e h = rw (is_true (eqb b b) (eqb_refl b)) (h ∙ more (length (before is_d s)) (length s))
 
-pub no_days : (s : Text) → length s ≡ 0 → days_of s ≡ value zero_float
+pub no_days : (s : Text) → length s ≡ 0 → days_of s ≡ Ok zero_float
 unfolding days_of
 no_days [] h = refl
 no_days (b ∷ s) h = absurd (omega arith)
 
-days_by_lem : (s : Text) → (length s ≡ 0 → ⊥) → days_of s ≡ (if eqb (length (before is_d s) + 1) (length s) then piece_of (before is_d s) else absent)
+days_by_lem : (s : Text) → (length s ≡ 0 → ⊥) → days_of s ≡ (if eqb (length (before is_d s) + 1) (length s) then piece_of (before is_d s) else (Err Absent))
 unfolding days_of
 days_by_lem [] h = absurd (h refl)
-days_by_lem (b ∷ s) h = ap (λ (t : Bool). if t then piece_of (before is_d (b ∷ s)) else absent) (last_d (b ∷ s))
+days_by_lem (b ∷ s) h = ap (λ (t : Bool). if t then piece_of (before is_d (b ∷ s)) else (Err Absent)) (last_d (b ∷ s))
 
 pub some_days : (s : Text) (k : ℕ) → (length s ≡ 0 → ⊥) → k ≡ length (before is_d s) → k + 1 ≡ length s → piece_of (take k s) ≡ days_of s
 some_days s k n e h =
     ap (λ (l : Text). piece_of l) (ap (λ (n : ℕ). take n s) e ∙ sym (before_take is_d s))
-    ∙ sym (days_by_lem s n ∙ ap (λ (t : Bool). if t then piece_of (before is_d s) else absent) (eq-eqb (length (before is_d s) + 1) (length s) (omega arith)))
+    ∙ sym (days_by_lem s n ∙ ap (λ (t : Bool). if t then piece_of (before is_d s) else (Err Absent)) (eq-eqb (length (before is_d s) + 1) (length s) (omega arith)))
 
-pub bad_days : (s : Text) (k : ℕ) → (length s ≡ 0 → ⊥) → k ≡ length (before is_d s) → (k + 1 ≡ length s → ⊥) → days_of s ≡ absent
+pub bad_days : (s : Text) (k : ℕ) → (length s ≡ 0 → ⊥) → k ≡ length (before is_d s) → (k + 1 ≡ length s → ⊥) → days_of s ≡ (Err Absent)
 bad_days s k n e h =
-    days_by_lem s n ∙ ap (λ (t : Bool). if t then piece_of (before is_d s) else absent) (ne_eqb (length (before is_d s) + 1) (length s) (λ z. h (omega arith)))
+    days_by_lem s n ∙ ap (λ (t : Bool). if t then piece_of (before is_d s) else (Err Absent)) (ne_eqb (length (before is_d s) + 1) (length s) (λ z. h (omega arith)))
 
 -- ---- the whole
-pub no_figures : (s : Text) → length s ≡ 0 → figures_of s ≡ absent
+pub no_figures : (s : Text) → length s ≡ 0 → figures_of s ≡ (Err Absent)
 unfolding figures_of
 no_figures [] h = refl
 no_figures (b ∷ s) h = absurd (omega arith)
 
-pub not_p : (s : Text) → (length s ≡ 0 → ⊥) → (get_or s 0 0 ≡ 80 → ⊥) → figures_of s ≡ absent
+pub not_p : (s : Text) → (length s ≡ 0 → ⊥) → (get_or s 0 0 ≡ 80 → ⊥) → figures_of s ≡ (Err Absent)
 unfolding figures_of
 not_p [] h n = absurd (h refl)
 not_p (b ∷ s) h n = rw (ne_eqb b 80 n)
@@ -159,6 +160,6 @@ some_figures s rest days time k n e r at a b =
     ∙ sym (figures_p s n e)
 
 -- ---- all is read
-pub all_read : (s : Text) (from : ℕ) (f : Figures) → length s ≤ from → time_figures (drop from s) [] f ≡ value f
+pub all_read : (s : Text) (from : ℕ) (f : Figures) → length s ≤ from → time_figures (drop from s) [] f ≡ Ok f
 unfolding time_figures
 all_read s from f h = rw (at_end_lem s from h)

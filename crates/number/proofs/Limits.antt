@@ -1,9 +1,11 @@
 -- When a number is long, and that what the code holds of its parts is judged as the parts themselves. Assumes nothing.
 use Rattle.std.specs.Prelude.{if◌then◌else◌}
+use Rattle.definition.specs.declared.Unread.TheVariants.{Absent, Long}
+use Rattle.std.specs.Prelude.{Err, Ok}
 use Rattle.std.proofs.Common.{◌≡◌, ℕ, zero, suc, ◌+◌, ◌*◌, ◌^◌, ◌<◌, ◌≤◌, min, Bool, true, false, ◌&&◌, ltb, leb, ◌⊎◌, sym, refl, ap, ◌∙◌, inl, inr, arith, ltb-true, lt-ltb, eq-eqb, ne_eqb, le-leb, leb-true}
 use Rattle.std.specs.Prelude.{Some}
 use lib.Ieee.{round, binary64}
-use Rattle.definition.specs.Number.{absent, long, value, short?, nearest, zero_float, magnitude}
+use Rattle.definition.specs.Number.{short?, nearest, zero_float, magnitude}
 use Rattle.laws.specs.Bools.{and_left, and_right}
 use Rattle.text.specs.Parts.{le_or_lt}
 use Rattle.number.specs.Number.{limit, decimal, up_by, down_by, is_wrong, scaled_by}
@@ -24,21 +26,21 @@ is_short_lem v u d h =
       not_low = leb-true d (22 + u) (and_right (leb u (22 + d)) (leb d (22 + u)) k);
     }
 
-pub zero_is : (v u d : ℕ) → v ≡ 0 → magnitude (Some (decimal v u d)) ≡ value zero_float
+pub zero_is : (v u d : ℕ) → v ≡ 0 → magnitude (Some (decimal v u d)) ≡ Ok zero_float
 unfolding short? nearest
 zero_is v u d h = rw (eq-eqb v 0 h)
 
-pub short_is : (v u d : ℕ) → (v ≡ 0 → ⊥) → Short v u d → magnitude (Some (decimal v u d)) ≡ value (round binary64 false (v * 10 ^ u) (10 ^ d))
+pub short_is : (v u d : ℕ) → (v ≡ 0 → ⊥) → Short v u d → magnitude (Some (decimal v u d)) ≡ Ok (round binary64 false (v * 10 ^ u) (10 ^ d))
 unfolding short? nearest
 short_is v u d n h = rw (ne_eqb v 0 n, lt-ltb v (10 ^ 15) h.few, le-leb u (22 + d) h.not_high, le-leb d (22 + u) h.not_low)
 
-pub long_is : (v u d : ℕ) → (v ≡ 0 → ⊥) → (Short v u d → ⊥) → magnitude (Some (decimal v u d)) ≡ long
+pub long_is : (v u d : ℕ) → (v ≡ 0 → ⊥) → (Short v u d → ⊥) → magnitude (Some (decimal v u d)) ≡ (Err Long)
 unfolding short? nearest
 long_is v u d n h =
     rw (ne_eqb v 0 n)
     (go (ltb v (10 ^ 15) && (leb u (22 + d) && leb d (22 + u))) (λ (e : ltb v (10 ^ 15) && (leb u (22 + d) && leb d (22 + u)) ≡ true). h (is_short_lem v u d e)))
   where
-    go : (b : Bool) → (b ≡ true → ⊥) → (if b then value (round binary64 false (v * 10 ^ u) (10 ^ d)) else long) ≡ long
+    go : (b : Bool) → (b ≡ true → ⊥) → (if b then Ok (round binary64 false (v * 10 ^ u) (10 ^ d)) else (Err Long)) ≡ (Err Long)
     go true k = absurd (k refl)
     go false k = refl
 
@@ -80,7 +82,7 @@ few_same v p n = go (le_or_lt n 23)
     go (inr h) = both_long v v 0 0 (p + min n 23) (p + n) (λ z. z) (λ z. z) (λ s. omega (arith, s.not_low)) (λ s. omega (arith, s.not_low))
 
 -- ---- the power p
-pub wrong_is : (v places : ℕ) (p : Power) → is_wrong p ≡ true → absent ≡ scaled_by v places p
+pub wrong_is : (v places : ℕ) (p : Power) → is_wrong p ≡ true → (Err Absent) ≡ scaled_by v places p
 wrong_is v places (power.Up n) e = let z : ◌≡◌ {A = ℕ} 0 1 = cc in absurd (omega arith)
 wrong_is v places (power.Down n) e = let z : ◌≡◌ {A = ℕ} 0 1 = cc in absurd (omega arith)
 wrong_is v places power.Wrong e = refl

@@ -1,10 +1,12 @@
 -- The total of figures that are not below 0: it is not below 0, and up to 10 ^ 9 its whole number is small; and the duration that it gives. Assumes nothing.
 use Rattle.std.specs.Prelude.{if◌then◌else◌}
+use Rattle.definition.specs.declared.Unread.TheVariants.{Absent}
+use Rattle.std.specs.Prelude.{Err, Ok}
 use Rattle.std.proofs.Common.{◌≡◌, ℕ, ◌+◌, ◌*◌, ◌^◌, ◌≤◌, Bool, true, false, T, pos, sym, refl, ap, ◌∙◌, subst, zero-lt-suc, arith, lt-ltb}
 use lib.Ieee.{Float, nan, inf, fin, up, down, le, lt, eq}
 use lib.Ieee.Fits.{down_pos}
 use lib.Ieee.Order.{le_of_values}
-use Rattle.definition.specs.Number.{absent, value, zero_float, float, half_away, is_whole}
+use Rattle.definition.specs.Number.{zero_float, float, half_away, is_whole}
 use Rattle.definition.specs.Duration.{total_of, duration_at, duration_from}
 use Rattle.definition.specs.declared.Figures.{Figures}
 use Rattle.number.specs.Floats.{float-10⁹, float-10¹⁸}
@@ -29,9 +31,9 @@ weaken (fin false m e) z b =
     let h : m * up e ≤ 1953125 * 512 * down e = at_most 1953125 9 false m e z b in
     le_of_values (fin false m e) cap (m * up e) (down e) (10 ^ 18) 1 (down_pos e) (zero-lt-suc 0) (refl, refl) (refl, refl) (omega arith)
 
-from_is : (f : Figures) → duration_from f ≡ (if le (total_of f) billion then value (duration_at (total_of f)) else absent)
+from_is : (f : Figures) → duration_from f ≡ (if le (total_of f) billion then Ok (duration_at (total_of f)) else (Err Absent))
 unfolding duration_from
-from_is f = ap (λ (x : Float). if le (total_of f) x then value (duration_at (total_of f)) else absent) float-10⁹
+from_is f = ap (λ (x : Float). if le (total_of f) x then Ok (duration_at (total_of f)) else (Err Absent)) float-10⁹
 
 module _ (f : Figures) (least : T (not_below f)) where
   abbrev within : T (le (total_of f) billion) → half_within (total_of f) ≡ half_away (total_of f)
@@ -43,13 +45,13 @@ module _ (f : Figures) (least : T (not_below f)) where
       rw (within b) (bound 1953125 9 (total_of f) (total_least f least) b)
 
   pub duration_is : le (total_of f) billion ≡ true → {n : ℕ} → n ≡ half_within (total_of f) → {w : Bool} → w ≡ eq (total_of f) (float n)
-      → value (record { minutes = n; whole = w }) ≡ duration_from f
+      → Ok (record { minutes = n; whole = w }) ≡ duration_from f
   duration_is t {n} i {w} j =
       let b : T (le (total_of f) billion) = subst T (sym t) tt in
       let h : n ≡ half_away (total_of f) = i ∙ within b in
       let k : w ≡ is_whole (total_of f) = j ∙ eq_whole (total_of f) (total_least f least) n h (omega (arith, i, minutes_small t)) in
-      (λ r. value (record { minutes = h r; whole = k r }))
-      ∙ sym (from_is f ∙ ap (λ (t : Bool). if t then value (duration_at (total_of f)) else absent) t)
+      (λ r. Ok (record { minutes = h r; whole = k r }))
+      ∙ sym (from_is f ∙ ap (λ (t : Bool). if t then Ok (duration_at (total_of f)) else (Err Absent)) t)
 
-pub duration_none : (f : Figures) → le (total_of f) billion ≡ false → duration_from f ≡ absent
-duration_none f t = from_is f ∙ ap (λ (t : Bool). if t then value (duration_at (total_of f)) else absent) t
+pub duration_none : (f : Figures) → le (total_of f) billion ≡ false → duration_from f ≡ (Err Absent)
+duration_none f t = from_is f ∙ ap (λ (t : Bool). if t then Ok (duration_at (total_of f)) else (Err Absent)) t

@@ -1,5 +1,8 @@
 -- One byte written, the decimal digits of a number, and the end of a text. Assumes nothing.
 use Rattle.std.specs.Prelude.{if◌then◌else◌}
+use Rattle.definition.specs.declared.Refusal.{Refusal}
+use Rattle.definition.specs.declared.Refusal.TheVariants.{NoRoom, Outside}
+use Rattle.std.specs.Prelude.{Err, Ok, Result}
 use Rattle.std.proofs.Common.{◌≡◌, ℕ, zero, suc, ◌+◌, ◌-◌, ◌/◌, ◌%◌, ◌^◌, ◌<◌, ◌≤◌, Bool, true, false, ltb, leb, ◌⊎◌, [], ◌∷◌, ◌++◌, length, take, drop, set, replicate, sym, refl, ap, ◌∙◌, subst, inl, inr, append-nil, zero-le, zero-lt-suc, div-lt_iff_lt-mul, pow-suc, add-one, arith, length-drop, length-set, length-take, length-take-le, take-suc-set, le-ltb, lt-ltb, le-leb}
 use borrow.Author.Tests.{lt-leb}
 use borrow.Rule.Slice.PartMut.{put_mid, post_of, Post-is}
@@ -10,8 +13,6 @@ use Rattle.text.specs.Parts.{le_or_lt, at_end_lem}
 use Rattle.laws.specs.Buf.{Buf, holds, full, ◌▷◌, ▷-fits, ▷-over, ▷-full}
 use Rattle.number.specs.Written.{Put, Gives, view, answer_of}
 use Rattle.definition.specs.Refusal.{Answer, refused, gives, in_room, ranged}
-use Rattle.number.specs.declared.write.TextAnswer.{TextAnswer}
-use Rattle.number.specs.declared.write.TextAnswer.TheVariants as text
 
 -- ---- a buffer and a place
 
@@ -76,21 +77,21 @@ two_digits_lem n h = let e : n / 10 % 10 ≡ n / 10 = omega arith in ap (λ (k :
 
 module _ (d : Text) (at : ℕ) where
   pub ends_within : (m : Text) → at ≤ length d → m ≡ replicate (length (take (length d - at) (drop at d))) 0
-      → Gives (answer_of (view d at)) (length d) (text.Written at) (put_mid at (length d - at) d m)
+      → Gives (answer_of (view d at)) (length d) (Ok at) (put_mid at (length d - at) d m)
   ends_within m h e =
       let l : length (take at d) ≡ at = length-take-le at d h in
       let p : post_of at (length d - at) d ≡ [] = Post-is at (length d) d h ∙ at_end_lem d (length d) (omega arith) in
       let z : length (take (length d - at) (drop at d)) ≡ length d - length (take at d) = simp (length-take, length-drop) (omega (arith, l)) in
-      subst (λ (b : Buf). Gives (answer_of b) (length d) (text.Written at) (put_mid at (length d - at) d m)) (sym (view_in d at h))
+      subst (λ (b : Buf). Gives (answer_of b) (length d) (Ok at) (put_mid at (length d - at) d m)) (sym (view_in d at h))
       (record {
         refusal = refl;
         count = sym l;
         buffer = ap (λ (r : Text). take at d ++ (m ++ r)) p ∙ ap (λ (r : Text). take at d ++ r) (append-nil m ∙ e ∙ ap (λ (n : ℕ). replicate n 0) z);
       })
 
-  pub ends_past : (m : Text) → length d < at → m ≡ replicate (length d) 0 → Gives (answer_of (view d at)) (length d) text.Short m
+  pub ends_past : (m : Text) → length d < at → m ≡ replicate (length d) 0 → Gives (answer_of (view d at)) (length d) (Err NoRoom) m
   ends_past m h e =
-      subst (λ (b : Buf). Gives (answer_of b) (length d) text.Short m) (sym (view_past d at h)) (record { refusal = refl; count = refl; buffer = e })
+      subst (λ (b : Buf). Gives (answer_of b) (length d) (Err NoRoom) m) (sym (view_past d at h)) (record { refusal = refl; count = refl; buffer = e })
 
 -- a text put from the start on, and then ended
 pub whole : (t d d' : Text) (n : ℕ) → Put t d 0 d' n → answer_of (view d' n) ≡ in_room (length d) t
@@ -102,13 +103,13 @@ whole t d d' n p = ap answer_of (p.bytes ∙ ap (λ (b : Buf). b ▷ t) (view_in
     by (inr h) = rw (▷-over (length d) [] t (omega arith), lt-leb (length t) (length d) h)
 
 module _ (most : ℕ) (named : ℕ → Text) (n : ℕ) (d : Text) where
-  pub outside : (m : Text) → most < n → m ≡ replicate (length d) 0 → Gives (ranged most named n (length d)) (length d) text.Outside m
+  pub outside : (m : Text) → most < n → m ≡ replicate (length d) 0 → Gives (ranged most named n (length d)) (length d) (Err Outside) m
   unfolding ranged
   outside m h e =
-      subst (λ (t : Bool). Gives (if t then in_room (length d) (named n) else refused 8) (length d) text.Outside m) (sym (lt-leb n most h))
+      subst (λ (t : Bool). Gives (if t then in_room (length d) (named n) else refused 8) (length d) (Err Outside) m) (sym (lt-leb n most h))
       (record { refusal = refl; count = refl; buffer = e })
 
-  pub inside : {d' out : Text} {k : ℕ} {r : TextAnswer} → n ≤ most → Put (named n) d 0 d' k → Gives (answer_of (view d' k)) (length d') r out
+  pub inside : {d' out : Text} {k : ℕ} {r : Result ℕ Refusal} → n ≤ most → Put (named n) d 0 d' k → Gives (answer_of (view d' k)) (length d') r out
       → Gives (ranged most named n (length d)) (length d) r out
   unfolding ranged
   inside {d'} {out} {k} {r} h p g =

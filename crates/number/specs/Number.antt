@@ -1,24 +1,20 @@
 -- What the answer of a number text means, and what the code holds of its parts. Assumes nothing.
 use Rattle.std.specs.Prelude.{if◌then◌else◌, ◌≡◌, ℕ, zero, suc, ◌+◌, ◌-◌, ◌*◌, ◌^◌, ◌<◌, ◌≤◌, min, Bool, true, false, [], ◌∷◌, length, drop, slice_index, Float}
+use Rattle.definition.specs.declared.Unread.{Unread}
+use Rattle.definition.specs.declared.Unread.TheVariants.{Absent, Long}
+use Rattle.std.specs.Prelude.{Err, Ok, Result}
 use Rattle.std.specs.Prelude.{Option, Some, None}
 use Rattle.definition.specs.Text.{Text, Sign, plus, minus, bare, sign_of, is_digit, digits}
-use Rattle.definition.specs.Number.{Reading, absent, long, value, Decimal, is_e, unsigned, decimal_of, magnitude}
-use Rattle.number.specs.declared.decimal.NumberAnswer.{NumberAnswer}
-use Rattle.number.specs.declared.decimal.NumberAnswer.TheVariants as answer
+use Rattle.definition.specs.Number.{Reading, Decimal, is_e, unsigned, decimal_of, magnitude}
 use Rattle.number.specs.declared.decimal.Mantissa.{Mantissa}
 use Rattle.number.specs.declared.decimal.Power.{Power}
 use Rattle.number.specs.declared.decimal.Power.TheVariants as power
 
-abbrev pub meaning : NumberAnswer → Reading Float
-meaning answer.Absent = absent
-meaning answer.Long = long
-meaning (answer.Value x) = value x
-
 -- document 01's number for an answer: a number that is too long refuses the tree
-abbrev pub number_refusal : NumberAnswer → ℕ
-number_refusal answer.Absent = 0
-number_refusal answer.Long = 5
-number_refusal (answer.Value x) = 0
+abbrev pub number_refusal : Result Float Unread → ℕ
+number_refusal (Err Absent) = 0
+number_refusal (Err Long) = 5
+number_refusal (Ok x) = 0
 
 -- ---- digits, held to a limit that is past every length
 abbrev pub limit : ℕ
@@ -79,13 +75,13 @@ decimal v u d = record { digits = v; up = u; down = d }
 
 -- digits, of which so many stand after the dot, and the power
 abbrev pub scaled_by : ℕ → ℕ → Power → Reading Float
-scaled_by v places power.Wrong = absent
+scaled_by v places power.Wrong = Err Absent
 scaled_by v places (power.Up n) = magnitude (Some (decimal v n places))
 scaled_by v places (power.Down n) = magnitude (Some (decimal v 0 (places + n)))
 
 -- so many digits, and what follows them
 abbrev pub ended : ℕ → ℕ → ℕ → Text → Reading Float
-ended zero v places s = absent
+ended zero v places s = Err Absent
 ended (suc c) v places s = scaled_by v places (power_at s)
 
 -- what a number begins with

@@ -5,12 +5,6 @@ use Rattle.definition.specs.Base.{◌>>=◌, ◌or◌, when}
 use Rattle.definition.specs.Ascii.{bytes}
 use Rattle.definition.specs.Text.{Text, before, after}
 use Rattle.definition.specs.Time.{most_time, is_colon}
-use Rattle.number.specs.declared.time.TimeAnswer.{TimeAnswer}
-use Rattle.number.specs.declared.time.TimeAnswer.TheVariants as answer
-
-abbrev pub meaning : TimeAnswer → Option ℕ
-meaning answer.Absent = None
-meaning (answer.Time t) = Some t
 
 unfoldable pub time_at : ℕ → ℕ → Option ℕ
 time_at h m = when (nat_le h 24 && (nat_lt m 60 && nat_le (h * 60 + m) most_time)) (h * 60 + m)

@@ -1,12 +1,14 @@
 -- What writing a text into a buffer gives: document 01's number, the buffer at the end, and how many bytes of it are the text. Assumes nothing.
+use Rattle.definition.specs.Answer.{answer_length, answer_number}
 use Rattle.std.specs.Prelude.{if◌then◌else◌, ◌≡◌, ℕ, ◌++◌, length, take, nat_le}
+use Rattle.definition.specs.declared.Refusal.{Refusal}
+use Rattle.definition.specs.declared.Refusal.TheVariants.{NoRoom, Outside}
+use Rattle.std.specs.Prelude.{Err, Ok, Result}
 use Rattle.std.proofs.Common.{ap, ◌∙◌}
 use Rattle.definition.specs.Text.{Text}
 use Rattle.definition.specs.Duration.{most_minutes, duration_text}
 use Rattle.definition.specs.Refusal.{Answer, refused, gives, result, left, written, ranged}
 use Rattle.laws.specs.Buf.{Buf, holds, full, ◌▷◌, ▷-▷}
-use Rattle.number.specs.declared.write.TextAnswer.{TextAnswer}
-use Rattle.number.specs.declared.write.TextAnswer.TheVariants as text
 
 -- the text of minutes that are not below 0
 abbrev pub minutes_answer : ℕ → ℕ → Answer
@@ -15,19 +17,9 @@ minutes_answer = ranged most_minutes duration_text
 -- ---- the code's answer
 
 -- document 01's number, and the length of the text
-abbrev pub refusal_of : TextAnswer → ℕ
-refusal_of (text.Written n) = 0
-refusal_of text.Outside = 8
-refusal_of text.Short = 9
-
-abbrev pub written_of : TextAnswer → ℕ
-written_of (text.Written n) = n
-written_of text.Outside = 0
-written_of text.Short = 0
-
-pub record Gives (a : Answer) (room : ℕ) (r : TextAnswer) (out : Text) : Type 0 where
-  pub refusal : refusal_of r ≡ result a
-  pub count : written_of r ≡ written a
+pub record Gives (a : Answer) (room : ℕ) (r : Result ℕ Refusal) (out : Text) : Type 0 where
+  pub refusal : answer_number r ≡ result a
+  pub count : answer_length r ≡ written a
   pub buffer : out ≡ left room a
 
 -- ---- one step after the other

@@ -4,14 +4,9 @@ ghost use Rattle.std.specs.Float.{binary64};
 ghost use Rattle.std.specs.Float.Ieee.{round};
 ghost use Rattle.std.specs.Float.Ieee.Exact.{HasValue};
 ghost use Rattle.definition.specs.Number.{decimal_of, magnitude, negated, number_of};
-ghost use Rattle.number.specs.Number.{meaning, limit, Ran, up_by, down_by, is_wrong, power_of, power_at, decimal, scaled_by, Begins};
+ghost use Rattle.number.specs.Number.{limit, Ran, up_by, down_by, is_wrong, power_of, power_at, decimal, scaled_by, Begins};
+use definition::Unread;
 
-#[derive(Clone, Copy)]
-pub enum NumberAnswer {
-    Absent,
-    Long,
-    Value(f64),
-}
 
 // A power of ten.
 #[derive(Clone, Copy)]
@@ -156,22 +151,22 @@ fn above(a: usize, b: usize) -> usize
 }
 
 // The number v * 10 ^ up / 10 ^ down, where it is short.
-fn judge(v: usize, up: usize, down: usize) -> NumberAnswer
-    ensures { meaning result ≡ magnitude (Some (decimal v up down)) }
+fn judge(v: usize, up: usize, down: usize) -> Result<f64, Unread>
+    ensures { result ≡ magnitude (Some (decimal v up down)) }
 {
     if v == 0 {
-        return NumberAnswer::Value(0.0);
+        return Ok(0.0);
     }
     if v >= 1_000_000_000_000_000 {
-        return NumberAnswer::Long;
+        return Err(Unread::Long);
     }
     if above(up, down) > 22 {
-        return NumberAnswer::Long;
+        return Err(Unread::Long);
     }
     if above(down, up) > 22 {
-        return NumberAnswer::Long;
+        return Err(Unread::Long);
     }
-    NumberAnswer::Value(short(v, up, down))
+    Ok(short(v, up, down))
 }
 
 // As many as matter of the powers below the dot.
@@ -215,12 +210,12 @@ fn is_wrong(p: Power) -> bool
 }
 
 // The digits v, of which `places` stand after the dot, times the power p of ten.
-fn scale(v: usize, places: usize, p: Power) -> NumberAnswer
+fn scale(v: usize, places: usize, p: Power) -> Result<f64, Unread>
     requires { places < 2 ^ 63 }
-    ensures { meaning result ≡ scaled_by v places p }
+    ensures { result ≡ scaled_by v places p }
 {
     if is_wrong(p) {
-        return NumberAnswer::Absent;
+        return Err(Unread::Absent);
     }
     judge(v, up_by(p), places + down_by(p))
 }
@@ -251,29 +246,25 @@ fn mantissa_of(s: &[u8]) -> Mantissa
 }
 
 // A number with no sign.
-fn unsigned(s: &[u8]) -> NumberAnswer
-    ensures { meaning result ≡ magnitude (decimal_of s.now) }
+fn unsigned(s: &[u8]) -> Result<f64, Unread>
+    ensures { result ≡ magnitude (decimal_of s.now) }
 {
     let m = mantissa_of(s);
     if m.count == 0 {
-        return NumberAnswer::Absent;
+        return Err(Unread::Absent);
     }
     scale(m.value, m.places, power_at(s, m.end))
 }
 
-fn opposite(n: NumberAnswer) -> NumberAnswer
-    ensures { meaning result ≡ negated (meaning n) }
+fn opposite(n: Result<f64, Unread>) -> Result<f64, Unread>
+    ensures { result ≡ negated n }
 {
-    match n {
-        NumberAnswer::Value(x) => NumberAnswer::Value(-x),
-        NumberAnswer::Long => NumberAnswer::Long,
-        NumberAnswer::Absent => NumberAnswer::Absent,
-    }
+    Ok(-n?)
 }
 
 // The number that s is.
-pub fn number_of(s: &[u8]) -> NumberAnswer
-    ensures { meaning result ≡ number_of s.now }
+pub fn number_of(s: &[u8]) -> Result<f64, Unread>
+    ensures { result ≡ number_of s.now }
 {
     let n = unsigned(text::without_sign(s));
     if text::byte_at(s, 0) == 45 {

@@ -1,46 +1,20 @@
 // Duration texts, as minutes, and whether the sum was whole before it was rounded.
 ghost use Rattle.std.specs.Prelude.{◌≡◌, T, []};
 ghost use Rattle.definition.specs.Duration.{set_unit, not_below_zero, piece_of, ◌then◌, time_figures, days_of, day_figures, figures_of, total_of, duration_from, duration_of};
-ghost use Rattle.number.specs.Number.{meaning as number_meaning};
-ghost use Rattle.number.specs.Duration.{meaning, figures_meaning, not_below, none_below};
+ghost use Rattle.number.specs.Duration.{not_below, none_below};
 
-use crate::decimal::NumberAnswer;
-use definition::Figures;
+use definition::{Duration, Figures, Unread};
 
-// Minutes, and whether the sum was whole before it was rounded.
-#[derive(Clone, Copy)]
-pub enum DurationAnswer {
-    Absent,
-    Long,
-    Minutes(u32, bool),
-}
-
-#[derive(Clone, Copy)]
-enum FiguresAnswer {
-    Absent,
-    Long,
-    Are(Figures),
-}
-
-fn not_below_zero(n: NumberAnswer) -> NumberAnswer
-    ensures { number_meaning result ≡ not_below_zero (number_meaning n) }
+fn not_below_zero(n: Result<f64, Unread>) -> Result<f64, Unread>
+    ensures { result ≡ not_below_zero n }
 {
-    match n {
-        NumberAnswer::Value(x) => {
-            if 0.0 <= x {
-                NumberAnswer::Value(x)
-            } else {
-                NumberAnswer::Absent
-            }
-        }
-        NumberAnswer::Long => NumberAnswer::Long,
-        NumberAnswer::Absent => NumberAnswer::Absent,
-    }
+    let x = n?;
+    if 0.0 <= x { Ok(x) } else { Err(Unread::Absent) }
 }
 
 // A piece without its unit.
-fn piece_of(s: &[u8]) -> NumberAnswer
-    ensures { number_meaning result ≡ piece_of s.now }
+fn piece_of(s: &[u8]) -> Result<f64, Unread>
+    ensures { result ≡ piece_of s.now }
 {
     not_below_zero(crate::decimal::number_of(s))
 }
@@ -74,71 +48,61 @@ fn set_unit(unit: u8, x: f64, f: Figures) -> Figures
 }
 
 // The figures that a time part sets, one piece after the other.
-fn time_figures(s: &[u8], start: Figures) -> FiguresAnswer
-    ensures { figures_meaning result ≡ time_figures s.now [] start }
+fn time_figures(s: &[u8], start: Figures) -> Result<Figures, Unread>
+    ensures { result ≡ time_figures s.now [] start }
 {
     let mut f = start;
     let mut from = 0;
     while from < s.len() {
         let k = from + crate::scan::first(&s[from..], 72, 77, 83);
         if k >= s.len() {
-            return FiguresAnswer::Absent;
+            return Err(Unread::Absent);
         }
-        match piece_of(&s[from..k]) {
-            NumberAnswer::Value(x) => f = set_unit(s[k], x, f),
-            NumberAnswer::Long => return FiguresAnswer::Long,
-            NumberAnswer::Absent => return FiguresAnswer::Absent,
-        }
+        f = set_unit(s[k], piece_of(&s[from..k])?, f);
         from = k + 1;
     }
-    FiguresAnswer::Are(f)
+    Ok(f)
 }
 
 // The part before `T`.
-fn days_of(s: &[u8]) -> NumberAnswer
-    ensures { number_meaning result ≡ days_of s.now }
+fn days_of(s: &[u8]) -> Result<f64, Unread>
+    ensures { result ≡ days_of s.now }
 {
     if s.len() == 0 {
-        return NumberAnswer::Value(0.0);
+        return Ok(0.0);
     }
     let k = text::place(s, 68);
     if k + 1 == s.len() {
         return piece_of(&s[..k]);
     }
-    NumberAnswer::Absent
+    Err(Unread::Absent)
 }
 
-// The figures of a time part after so many days.
-fn after_days(d: NumberAnswer, s: &[u8]) -> FiguresAnswer
-    ensures { figures_meaning result ≡ (number_meaning d then λ x. time_figures s.now [] (day_figures x)) }
+// So many days and nothing else.
+fn day_figures(days: f64) -> Figures
+    ensures { result ≡ day_figures days }
 {
-    match d {
-        NumberAnswer::Value(x) => time_figures(
-            s,
-            Figures {
-                days: x,
-                hours: 0.0,
-                minutes: 0.0,
-                seconds: 0.0,
-            },
-        ),
-        NumberAnswer::Long => FiguresAnswer::Long,
-        NumberAnswer::Absent => FiguresAnswer::Absent,
+    Figures {
+        days,
+        hours: 0.0,
+        minutes: 0.0,
+        seconds: 0.0,
     }
 }
 
-fn figures_of(s: &[u8]) -> FiguresAnswer
-    ensures { figures_meaning result ≡ figures_of s.now }
+fn figures_of(s: &[u8]) -> Result<Figures, Unread>
+    ensures { result ≡ figures_of s.now }
 {
     if s.len() == 0 {
-        return FiguresAnswer::Absent;
+        return Err(Unread::Absent);
     }
     if s[0] != 80 {
-        return FiguresAnswer::Absent;
+        return Err(Unread::Absent);
     }
     let rest = &s[1..];
     let k = text::place(rest, 84);
-    after_days(days_of(&rest[..k]), crate::scan::behind(rest, k))
+    let days = days_of(&rest[..k])?;
+    time_figures(crate::scan::behind(rest, k), day_figures(days))
 }
 
 // days × 1440 + hours × 60 + minutes + seconds / 60, summed left to right.
@@ -148,40 +112,43 @@ fn total_of(f: Figures) -> f64
     f.days * 1440.0 + f.hours * 60.0 + f.minutes + f.seconds / 60.0
 }
 
-fn duration_from(f: Figures) -> DurationAnswer
+fn duration_from(f: Figures) -> Result<Duration, Unread>
     requires { T (not_below f) }
-    ensures { meaning result ≡ duration_from f }
+    ensures { result ≡ duration_from f }
 {
     let total = total_of(f);
     if total <= 1e9 {
         let minutes = crate::whole::half_away(total) as u32;
         let rounded = minutes as f64;
-        return DurationAnswer::Minutes(minutes, total == rounded);
+        return Ok(Duration {
+            minutes,
+            whole: total == rounded,
+        });
     }
-    DurationAnswer::Absent
+    Err(Unread::Absent)
 }
 
-fn duration_read(f: FiguresAnswer) -> DurationAnswer
-    requires { T (none_below (figures_meaning f)) }
-    ensures { meaning result ≡ (figures_meaning f then duration_from) }
+fn duration_read(f: Result<Figures, Unread>) -> Result<Duration, Unread>
+    requires { T (none_below f) }
+    ensures { result ≡ (f then duration_from) }
 {
     match f {
-        FiguresAnswer::Are(g) => duration_from(g),
-        FiguresAnswer::Long => DurationAnswer::Long,
-        FiguresAnswer::Absent => DurationAnswer::Absent,
+        Ok(g) => duration_from(g),
+        Err(Unread::Long) => Err(Unread::Long),
+        Err(Unread::Absent) => Err(Unread::Absent),
     }
 }
 
 // The duration of a text that is trimmed.
-fn duration_in(s: &[u8]) -> DurationAnswer
-    ensures { meaning result ≡ (figures_of s.now then duration_from) }
+fn duration_in(s: &[u8]) -> Result<Duration, Unread>
+    ensures { result ≡ (figures_of s.now then duration_from) }
 {
     duration_read(figures_of(s))
 }
 
 // The minutes that s is as a duration, and whether the sum was whole.
-pub fn duration_of(s: &[u8]) -> DurationAnswer
-    ensures { meaning result ≡ duration_of s.now }
+pub fn duration_of(s: &[u8]) -> Result<Duration, Unread>
+    ensures { result ≡ duration_of s.now }
 {
     duration_in(text::trim(s))
 }

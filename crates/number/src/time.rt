@@ -2,67 +2,59 @@
 ghost use Rattle.std.specs.Prelude.{◌≡◌};
 ghost use Rattle.definition.specs.Text.{unsigned_of};
 ghost use Rattle.definition.specs.Time.{is_colon, time_parts, time_of};
-ghost use Rattle.text.specs.Answers.{u16_of};
 ghost use Rattle.text.specs.Cut.{place_of};
-ghost use Rattle.number.specs.Time.{meaning, time_at, joined, minutes_text};
+ghost use Rattle.number.specs.Time.{time_at, joined, minutes_text};
 
-use text::U16Answer;
-
-#[derive(Clone, Copy)]
-pub enum TimeAnswer {
-    Absent,
-    Time(u16),
-}
 
 // h hours and m minutes.
-fn time_at(h: u16, m: u16) -> TimeAnswer
-    ensures { meaning result ≡ time_at h m }
+fn time_at(h: u16, m: u16) -> Option<u16>
+    ensures { result ≡ time_at h m }
 {
     if h > 24 {
-        return TimeAnswer::Absent;
+        return None;
     }
     if m >= 60 {
-        return TimeAnswer::Absent;
+        return None;
     }
     if h * 60 + m > 1440 {
-        return TimeAnswer::Absent;
+        return None;
     }
-    TimeAnswer::Time(h * 60 + m)
+    Some(h * 60 + m)
 }
 
-fn join(hours: U16Answer, minutes: U16Answer) -> TimeAnswer
-    ensures { meaning result ≡ joined (u16_of hours) (u16_of minutes) }
+fn join(hours: Option<u16>, minutes: Option<u16>) -> Option<u16>
+    ensures { result ≡ joined hours minutes }
 {
     match hours {
-        U16Answer::Is(h) => match minutes {
-            U16Answer::Is(m) => time_at(h, m),
-            U16Answer::Absent => TimeAnswer::Absent,
+        Some(h) => match minutes {
+            Some(m) => time_at(h, m),
+            None => None,
         },
-        U16Answer::Absent => TimeAnswer::Absent,
+        None => None,
     }
 }
 
 // The minutes after the colon at the place k, 0 where there is none.
-fn minutes_after(s: &[u8], k: usize) -> U16Answer
+fn minutes_after(s: &[u8], k: usize) -> Option<u16>
     requires { k ≡ place_of is_colon s.now }
-    ensures { u16_of result ≡ unsigned_of 16 (minutes_text s.now) }
+    ensures { result ≡ unsigned_of 16 (minutes_text s.now) }
 {
     if k < s.len() {
         return text::u16_of(text::before(crate::scan::behind(s, k), 58));
     }
-    U16Answer::Is(0)
+    Some(0)
 }
 
-fn time_parts(s: &[u8]) -> TimeAnswer
-    ensures { meaning result ≡ time_parts s.now }
+fn time_parts(s: &[u8]) -> Option<u16>
+    ensures { result ≡ time_parts s.now }
 {
     let k = text::place(s, 58);
     join(text::u16_of(&s[..k]), minutes_after(s, k))
 }
 
 // The time of day that s is.
-pub fn time_of(s: &[u8]) -> TimeAnswer
-    ensures { meaning result ≡ time_of s.now }
+pub fn time_of(s: &[u8]) -> Option<u16>
+    ensures { result ≡ time_of s.now }
 {
     time_parts(text::trim(s))
 }

@@ -4,13 +4,8 @@ ghost use Rattle.definition.specs.Duration.{decimal, duration_text};
 ghost use Rattle.definition.specs.Time.{two_digits, time_text};
 ghost use Rattle.number.specs.Written.{Put, Gives, view, answer_of, minutes_answer};
 ghost use Rattle.definition.specs.Refusal.{time_answer};
+use definition::Refusal;
 
-#[derive(Clone, Copy)]
-pub enum TextAnswer {
-    Written(usize),
-    Outside,
-    Short,
-}
 
 // A place past the end of every buffer.
 const PAST: usize = 9_223_372_036_854_775_808;
@@ -55,15 +50,15 @@ fn put_decimal(out: &mut [u8], at: usize, n: u64) -> usize
 }
 
 // What was written up to a place, and zeros behind it; zeros alone where it did not fit.
-fn finish(out: &mut [u8], at: usize) -> TextAnswer
+fn finish(out: &mut [u8], at: usize) -> Result<usize, Refusal>
     ensures { Gives (answer_of (view out.old at)) (length out.old) result out.new }
 {
     if at <= out.len() {
         clear(&mut out[at..]);
-        return TextAnswer::Written(at);
+        return Ok(at);
     }
     clear(out);
-    TextAnswer::Short
+    Err(Refusal::NoRoom)
 }
 
 fn put_duration(out: &mut [u8], n: u64) -> usize
@@ -80,12 +75,12 @@ fn put_duration(out: &mut [u8], n: u64) -> usize
 }
 
 // The text of minutes up to 1,000,000,000.
-pub fn duration_text(minutes: u64, out: &mut [u8]) -> TextAnswer
+pub fn duration_text(minutes: u64, out: &mut [u8]) -> Result<usize, Refusal>
     ensures { Gives (minutes_answer minutes (length out.old)) (length out.old) result out.new }
 {
     if minutes > 1_000_000_000 {
         clear(out);
-        return TextAnswer::Outside;
+        return Err(Refusal::Outside);
     }
     let n = put_duration(out, minutes);
     finish(out, n)
@@ -112,12 +107,12 @@ fn put_time(out: &mut [u8], t: u64) -> usize
 }
 
 // The text of a time of day up to 1440 minutes.
-pub fn time_text(minutes: u64, out: &mut [u8]) -> TextAnswer
+pub fn time_text(minutes: u64, out: &mut [u8]) -> Result<usize, Refusal>
     ensures { Gives (time_answer minutes (length out.old)) (length out.old) result out.new }
 {
     if minutes > 1440 {
         clear(out);
-        return TextAnswer::Outside;
+        return Err(Refusal::Outside);
     }
     let n = put_time(out, minutes);
     finish(out, n)

@@ -1,5 +1,9 @@
 -- From a model's bytes to what the definition says of them: the model's outline, or why there is none. Assumes nothing.
+use Rattle.definition.specs.Answer.{answer_length, answer_number}
 use Rattle.std.specs.Prelude.{if◌then◌else◌}
+use Rattle.definition.specs.declared.Refusal.{Refusal}
+use Rattle.definition.specs.declared.Refusal.TheVariants.{NoModel, NoRoom}
+use Rattle.std.specs.Prelude.{Err, Ok, Result, Some}
 use mathlib.Core.Path.{◌≡◌, refl, sym, ap, ◌∙◌}
 use mathlib.Core.Bool.{Bool, true, false, ◌||◌, false≢true}
 use mathlib.Core.List.{List}
@@ -19,15 +23,12 @@ use Rattle.model.specs.Sections.{Opens, Sectioned, Holds, start, counts_in, sect
 use Rattle.model.specs.Opening.{opened, opened_at}
 use Rattle.model.specs.declared.Counts.{Counts}
 use Rattle.model.specs.declared.Places.{Places}
-use Rattle.model.specs.declared.Opened.{Opened}
 use Rattle.model.specs.declared.Section.{Section}
 use Rattle.model.specs.declared.Sections.{Sections}
-use Rattle.outline.specs.declared.OutlineAnswer.{OutlineAnswer}
-use Rattle.outline.specs.declared.OutlineAnswer.TheVariants as answer
 use Rattle.outline.specs.Words.{no_row, parents_in, outline_words, Outlined}
 use Rattle.outline.proofs.ParentLaws.{outline_filled}
 use Rattle.outline.specs.Filled.{parents, Names, ModelWalked}
-use Rattle.outline.specs.Answers.{refusal_of, count_of, Gives}
+use Rattle.outline.specs.Answers.{Gives}
 
 or_right : (a b : Bool) → (a || b) ≡ false → b ≡ false
 or_right false b e = e
@@ -41,11 +42,11 @@ record Filled (s : List ℕ) (x : Section) (w w' : List ℕ) : Type 0 where
   names : (xs : List Activity) (next : ℕ) → Holds activity s x xs next → 4 * x.count ≤ length w → Names xs x.count w'
 
 -- the sections that come of the walk
-module _ {s : List ℕ} {n : Counts} {w : Places} {work work₁ : List ℕ} (c : (counts_in n, n.next) ≡ counts_at s start) (k : ModelWalked s n work work₁ w) {o : Opened} (e : o ≡ sections_by (length s) n w) where
+module _ {s : List ℕ} {n : Counts} {w : Places} {work work₁ : List ℕ} (c : (counts_in n, n.next) ≡ counts_at s start) (k : ModelWalked s n work work₁ w) {o : Option Sections} (e : o ≡ sections_by (length s) n w) where
   opened_by : Opens s o
   opened_by = rw e (opened c k.walks)
 
-  filled_by : {m : Sections} → o ≡ Opened.Model m → Filled s m.activities work work₁
+  filled_by : {m : Sections} → o ≡ Some m → Filled s m.activities work work₁
   filled_by z =
       let u = opened_at c k.walks (sym z ∙ e) in
       rw u.0 (record { long = k.filled.long; names = λ xs next h room. k.filled.names xs next h u.1 room })
@@ -85,7 +86,7 @@ unfolding outline_words
 words_by n room w l e = ap (λ (b : Bool). if b then refused 9 else gives (row_words (outline_of (parents_in n w)))) (ap (is_short n room) l ∙ e)
 
 -- both slices cleared
-gives_none : {s rows work rows' work' : List ℕ} {r : OutlineAnswer} {k : ℕ} → outline_answer s (length rows) (length work) ≡ refused k → refusal_of r ≡ k → count_of r ≡ 0
+gives_none : {s rows work rows' work' : List ℕ} {r : Result ℕ Refusal} {k : ℕ} → outline_answer s (length rows) (length work) ≡ refused k → answer_number r ≡ k → answer_length r ≡ 0
     → rows' ≡ replicate (length rows) 0 → work' ≡ replicate (length work) 0 → Gives s rows work rows' work' r
 gives_none {rows = rows} a e z f g =
     record { refusal = e ∙ sym (ap result a); count = z ∙ sym (ap row_count a); given = f ∙ sym (ap (left (length rows)) a); cleared = g }
@@ -97,10 +98,10 @@ zeros work₁ l g = g ∙ cleared_all work₁ ∙ ap (λ (n : ℕ). replicate n 
 same_short : (n rows : ℕ) {a b : ℕ} {short t : Bool} → a ≡ b → short ≡ is_short n rows a → short ≡ t → is_short n rows b ≡ t
 same_short n rows l e u = sym (e ∙ ap (is_short n rows) l) ∙ u
 
-module _ {s rows work work₁ : List ℕ} {n : Counts} {w : Places} (c : (counts_in n, n.next) ≡ counts_at s start) (k : ModelWalked s n work work₁ w) {o : Opened} (b : o ≡ sections_by (length s) n w) where
-  module _ {m : Sections} (ok : o ≡ Opened.Model m) {short : Bool} (e : short ≡ is_short m.activities.count (length rows) (length work₁)) where
+module _ {s rows work work₁ : List ℕ} {n : Counts} {w : Places} (c : (counts_in n, n.next) ≡ counts_at s start) (k : ModelWalked s n work work₁ w) {o : Option Sections} (b : o ≡ sections_by (length s) n w) where
+  module _ {m : Sections} (ok : o ≡ Some m) {short : Bool} (e : short ≡ is_short m.activities.count (length rows) (length work₁)) where
     pub gives_rows : short ≡ false → {rows' work' : List ℕ} {r : ℕ}
-        → Outlined m.activities.count rows work₁ rows' work' r → Gives s rows work rows' work' (answer.Rows r)
+        → Outlined m.activities.count rows work₁ rows' work' r → Gives s rows work rows' work' (Ok r)
     gives_rows t o =
         let n = m.activities.count in
         let filled = filled_by c k b ok in
@@ -117,10 +118,10 @@ module _ {s rows work work₁ : List ℕ} {n : Counts} {w : Places} (c : (counts
           cleared = o.cleared ∙ ap (λ (k : ℕ). replicate k 0) filled.long;
         }
 
-    pub gives_short : {rows' work' : List ℕ} → rows' ≡ cleared 0 rows → work' ≡ cleared 0 work₁ → short ≡ true → Gives s rows work rows' work' answer.Short
+    pub gives_short : {rows' work' : List ℕ} → rows' ≡ cleared 0 rows → work' ≡ cleared 0 work₁ → short ≡ true → Gives s rows work rows' work' (Err NoRoom)
     gives_short f g u =
         gives_none (answer_by s (length rows) (length work) ((opened_by c k b).model m ok) (same_short m.activities.count (length rows) k.filled.long e u)) refl refl
         (f ∙ cleared_all rows) (zeros work₁ k.filled.long g)
 
-  pub gives_no_model : {rows' work' : List ℕ} → rows' ≡ cleared 0 rows → work' ≡ cleared 0 work₁ → o ≡ Opened.NoModel → Gives s rows work rows' work' answer.NoModel
+  pub gives_no_model : {rows' work' : List ℕ} → rows' ≡ cleared 0 rows → work' ≡ cleared 0 work₁ → o ≡ None → Gives s rows work rows' work' (Err NoModel)
   gives_no_model f g z = gives_none (answer_none s (length rows) (length work) ((opened_by c k b).refused z)) refl refl (f ∙ cleared_all rows) (zeros work₁ k.filled.long g)

@@ -9,9 +9,10 @@ ghost use Rattle.outline.specs.Answers.{Gives};
 ghost use Rattle.outline.specs.Words.{Outlined};
 ghost use Rattle.outline.specs.Steps.{Empty, Linked, Stepped, Climbed, Walked, Wrote, pushed, link_of};
 
+use definition::Refusal;
 use crate::parents::walk_model;
 use bits::clear_words_from;
-use model::{Opened, sections_of, take_counts};
+use model::{sections_of, take_counts};
 
 // A word that names no row.
 const NONE: u32 = 0xFFFF_FFFF;
@@ -202,15 +203,6 @@ fn outline_rows(n: u32, rows: &mut [u32], work: &mut [u32]) -> u32
     count
 }
 
-// How many rows the outline of a model has; NoModel where the bytes do not decode, and Short where rows has less than 2 words an activity or
-// work less than 4.
-#[derive(Clone, Copy)]
-pub enum OutlineAnswer {
-    Rows(u32),
-    NoModel,
-    Short,
-}
-
 // Whether rows or work has less than n activities need.
 fn is_short(n: u32, rows: usize, work: usize) -> bool
     ensures { result ≡ (ltb rows (2 * n) || ltb work (4 * n)) }
@@ -219,23 +211,23 @@ fn is_short(n: u32, rows: usize, work: usize) -> bool
 }
 
 // The outline of a model's bytes: row and level of each activity, with zeros behind, and zeros in work; zeros alone where there are no rows to give.
-pub fn outline(s: &[u8], rows: &mut [u32], work: &mut [u32]) -> OutlineAnswer
+pub fn outline(s: &[u8], rows: &mut [u32], work: &mut [u32]) -> Result<u32, Refusal>
     ensures { Gives s.now rows.old work.old rows.new work.new result }
 {
     let counts = take_counts(s);
     let places = walk_model(s, counts, work);
     let opened = sections_of(s.len(), counts, places);
-    let Opened::Model(m) = opened else {
+    let Some(m) = opened else {
         clear_words_from(rows, 0);
         clear_words_from(work, 0);
-        return OutlineAnswer::NoModel;
+        return Err(Refusal::NoModel);
     };
     let activities = m.activities;
     let n = activities.count;
     if is_short(n, rows.len(), work.len()) {
         clear_words_from(rows, 0);
         clear_words_from(work, 0);
-        return OutlineAnswer::Short;
+        return Err(Refusal::NoRoom);
     }
-    OutlineAnswer::Rows(outline_rows(n, rows, work))
+    Ok(outline_rows(n, rows, work))
 }

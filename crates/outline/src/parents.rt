@@ -1,23 +1,21 @@
 // The parents of a model's activities, put where `outline_rows` looks for them while the model is decoded.
 ghost use Rattle.std.specs.Prelude.{◌≡◌};
-ghost use Rattle.definition.specs.Answer.{row_meaning};
 ghost use Rattle.outline.specs.Steps.{word_of};
 ghost use Rattle.outline.specs.Filled.{ParentAt, Filled, ModelWalked};
 
 use crate::{NONE, PARENT, set_field};
 use bits::{Place, take_pad};
-use definition::RowAnswer;
 use model::parts::{parent_place_by, take_row};
 use model::records::skip_from_notes;
 use model::{Counts, Places, walk_behind, walk_head};
 
 // The word for a parent.
-fn word_of(parent: RowAnswer) -> u32
-    ensures { result ≡ word_of (row_meaning parent) }
+fn word_of(parent: Option<u32>) -> u32
+    ensures { result ≡ word_of parent }
 {
     match parent {
-        RowAnswer::Is(row) => row,
-        RowAnswer::Absent => NONE,
+        Some(row) => row,
+        None => NONE,
     }
 }
 

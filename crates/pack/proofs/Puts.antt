@@ -12,7 +12,6 @@ use Rattle.definition.specs.Date.{day_number}
 use Rattle.definition.specs.Format.{Format, optional, flag, code, date}
 use Rattle.definition.specs.Pack.{constraint}
 use Rattle.definition.specs.declared.Date.{Date}
-use Rattle.definition.specs.declared.DateAnswer.{DateAnswer}
 use Rattle.bits.specs.Steps.{Puts, put_same, put_via, put_alone, put_both}
 use Rattle.bits.specs.declared.Place.{Place}
 
@@ -29,8 +28,8 @@ module _ {d : List ℕ} {p : Place} {d' : List ℕ} {q : Place} where
 
 -- ---- dates
 
-module _ {a : DateAnswer} (o : Option D.Date) (h : date_meaning a ≡ day_number_of o) where
-  pub day_is : {x : Date} → a ≡ DateAnswer.Is x → x.0 ≡ day_number (o or 0)
+module _ {a : Option Date} (o : Option D.Date) (h : date_meaning a ≡ day_number_of o) where
+  pub day_is : {x : Date} → a ≡ Some x → x.0 ≡ day_number (o or 0)
   unfolding date_meaning day_number_of
   day_is {x} e = by o (ap date_meaning (sym e) ∙ h)
     where
@@ -38,7 +37,7 @@ module _ {a : DateAnswer} (o : Option D.Date) (h : date_meaning a ≡ day_number
       by None i = cc
       by (Some d) i = cc
 
-  pub no_day : a ≡ DateAnswer.Absent → negsuc 4371952 ≡ day_number (o or 0)
+  pub no_day : a ≡ None → negsuc 4371952 ≡ day_number (o or 0)
   unfolding date_meaning day_number_of day_number
   no_day e = by o (ap date_meaning (sym e) ∙ h)
     where

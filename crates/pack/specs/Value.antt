@@ -1,5 +1,7 @@
 -- What the values that are written mean. Assumes nothing.
 use Rattle.std.specs.Prelude.{ℕ, ◌≡◌, refl, ℤ}
+use Rattle.definition.specs.declared.Date.{Date as DayNumber}
+use Rattle.tasks.specs.declared.task.Constraint.{Constraint}
 use Rattle.std.proofs.Common.{ap, ◌∙◌}
 use Rattle.std.specs.Prelude.{Option, Some, None}
 use Rattle.definition.specs.Base.{◌or◌, ◌>>=◌}
@@ -9,28 +11,24 @@ use Rattle.laws.specs.Fields.{InYears, days_day}
 use Rattle.laws.specs.Formats.{IfGiven}
 use Rattle.definition.specs.Text.{Text}
 use Rattle.definition.specs.Answer.{date_meaning, day_number_of}
-use Rattle.definition.specs.declared.DateAnswer.{DateAnswer}
 use Rattle.tasks.specs.Task.{constraint_means, day_numbered}
-use Rattle.tasks.specs.declared.task.ConstraintAnswer.{ConstraintAnswer}
-use Rattle.pack.specs.declared.stars.NameAnswer.{NameAnswer}
-use Rattle.pack.specs.declared.stars.NameAnswer.TheVariants as name
 
 -- the date of a day number; 0 outside the years
 abbrev pub date_by : ℤ → Date
 date_by z = from_days z or 0
 
 -- a date that may be missing
-abbrev pub date_given : DateAnswer → Option Date
+abbrev pub date_given : Option DayNumber → Option Date
 date_given d = date_meaning d >>= λ z. Some (date_by z)
 
 -- a constraint that may be missing: its code, and its date unless the code is 1
-abbrev pub constraint_given : ConstraintAnswer → Option (ℕ × Option Date)
+abbrev pub constraint_given : Option Constraint → Option (ℕ × Option Date)
 constraint_given c = constraint_means c >>= λ x. Some (x.0, x.1 >>= λ z. Some (date_by z))
 
 -- a name that may be missing: the text with so many `*` behind it
-unfoldable pub name_meaning : Text → NameAnswer → Option Text
-name_meaning s (name.Starred stars) = Some (starred_by s stars)
-name_meaning s name.Absent = None
+unfoldable pub name_meaning : Text → Option ℕ → Option Text
+name_meaning s (Some stars) = Some (starred_by s stars)
+name_meaning s None = None
 
 -- ---- what was read is written as it is meant: its dates stand in the years
 
@@ -40,7 +38,7 @@ date_back None h = refl
 date_back (Some d) h = rw h
 
 -- a date
-pub date_read : (a : DateAnswer) (o : Option Date) → date_meaning a ≡ day_number_of o → (day_number_of o >>= from_days) ≡ o → date_given a ≡ o
+pub date_read : (a : Option DayNumber) (o : Option Date) → date_meaning a ≡ day_number_of o → (day_number_of o >>= from_days) ≡ o → date_given a ≡ o
 date_read a o e h = ap (λ (o : Option ℤ). o >>= λ z. Some (date_by z)) e ∙ date_back o h
 
 -- where it stands in the years
@@ -50,7 +48,7 @@ years_back None h = refl
 years_back (Some d) h = days_day d h
 
 -- a constraint
-pub constraint_read : (a : ConstraintAnswer) (o : Option (ℕ × Option Date)) → constraint_means a ≡ day_numbered o → IfGiven (λ (x : ℕ × Option Date). IfGiven InYears x.1) o → constraint_given a ≡ o
+pub constraint_read : (a : Option Constraint) (o : Option (ℕ × Option Date)) → constraint_means a ≡ day_numbered o → IfGiven (λ (x : ℕ × Option Date). IfGiven InYears x.1) o → constraint_given a ≡ o
 unfolding day_numbered
 constraint_read a o e h = ap (λ (o : Option (ℕ × Option ℤ)). o >>= λ x. Some (x.0, x.1 >>= λ z. Some (date_by z))) e ∙ back o h
   where

@@ -6,16 +6,15 @@ ghost use Rattle.definition.specs.Pack.{project, activity, link, resource, assig
 ghost use Rattle.bits.specs.Steps.{Puts};
 ghost use Rattle.pack.specs.Record.{link_by, assignment_by, expense_by, project_by, resource_by, activity_by, schedule_fields, schedule_of, counts_by};
 
-use crate::stars::{NameAnswer, put_optional_name, put_starred};
+use crate::stars::{put_optional_name, put_starred};
 use crate::value::{
     put_code, put_constraint, put_count, put_date, put_lag_kind, put_number, put_optional_date,
     put_optional_number, put_optional_row,
 };
 use bits::Place;
-use definition::{Date, DateAnswer, RowAnswer};
+use definition::{Date};
 use resources::Amounts;
-use tasks::{ConstraintAnswer, Lag, Parts};
-use text::I64Answer;
+use tasks::{Constraint, Lag, Parts};
 
 // How many exceptions were skipped, how many links dangle or go across, and how many kept tasks have a duration
 // that was not whole minutes.
@@ -32,22 +31,22 @@ pub struct Skips {
 pub struct Plan {
     pub kind: u32,
     pub duration: Parts,
-    pub parent: RowAnswer,
+    pub parent: Option<u32>,
 }
 
 #[derive(Clone, Copy)]
 pub struct Dates {
-    pub constraint: ConstraintAnswer,
-    pub deadline: DateAnswer,
-    pub start: DateAnswer,
-    pub finish: DateAnswer,
+    pub constraint: Option<Constraint>,
+    pub deadline: Option<Date>,
+    pub start: Option<Date>,
+    pub finish: Option<Date>,
 }
 
 #[derive(Clone, Copy)]
 pub struct Progress {
-    pub percent: I64Answer,
+    pub percent: Option<i64>,
     pub duration_type: u32,
-    pub remaining: I64Answer,
+    pub remaining: Option<i64>,
 }
 
 // How many records of each kind there are.
@@ -95,7 +94,7 @@ pub fn put_assignment(
     activity: u32,
     resource: u32,
     work: Amounts,
-    rate: I64Answer,
+    rate: Option<i64>,
 ) -> Place
     ensures { Puts (whole assignment) (assignment_by activity resource work rate) out.old p out.new result }
 {
@@ -136,7 +135,7 @@ pub fn put_project(
     start: Date,
     currency: &[u8],
     skips: Skips,
-    status: DateAnswer,
+    status: Option<Date>,
 ) -> Place
     ensures { Puts (whole project) (project_by name.now start.0 currency.now skips status) out.old p out.new result }
 {
@@ -173,8 +172,8 @@ pub fn put_resource(
     unit: &[u8],
     units: i64,
     calendar: &[u8],
-    named: NameAnswer,
-    price: I64Answer,
+    named: Option<u32>,
+    price: Option<i64>,
 ) -> Place
     ensures { Puts (whole resource) (resource_by id.now stars name.now kind unit.now units calendar.now named price) out.old p out.new result }
 {
@@ -194,7 +193,7 @@ fn put_schedule(
     p: Place,
     notes: &[u8],
     calendar: &[u8],
-    named: NameAnswer,
+    named: Option<u32>,
     dates: Dates,
     progress: Progress,
     uid: &[u8],
@@ -229,7 +228,7 @@ pub fn put_activity(
     plan: Plan,
     notes: &[u8],
     calendar: &[u8],
-    named: NameAnswer,
+    named: Option<u32>,
     dates: Dates,
     progress: Progress,
     uid: &[u8],

@@ -8,13 +8,6 @@ ghost use Rattle.pack.specs.Value.{starred_by, name_meaning};
 
 use bits::Place;
 
-// The text beside it with so many `*` behind it, or no name.
-#[derive(Clone, Copy)]
-pub enum NameAnswer {
-    Starred(u32),
-    Absent,
-}
-
 // So many `*`.
 fn put_stars(out: &mut [u8], p: Place, stars: u32) -> Place
     ensures { Step out.old p (λ b. b ▷ bits_of (replicate stars 42)) out.new result }
@@ -38,14 +31,14 @@ pub fn put_starred(out: &mut [u8], p: Place, s: &[u8], stars: u32) -> Place
     put_stars(out, c, stars)
 }
 
-pub(crate) fn put_optional_name(out: &mut [u8], p: Place, s: &[u8], name: NameAnswer) -> Place
+pub(crate) fn put_optional_name(out: &mut [u8], p: Place, s: &[u8], name: Option<u32>) -> Place
     ensures { Puts (optional text) (name_meaning s.now name) out.old p out.new result }
 {
     match name {
-        NameAnswer::Starred(stars) => {
+        Some(stars) => {
             let q = bits::put_flag(out, p, true);
             put_starred(out, q, s, stars)
         }
-        NameAnswer::Absent => bits::put_flag(out, p, false),
+        None => bits::put_flag(out, p, false),
     }
 }

@@ -1,19 +1,16 @@
 // The fields of a record, and values that may be missing.
 ghost use Rattle.std.specs.Prelude.{ℕ, ◌≡◌};
-ghost use Rattle.definition.specs.Answer.{row_meaning};
 ghost use Rattle.definition.specs.Date.{day_number};
 ghost use Rattle.definition.specs.Format.{count, row, code, number, date, optional};
 ghost use Rattle.definition.specs.Pack.{constraint};
 ghost use Rattle.bits.specs.Steps.{Puts};
-ghost use Rattle.text.specs.Answers.{i64_of};
 ghost use Rattle.tasks.specs.Link.{lag_kind_means};
 ghost use Rattle.definition.specs.Pack.{lag_kind};
 ghost use Rattle.pack.specs.Value.{date_by, date_given, constraint_given};
 
 use bits::Place;
-use definition::{Date, DateAnswer, RowAnswer};
-use tasks::{Constraint, ConstraintAnswer, LagKind};
-use text::I64Answer;
+use definition::{Date};
+use tasks::{Constraint, LagKind};
 
 // A count or a row.
 pub fn put_count(out: &mut [u8], p: Place, n: u32) -> Place
@@ -40,8 +37,8 @@ fn day_number(d: Date) -> i32
     ensures { result ≡ day_number (date_by d.0) }
 {
     match date::from_days(d.0) {
-        DateAnswer::Is(n) => n.0,
-        DateAnswer::Absent => -4371953,
+        Some(n) => n.0,
+        None => -4371953,
     }
 }
 
@@ -53,39 +50,39 @@ pub fn put_date(out: &mut [u8], p: Place, d: Date) -> Place
 
 // ---- values that may be missing
 
-pub(crate) fn put_optional_number(out: &mut [u8], p: Place, n: I64Answer) -> Place
-    ensures { Puts (optional number) (i64_of n) out.old p out.new result }
+pub(crate) fn put_optional_number(out: &mut [u8], p: Place, n: Option<i64>) -> Place
+    ensures { Puts (optional number) n out.old p out.new result }
 {
     match n {
-        I64Answer::Is(n) => {
+        Some(n) => {
             let q = bits::put_flag(out, p, true);
             put_number(out, q, n)
         }
-        I64Answer::Absent => bits::put_flag(out, p, false),
+        None => bits::put_flag(out, p, false),
     }
 }
 
-pub(crate) fn put_optional_row(out: &mut [u8], p: Place, n: RowAnswer) -> Place
-    ensures { Puts (optional row) (row_meaning n) out.old p out.new result }
+pub(crate) fn put_optional_row(out: &mut [u8], p: Place, n: Option<u32>) -> Place
+    ensures { Puts (optional row) n out.old p out.new result }
 {
     match n {
-        RowAnswer::Is(n) => {
+        Some(n) => {
             let q = bits::put_flag(out, p, true);
             put_count(out, q, n)
         }
-        RowAnswer::Absent => bits::put_flag(out, p, false),
+        None => bits::put_flag(out, p, false),
     }
 }
 
-pub(crate) fn put_optional_date(out: &mut [u8], p: Place, d: DateAnswer) -> Place
+pub(crate) fn put_optional_date(out: &mut [u8], p: Place, d: Option<Date>) -> Place
     ensures { Puts (optional date) (date_given d) out.old p out.new result }
 {
     match d {
-        DateAnswer::Is(d) => {
+        Some(d) => {
             let q = bits::put_flag(out, p, true);
             put_date(out, q, d)
         }
-        DateAnswer::Absent => bits::put_flag(out, p, false),
+        None => bits::put_flag(out, p, false),
     }
 }
 
@@ -121,12 +118,12 @@ fn put_given_constraint(out: &mut [u8], p: Place, c: Constraint) -> Place
     }
 }
 
-pub(crate) fn put_constraint(out: &mut [u8], p: Place, c: ConstraintAnswer) -> Place
+pub(crate) fn put_constraint(out: &mut [u8], p: Place, c: Option<Constraint>) -> Place
     ensures { Puts (optional constraint) (constraint_given c) out.old p out.new result }
 {
     match c {
-        ConstraintAnswer::Is(c) => put_given_constraint(out, p, c),
-        ConstraintAnswer::Absent => bits::put_flag(out, p, false),
+        Some(c) => put_given_constraint(out, p, c),
+        None => bits::put_flag(out, p, false),
     }
 }
 

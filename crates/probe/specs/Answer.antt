@@ -6,7 +6,7 @@ use Rattle.std.specs.Int.{Width}
 use Rattle.std.proofs.lemmas.Int.{to_z-of_z}
 use Rattle.definition.specs.Number as number
 use Rattle.definition.specs.Number.{Reading, zero_float}
-use Rattle.definition.specs.Duration.{Duration}
+use Rattle.definition.specs.declared.Duration.{Duration}
 
 -- 0: there is a value
 abbrev pub code : {A : Type 0} → Option A → ℕ

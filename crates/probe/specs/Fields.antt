@@ -1,13 +1,12 @@
 -- What the numbers that a probe hands over stand for. Assumes nothing: these are definitions.
 use Rattle.std.specs.Prelude.{if◌then◌else◌, ℕ, min, ◌≡◌, eqb}
+use Rattle.recurrence.specs.declared.Range.{Range}
+use Rattle.std.specs.Prelude.{None, Option, Some}
 use Rattle.definition.specs.Base.{◌or◌}
 use Rattle.definition.specs.declared.Date.{Date}
 use Rattle.date.specs.Scale.{day_count}
 use Rattle.recurrence.specs.Scale.{day_date, month_meaning}
-use Rattle.recurrence.specs.declared.MonthAnswer.{MonthAnswer}
 use Rattle.recurrence.specs.declared.Rule.{Rule}
-use Rattle.recurrence.specs.declared.RuleAnswer.{RuleAnswer}
-use Rattle.recurrence.specs.declared.RangeAnswer.{RangeAnswer}
 use Rattle.recurrence.specs.declared.Cursor.{Cursor}
 use Rattle.recurrence.specs.declared.Step.{Step}
 use Rattle.recurrence.specs.declared.Step.TheVariants.{Day, Done, Skipped}
@@ -19,8 +18,8 @@ use Rattle.probe.specs.declared.days.Run.{Run}
 abbrev pub day_at : ℕ → Date
 day_at n = day_date (min n 7304850)
 
-abbrev pub month_at : ℕ → MonthAnswer
-month_at n = if eqb n 13 then MonthAnswer.Absent else MonthAnswer.Is n
+abbrev pub month_at : ℕ → Option ℕ
+month_at n = if eqb n 13 then None else Some n
 
 abbrev pub rule : ℕ → ℕ → ℕ → ℕ → ℕ → ℕ → ℕ → ℕ → ℕ → ℕ → Rule
 rule k f l m p o d i q w =
@@ -31,8 +30,8 @@ cursor a l = record { at = day_at a; left = l }
 
 -- ---- out
 
-abbrev pub fields_of : RuleAnswer → Fields
-fields_of (RuleAnswer.Is r) =
+abbrev pub fields_of : Option Rule → Fields
+fields_of (Some r) =
     record {
       kind = r.kind;
       from = day_count r.from.0;
@@ -45,7 +44,7 @@ fields_of (RuleAnswer.Is r) =
       position = r.position;
       weekdays = r.weekdays;
     }
-fields_of RuleAnswer.Absent =
+fields_of None =
     record { kind = 0; from = 0; last = 0; most = 0; period = 0; month = 0; day = 0; item = 0; position = 0; weekdays = 0 }
 
 -- a step by its answer and what it leaves: 0 a day and the cursor behind it, 1 no day, 2 no rule
@@ -54,6 +53,6 @@ Told (Day d c) at left r day at' left' = (r ≡ 0) × (day ≡ day_count d.0) ×
 Told Done at left r day at' left' = (r ≡ 1) × (day ≡ 0) × (at' ≡ at) × (left' ≡ left)
 Told Skipped at left r day at' left' = (r ≡ 2) × (day ≡ 0) × (at' ≡ at) × (left' ≡ left)
 
-abbrev pub run_of : RangeAnswer → Run
-run_of (RangeAnswer.Is r) = record { first = day_count r.first.0; count = r.count }
-run_of RangeAnswer.Absent = record { first = 0; count = 0 }
+abbrev pub run_of : Option Range → Run
+run_of (Some r) = record { first = day_count r.first.0; count = r.count }
+run_of None = record { first = 0; count = 0 }

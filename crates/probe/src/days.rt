@@ -12,7 +12,7 @@ ghost use Rattle.recurrence.specs.Element.{rule_by, range_by};
 ghost use Rattle.probe.specs.Fields.{day_at, month_at, fields_of, run_of, Told, rule, cursor};
 
 use definition::Date;
-use recurrence::{Cursor, MonthAnswer, RangeAnswer, Rule, RuleAnswer, Step};
+use recurrence::{Cursor, Rule, Step};
 
 // ---- days
 
@@ -44,22 +44,22 @@ fn day_at(n: u32) -> Date
 
 // ---- a month, 13 for none
 
-fn month_number(a: MonthAnswer) -> u32
+fn month_number(a: Option<u32>) -> u32
     ensures { result ≡ (month_meaning a or 13) }
 {
     match a {
-        MonthAnswer::Is(m) => m,
-        MonthAnswer::Absent => 13,
+        Some(m) => m,
+        None => 13,
     }
 }
 
-fn month_at(n: u32) -> MonthAnswer
+fn month_at(n: u32) -> Option<u32>
     ensures { result ≡ month_at n }
 {
     if n == 13 {
-        return MonthAnswer::Absent;
+        return None;
     }
-    MonthAnswer::Is(n)
+    Some(n)
 }
 
 // ---- a rule
@@ -97,12 +97,12 @@ fn fields_by(r: Rule) -> Fields
     }
 }
 
-fn fields_of(a: RuleAnswer) -> Fields
+fn fields_of(a: Option<Rule>) -> Fields
     ensures { result ≡ fields_of a }
 {
     match a {
-        RuleAnswer::Is(r) => fields_by(r),
-        RuleAnswer::Absent => Fields {
+        Some(r) => fields_by(r),
+        None => Fields {
             kind: 0,
             from: 0,
             last: 0,
@@ -238,15 +238,15 @@ struct Run {
     count: u32,
 }
 
-fn run_of(a: RangeAnswer) -> Run
+fn run_of(a: Option<Range>) -> Run
     ensures { result ≡ run_of a }
 {
     match a {
-        RangeAnswer::Is(r) => Run {
+        Some(r) => Run {
             first: count(r.first),
             count: r.count,
         },
-        RangeAnswer::Absent => Run { first: 0, count: 0 },
+        None => Run { first: 0, count: 0 },
     }
 }
 

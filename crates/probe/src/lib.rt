@@ -3,6 +3,7 @@
 // values, its minutes and 1 where the sum was whole.
 #![tactic(auto)]
 
+use definition::{Duration, Unread};
 mod days; // rules and their days
 
 ghost use Rattle.std.specs.Prelude.{◌≡◌, eqb, length};
@@ -14,91 +15,83 @@ ghost use Rattle.definition.specs.Duration.{duration_of};
 ghost use Rattle.definition.specs.Time.{time_of};
 ghost use Rattle.definition.specs.Refusal.{tree_refusal};
 ghost use Rattle.definition.specs.Pack.{decode};
-ghost use Rattle.text.specs.Answers.{u64_of, u32_of, u16_of, i64_of, i32_of};
 ghost use Rattle.definition.specs.Answer.{date_meaning, day_number_of};
-ghost use Rattle.number.specs.Number.{meaning as number_meaning};
-ghost use Rattle.number.specs.Duration.{meaning as duration_meaning};
-ghost use Rattle.number.specs.Time.{meaning as time_meaning};
 ghost use Rattle.model.specs.Sections.{opened_number};
 ghost use Rattle.probe.specs.Answer.{Whole, Signed, Minutes, Number, one};
 
 pub use days::{probe_next, probe_rule, probe_week_day};
-use definition::DateAnswer;
-use model::Opened;
-use number::{DurationAnswer, NumberAnswer, TimeAnswer};
-use text::{I32Answer, I64Answer, U16Answer, U32Answer, U64Answer};
 
 // ---- whole numbers
 
-fn put_u64(a: U64Answer, out: &mut u64) -> u32
-    ensures { Whole (u64_of a) result out.new }
+fn put_u64(a: Option<u64>, out: &mut u64) -> u32
+    ensures { Whole a result out.new }
 {
     match a {
-        U64Answer::Is(n) => {
+        Some(n) => {
             *out = n;
             0
         }
-        U64Answer::Absent => {
+        None => {
             *out = 0;
             1
         }
     }
 }
 
-fn put_u32(a: U32Answer, out: &mut u32) -> u32
-    ensures { Whole (u32_of a) result out.new }
+fn put_u32(a: Option<u32>, out: &mut u32) -> u32
+    ensures { Whole a result out.new }
 {
     match a {
-        U32Answer::Is(n) => {
+        Some(n) => {
             *out = n;
             0
         }
-        U32Answer::Absent => {
+        None => {
             *out = 0;
             1
         }
     }
 }
 
-fn put_u16(a: U16Answer, out: &mut u16) -> u32
-    ensures { Whole (u16_of a) result out.new }
+fn put_u16(a: Option<u16>, out: &mut u16) -> u32
+    ensures { Whole a result out.new }
 {
     match a {
-        U16Answer::Is(n) => {
+        Some(n) => {
             *out = n;
             0
         }
-        U16Answer::Absent => {
+        None => {
             *out = 0;
             1
         }
     }
 }
 
-fn put_i64(a: I64Answer, out: &mut i64) -> u32
-    ensures { Signed (i64_of a) result out.new }
+fn put_i64(a: Option<i64>, out: &mut i64) -> u32
+    ensures { Signed a result out.new }
 {
     match a {
-        I64Answer::Is(n) => {
+        Some(n) => {
             *out = n;
             0
         }
-        I64Answer::Absent => {
+        None => {
             *out = 0;
             1
         }
     }
 }
 
-fn put_i32(a: I32Answer, out: &mut i32) -> u32
-    ensures { Signed (i32_of a) result out.new }
+fn put_i32(a: Option<i32>, out: &mut i32) -> u32
+    ensures { Signed a result out.new }
 {
     match a {
-        I32Answer::Is(n) => {
+        Some(n) => {
             *out = n;
             0
         }
-        I32Answer::Absent => {
+        None => {
             *out = 0;
             1
         }
@@ -165,16 +158,16 @@ fn as_number(b: bool) -> u32
 
 // ---- dates
 
-fn put_date(a: DateAnswer, out: &mut i32) -> u32
+fn put_date(a: Option<Date>, out: &mut i32) -> u32
     ensures { Signed (date_meaning a) result out.new }
 {
     match a {
-        DateAnswer::Is(d) => {
+        Some(d) => {
             let n = d.0;
             *out = n;
             0
         }
-        DateAnswer::Absent => {
+        None => {
             *out = 0;
             1
         }
@@ -189,36 +182,36 @@ pub fn probe_date(s: &[u8], out: &mut i32) -> u32
 
 // ---- numbers, durations, times
 
-fn put_time(a: TimeAnswer, out: &mut u16) -> u32
-    ensures { Whole (time_meaning a) result out.new }
+fn put_time(a: Option<u16>, out: &mut u16) -> u32
+    ensures { Whole a result out.new }
 {
     match a {
-        TimeAnswer::Time(n) => {
+        Some(n) => {
             *out = n;
             0
         }
-        TimeAnswer::Absent => {
+        None => {
             *out = 0;
             1
         }
     }
 }
 
-fn put_duration(a: DurationAnswer, minutes: &mut u32, whole: &mut u32) -> u32
-    ensures { Minutes (duration_meaning a) result minutes.new whole.new }
+fn put_duration(a: Result<Duration, Unread>, minutes: &mut u32, whole: &mut u32) -> u32
+    ensures { Minutes a result minutes.new whole.new }
 {
     match a {
-        DurationAnswer::Minutes(n, w) => {
+        Ok((n, w)) => {
             *minutes = n;
             *whole = as_number(w);
             0
         }
-        DurationAnswer::Absent => {
+        Err(Unread::Absent) => {
             *minutes = 0;
             *whole = 0;
             1
         }
-        DurationAnswer::Long => {
+        Err(Unread::Long) => {
             *minutes = 0;
             *whole = 0;
             2
@@ -226,19 +219,19 @@ fn put_duration(a: DurationAnswer, minutes: &mut u32, whole: &mut u32) -> u32
     }
 }
 
-fn put_number(a: NumberAnswer, out: &mut f64) -> u32
-    ensures { Number (number_meaning a) result out.new }
+fn put_number(a: Result<f64, Unread>, out: &mut f64) -> u32
+    ensures { Number a result out.new }
 {
     match a {
-        NumberAnswer::Value(x) => {
+        Ok(x) => {
             *out = x;
             0
         }
-        NumberAnswer::Absent => {
+        Err(Unread::Absent) => {
             *out = 0.0;
             1
         }
-        NumberAnswer::Long => {
+        Err(Unread::Long) => {
             *out = 0.0;
             2
         }
@@ -269,18 +262,21 @@ pub fn probe_number(s: &[u8], out: &mut f64) -> u32
 pub fn probe_tree(s: &[u8]) -> u32
     ensures { result ≡ tree_refusal s.now }
 {
-    tree::judge(s)
+    match tree::judge(s) {
+        Ok(()) => 0,
+        Err(e) => u32::from(e),
+    }
 }
 
 // ---- models
 
 // Whether a model was opened.
-fn is_open(m: Opened) -> bool
+fn is_open(m: Option<Sections>) -> bool
     ensures { result ≡ eqb (opened_number m) 0 }
 {
     match m {
-        Opened::Model(_) => true,
-        Opened::NoModel => false,
+        Some(_) => true,
+        None => false,
     }
 }
 

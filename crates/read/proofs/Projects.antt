@@ -1,5 +1,6 @@
 -- The project's record from what its element says. Assumes nothing.
 use mathlib.Core.Path.{◌≡◌, refl, sym, ap, ◌∙◌}
+use Rattle.definition.specs.declared.Date.{Date as DayNumber}
 use mathlib.Core.Bool.{true, false}
 use mathlib.Core.List.{List, [], ◌++◌}
 use Rattle.std.specs.Prelude.{Option, Some, None}
@@ -20,7 +21,6 @@ use Rattle.definition.specs.Pack.{project}
 use Rattle.definition.specs.Task.{context_of}
 use Rattle.definition.specs.Read.{project_of}
 use Rattle.definition.specs.Answer.{date_meaning, day_number_of}
-use Rattle.definition.specs.declared.DateAnswer.{DateAnswer}
 use Rattle.definition.specs.declared.Date as D
 use Rattle.laws.specs.Bits.{enc_low}
 use Rattle.laws.specs.FitLists.{is_given_lem}
@@ -48,16 +48,16 @@ unfolding from_days
 epoch_is = refl
 
 -- a date that was read from a text
-pub date_given_lem : (a : DateAnswer) (e : Element) (n : String) {o : Option Text} → text_in e n ≡ o → date_meaning a ≡ day_number_of (o >>= date_of) → date_given a ≡ date_in e n
+pub date_given_lem : (a : Option DayNumber) (e : Element) (n : String) {o : Option Text} → text_in e n ≡ o → date_meaning a ≡ day_number_of (o >>= date_of) → date_given a ≡ date_in e n
 unfolding date_in
 date_given_lem a e n k h = date_read a (date_in e n) (h ∙ ap (λ (o : Option Text). day_number_of (o >>= date_of)) (sym k)) (years_back (date_in e n) (is_given_lem (in_years_lem e n)))
 
-module _ (a : DateAnswer) (o : Option Date) (h : date_given a ≡ o) where
-  pub start_given : (d : D.Date) → a ≡ DateAnswer.Is d → date_by d.0 ≡ (o or epoch)
+module _ (a : Option DayNumber) (o : Option Date) (h : date_given a ≡ o) where
+  pub start_given : (d : D.Date) → a ≡ Some d → date_by d.0 ≡ (o or epoch)
   unfolding date_meaning
   start_given d k = ap (λ (p : Option Date). p or epoch) (ap date_given (sym k) ∙ h)
 
-  pub start_absent : a ≡ DateAnswer.Absent → date_by (pos 0) ≡ (o or epoch)
+  pub start_absent : a ≡ None → date_by (pos 0) ≡ (o or epoch)
   unfolding date_meaning
   start_absent k = epoch_is ∙ ap (λ (p : Option Date). p or epoch) (ap date_given (sym k) ∙ h)
 
@@ -86,7 +86,7 @@ whole_bits n p = ap (λ (l : Bits). l ++ pad (n + length l)) (lowered_bits n p)
 put_bits : {A : Type 0} {f : Format A} (a b : A) → ((n : ℕ) → f.put n a ≡ f.put n b) → {d : List ℕ} {p : Place} {d' : List ℕ} {q : Place} → Puts f a d p d' q → Puts f b d p d' q
 put_bits a b h {d} {p} x = record { step = said x.step _ (ap (λ (l : Bits). view d p ▷ l) (h (size_of (view d p)))) }
 
-pub project_put : (e : Element) (name currency : Text) (start : ℤ) (skips : Skips) (status : DateAnswer) {d : List ℕ} {p : Place} {d' : List ℕ} {q : Place}
+pub project_put : (e : Element) (name currency : Text) (start : ℤ) (skips : Skips) (status : Option DayNumber) {d : List ℕ} {p : Place} {d' : List ℕ} {q : Place}
     → name ≡ ((text_in e "Title" or_else text_in e "Name") or []) → date_by start ≡ (date_in e "StartDate" or epoch) → currency ≡ (text_in e "CurrencySymbol" or [])
     → Skipped e skips → date_given status ≡ date_in e "StatusDate" → Puts (whole project) (project_by name start currency skips status) d p d' q
     → Puts (whole project) (project_of (context_of e) e) d p d' q

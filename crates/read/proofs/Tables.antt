@@ -1,6 +1,7 @@
 -- The tables in the words: that of the kept tasks stays where words behind it are used, and what is written by tables is the definition's. Assumes
 -- nothing.
 use Prim.Native.Nat.{ℕ, min, max, ◌-◌, ◌≤◌, ◌<◌}
+use Rattle.std.specs.Prelude.{None, Some}
 use native.Mathlib.Omega.{arith}
 use mathlib.Core.Path.{◌≡◌, ap, ◌∙◌, subst}
 use mathlib.Core.Bool.{Bool}
@@ -16,8 +17,6 @@ use Rattle.definition.specs.Task.{Context, context_of, activities}
 use Rattle.definition.specs.Link.{Fate, fates, links, entered}
 use Rattle.definition.specs.Resource.{expenses}
 use Rattle.index.specs.declared.Table.{Table}
-use Rattle.index.specs.declared.Made.{Made}
-use Rattle.index.specs.declared.Made.TheVariants.{Ready, NoRoom}
 use Rattle.index.specs.Chains.{end_of, end_in}
 use Rattle.index.specs.Frame.{SameIn}
 use Rattle.tree.specs.Root.{root_at}
@@ -38,22 +37,22 @@ use Rattle.read.specs.Tables.{Tasked}
 
 -- ---- a table that was made
 
-module _ {s : Text} {root : Element} {l : Listed} {at : ℕ} {w w' : List ℕ} {m : Made} (h : Makes s root l at w w' m) where
+module _ {s : Text} {root : Element} {l : Listed} {at : ℕ} {w w' : List ℕ} {m : Option Table} (h : Makes s root l at w w' m) where
   made_long : length w' ≡ length w
   made_long = go m h.words
     where
-      go : (m : Made) → TabledIn s root l m w w' → length w' ≡ length w
-      go NoRoom x = ap length x
-      go (Ready t) x = x.length_same
+      go : (m : Option Table) → TabledIn s root l m w w' → length w' ≡ length w
+      go None x = ap length x
+      go (Some t) x = x.length_same
 
   made_ends : end_in m ≤ length w'
   made_ends = go m h.words
     where
-      go : (m : Made) → TabledIn s root l m w w' → end_in m ≤ length w'
-      go NoRoom x = omega arith
-      go (Ready t) x = x.indexed.fits.room
+      go : (m : Option Table) → TabledIn s root l m w w' → end_in m ≤ length w'
+      go None x = omega arith
+      go (Some t) x = x.indexed.fits.room
 
-pub tasks_made : {s : Text} {root : Root} {at : ℕ} {w w' : List ℕ} {m : Made} → Makes s (root_at s root) Listed.Tasks at w w' m → Tasked s root w' m
+pub tasks_made : {s : Text} {root : Root} {at : ℕ} {w w' : List ℕ} {m : Option Table} → Makes s (root_at s root) Listed.Tasks at w w' m → Tasked s root w' m
 tasks_made h = record { finds = λ u. tabled_finds u h ∙ tasks_32 _ u; ends = made_ends h }
 
 -- ---- the table of the kept tasks stays
@@ -63,7 +62,7 @@ cleared_long : (n : ℕ) (w : List ℕ) → n ≤ length w → length (cleared n
 cleared_long n w h =
     length-append (take n w) (replicate (length w - n) 0) ∙ omega (arith, length-take-le n w h, length-replicate {A = ℕ} (length w - n) 0)
 
-cleared_leaves : (m : Made) {n : ℕ} (w : List ℕ) → end_in m ≤ n → n ≤ length w → SameFor m w (cleared n w)
+cleared_leaves : (m : Option Table) {n : ℕ} (w : List ℕ) → end_in m ≤ n → n ≤ length w → SameFor m w (cleared n w)
 cleared_leaves m {n} w h k = record { same = λ t e. go t (rw e at h) }
   where
     go : (t : Table) → end_of t ≤ n → SameIn t w (cleared n w)
@@ -74,13 +73,13 @@ cleared_leaves m {n} w h k = record { same = λ t e. go t (rw e at h) }
           get_or-append (take n w) (replicate (length w - n) 0) 0 j (omega (arith, length-take-le n w k)) ∙ get_or-take n w j 0 i;
     }
 
-tasked_same : {s : Text} {root : Root} {tasks : Made} {w w' : List ℕ} → Tasked s root w tasks → SameFor tasks w w' → length w' ≡ length w → Tasked s root w' tasks
+tasked_same : {s : Text} {root : Root} {tasks : Option Table} {w w' : List ℕ} → Tasked s root w tasks → SameFor tasks w w' → length w' ≡ length w → Tasked s root w' tasks
 tasked_same {s} {root} x y e = record {
   finds = λ u. ap (λ (f : Text → Option ℕ). f u) (row_same s (root_at s root) Listed.Tasks y) ∙ x.finds u;
   ends = omega (arith, x.ends);
 }
 
-module _ {s : Text} {root : Root} {w : List ℕ} {tasks : Made} (x : Tasked s root w tasks) where
+module _ {s : Text} {root : Root} {w : List ℕ} {tasks : Option Table} (x : Tasked s root w tasks) where
   tasked_cleared : {n : ℕ} {w' : List ℕ} → end_in tasks ≤ n → n ≤ length w → w' ≡ cleared n w → Tasked s root w' tasks
   tasked_cleared {n} h k e = rw e (tasked_same x (cleared_leaves tasks w h k) (cleared_long n w k))
 
@@ -112,7 +111,7 @@ module _ {s : Text} {root : Root} {w : List ℕ} {tasks : Made} (x : Tasked s ro
 
   -- ---- the tables of resources behind it
 
-  pub resources_made : {at behind : ℕ} {w1 w2 : List ℕ} {work cost : Made} → at ≡ min (end_in tasks) (length w) → Makes s (root_at s root) Listed.Work at w w1 work
+  pub resources_made : {at behind : ℕ} {w1 w2 : List ℕ} {work cost : Option Table} → at ≡ min (end_in tasks) (length w) → Makes s (root_at s root) Listed.Work at w w1 work
       → behind ≡ max at (min (end_in work) (length w1)) → Makes s (root_at s root) Listed.Cost behind w1 w2 cost
       → Finds (root_at s root) (finders_in s (root_at s root) w2 tasks work cost)
   resources_made {at} {behind} {work = work} a h b k =

@@ -35,8 +35,8 @@ use Rattle.read.specs.Sections.{start, low, zeros, Few, AllPut, Closes}
 use Rattle.read.specs.declared.sections.Sections.{Sections}
 use Rattle.read.specs.Answers.{Leaves}
 use Rattle.read.specs.Answers as A
-use Rattle.read.specs.declared.ReadAnswer.{ReadAnswer}
-use Rattle.read.specs.declared.ReadAnswer.TheVariants as answer
+use Rattle.std.specs.Prelude.{Result, Ok, Err}
+use Rattle.definition.specs.declared.Refusal.{Refusal}
 use Rattle.laws.specs.Evens.{even_body}
 
 -- ---- whole bytes
@@ -125,14 +125,14 @@ module _ (m : Model) {d d1 : List ℕ} {end : Place} (w : Puts (counts ⊗ body 
       let lt' : 8 * length d < at start + length (f.put 0 a) = rw e at lt in
       omega (arith, encode_long m, ap length (bits_with m zeros), long_with m zeros, body_whole m)
 
-  leaves_short : {out : List ℕ} → inside (length d1) end ≡ false → out ≡ replicate (length d1) 0 → Leaves (length d) (in_room (length d) (encode m)) (answer.Refused 9) out
+  leaves_short : {out : List ℕ} → inside (length d1) end ≡ false → out ≡ replicate (length d1) 0 → Leaves (length d) (in_room (length d) (encode m)) (Err 9) out
   unfolding in_room
   leaves_short {out} h e =
       let i : in_room (length d) (encode m) ≡ refused 9 = rw (lt-leb _ _ (short h)) in
-      subst (λ (a : Answer). Leaves (length d) a (answer.Refused 9) out) (sym i) (record { refusal = refl; count = refl; given = e ∙ ap (λ (k : ℕ). replicate k 0) w.step.same })
+      subst (λ (a : Answer). Leaves (length d) a (Err 9) out) (sym i) (record { refusal = refl; count = refl; given = e ∙ ap (λ (k : ℕ). replicate k 0) w.step.same })
 
   leaves_written : {n : P.Counts} {d2 out : List ℕ} → inside (length d1) end ≡ true → counts_by n ≡ low (counts_of m) → Closes n d1 d2 → ((i : ℕ) → get_or d2 i 0 < 256)
-      → out ≡ cleared end.byte d2 → Leaves (length d) (in_room (length d) (encode m)) (answer.Written end.byte) out
+      → out ≡ cleared end.byte d2 → Leaves (length d) (in_room (length d) (encode m)) (Ok end.byte) out
   unfolding in_room
   leaves_written {n} {d2} {out} h e c b o =
       let (is, le) = closed h e c b in
@@ -140,7 +140,7 @@ module _ (m : Model) {d d1 : List ℕ} {end : Place} (w : Puts (counts ⊗ body 
       let k : length l ≡ end.byte = length-take-le end.byte d2 le in
       let same : length d2 ≡ length d = c.same ∙ w.step.same in
       let i : in_room (length d) (encode m) ≡ gives l = rw is (rw (le-leb (length l) (length d) (omega arith))) in
-      subst (λ (a : Answer). Leaves (length d) a (answer.Written end.byte) out) (sym i) (record { refusal = refl; count = sym k; given = o ∙ rw (k, same) })
+      subst (λ (a : Answer). Leaves (length d) a (Ok end.byte) out) (sym i) (record { refusal = refl; count = sym k; given = o ∙ rw (k, same) })
 
 -- ---- the tree is not refused
 
@@ -171,29 +171,29 @@ unfolding read_answer
 reads_not s room h = rw (lt-ltb 0 (tree_refusal s) h)
 
 module _ {s : Text} {d d1 : List ℕ} {r : Sections} (w : AllPut (element_at s 0) d d1 r) where
-  pub fills_short : {out : List ℕ} → inside (length d1) r.next ≡ false → out ≡ replicate (length d1) 0 → A.Fills s d out (answer.Refused 9)
+  pub fills_short : {out : List ℕ} → inside (length d1) r.next ≡ false → out ≡ replicate (length d1) 0 → A.Fills s d out (Err 9)
   fills_short {out} h e = record {
     fills = λ k.
-        subst (λ (a : Answer). Leaves (length d) a (answer.Refused 9) out) (sym (reads_on s (length d) k))
+        subst (λ (a : Answer). Leaves (length d) a (Err 9) out) (sym (reads_on s (length d) k))
         (leaves_short (model_of (element_at s 0)) (w.puts (few_of s k)) h e);
   }
 
   pub fills_written : {d2 out : List ℕ} → inside (length d1) r.next ≡ true → Closes r.counts d1 d2 → ((i : ℕ) → get_or d2 i 0 < 256) → out ≡ cleared r.next.byte d2
-      → A.Fills s d out (answer.Written r.next.byte)
+      → A.Fills s d out (Ok r.next.byte)
   fills_written {d2} {out} h c b e = record {
     fills = λ k.
         let f = few_of s k in
-        subst (λ (a : Answer). Leaves (length d) a (answer.Written r.next.byte) out) (sym (reads_on s (length d) k))
+        subst (λ (a : Answer). Leaves (length d) a (Ok r.next.byte) out) (sym (reads_on s (length d) k))
         (leaves_written (model_of (element_at s 0)) (w.puts f) h (w.counts f h) c b e);
   }
 
 -- the answer for a tree that is refused, and for one that is read
 
 module _ (s : Text) (model : List ℕ) {n : ℕ} {out : List ℕ} (e : n ≡ tree_refusal s) where
-  pub leaves_refused : 0 < n → out ≡ replicate (length model) 0 → Leaves (length model) (read_answer s (length model)) (answer.Refused n) out
+  pub leaves_refused : 0 < n → out ≡ replicate (length model) 0 → Leaves (length model) (read_answer s (length model)) (Err n) out
   leaves_refused h o =
       let k : read_answer s (length model) ≡ refused n = reads_not s (length model) (rw (← e) h) ∙ ap refused (sym e) in
-      subst (λ (a : Answer). Leaves (length model) a (answer.Refused n) out) (sym k) (record { refusal = refl; count = refl; given = o })
+      subst (λ (a : Answer). Leaves (length model) a (Err n) out) (sym k) (record { refusal = refl; count = refl; given = o })
 
-  pub leaves_read : {r : ReadAnswer} → n ≤ 0 → A.Fills s model out r → Leaves (length model) (read_answer s (length model)) r out
+  pub leaves_read : {r : Result ℕ Refusal} → n ≤ 0 → A.Fills s model out r → Leaves (length model) (read_answer s (length model)) r out
   leaves_read h f = f.fills (sym e ∙ omega arith)

@@ -5,8 +5,8 @@ ghost use Rattle.assignments.specs.Finders.{Finds, finders_in};
 ghost use Rattle.read.specs.Sections.{AssignedPut};
 ghost use Rattle.read.specs.Tables.{Tasked};
 
+use index::Table;
 use bits::Place;
-use index::Made;
 use pack::Records;
 use rows::Listed;
 use tree::Root;
@@ -14,8 +14,8 @@ use tree::Root;
 // Those of work and of cost resources.
 #[derive(Clone, Copy)]
 pub(crate) struct ResourceTables {
-    pub work: Made,
-    pub cost: Made,
+    pub work: Option<Table>,
+    pub cost: Option<Table>,
 }
 
 // The places behind the three sections, and how many records each has.
@@ -34,7 +34,7 @@ fn later(a: usize, b: usize) -> usize
 }
 
 // The tables of resources behind that of the kept tasks, each where it finds room.
-fn index_resources(s: &[u8], root: Root, words: &mut [u32], tasks: Made) -> ResourceTables
+fn index_resources(s: &[u8], root: Root, words: &mut [u32], tasks: Option<Table>) -> ResourceTables
     requires { Tasked s.now root words.old tasks }
     ensures { Finds (root_at s.now root) (finders_in s.now (root_at s.now root) words.new tasks result.work result.cost) }
 {
@@ -53,7 +53,7 @@ pub(crate) fn put_assigned(
     root: Root,
     c: Place,
     words: &mut [u32],
-    tasks: Made,
+    tasks: Option<Table>,
 ) -> Assigned
     requires { Tasked s.now root words.old tasks }
     ensures { AssignedPut (root_at s.now root) c out.old p out.new result }

@@ -12,16 +12,10 @@ ghost use Rattle.definition.specs.Refusal.{read_answer};
 ghost use Rattle.read.specs.Answers.{Leaves, Gives, Fills};
 
 use crate::sections::{close_counts, put_all};
-
-// How many bytes the model has, or document 01's number.
-#[derive(Clone, Copy)]
-pub enum ReadAnswer {
-    Written(usize),
-    Refused(u32),
-}
+use definition::Refusal;
 
 // The model of a tree that is not refused.
-fn put_model(tree: &[u8], model: &mut [u8], work: &mut [u32]) -> ReadAnswer
+fn put_model(tree: &[u8], model: &mut [u8], work: &mut [u32]) -> Result<usize, Refusal>
     ensures { Fills tree.now model.old model.new result }
 {
     let root = tree::root_of(tree, 0);
@@ -30,28 +24,27 @@ fn put_model(tree: &[u8], model: &mut [u8], work: &mut [u32]) -> ReadAnswer
     let room = model.len();
     if !bits::inside(room, end) {
         bits::clear(model);
-        return ReadAnswer::Refused(9);
+        return Err(Refusal::NoRoom);
     }
     let counts = n.counts;
     close_counts(model, counts);
     bits::clear_from(model, end.byte);
-    ReadAnswer::Written(end.byte)
+    Ok(end.byte)
 }
 
 // The model of a tree, with zeros behind it; zeros alone where there is none. Any words are left in work.
-fn answer(tree: &[u8], model: &mut [u8], work: &mut [u32]) -> ReadAnswer
+fn answer(tree: &[u8], model: &mut [u8], work: &mut [u32]) -> Result<usize, Refusal>
     ensures { Leaves (length model.old) (read_answer tree.now (length model.old)) result model.new }
 {
-    let refusal = tree::judge(tree);
-    if 0 < refusal {
+    if let Err(refusal) = tree::judge(tree) {
         bits::clear(model);
-        return ReadAnswer::Refused(refusal);
+        return Err(refusal);
     }
     put_model(tree, model, work)
 }
 
 // The model of a tree, with zeros behind it, and zeros in work; zeros alone where there is none.
-pub fn read(tree: &[u8], model: &mut [u8], work: &mut [u32]) -> ReadAnswer
+pub fn read(tree: &[u8], model: &mut [u8], work: &mut [u32]) -> Result<usize, Refusal>
     ensures { Gives tree.now model.old work.old model.new work.new result }
 {
     let r = answer(tree, model, work);

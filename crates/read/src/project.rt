@@ -14,9 +14,9 @@ ghost use Rattle.pack.specs.Value.{date_by};
 ghost use Rattle.read.specs.Project.{Skipped};
 ghost use Rattle.read.specs.Tables.{Tasked};
 
+use index::Table;
 use bits::Place;
-use definition::{Date, DateAnswer};
-use index::Made;
+use definition::{Date};
 use pack::Skips;
 use tree::Root;
 
@@ -36,12 +36,12 @@ fn start_of(s: &[u8], root: Root) -> Date
     ensures { date_by result.0 ≡ (date_in (root_at s.now root) "StartDate" or epoch) }
 {
     match fields::date_at(s, root.start) {
-        DateAnswer::Is(d) => d,
-        DateAnswer::Absent => Date(0),
+        Some(d) => d,
+        None => Date(0),
     }
 }
 
-fn skips_of(s: &[u8], root: Root, words: &[u32], tasks: Made) -> Skips
+fn skips_of(s: &[u8], root: Root, words: &[u32], tasks: Option<Table>) -> Skips
     requires { Tasked s.now root words.now tasks }
     ensures { Skipped (root_at s.now root) result }
 {
@@ -60,7 +60,7 @@ pub(crate) fn put_project(
     s: &[u8],
     root: Root,
     words: &[u32],
-    tasks: Made,
+    tasks: Option<Table>,
 ) -> Place
     requires { Tasked s.now root words.now tasks }
     ensures { Puts (whole project) (project_of (context_of (root_at s.now root)) (root_at s.now root)) out.old p out.new result }

@@ -3,10 +3,10 @@ ghost use Rattle.tree.specs.Root.{root_at};
 ghost use Rattle.read.specs.Sections.{SectionsPut, AllPut, Closes};
 ghost use Rattle.read.specs.Tables.{Tasked};
 
+use index::Table;
 use crate::assigned::put_assigned;
 use crate::project::put_project;
 use bits::Place;
-use index::Made;
 use pack::Counts;
 use rows::Listed;
 use tree::Root;
@@ -25,7 +25,7 @@ fn put_sections(
     s: &[u8],
     root: Root,
     words: &mut [u32],
-    tasks: Made,
+    tasks: Option<Table>,
 ) -> Sections
     requires { Tasked s.now root words.old tasks }
     ensures { SectionsPut (root_at s.now root) out.old p out.new result }

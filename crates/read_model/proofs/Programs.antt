@@ -1,4 +1,5 @@
 -- What is written, from what the read answers. Assumes nothing.
+use Rattle.definition.specs.Answer.{answer_length}
 use mathlib.Core.Path.{◌≡◌, refl, sym, ap, ◌∙◌}
 use mathlib.Core.List.{List}
 use Prim.Native.Nat.{ℕ, ◌+◌, ◌-◌, ◌≤◌, ◌<◌}
@@ -9,8 +10,9 @@ use lib.Seq.{take_at, length-take-le}
 use Rattle.definition.specs.Text.{Text}
 use Rattle.definition.specs.Refusal.{Answer, refused, gives, left, written, output, read_answer, most_program_bytes, program_writes}
 use Rattle.io.specs.Counts.{IsPrefixLen}
-use Rattle.read.specs.Answers.{length_of, Gives}
-use Rattle.read.specs.declared.ReadAnswer.{ReadAnswer}
+use Rattle.read.specs.Answers.{Gives}
+use Rattle.std.specs.Prelude.{Result, Ok, Err}
+use Rattle.definition.specs.declared.Refusal.{Refusal}
 use Rattle.read_model.specs.Writes.{Writes}
 
 counts : {n : ℕ} (s : List ℕ) → n ≤ length s → IsPrefixLen n s
@@ -28,7 +30,7 @@ fronts n (gives l) {out} e =
     let m : length out ≡ length l + length z = ap length e ∙ length-append l z in
     (omega arith, ap (take (length l)) e ∙ take_at l z (length l) refl)
 
-pub writes : {tree : Text} {room work room' work' : List ℕ} {a : ReadAnswer} (n : ℕ) → length tree ≤ most_program_bytes → Gives tree room work room' work' a → n ≡ length_of a → IsPrefixLen n room' × Writes tree room room' n
+pub writes : {tree : Text} {room work room' work' : List ℕ} {a : Result ℕ Refusal} (n : ℕ) → length tree ≤ most_program_bytes → Gives tree room work room' work' a → n ≡ answer_length a → IsPrefixLen n room' × Writes tree room room' n
 unfolding program_writes
 writes {tree} {room} {room' = room'} n h g e =
     let f = fronts (length room) (read_answer tree (length room)) g.leaves.given in

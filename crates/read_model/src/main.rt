@@ -3,10 +3,8 @@
 
 ghost use Rattle.std.specs.Prelude.{◌≡◌};
 ghost use Rattle.io.specs.Counts.{IsPrefixLen};
-ghost use Rattle.read.specs.Answers.{length_of};
 ghost use Rattle.read_model.specs.Writes.{Writes};
 
-use read::ReadAnswer;
 
 // The streams' numbers.
 const STDIN_FILENO: i32 = 0;
@@ -14,15 +12,6 @@ const STDIN_FILENO: i32 = 0;
 const STDOUT_FILENO: i32 = 1;
 
 const MOST: usize = 65536;
-
-fn length_of(a: ReadAnswer) -> usize
-    ensures { result ≡ length_of a }
-{
-    match a {
-        ReadAnswer::Written(n) => n,
-        ReadAnswer::Refused(_) => 0,
-    }
-}
 
 // The model of a tree, at the front of the room, and how many bytes of it are written.
 fn model_of(tree: &[u8], room: &mut [u8]) -> usize
@@ -33,7 +22,7 @@ fn model_of(tree: &[u8], room: &mut [u8]) -> usize
         return 0;
     }
     let mut work = [0u32; 16384];
-    length_of(read::read(tree, room, &mut work))
+    read::read(tree, room, &mut work).unwrap_or(0)
 }
 
 fn put_model(tree: &[u8]) {

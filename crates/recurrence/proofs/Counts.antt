@@ -1,5 +1,6 @@
 -- Days and years on the scale, and as they are written. Assumes nothing.
 use Prim.Native.Nat.{ℕ, suc, ◌+◌, ◌-◌, ◌<◌}
+use Rattle.definition.specs.declared.Date.{Date as DayNumber}
 use native.Mathlib.Omega.{arith}
 use native.Mathlib.Decide.{dec_lt}
 use mathlib.Core.Path.{◌≡◌, refl, sym, ap, ◌∙◌}
@@ -10,22 +11,19 @@ use Rattle.definition.specs.Base.{◌or◌}
 use Rattle.definition.specs.Date.{Date, month_length, year_at, from_ymd, day_number, ymd_of}
 use Rattle.definition.specs.Answer.{date_meaning, day_number_of}
 use Rattle.definition.specs.declared.Ymd.{Ymd}
-use Rattle.definition.specs.declared.DateAnswer.{DateAnswer}
-use Rattle.date.specs.Answer.{length_meaning, length_at, ymd_meaning, ymd_at}
+use Rattle.date.specs.Answer.{length_at, ymd_at}
 use Rattle.date.specs.Scale.{day_count, count_of_number}
-use Rattle.date.specs.declared.LengthAnswer.{LengthAnswer}
-use Rattle.date.specs.declared.YmdAnswer.{YmdAnswer}
 use Rattle.recurrence.specs.Scale.{InDates, IsYear, IsMonth, count_by, day_in}
 use Rattle.recurrence.proofs.Dates.{days_back}
 
 -- ---- answers
 
-pub count_said : (a : DateAnswer) (o : Option Date) → date_meaning a ≡ day_number_of o → count_by a ≡ (o or 0)
+pub count_said : (a : Option DayNumber) (o : Option Date) → date_meaning a ≡ day_number_of o → count_by a ≡ (o or 0)
 unfolding date_meaning day_number_of count_by
-count_said (DateAnswer.Is d) None e = let z : ◌≡◌ {A = ℕ} 0 1 = cc in absurd (omega arith)
-count_said (DateAnswer.Is d) (Some n) e = let q : d.0 ≡ day_number n = cc in ap day_count q ∙ count_of_number n
-count_said DateAnswer.Absent None e = refl
-count_said DateAnswer.Absent (Some n) e = let z : ◌≡◌ {A = ℕ} 0 1 = cc in absurd (omega arith)
+count_said (Some d) None e = let z : ◌≡◌ {A = ℕ} 0 1 = cc in absurd (omega arith)
+count_said (Some d) (Some n) e = let q : d.0 ≡ day_number n = cc in ap day_count q ∙ count_of_number n
+count_said None None e = refl
+count_said None (Some n) e = let z : ◌≡◌ {A = ℕ} 0 1 = cc in absurd (omega arith)
 
 -- ---- years
 
@@ -54,32 +52,32 @@ module _ (y m : ℕ) (h : IsYear y) (i : IsMonth m) (z : ℤ) (e : z ≡ pos y -
   unfolding length_at
   length_by_lem = rw (e, year_of_number y h, le-leb 1 m i.0, le-leb m 12 i.1)
 
-  module _ (a : LengthAnswer) (said : length_meaning a ≡ length_at z m) where
-    pub length_is : (n : ℕ) → a ≡ LengthAnswer.Is n → n ≡ month_length y m
+  module _ (a : Option ℕ) (said : a ≡ length_at z m) where
+    pub length_is : (n : ℕ) → a ≡ Some n → n ≡ month_length y m
     unfolding length_meaning
-    length_is n q = let p : Some n ≡ Some (month_length y m) = sym (ap length_meaning q) ∙ said ∙ length_by_lem in cc
+    length_is n q = let p : Some n ≡ Some (month_length y m) = sym (q) ∙ said ∙ length_by_lem in cc
 
-    pub length_there : a ≡ LengthAnswer.Absent → ⊥
+    pub length_there : a ≡ None → ⊥
     unfolding length_meaning
     length_there q =
-        let p : None ≡ Some (month_length y m) = sym (ap length_meaning q) ∙ said ∙ length_by_lem in
+        let p : None ≡ Some (month_length y m) = sym (q) ∙ said ∙ length_by_lem in
         let x : ◌≡◌ {A = ℕ} 0 1 = cc in
         omega arith
 
 -- ---- the day of the calendar
 
-module _ (d : Date) (h : InDates d) (z : ℤ) (e : z ≡ day_number d) (a : YmdAnswer) (said : ymd_meaning a ≡ ymd_at z) where
+module _ (d : Date) (h : InDates d) (z : ℤ) (e : z ≡ day_number d) (a : Option Ymd) (said : a ≡ ymd_at z) where
   ymd_by : ymd_at z ≡ Some (ymd_of d)
   unfolding ymd_at
   ymd_by = rw (e, days_back d h)
 
-  pub ymd_is : (c : Ymd) → a ≡ YmdAnswer.Is c → c ≡ ymd_of d
+  pub ymd_is : (c : Ymd) → a ≡ Some c → c ≡ ymd_of d
   unfolding ymd_meaning
-  ymd_is c q = let p : Some c ≡ Some (ymd_of d) = sym (ap ymd_meaning q) ∙ said ∙ ymd_by in cc
+  ymd_is c q = let p : Some c ≡ Some (ymd_of d) = sym (q) ∙ said ∙ ymd_by in cc
 
-  pub ymd_there : a ≡ YmdAnswer.Absent → ⊥
+  pub ymd_there : a ≡ None → ⊥
   unfolding ymd_meaning
   ymd_there q =
-      let p : None ≡ Some (ymd_of d) = sym (ap ymd_meaning q) ∙ said ∙ ymd_by in
+      let p : None ≡ Some (ymd_of d) = sym (q) ∙ said ∙ ymd_by in
       let x : ◌≡◌ {A = ℕ} 0 1 = cc in
       omega arith

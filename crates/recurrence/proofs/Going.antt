@@ -22,7 +22,6 @@ use Rattle.recurrence.specs.declared.Cursor.{Cursor}
 use Rattle.recurrence.specs.declared.Step.{Step}
 use Rattle.recurrence.specs.declared.Step.TheVariants.{Day, Done, Skipped}
 use Rattle.recurrence.specs.declared.kind.Kind.{Kind}
-use Rattle.recurrence.specs.declared.kind.KindAnswer.{KindAnswer}
 use Rattle.recurrence.specs.declared.scale.Scaled.{Scaled}
 use Rattle.recurrence.proofs.Types.{rules_is, chosen_rule, chosen_none}
 use Rattle.recurrence.proofs.Runs.{from_past, first_fit, no_fit}
@@ -61,13 +60,13 @@ abbrev pub is_one : Scaled → Bool
 is_one t = sound t && is_rule (as_rule t)
 
 module _ (t : Scaled) where
-  pub is_one_lem : sound t ≡ true → {a : KindAnswer} {k : Kind} → Chosen t.kind t.month a → a ≡ KindAnswer.Is k → is_one t ≡ true
+  pub is_one_lem : sound t ≡ true → {a : Option Kind} {k : Kind} → Chosen t.kind t.month a → a ≡ Some k → is_one t ≡ true
   is_one_lem s h e = rw (s, sym (rules_is t)) (chosen_rule t.kind t.month h e)
 
   pub not_sound : sound t ≡ false → is_one t ≡ false
   not_sound s = rw s
 
-  pub no_kind : sound t ≡ true → {a : KindAnswer} → Chosen t.kind t.month a → a ≡ KindAnswer.NoRule → is_one t ≡ false
+  pub no_kind : sound t ≡ true → {a : Option Kind} → Chosen t.kind t.month a → a ≡ None → is_one t ≡ false
   no_kind s h e = rw (s, sym (rules_is t)) (chosen_none t.kind t.month h e)
 
 module _ (t : Scaled) (h : is_one t ≡ true) where

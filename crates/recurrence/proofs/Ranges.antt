@@ -18,7 +18,6 @@ use Rattle.definition.specs.declared.Date as Declared
 use Rattle.date.specs.Scale.{count_of_number}
 use Rattle.recurrence.specs.Scale.{day_date}
 use Rattle.recurrence.specs.Element.{range_by, range_days, RangeRead, range_in, period_of}
-use Rattle.recurrence.specs.declared.RangeAnswer.{RangeAnswer}
 use Rattle.recurrence.proofs.Rules.{field_in}
 
 -- none of them lies past the last date
@@ -37,21 +36,21 @@ unfolding count
 count_first a n = refl
 
 -- a run, by its first day and its length
-run_range : (a n : ℕ) → RangeAnswer.Is (record { first = day_date a; count = n + 1 }) ≡ range_by (count a (suc n))
+run_range : (a n : ℕ) → Some (record { first = day_date a; count = n + 1 }) ≡ range_by (count a (suc n))
 run_range a n = rw (count_first a n, count_length n (suc a), add-one)
 
-run_days : (a n : ℕ) → range_days (RangeAnswer.Is (record { first = day_date a; count = n + 1 })) ≡ count a (suc n)
+run_days : (a n : ℕ) → range_days (Some (record { first = day_date a; count = n + 1 })) ≡ count a (suc n)
 unfolding range_days
 run_days a n = rw (count_of_number a, add-one)
 
 apart : (from to end : ℕ) → end ≡ max to from → end - from ≡ to - from
 apart from to end e = omega arith
 
-pub range_made : (from to end n : ℕ) {first : Declared.Date} → first ≡ day_date from → (from ≡ 0 → ⊥) → (to ≡ 0 → ⊥) → end ≡ max to from → n ≡ min (end - from) 3660 → RangeAnswer.Is (record { first = first; count = n + 1 }) ≡ range_in from to
+pub range_made : (from to end n : ℕ) {first : Declared.Date} → first ≡ day_date from → (from ≡ 0 → ⊥) → (to ≡ 0 → ⊥) → end ≡ max to from → n ≡ min (end - from) 3660 → Some (record { first = first; count = n + 1 }) ≡ range_in from to
 unfolding range_in
 range_made from to end n d a b e f =
     let m : n ≡ min (to - from) most_exception_days = f ∙ ap (λ (k : ℕ). min k most_exception_days) (apart from to end e) in
-    rw (ne_eqb from 0 a, ne_eqb to 0 b) (λ i. RangeAnswer.Is (record { first = d i; count = m i + 1 }))
+    rw (ne_eqb from 0 a, ne_eqb to 0 b) (λ i. Some (record { first = d i; count = m i + 1 }))
 
 module _ (x : Element) where
   module _ (p : Element) (c : child x (bytes "TimePeriod") ≡ Some p) where
@@ -65,7 +64,7 @@ module _ (x : Element) where
         let i = field_in p "FromDate" d f in
         let j = field_in p "ToDate" k g in
         let n = min (k - d) most_exception_days in
-        let r : range_in d k ≡ RangeAnswer.Is (record { first = day_date d; count = n + 1 }) = rw (ne_eqb d 0 (λ z. omega (arith, i.low)), ne_eqb k 0 (λ z. omega (arith, j.low))) in
+        let r : range_in d k ≡ Some (record { first = day_date d; count = n + 1 }) = rw (ne_eqb d 0 (λ z. omega (arith, i.low)), ne_eqb k 0 (λ z. omega (arith, j.low))) in
         let l : days_of x ≡ count d (suc n) = rw (c, f, g) (keep_all (suc n) d (omega (arith, i.high, j.high))) in
         record { is = r ∙ run_range d n ∙ ap range_by (sym l); days = ap range_days r ∙ run_days d n ∙ sym l }
 

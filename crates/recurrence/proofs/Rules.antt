@@ -26,8 +26,6 @@ use Rattle.date.specs.Scale.{count_of_number}
 use Rattle.recurrence.specs.Scale.{InDates, scaled_by, day_date, month_meaning}
 use Rattle.recurrence.specs.Meaning.{as_rule, sound, meaning, days_by}
 use Rattle.recurrence.specs.Element.{capped, month_by, held_rule, rule_by, rule_days, RuleRead, pick_of, mask_of, last_by, most_by, judged, rule_in, period_of}
-use Rattle.recurrence.specs.declared.MonthAnswer.{MonthAnswer}
-use Rattle.recurrence.specs.declared.RuleAnswer.{RuleAnswer}
 use Rattle.recurrence.specs.declared.scale.Scaled.{Scaled}
 use Rattle.laws.specs.Bools.{within_is}
 use Rattle.recurrence.proofs.Months.{month_length_lem, sunday_less}
@@ -81,7 +79,7 @@ caps most k h (Some (negsuc n)) = refl
 
 -- made of its fields
 module _ (x : Element) (from to : Date) where
-  pub made : {kind last most period number day item position weekdays occurrences step : ℕ} {month : MonthAnswer} {b : Bool} {first until : Declared.Date}
+  pub made : {kind last most period number day item position weekdays occurrences step : ℕ} {month : Option ℕ} {b : Bool} {first until : Declared.Date}
       → b ≡ yes_in x "EnteredByOccurrences"
       → first ≡ day_date from
       → kind ≡ pick_of 7 7 1 (int_in x "Type")
@@ -277,7 +275,7 @@ module _ (x : Element) (from to : Date) where
   unfolding judged rule_from
   judged_is = rw (month_back (month_from (int_in x "Month" or pos 0)), given_month (int_in x "Month" or pos 0)) (by (is_rule (rule_from x from to)))
     where
-      by : (t : Bool) → (if t then RuleAnswer.Is (held_rule (rule_from x from to)) else RuleAnswer.Absent) ≡ rule_by (when t (rule_from x from to))
+      by : (t : Bool) → (if t then Some (held_rule (rule_from x from to)) else None) ≡ rule_by (when t (rule_from x from to))
       by true = refl
       by false = refl
 

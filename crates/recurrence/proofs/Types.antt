@@ -1,5 +1,6 @@
 -- The kinds of a rule. Assumes nothing.
 use Rattle.std.specs.Prelude.{if◌then◌else◌}
+use Rattle.std.specs.Prelude.{None, Option, Some}
 use Prim.Native.Nat.{ℕ, zero, suc}
 use native.Mathlib.Omega.{arith}
 use mathlib.Core.Path.{◌≡◌, refl, subst, subst⁻¹}
@@ -11,7 +12,6 @@ use Rattle.recurrence.specs.Scale.{IsMonth}
 use Rattle.recurrence.specs.Meaning.{as_rule, rules}
 use Rattle.recurrence.specs.Kind.{IsKind, Chosen}
 use Rattle.recurrence.specs.declared.kind.Kind.{Kind}
-use Rattle.recurrence.specs.declared.kind.KindAnswer.{KindAnswer}
 use Rattle.recurrence.specs.declared.scale.Scaled.{Scaled}
 use Rattle.laws.specs.Bools.{within_is, is_within}
 
@@ -39,14 +39,14 @@ kind_rules type month Kind.Weekly e = rw e (any_month (within 1 12 month))
 pub of_kind : (type month : ℕ) {a k : Kind} → IsKind type month a → a ≡ k → IsKind type month k
 of_kind type month h e = subst (IsKind type month) e h
 
-module _ (type month : ℕ) {a : KindAnswer} (h : Chosen type month a) where
-  pub chosen_kind : {k : Kind} → a ≡ KindAnswer.Is k → IsKind type month k
+module _ (type month : ℕ) {a : Option Kind} (h : Chosen type month a) where
+  pub chosen_kind : {k : Kind} → a ≡ Some k → IsKind type month k
   chosen_kind e = subst (Chosen type month) e h
 
-  pub chosen_rule : {k : Kind} → a ≡ KindAnswer.Is k → rules type month ≡ true
+  pub chosen_rule : {k : Kind} → a ≡ Some k → rules type month ≡ true
   chosen_rule {k} e = kind_rules type month k (chosen_kind e)
 
-  pub chosen_none : a ≡ KindAnswer.NoRule → rules type month ≡ false
+  pub chosen_none : a ≡ None → rules type month ≡ false
   chosen_none e = subst (Chosen type month) e h
 
 any_type : (b : Bool) → (b && false) ≡ false
@@ -54,10 +54,10 @@ any_type true = refl
 any_type false = refl
 
 -- a yearly rule, by its month
-pub yearly_chosen : (type month : ℕ) (k : Kind) (a : KindAnswer) → within 2 3 type ≡ true → (IsMonth month → IsKind type month k) → a ≡ (if within 1 12 month then KindAnswer.Is k else KindAnswer.NoRule) → Chosen type month a
+pub yearly_chosen : (type month : ℕ) (k : Kind) (a : Option Kind) → within 2 3 type ≡ true → (IsMonth month → IsKind type month k) → a ≡ (if within 1 12 month then Some k else None) → Chosen type month a
 yearly_chosen type month k a y is e = subst⁻¹ (Chosen type month) e (by (within 1 12 month) refl)
   where
-    by : (t : Bool) → within 1 12 month ≡ t → Chosen type month (if t then KindAnswer.Is k else KindAnswer.NoRule)
+    by : (t : Bool) → within 1 12 month ≡ t → Chosen type month (if t then Some k else None)
     by true q = is (within_is 1 12 month q)
     by false q = rw (q, y) (any_type (within 1 6 type))
 

@@ -1,6 +1,7 @@
 -- What an element says, as this crate holds it: the rule of an Exception, the days of a WeekDay of DayType 0. Assumes nothing: these are
 -- definitions.
 use Rattle.std.specs.Prelude.{if◌then◌else◌, ℕ, suc, ◌+◌, ◌-◌, ◌%◌, min, ◌≡◌, Bool, List, [], ◌∷◌, length, eqb, ℤ, pos, negsuc}
+use Rattle.recurrence.specs.declared.Range.{Range}
 use Rattle.std.specs.Prelude.{Option, Some, None}
 use Rattle.definition.specs.Base.{◌>>=◌, ◌or◌, count}
 use Rattle.definition.specs.Ascii.{bytes}
@@ -13,10 +14,7 @@ use Rattle.definition.specs.Recurrence.{most_days, century, rule_from, rule_of, 
 use Rattle.date.specs.Scale.{day_count}
 use Rattle.recurrence.specs.Scale.{day_date, month_meaning}
 use Rattle.recurrence.specs.Meaning.{rules, days_by}
-use Rattle.recurrence.specs.declared.MonthAnswer.{MonthAnswer}
 use Rattle.recurrence.specs.declared.Rule.{Rule}
-use Rattle.recurrence.specs.declared.RuleAnswer.{RuleAnswer}
-use Rattle.recurrence.specs.declared.RangeAnswer.{RangeAnswer}
 use Rattle.recurrence.specs.declared.element.Period.{Period}
 
 -- ---- the rule of an Exception
@@ -26,9 +24,9 @@ abbrev pub capped : ℕ → ℤ → ℕ
 capped most (pos n) = min n most
 capped most (negsuc n) = most
 
-abbrev pub month_by : Option ℕ → MonthAnswer
-month_by (Some m) = MonthAnswer.Is m
-month_by None = MonthAnswer.Absent
+abbrev pub month_by : Option ℕ → Option ℕ
+month_by (Some m) = Some m
+month_by None = None
 
 -- of the weekdays the seven low bits
 abbrev pub held_rule : D.Rule → Rule
@@ -46,17 +44,17 @@ held_rule m =
       weekdays = twos 64 m.weekdays % 128;
     }
 
-abbrev pub rule_by : Option D.Rule → RuleAnswer
-rule_by None = RuleAnswer.Absent
-rule_by (Some m) = RuleAnswer.Is (held_rule m)
+abbrev pub rule_by : Option D.Rule → Option Rule
+rule_by None = None
+rule_by (Some m) = Some (held_rule m)
 
 -- all days of an answer; none: skipped
-unfoldable pub rule_days : RuleAnswer → Option (List Date)
-rule_days (RuleAnswer.Is r) = days_by r
-rule_days RuleAnswer.Absent = None
+unfoldable pub rule_days : Option Rule → Option (List Date)
+rule_days (Some r) = days_by r
+rule_days None = None
 
 -- the definition's rule, and so its days
-pub record RuleRead (x : Element) (r : RuleAnswer) : Type 0 where
+pub record RuleRead (x : Element) (r : Option Rule) : Type 0 where
   pub is : r ≡ rule_by (rule_of x)
   pub days : rule_days r ≡ recurrence_days x
 
@@ -79,13 +77,13 @@ last_by by_count from to = if by_count then in_years (from + century) or to else
 unfoldable pub most_by : Bool → ℕ → ℕ
 most_by by_count occurrences = if by_count then occurrences else most_days
 
-unfoldable pub judged : Rule → RuleAnswer
-judged r = if rules r.kind (month_meaning r.month or 13) then RuleAnswer.Is r else RuleAnswer.Absent
+unfoldable pub judged : Rule → Option Rule
+judged r = if rules r.kind (month_meaning r.month or 13) then Some r else None
 
 -- with its dates, 0 for a missing one
-unfoldable pub rule_in : Element → Date → Date → RuleAnswer
+unfoldable pub rule_in : Element → Date → Date → Option Rule
 rule_in x from to =
-    if eqb from 0 then RuleAnswer.Absent else judged (held_rule (rule_from x from (if eqb to 0 then from else to)))
+    if eqb from 0 then None else judged (held_rule (rule_from x from (if eqb to 0 then from else to)))
 
 unfoldable pub period_of : Element → Period
 period_of x =
@@ -97,20 +95,20 @@ period_of x =
 -- ---- a WeekDay of DayType 0
 
 -- days in a row, by the first and how many they are
-abbrev pub range_by : List Date → RangeAnswer
-range_by [] = RangeAnswer.Absent
-range_by (d ∷ l) = RangeAnswer.Is (record { first = day_date d; count = suc (length l) })
+abbrev pub range_by : List Date → Option Range
+range_by [] = None
+range_by (d ∷ l) = Some (record { first = day_date d; count = suc (length l) })
 
-unfoldable pub range_days : RangeAnswer → List Date
-range_days (RangeAnswer.Is r) = count (day_count r.first.0) r.count
-range_days RangeAnswer.Absent = []
+unfoldable pub range_days : Option Range → List Date
+range_days (Some r) = count (day_count r.first.0) r.count
+range_days None = []
 
-pub record RangeRead (x : Element) (r : RangeAnswer) : Type 0 where
+pub record RangeRead (x : Element) (r : Option Range) : Type 0 where
   pub is : r ≡ range_by (days_of x)
   pub days : range_days r ≡ days_of x
 
-unfoldable pub range_in : Date → Date → RangeAnswer
+unfoldable pub range_in : Date → Date → Option Range
 range_in from to =
-    if eqb from 0 then RangeAnswer.Absent else
-    if eqb to 0 then RangeAnswer.Absent else
-    RangeAnswer.Is (record { first = day_date from; count = min (to - from) most_exception_days + 1 })
+    if eqb from 0 then None else
+    if eqb to 0 then None else
+    Some (record { first = day_date from; count = min (to - from) most_exception_days + 1 })

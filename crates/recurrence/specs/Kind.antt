@@ -1,5 +1,6 @@
 -- What fits a rule, kind by kind, and what the searches for the first such day may rest on. Assumes nothing: these are definitions.
 use Rattle.std.specs.Prelude.{ℕ, ◌+◌, ◌-◌, ◌*◌, ◌/◌, ◌%◌, ◌^◌, ◌≤◌, ◌<◌, ◌≡◌, Bool, true, false, ◌&&◌, List, leb, eqb, pos}
+use Rattle.std.specs.Prelude.{None, Some}
 use Rattle.std.specs.Prelude.{Option}
 use Rattle.definition.specs.Base.{find_last}
 use Rattle.definition.specs.Date.{Date, year_of, sunday_first, first_date, last_date}
@@ -7,7 +8,6 @@ use Rattle.definition.specs.Recurrence.{most_days, century, every_nth, is_date, 
 use Rattle.recurrence.specs.Scale.{IsMonth, month_at, day_in}
 use Rattle.recurrence.specs.Meaning.{as_rule, rules}
 use Rattle.recurrence.specs.declared.kind.Kind.{Kind}
-use Rattle.recurrence.specs.declared.kind.KindAnswer.{KindAnswer}
 use Rattle.recurrence.specs.declared.scale.Scaled.{Scaled}
 
 abbrev pub last_of : List ℕ → Option ℕ
@@ -77,6 +77,6 @@ IsKind type month Kind.MonthlyByPosition = type ≡ 5
 IsKind type month Kind.Weekly = type ≡ 6
 
 -- what a Type and a Month choose
-abbrev pub Chosen : ℕ → ℕ → KindAnswer → Type 0
-Chosen type month (KindAnswer.Is k) = IsKind type month k
-Chosen type month KindAnswer.NoRule = rules type month ≡ false
+abbrev pub Chosen : ℕ → ℕ → Option Kind → Type 0
+Chosen type month (Some k) = IsKind type month k
+Chosen type month None = rules type month ≡ false

@@ -5,9 +5,7 @@ use Rattle.definition.specs.Base.{◌or◌, when, within}
 use Rattle.definition.specs.Date as D
 use Rattle.definition.specs.Date.{year_of, month_of, date_at, month_length, day_number, first_date, last_date}
 use Rattle.definition.specs.declared.Date.{Date}
-use Rattle.definition.specs.declared.DateAnswer.{DateAnswer}
 use Rattle.date.specs.Scale.{day_count}
-use Rattle.recurrence.specs.declared.MonthAnswer.{MonthAnswer}
 use Rattle.recurrence.specs.declared.Rule.{Rule}
 use Rattle.recurrence.specs.declared.scale.Scaled.{Scaled}
 use Rattle.recurrence.specs.declared.scale.Month.{Month}
@@ -33,13 +31,13 @@ abbrev pub day_date : D.Date → Date
 day_date n = record { 0 = day_number n }
 
 -- 0 stands for no day
-unfoldable pub count_by : DateAnswer → D.Date
-count_by (DateAnswer.Is d) = day_count d.0
-count_by DateAnswer.Absent = 0
+unfoldable pub count_by : Option Date → D.Date
+count_by (Some d) = day_count d.0
+count_by None = 0
 
-unfoldable pub month_meaning : MonthAnswer → Option ℕ
-month_meaning (MonthAnswer.Is m) = Some m
-month_meaning MonthAnswer.Absent = None
+unfoldable pub month_meaning : Option ℕ → Option ℕ
+month_meaning (Some m) = Some m
+month_meaning None = None
 
 -- month 13 stands for none
 abbrev pub scaled_by : Rule → Scaled

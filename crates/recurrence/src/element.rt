@@ -7,11 +7,10 @@ ghost use Rattle.fields.specs.Said.{whole_said, date_said};
 ghost use Rattle.tree.specs.Place.{element_at};
 ghost use Rattle.recurrence.specs.Element.{pick_of, mask_of, last_by, most_by, month_by, held_rule, judged, rule_in, RuleRead, period_of, range_in, RangeRead};
 
-use crate::kind::{KindAnswer, kind_of};
+use crate::kind::{kind_of};
 use crate::scale::{LAST, count_or, date_at, later, least, month_number};
-use crate::{MonthAnswer, Range, RangeAnswer, Rule, RuleAnswer};
+use crate::{Range, Rule};
 use text::Signed;
-use tree::Found;
 
 // A number held to `most`, with what stands for one below 0 and for a missing one.
 fn pick(a: Signed, most: u32, below: u32, absent: u32) -> u32
@@ -67,13 +66,13 @@ fn most_by(by_count: bool, occurrences: u32) -> u32
 }
 
 // MSPDI counts months from 0.
-fn month_from(n: u32) -> MonthAnswer
+fn month_from(n: u32) -> Option<u32>
     ensures { result ≡ month_by (month_from (pos n)) }
 {
     if n < 12 {
-        return MonthAnswer::Is(n + 1);
+        return Some(n + 1);
     }
-    MonthAnswer::Absent
+    None
 }
 
 fn rule_at(s: &[u8], at: usize, from: u32, to: u32) -> Rule
@@ -98,13 +97,13 @@ fn rule_at(s: &[u8], at: usize, from: u32, to: u32) -> Rule
 }
 
 // A rule of a kind that there is.
-fn judge(r: Rule) -> RuleAnswer
+fn judge(r: Rule) -> Option<Rule>
     ensures { result ≡ judged r }
 {
     let month = r.month;
     match kind_of(r.kind, month_number(month)) {
-        KindAnswer::Is(_) => RuleAnswer::Is(r),
-        KindAnswer::NoRule => RuleAnswer::Absent,
+        Some(_) => Some(r),
+        None => None,
     }
 }
 
@@ -114,13 +113,13 @@ fn or_first(to: u32, from: u32) -> u32
     if to == 0 { from } else { to }
 }
 
-fn rule_in(s: &[u8], at: usize, from: u32, to: u32) -> RuleAnswer
+fn rule_in(s: &[u8], at: usize, from: u32, to: u32) -> Option<Rule>
     requires fact_1 { from ≤ 7304849 }
     requires fact_2 { to ≤ 7304849 }
     ensures { result ≡ rule_in (element_at s.now at) from to }
 {
     if from == 0 {
-        return RuleAnswer::Absent;
+        return None;
     }
     judge(rule_at(s, at, from, or_first(to, from)))
 }
@@ -136,8 +135,8 @@ fn period_of(s: &[u8], at: usize) -> Period
     ensures { result ≡ period_of (element_at s.now at) }
 {
     match tree::child(s, at, b"TimePeriod") {
-        Found::Nothing => Period { from: 0, to: 0 },
-        Found::At(p) => Period {
+        None => Period { from: 0, to: 0 },
+        Some(p) => Period {
             from: day_said(s, p, b"FromDate"),
             to: day_said(s, p, b"ToDate"),
         },
@@ -145,7 +144,7 @@ fn period_of(s: &[u8], at: usize) -> Period
 }
 
 // The rule of an Exception.
-pub fn rule_of(s: &[u8], at: usize) -> RuleAnswer
+pub fn rule_of(s: &[u8], at: usize) -> Option<Rule>
     ensures { RuleRead (element_at s.now at) result }
 {
     let p = period_of(s, at);
@@ -153,25 +152,25 @@ pub fn rule_of(s: &[u8], at: usize) -> RuleAnswer
 }
 
 // A reversed range is its first day alone, and 3,661 days are the most.
-fn range_in(from: u32, to: u32) -> RangeAnswer
+fn range_in(from: u32, to: u32) -> Option<Range>
     requires { from ≤ 7304849 }
     ensures { result ≡ range_in from to }
 {
     if from == 0 {
-        return RangeAnswer::Absent;
+        return None;
     }
     if to == 0 {
-        return RangeAnswer::Absent;
+        return None;
     }
     let first = date_at(from);
-    RangeAnswer::Is(Range {
+    Some(Range {
         first,
         count: least(later(to, from) - from, 3660) + 1,
     })
 }
 
 // The days of a WeekDay of DayType 0.
-pub fn days_of(s: &[u8], at: usize) -> RangeAnswer
+pub fn days_of(s: &[u8], at: usize) -> Option<Range>
     ensures { RangeRead (element_at s.now at) result }
 {
     let p = period_of(s, at);

@@ -121,34 +121,28 @@ pub(crate) enum Kind {
     Weekly,
 }
 
-#[derive(Clone, Copy)]
-pub(crate) enum KindAnswer {
-    Is(Kind),
-    NoRule,
-}
-
 // A yearly rule, if its month is one.
-fn in_month(kind: Kind, month: u32) -> KindAnswer
+fn in_month(kind: Kind, month: u32) -> Option<Kind>
     ensures { result ≡ (if within 1 12 month then KindAnswer.Is kind else KindAnswer.NoRule) }
 {
     if (1 <= month) & (month <= 12) {
-        return KindAnswer::Is(kind);
+        return Some(kind);
     }
-    KindAnswer::NoRule
+    None
 }
 
 // A Type chooses among the six; any other and, in 2 and 3, a bad Month give no rule.
-pub(crate) fn kind_of(kind: u32, month: u32) -> KindAnswer
+pub(crate) fn kind_of(kind: u32, month: u32) -> Option<Kind>
     ensures { Chosen kind month result }
 {
     match kind {
-        1 => KindAnswer::Is(Kind::Daily),
+        1 => Some(Kind::Daily),
         2 => in_month(Kind::YearlyByDay, month),
         3 => in_month(Kind::YearlyByPosition, month),
-        4 => KindAnswer::Is(Kind::MonthlyByDay),
-        5 => KindAnswer::Is(Kind::MonthlyByPosition),
-        6 => KindAnswer::Is(Kind::Weekly),
-        _ => KindAnswer::NoRule,
+        4 => Some(Kind::MonthlyByDay),
+        5 => Some(Kind::MonthlyByPosition),
+        6 => Some(Kind::Weekly),
+        _ => None,
     }
 }
 

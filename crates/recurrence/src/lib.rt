@@ -11,13 +11,6 @@ use definition::Date;
 pub use element::{days_of, rule_of};
 pub use sequence::{next, start};
 
-// A month from 1 to 12; any other number is none.
-#[derive(Clone, Copy)]
-pub enum MonthAnswer {
-    Is(u32),
-    Absent,
-}
-
 // A rule, as definition's Recurrence.antt has it, in whole numbers. The day is held to 32, the item to 10 and the position to 5, at which
 // and past which nothing fits; of the weekdays the seven low bits are held.
 #[derive(Clone, Copy)]
@@ -27,17 +20,11 @@ pub struct Rule {
     pub last: Date,
     pub most: u32,
     pub period: u32,
-    pub month: MonthAnswer,
+    pub month: Option<u32>,
     pub day: u32,
     pub item: u32,
     pub position: u32,
     pub weekdays: u32,
-}
-
-#[derive(Clone, Copy)]
-pub enum RuleAnswer {
-    Is(Rule),
-    Absent,
 }
 
 // From which day on the days of a rule are still to come, and how many at most.
@@ -62,8 +49,3 @@ pub struct Range {
     pub count: u32,
 }
 
-#[derive(Clone, Copy)]
-pub enum RangeAnswer {
-    Is(Range),
-    Absent,
-}

@@ -5,9 +5,8 @@ ghost use Rattle.definition.specs.Date.{month_length, year_of};
 ghost use Rattle.date.specs.Scale.{day_count};
 ghost use Rattle.recurrence.specs.Scale.{InDates, IsYear, IsMonth, YearNumber, day_date, count_by, month_meaning, scaled_by, month_on, month_at, day_in};
 
-use crate::{MonthAnswer, Rule};
-use date::{LengthAnswer, YmdAnswer};
-use definition::{Date, DateAnswer};
+use crate::{Rule};
+use definition::{Date};
 
 // The last date, 31 December 9999.
 pub(crate) const LAST: u32 = 7304849;
@@ -70,21 +69,21 @@ pub(crate) fn count_of(d: Date) -> u32
     date::days_between(Date(-4371953), d)
 }
 
-pub(crate) fn count_or(a: DateAnswer) -> u32
+pub(crate) fn count_or(a: Option<Date>) -> u32
     ensures { result ≡ count_by a }
 {
     match a {
-        DateAnswer::Is(d) => count_of(d),
-        DateAnswer::Absent => 0,
+        Some(d) => count_of(d),
+        None => 0,
     }
 }
 
-pub(crate) fn month_number(a: MonthAnswer) -> u32
+pub(crate) fn month_number(a: Option<u32>) -> u32
     ensures { result ≡ (month_meaning a or 13) }
 {
     match a {
-        MonthAnswer::Is(m) => m,
-        MonthAnswer::Absent => 13,
+        Some(m) => m,
+        None => 13,
     }
 }
 
@@ -124,8 +123,8 @@ pub(crate) fn length_in(y: u32, m: u32) -> u32
     ensures { result ≡ month_length y m }
 {
     match date::days_in_month(lowered(y, 10000), m) {
-        LengthAnswer::Is(n) => n,
-        LengthAnswer::Absent => 0,
+        Some(n) => n,
+        None => 0,
     }
 }
 
@@ -141,11 +140,11 @@ pub(crate) fn month_on(d: u32) -> Month
     ensures { result ≡ month_on d }
 {
     match date::ymd(date_at(d)) {
-        YmdAnswer::Is(c) => Month {
+        Some(c) => Month {
             year: year_count(c.year),
             month: c.month,
         },
-        YmdAnswer::Absent => Month { year: 0, month: 0 },
+        None => Month { year: 0, month: 0 },
     }
 }
 

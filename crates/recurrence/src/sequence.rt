@@ -2,7 +2,7 @@
 ghost use Rattle.std.specs.Prelude.{◌≡◌};
 ghost use Rattle.recurrence.specs.Meaning.{sound, days_by, to_come, said, start_of, step_of};
 
-use crate::kind::{KindAnswer, first_fit, kind_of};
+use crate::kind::{first_fit, kind_of};
 use crate::scale::{LAST, Scaled, count_of, date_at, later, to_scale};
 use crate::{Cursor, Rule, Step};
 
@@ -31,8 +31,8 @@ pub fn next(r: Rule, c: Cursor) -> Step
         return Step::Skipped;
     }
     match kind_of(t.kind, t.month) {
-        KindAnswer::NoRule => Step::Skipped,
-        KindAnswer::Is(kind) => {
+        None => Step::Skipped,
+        Some(kind) => {
             if c.left == 0 {
                 return Step::Done;
             }

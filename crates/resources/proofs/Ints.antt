@@ -14,9 +14,6 @@ use mir.ValLaws.{to_z-of_z}
 use Rattle.definition.specs.Base.{when}
 use Rattle.definition.specs.Task.{not_below0}
 use Rattle.definition.specs.Resource.{is_int, sameℤ, other_than, left_of}
-use Rattle.text.specs.Answers.{i64_of}
-use Rattle.text.specs.declared.I64Answer.{I64Answer}
-use Rattle.text.specs.declared.I64Answer.TheVariants as i64
 use Rattle.fields.specs.Answers.{unsigned_or}
 
 -- ---- the same
@@ -42,14 +39,14 @@ eq_same y z f g = by (eqb (of_z w64 y) (of_z w64 z)) refl (sameℤ y z) refl
     by false e true h = absurd (eqb-false (of_z w64 y) (of_z w64 z) e (ap (of_z w64) (same_is y z h)))
     by false e false h = refl
 
-module _ (z y : ℤ) (fz : SFits w64 z) (fy : SFits w64 y) {a : I64Answer} (e : a ≡ i64.Is y) where
-  by_test : other_than z (i64_of a) ≡ when (not (eqb (of_z w64 y) (of_z w64 z))) y
-  by_test = ap (λ (a : I64Answer). other_than z (i64_of a)) e ∙ ap (λ (t : Bool). when (not t) y) (sym (eq_same y z fy fz))
+module _ (z y : ℤ) (fz : SFits w64 z) (fy : SFits w64 y) {a : Option ℤ} (e : a ≡ Some y) where
+  by_test : other_than z a ≡ when (not (eqb (of_z w64 y) (of_z w64 z))) y
+  by_test = ap (λ (a : Option ℤ). other_than z a) e ∙ ap (λ (t : Bool). when (not t) y) (sym (eq_same y z fy fz))
 
-  pub same_dropped : of_z w64 y ≡ of_z w64 z → None ≡ other_than z (i64_of a)
+  pub same_dropped : of_z w64 y ≡ of_z w64 z → None ≡ other_than z a
   same_dropped h = sym (by_test ∙ ap (λ (t : Bool). when (not t) y) (eq-eqb (of_z w64 y) (of_z w64 z) h))
 
-  pub same_kept : (of_z w64 y ≡ of_z w64 z → ⊥) → Some (to_z w64 (of_z w64 y)) ≡ other_than z (i64_of a)
+  pub same_kept : (of_z w64 y ≡ of_z w64 z → ⊥) → Some (to_z w64 (of_z w64 y)) ≡ other_than z a
   same_kept h = ap Some (to_z-of_z w64 y fy) ∙ sym (by_test ∙ ap (λ (t : Bool). when (not t) y) (ne_eqb (of_z w64 y) (of_z w64 z) h))
 
 -- whether the number of a field is m, where d stands for one below 0 and for a missing one

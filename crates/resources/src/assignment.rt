@@ -2,21 +2,18 @@
 ghost use Rattle.std.specs.Prelude.{◌≡◌, ◌^◌, ◌≤◌, pos, nat_abs};
 ghost use Rattle.definition.specs.Base.{◌>>=◌ as bind, ◌or◌};
 ghost use Rattle.definition.specs.Resource.{left_of, hours_from, hours_in, money_from, money_in, rate_of};
-ghost use Rattle.text.specs.Answers.{i64_of};
 ghost use Rattle.tree.specs.Place.{element_at};
 ghost use Rattle.fields.specs.Said.{number_said, minutes_said};
 ghost use Rattle.resources.specs.Assignment.{Small, Means};
 
 use crate::value::{number_or, other_than, units};
-use fields::{FloatAnswer, MinutesAnswer};
-use text::I64Answer;
 
 // Hundredths: of an hour for an assignment, of the currency for an expense.
 #[derive(Clone, Copy)]
 pub struct Amounts {
     pub planned: i64,
     pub actual: i64,
-    pub remaining: I64Answer,
+    pub remaining: Option<i64>,
 }
 
 // ---- what is left
@@ -32,10 +29,10 @@ fn left(planned: i64, actual: i64) -> i64
 }
 
 // 0 for a missing one; a remaining that is what is left is dropped.
-fn amounts_of(planned: I64Answer, actual: I64Answer, remaining: I64Answer) -> Amounts
-    requires fact_1 { Small (i64_of planned) }
-    requires fact_2 { Small (i64_of actual) }
-    ensures { Means result (i64_of planned) (i64_of actual) (i64_of remaining) }
+fn amounts_of(planned: Option<i64>, actual: Option<i64>, remaining: Option<i64>) -> Amounts
+    requires fact_1 { Small planned }
+    requires fact_2 { Small actual }
+    ensures { Means result planned actual remaining }
 {
     let planned = number_or(planned, 0);
     let actual = number_or(actual, 0);
@@ -50,13 +47,13 @@ fn amounts_of(planned: I64Answer, actual: I64Answer, remaining: I64Answer) -> Am
 // ---- hours
 
 // Minutes as hundredths of an hour.
-fn hours(s: &[u8], at: usize, name: &[u8]) -> I64Answer
-    ensures is { i64_of result ≡ bind (minutes_said (element_at s.now at) name.now) hours_from }
-    ensures small { Small (i64_of result) }
+fn hours(s: &[u8], at: usize, name: &[u8]) -> Option<i64>
+    ensures is { result ≡ bind (minutes_said (element_at s.now at) name.now) hours_from }
+    ensures small { Small result }
 {
     match fields::minutes_in(s, at, name) {
-        MinutesAnswer::Is(m) => I64Answer::Is((m as u64 * 100 / 60) as i64),
-        MinutesAnswer::Absent => I64Answer::Absent,
+        Some(m) => Some((m as u64 * 100 / 60) as i64),
+        None => None,
     }
 }
 
@@ -69,8 +66,8 @@ pub fn work(s: &[u8], at: usize) -> Amounts
 }
 
 // Hundredths of Units, of one from 0 to 1,000,000, unless they are 100.
-pub fn rate(s: &[u8], at: usize) -> I64Answer
-    ensures { i64_of result ≡ rate_of (element_at s.now at) }
+pub fn rate(s: &[u8], at: usize) -> Option<i64>
+    ensures { result ≡ rate_of (element_at s.now at) }
 {
     other_than(100, units(s, at, b"Units"))
 }
@@ -78,13 +75,13 @@ pub fn rate(s: &[u8], at: usize) -> I64Answer
 // ---- money
 
 // Hundredths of an amount below 10,000,000,000,000 either way.
-fn money(s: &[u8], at: usize, name: &[u8]) -> I64Answer
-    ensures is { i64_of result ≡ bind (number_said (element_at s.now at) name.now) money_from }
-    ensures small { Small (i64_of result) }
+fn money(s: &[u8], at: usize, name: &[u8]) -> Option<i64>
+    ensures is { result ≡ bind (number_said (element_at s.now at) name.now) money_from }
+    ensures small { Small result }
 {
     match fields::number_in(s, at, name) {
-        FloatAnswer::Is(m) => fields::hundredths_when((-1e13 < m) & (m < 1e13), m),
-        FloatAnswer::Absent => I64Answer::Absent,
+        Some(m) => fields::hundredths_when((-1e13 < m) & (m < 1e13), m),
+        None => None,
     }
 }
 

@@ -1,12 +1,9 @@
 // The values of a Resource. What is right is said in the crate definition, specs/Resource.antt.
 ghost use Rattle.std.specs.Prelude.{◌≡◌};
 ghost use Rattle.definition.specs.Resource.{is_resource, is_cost, resource_kind, max_units, price_of, accrual_of};
-ghost use Rattle.text.specs.Answers.{i64_of};
 ghost use Rattle.tree.specs.Place.{element_at};
 
 use crate::value::{number_or, units};
-use fields::FloatAnswer;
-use text::I64Answer;
 
 // A UID other than `0`, and a name.
 pub fn is_resource(s: &[u8], at: usize) -> bool
@@ -39,12 +36,12 @@ pub fn max_units(s: &[u8], at: usize) -> i64
 }
 
 // Hundredths of StandardRate, of one above 0 and below 10,000,000,000,000.
-pub fn price(s: &[u8], at: usize) -> I64Answer
-    ensures { i64_of result ≡ price_of (element_at s.now at) }
+pub fn price(s: &[u8], at: usize) -> Option<i64>
+    ensures { result ≡ price_of (element_at s.now at) }
 {
     match fields::number_in(s, at, b"StandardRate") {
-        FloatAnswer::Is(p) => fields::hundredths_when((0.0 < p) & (p < 1e13), p),
-        FloatAnswer::Absent => I64Answer::Absent,
+        Some(p) => fields::hundredths_when((0.0 < p) & (p < 1e13), p),
+        None => None,
     }
 }
 

@@ -1,11 +1,10 @@
 -- The table of a list while it is filled: the rows so far are in their chains, each with the place of its element. Assumes nothing.
 use Rattle.std.proofs.Common.{◌≡◌, ℕ, suc, ◌+◌, ◌^◌, ◌<◌, ◌≤◌, max, List, [], ◌∷◌, length, get_or, drop, sym, refl, ap, ◌∙◌, add-one, arith, length-drop, drop-cons, le-ltb, lt-ltb}
+use Rattle.std.specs.Prelude.{None, Option, Some}
 use Rattle.definition.specs.Text.{Text}
 use Rattle.definition.specs.Tree.{Element}
 use Rattle.index.specs.declared.Table.{Table}
 use Rattle.index.specs.Hash.{hash_of}
-use Rattle.index.specs.declared.Made.{Made}
-use Rattle.index.specs.declared.Made.TheVariants.{Ready, NoRoom}
 use Rattle.index.specs.Chains.{table_of, zeros, added}
 use Rattle.index.specs.Law.{table_placed, Indexed, length_added}
 use Rattle.index.proofs.Law.{indexed_none, indexed_by, indexed_same}
@@ -14,8 +13,6 @@ use Rattle.index.specs.Frame.{Outside, added_outside, zeros_outside}
 use Rattle.index.specs.Steps.{length_zeros}
 use Rattle.tree.specs.Place.{element_at}
 use Rattle.rows.specs.Tables.{listed, uid_of, later_in, listed_by, Lists, no_element, nth, hash_in, made_for, Ripe, Tabled, Makes}
-use Rattle.rows.specs.declared.kept.KeptAnswer.{KeptAnswer}
-use Rattle.rows.specs.declared.kept.KeptAnswer.TheVariants.{Is, Absent}
 use Rattle.rows.specs.declared.table.Listed.{Listed}
 use Rattle.rows.proofs.Listing.{lists_end, lists_next}
 
@@ -39,18 +36,18 @@ cons_tail e = cc
 
 -- ---- the rows so far
 
-pub record Filling (s : Text) (root : Element) (l : Listed) (t : Table) (w : List ℕ) (row : ℕ) (e : KeptAnswer) (w' : List ℕ) : Type 0 where
+pub record Filling (s : Text) (root : Element) (l : Listed) (t : Table) (w : List ℕ) (row : ℕ) (e : Option (ℕ × ℕ)) (w' : List ℕ) : Type 0 where
   pub places : ℕ → ℕ
   pub indexed : Indexed t (hash_in l root) places row w'
   pub stands : (r : ℕ) → r < row → element_at s (places r) ≡ nth l root r
   pub within : row ≤ length (listed l root)
   pub left : drop row (listed l root) ≡ listed_by s l e
-  pub there : (at left : ℕ) → e ≡ Is at left → at < length s
+  pub there : (at left : ℕ) → e ≡ Some (at, left) → at < length s
   pub length_same : length w' ≡ length w
   pub outside : (j : ℕ) → Outside t j → get_or w' j 0 ≡ get_or w j 0
 
 module _ {s : Text} {root : Element} {l : Listed} {t : Table} {w : List ℕ} (ripe : Ripe s root l t w) {w₀ : List ℕ} where
-  pub fill_begin : {n : ℕ} {e : KeptAnswer} → w₀ ≡ zeros w t.at t.rows → Lists s l (listed l root) n e → Filling s root l t w₀ 0 e w₀
+  pub fill_begin : {n : ℕ} {e : Option (ℕ × ℕ)} → w₀ ≡ zeros w t.at t.rows → Lists s l (listed l root) n e → Filling s root l t w₀ 0 e w₀
   fill_begin i h = record {
     places = λ r. 0;
     indexed = rw i (indexed_none _ _ w ripe.fits);
@@ -62,8 +59,8 @@ module _ {s : Text} {root : Element} {l : Listed} {t : Table} {w : List ℕ} (ri
     outside = λ j k. refl;
   }
 
-  module _ {row : ℕ} {e : KeptAnswer} {w₁ : List ℕ} (f : Filling s root l t w₀ row e w₁) where
-    pub fill_end : w₀ ≡ zeros w t.at t.rows → e ≡ Absent → Tabled s root l t w w₁
+  module _ {row : ℕ} {e : Option (ℕ × ℕ)} {w₁ : List ℕ} (f : Filling s root l t w₀ row e w₁) where
+    pub fill_end : w₀ ≡ zeros w t.at t.rows → e ≡ None → Tabled s root l t w w₁
     fill_end o i =
         let z : length (listed l root) ≤ row = drop_out row (listed l root) (f.left ∙ lists_end s l i) in
         let y : row ≡ length (listed l root) = omega (arith, f.within) in
@@ -76,7 +73,7 @@ module _ {s : Text} {root : Element} {l : Listed} {t : Table} {w : List ℕ} (ri
           outside = λ j k. f.outside j k ∙ ap (λ (v : List ℕ). get_or v j 0) o ∙ zeros_outside w t j k;
         }
 
-    module _ {at left : ℕ} (i : e ≡ Is at left) where
+    module _ {at left : ℕ} (i : e ≡ Some (at, left)) where
       pub fill_in : row < length (listed l root)
       unfolding listed_by
       fill_in =
@@ -93,7 +90,7 @@ module _ {s : Text} {root : Element} {l : Listed} {t : Table} {w : List ℕ} (ri
       stood x =
           one_more (λ r. element_at s (with f.places row at r) ≡ nth l root r) row (λ r k. rw (with_before f.places row at r k) (f.stands r k)) (rw (with_here f.places row at) x)
 
-      module _ {n : ℕ} {r : KeptAnswer} (m : Lists s l (later_in s l at left) n r) where
+      module _ {n : ℕ} {r : Option (ℕ × ℕ)} (m : Lists s l (later_in s l at left) n r) where
         here : nth l root row ∷ drop (row + 1) (listed l root) ≡ element_at s at ∷ listed_by s l r
         here = drop_is row (listed l root) no_element (f.left ∙ lists_next i m)
 
@@ -115,22 +112,22 @@ module _ {s : Text} {root : Element} {l : Listed} {t : Table} {w : List ℕ} (ri
 -- ---- a table is made
 
 module _ (s : Text) (root : Element) (l : Listed) (at : ℕ) (w : List ℕ) where
-  pub makes_long : 2 ^ 32 ≤ length s → Makes s root l at w w NoRoom
+  pub makes_long : 2 ^ 32 ≤ length s → Makes s root l at w w None
   makes_long h = record { made = rw (le-ltb (length s) (2 ^ 32) h); words = refl }
 
-  module _ {n k : ℕ} {m : Made} (short : length s < 2 ^ 32) (i : n ≡ length (listed l root)) (o : k ≡ max 1 n) (j : m ≡ table_of (length w) at k) where
+  module _ {n k : ℕ} {m : Option Table} (short : length s < 2 ^ 32) (i : n ≡ length (listed l root)) (o : k ≡ max 1 n) (j : m ≡ table_of (length w) at k) where
     made_is : m ≡ made_for s root l (length w) at
     made_is = rw (lt-ltb (length s) (2 ^ 32) short) (j ∙ ap (table_of (length w) at) (o ∙ ap (max 1) i))
 
-    pub makes_none : m ≡ NoRoom → Makes s root l at w w NoRoom
+    pub makes_none : m ≡ None → Makes s root l at w w None
     makes_none e = record { made = sym e ∙ made_is; words = refl }
 
-    module _ {t : Table} (e : m ≡ Ready t) where
+    module _ {t : Table} (e : m ≡ Some t) where
       pub made_ripe : n < 2 ^ 32 → Ripe s root l t w
       made_ripe h =
           let p = table_placed (length w) at k (sym e ∙ j) in
           let z : t.rows ≡ k = ap (λ (t : Table). t.rows) p.is in
           record { short = short; small = omega arith; rows = omega arith; fits = p.fits }
 
-      pub makes_filled : {w' : List ℕ} → Tabled s root l t w w' → Makes s root l at w w' (Ready t)
+      pub makes_filled : {w' : List ℕ} → Tabled s root l t w w' → Makes s root l at w w' (Some t)
       makes_filled x = record { made = sym e ∙ made_is; words = x }

@@ -4,13 +4,10 @@ use Rattle.std.proofs.Common.{◌≡◌, ℕ, suc, ◌+◌, ◌-◌, ◌%◌, Bo
 use native.Mathlib.Nat.{zero-mod, mod-add-mod}
 use Rattle.std.specs.Prelude.{Option, Some, None}
 use Rattle.definition.specs.Base.{◌>>=◌, ◌or_else◌, when, first, keep, find, find_last, numbered}
-use Rattle.definition.specs.Answer.{row_meaning}
 use Rattle.definition.specs.Text.{Text}
 use Rattle.definition.specs.Tree.{Element}
 use Rattle.definition.specs.Task.{level_of, row_of, parent_of}
-use Rattle.definition.specs.declared.RowAnswer.{RowAnswer}
 use Rattle.tree.specs.Place.{element_at}
-use Rattle.tree.specs.declared.Found.{Found}
 use Rattle.rows.specs.Rows.{has_uid, found_meaning}
 
 -- ---- the row of the last that passes, counted from a row on
@@ -66,8 +63,8 @@ parent_of_lem es k = last_row (λ n. ltb n k) 0 (map level_of es) ∙ map_rows l
 
 -- ---- the loop: of the list that is left, else the last so far
 
-pub record RowIn {A : Type 0} (next : ℕ → ℕ) (p : A → Bool) (t : Option ℕ) (n : ℕ) (l : List A) (found : RowAnswer) : Type 0 where
-  pub is : t ≡ (row_by next p n l or_else row_meaning found)
+pub record RowIn {A : Type 0} (next : ℕ → ℕ) (p : A → Bool) (t : Option ℕ) (n : ℕ) (l : List A) (found : Option ℕ) : Type 0 where
+  pub is : t ≡ (row_by next p n l or_else found)
 
 none_else : {A : Type 0} (o : Option A) → (o or_else None) ≡ o
 none_else None = refl
@@ -78,27 +75,27 @@ else_else None b c = refl
 else_else (Some x) b c = refl
 
 module _ {A : Type 0} {next : ℕ → ℕ} {p : A → Bool} {t : Option ℕ} where
-  row_all : {l : List A} → t ≡ row_by next p 0 l → RowIn next p t 0 l RowAnswer.Absent
+  row_all : {l : List A} → t ≡ row_by next p 0 l → RowIn next p t 0 l None
   unfolding row_meaning
   row_all h = record { is = h ∙ sym (none_else _) }
 
-  module _ {n : ℕ} {l : List A} {found : RowAnswer} (h : RowIn next p t n l found) where
-    pub row_turn : {x : A} {k : List A} → l ≡ x ∷ k → {b : Bool} → b ≡ p x → {here : Option ℕ} → here ≡ when b n → {found' : RowAnswer} → row_meaning found' ≡ (here or_else row_meaning found) → {n' : ℕ} → n' ≡ next n
+  module _ {n : ℕ} {l : List A} {found : Option ℕ} (h : RowIn next p t n l found) where
+    pub row_turn : {x : A} {k : List A} → l ≡ x ∷ k → {b : Bool} → b ≡ p x → {here : Option ℕ} → here ≡ when b n → {found' : Option ℕ} → found' ≡ (here or_else found) → {n' : ℕ} → n' ≡ next n
         → RowIn next p t n' k found'
     unfolding row_by
     row_turn {x} {k} i {b} z w {found'} j m =
-        let f : row_meaning found' ≡ (when (p x) n or_else row_meaning found) = j ∙ ap (λ o. o or_else row_meaning found) (w ∙ ap (λ (t : Bool). when t n) z) in
-        let a : (row_by next p n l or_else row_meaning found) ≡ (row_by next p (next n) k or_else (when (p x) n or_else row_meaning found)) = rw i (else_else (row_by next p (next n) k) (when (p x) n) (row_meaning found)) in
-        record { is = h.is ∙ a ∙ ap (λ o. row_by next p (next n) k or_else o) (sym f) ∙ ap (λ (j : ℕ). row_by next p j k or_else row_meaning found') (sym m) }
+        let f : found' ≡ (when (p x) n or_else found) = j ∙ ap (λ o. o or_else found) (w ∙ ap (λ (t : Bool). when t n) z) in
+        let a : (row_by next p n l or_else found) ≡ (row_by next p (next n) k or_else (when (p x) n or_else found)) = rw i (else_else (row_by next p (next n) k) (when (p x) n) found) in
+        record { is = h.is ∙ a ∙ ap (λ o. row_by next p (next n) k or_else o) (sym f) ∙ ap (λ (j : ℕ). row_by next p j k or_else found') (sym m) }
 
-    pub row_end : l ≡ [] → row_meaning found ≡ t
+    pub row_end : l ≡ [] → found ≡ t
     unfolding row_by
     row_end i = sym (h.is ∙ rw i)
 
-pub within_begin : (m : ℕ) (es : List Element) (u : Text) {l : List Element} → es ≡ l → RowIn (up_within m) (has_uid u) (row_of es u >>= λ n. Some (n % m)) 0 l RowAnswer.Absent
+pub within_begin : (m : ℕ) (es : List Element) (u : Text) {l : List Element} → es ≡ l → RowIn (up_within m) (has_uid u) (row_of es u >>= λ n. Some (n % m)) 0 l None
 within_begin m es u e = row_all (row_within m es u ∙ ap (row_by (up_within m) (has_uid u) 0) e)
 
-pub parents_begin : (row : ℕ) (es : List Element) (k : ℕ) {l : List Element} → es ≡ l → RowIn up (λ e. ltb (level_of e) k) (parent_of (map level_of (take row es)) k) 0 (take (row - 0) l) RowAnswer.Absent
+pub parents_begin : (row : ℕ) (es : List Element) (k : ℕ) {l : List Element} → es ≡ l → RowIn up (λ e. ltb (level_of e) k) (parent_of (map level_of (take row es)) k) 0 (take (row - 0) l) None
 parents_begin row es k {l} e =
     let z : row ≡ row - 0 = omega arith in
     let p : Element → Bool = λ e. ltb (level_of e) k in
@@ -106,20 +103,20 @@ parents_begin row es k {l} e =
 
 -- ---- the last itself
 
-pub record LastIn (s : Text) (p : Element → Bool) (t : Option Element) (l : List Element) (found : Found) : Type 0 where
+pub record LastIn (s : Text) (p : Element → Bool) (t : Option Element) (l : List Element) (found : Option ℕ) : Type 0 where
   pub is : t ≡ (find_last p l or_else found_meaning s found)
 
-pub last_begin : (s : Text) (p : Element → Bool) {es l : List Element} → es ≡ l → LastIn s p (find_last p es) l Found.Nothing
+pub last_begin : (s : Text) (p : Element → Bool) {es l : List Element} → es ≡ l → LastIn s p (find_last p es) l None
 unfolding found_meaning
 last_begin s p e = record { is = ap (find_last p) e ∙ sym (none_else _) }
 
-found_if_is : (s : Text) (t : Bool) {r : Found} (at : ℕ) (found : Found) → r ≡ (if t then Found.At at else found) → found_meaning s r ≡ (when t (element_at s at) or_else found_meaning s found)
+found_if_is : (s : Text) (t : Bool) {r : Option ℕ} (at : ℕ) (found : Option ℕ) → r ≡ (if t then Some at else found) → found_meaning s r ≡ (when t (element_at s at) or_else found_meaning s found)
 unfolding found_meaning
 found_if_is s true at found e = rw e
 found_if_is s false at found e = rw e
 
-module _ {s : Text} {p : Element → Bool} {t : Option Element} {l : List Element} {found : Found} (h : LastIn s p t l found) where
-  pub last_turn : (at : ℕ) {k : List Element} → l ≡ element_at s at ∷ k → {b : Bool} → b ≡ p (element_at s at) → {found' : Found} → found' ≡ (if b then Found.At at else found) → LastIn s p t k found'
+module _ {s : Text} {p : Element → Bool} {t : Option Element} {l : List Element} {found : Option ℕ} (h : LastIn s p t l found) where
+  pub last_turn : (at : ℕ) {k : List Element} → l ≡ element_at s at ∷ k → {b : Bool} → b ≡ p (element_at s at) → {found' : Option ℕ} → found' ≡ (if b then Some at else found) → LastIn s p t k found'
   unfolding find_last
   last_turn at {k} i {b} z {found'} j =
       let f : found_meaning s found' ≡ (when (p (element_at s at)) (element_at s at) or_else found_meaning s found) = found_if_is s b at found j ∙ rw z in

@@ -1,5 +1,6 @@
 -- The walk over a list of elements with a UID, and the table that is filled on it. Assumes nothing.
 use Rattle.std.proofs.Common.{◌≡◌, ℕ, suc, ◌+◌, ◌-◌, ◌^◌, ◌<◌, ◌≤◌, Bool, true, false, ◌&&◌, ltb, List, [], ◌∷◌, length, take, sym, refl, ap, ◌∙◌, zero-add, arith, drop_of_length-le, ltb-false, ltb-true}
+use Rattle.std.specs.Prelude.{None, Option, Some}
 use Rattle.definition.specs.Ascii.{bytes}
 use Rattle.definition.specs.Base.{keep, first}
 use Rattle.definition.specs.Text.{Text}
@@ -7,12 +8,9 @@ use Rattle.definition.specs.Tree.{Element, records, records_up_to, element, elem
 use Rattle.definition.specs.Task.{own_uid, is_kept, most_tasks, kept_tasks}
 use Rattle.definition.specs.Resource.{work_resources, cost_resources}
 use Rattle.tree.specs.Place.{element_at, later_at, Past}
-use Rattle.tree.specs.declared.Found.{Found}
 use Rattle.rows.specs.Turns.{keep_head, work_picked, cost_picked}
 use Rattle.rows.specs.Walks.{kept_by, room, Kept, passes, picked_by, Picks}
 use Rattle.rows.specs.Tables.{later_in, listed_by, most_in, room_in, Lists, unbounded_of}
-use Rattle.rows.specs.declared.kept.KeptAnswer.{KeptAnswer}
-use Rattle.rows.specs.declared.kept.KeptAnswer.TheVariants.{Is, Absent}
 use Rattle.rows.specs.declared.section.Which.{Which}
 use Rattle.rows.specs.declared.table.Listed.{Listed}
 
@@ -40,17 +38,17 @@ own_there s p h = go (ltb p (length s)) refl
 -- ---- the walk
 
 module _ (s : Text) where
-  kept_is : (r : KeptAnswer) → kept_by s r ≡ listed_by s Listed.Tasks r
+  kept_is : (r : Option (ℕ × ℕ)) → kept_by s r ≡ listed_by s Listed.Tasks r
   unfolding kept_by listed_by later_in
-  kept_is Absent = refl
-  kept_is (Is at left) = refl
+  kept_is None = refl
+  kept_is (Some (at, left)) = refl
 
-  kept_on : (r : KeptAnswer) → room_in s Listed.Tasks r ≡ room r
+  kept_on : (r : Option (ℕ × ℕ)) → room_in s Listed.Tasks r ≡ room r
   unfolding room room_in
-  kept_on Absent = refl
-  kept_on (Is at left) = refl
+  kept_on None = refl
+  kept_on (Some (at, left)) = refl
 
-kept_lists : {s : Text} (k : List Element) {es : List Element} {n : ℕ} {r : KeptAnswer} → es ≡ keep is_kept k → Kept s es n r → Lists s Listed.Tasks es (suc n) r
+kept_lists : {s : Text} (k : List Element) {es : List Element} {n : ℕ} {r : Option (ℕ × ℕ)} → es ≡ keep is_kept k → Kept s es n r → Lists s Listed.Tasks es (suc n) r
 unfolding kept_by
 kept_lists {s} k {r = r} i h = record {
   is = h.is ∙ kept_is s r;
@@ -61,13 +59,13 @@ kept_lists {s} k {r = r} i h = record {
 }
 
 -- a position behind m has less ahead of it
-picks_lists : {s : Text} {l : Listed} {w : Which} {k es : List Element} {from : ℕ} (f : Found) (m n : ℕ) {r : KeptAnswer}
-    → ((p : ℕ) → picked_by s (bytes "Resource") w (Found.At p) ≡ listed_by s l (Is p 0)) → ((p : ℕ) → room_in s l (Is p 0) ≡ suc (length s - p))
+picks_lists : {s : Text} {l : Listed} {w : Which} {k es : List Element} {from : ℕ} (f : Option ℕ) (m n : ℕ) {r : Option (ℕ × ℕ)}
+    → ((p : ℕ) → picked_by s (bytes "Resource") w (Some p) ≡ listed_by s l (Some (p, 0))) → ((p : ℕ) → room_in s l (Some (p, 0)) ≡ suc (length s - p))
     → keep (passes w) k ≡ es → m < from → length s - m < n → Picks s (bytes "Resource") w k from f → r ≡ unbounded_of f → Lists s l es n r
 unfolding picked_by listed_by room_in Past
-picks_lists Found.Nothing m n list room e y z h i =
+picks_lists None m n list room e y z h i =
     rw i (record { is = sym e ∙ h.is; on = omega arith; there = λ at left i. let y : ◌≡◌ {A = ℕ} 0 1 = cc in absurd (omega arith) })
-picks_lists (Found.At p) m n list room e y z h i =
+picks_lists (Some p) m n list room e y z h i =
     rw i
     (record {
       is = sym e ∙ h.is ∙ list p;
@@ -81,11 +79,11 @@ abbrev resources_in : Element → List Element
 resources_in root = all_in (child root (bytes "Resources")) (bytes "Resource")
 
 module _ (s : Text) (root : Element) where
-  pub first_tasks : {r : KeptAnswer} → Kept s (kept_tasks root) most_tasks r → Lists s Listed.Tasks (kept_tasks root) (suc most_tasks) r
+  pub first_tasks : {r : Option (ℕ × ℕ)} → Kept s (kept_tasks root) most_tasks r → Lists s Listed.Tasks (kept_tasks root) (suc most_tasks) r
   unfolding kept_tasks
   first_tasks h = kept_lists _ refl h
 
-  module _ (m : ℕ) {f : Found} {r : KeptAnswer} where
+  module _ (m : ℕ) {f : Option ℕ} {r : Option (ℕ × ℕ)} where
     pub first_work : Picks s (bytes "Resource") Which.Work (resources_in root) (m + 1) f → r ≡ unbounded_of f → Lists s Listed.Work (work_resources root) (suc (length s)) r
     unfolding picked_by listed_by later_in room_in
     first_work = picks_lists f 0 _ (λ p. refl) (λ p. refl) (work_picked root) (omega arith) (omega arith)
@@ -97,48 +95,48 @@ module _ (s : Text) (root : Element) where
 -- the next one
 
 module _ (s : Text) (at left : ℕ) where
-  pub next_tasks : {r : KeptAnswer} → Kept s (keep is_kept (take left (later_at s (bytes "Task") at))) left r
-      → Lists s Listed.Tasks (later_in s Listed.Tasks at left) (room_in s Listed.Tasks (Is at left)) r
+  pub next_tasks : {r : Option (ℕ × ℕ)} → Kept s (keep is_kept (take left (later_at s (bytes "Task") at))) left r
+      → Lists s Listed.Tasks (later_in s Listed.Tasks at left) (room_in s Listed.Tasks (Some (at, left))) r
   unfolding later_in room_in
   next_tasks h = kept_lists _ refl h
 
-  module _ {f : Found} {r : KeptAnswer} where
+  module _ {f : Option ℕ} {r : Option (ℕ × ℕ)} where
     pub next_work : Picks s (bytes "Resource") Which.Work (later_at s (bytes "Resource") at) (at + 1) f → r ≡ unbounded_of f
-        → Lists s Listed.Work (later_in s Listed.Work at left) (room_in s Listed.Work (Is at left)) r
+        → Lists s Listed.Work (later_in s Listed.Work at left) (room_in s Listed.Work (Some (at, left))) r
     unfolding picked_by listed_by later_in room_in
     next_work = picks_lists f at _ (λ p. refl) (λ p. refl) refl (omega arith) (omega arith)
 
     pub next_cost : Picks s (bytes "Resource") Which.Cost (later_at s (bytes "Resource") at) (at + 1) f → r ≡ unbounded_of f
-        → Lists s Listed.Cost (later_in s Listed.Cost at left) (room_in s Listed.Cost (Is at left)) r
+        → Lists s Listed.Cost (later_in s Listed.Cost at left) (room_in s Listed.Cost (Some (at, left))) r
     unfolding picked_by listed_by later_in room_in
     next_cost = picks_lists f at _ (λ p. refl) (λ p. refl) refl (omega arith) (omega arith)
 
 -- ---- a turn of a walk
 
-pub lists_end : (s : Text) (l : Listed) {e : KeptAnswer} → e ≡ Absent → listed_by s l e ≡ []
+pub lists_end : (s : Text) (l : Listed) {e : Option (ℕ × ℕ)} → e ≡ None → listed_by s l e ≡ []
 unfolding listed_by
 lists_end s l i = rw i
 
-pub lists_room : (s : Text) (l : Listed) {e : KeptAnswer} {at left : ℕ} → e ≡ Is at left → 0 < room_in s l e
+pub lists_room : (s : Text) (l : Listed) {e : Option (ℕ × ℕ)} {at left : ℕ} → e ≡ Some (at, left) → 0 < room_in s l e
 unfolding room_in
 lists_room s l {at = at} {left} i = rw i (go l)
   where
-    go : (l : Listed) → 0 < room_in s l (Is at left)
+    go : (l : Listed) → 0 < room_in s l (Some (at, left))
     go Listed.Tasks = omega arith
     go Listed.Work = omega arith
     go Listed.Cost = omega arith
 
-module _ {s : Text} {l : Listed} {e r : KeptAnswer} {at left n : ℕ} (i : e ≡ Is at left) (h : Lists s l (later_in s l at left) n r) where
+module _ {s : Text} {l : Listed} {e r : Option (ℕ × ℕ)} {at left n : ℕ} (i : e ≡ Some (at, left)) (h : Lists s l (later_in s l at left) n r) where
   pub lists_next : listed_by s l e ≡ element_at s at ∷ listed_by s l r
   unfolding listed_by
   lists_next = rw i (ap (λ (k : List Element). element_at s at ∷ k) h.is)
 
-  pub lists_less : n ≡ room_in s l (Is at left) → room_in s l r < room_in s l e
+  pub lists_less : n ≡ room_in s l (Some (at, left)) → room_in s l r < room_in s l e
   lists_less k = rw (i, ← k) h.on
 
 -- ---- how many there are
 
-pub record Counting (s : Text) (l : Listed) (es : List Element) (n : ℕ) (e : KeptAnswer) : Type 0 where
+pub record Counting (s : Text) (l : Listed) (es : List Element) (n : ℕ) (e : Option (ℕ × ℕ)) : Type 0 where
   pub is : n + length (listed_by s l e) ≡ length es
   pub on : n + room_in s l e ≤ most_in s l
 
@@ -147,18 +145,18 @@ most_small s Listed.Tasks h = omega arith
 most_small s Listed.Work h = h
 most_small s Listed.Cost h = h
 
-pub counts_begin : {s : Text} {l : Listed} {es : List Element} {e : KeptAnswer} → Lists s l es (suc (most_in s l)) e → Counting s l es 0 e
+pub counts_begin : {s : Text} {l : Listed} {es : List Element} {e : Option (ℕ × ℕ)} → Lists s l es (suc (most_in s l)) e → Counting s l es 0 e
 counts_begin h = record { is = zero-add _ ∙ ap length (sym h.is); on = omega (arith, h.on) }
 
-module _ {s : Text} {l : Listed} {es : List Element} {n : ℕ} {e : KeptAnswer} (h : Counting s l es n e) where
-  pub counts_end : e ≡ Absent → n ≡ length es
+module _ {s : Text} {l : Listed} {es : List Element} {n : ℕ} {e : Option (ℕ × ℕ)} (h : Counting s l es n e) where
+  pub counts_end : e ≡ None → n ≡ length es
   counts_end i = let z : length (listed_by s l e) ≡ 0 = ap length (lists_end s l i) in omega (arith, h.is)
 
-  module _ {at left : ℕ} (i : e ≡ Is at left) where
+  module _ {at left : ℕ} (i : e ≡ Some (at, left)) where
     pub counts_room : length s < 2 ^ 32 → n + 1 < 2 ^ 32
     counts_room k = omega (arith, h.on, lists_room s l i, most_small s l k)
 
-    pub counts_turn : {r : KeptAnswer} → Lists s l (later_in s l at left) (room_in s l (Is at left)) r → Counting s l es (n + 1) r
+    pub counts_turn : {r : Option (ℕ × ℕ)} → Lists s l (later_in s l at left) (room_in s l (Some (at, left))) r → Counting s l es (n + 1) r
     counts_turn {r} k =
         let z : length (listed_by s l e) ≡ suc (length (listed_by s l r)) = ap length (lists_next i k) in
         record { is = omega (arith, h.is); on = omega (arith, h.on, lists_less i k refl) }

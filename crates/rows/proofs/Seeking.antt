@@ -2,17 +2,12 @@
 use Rattle.std.proofs.Common.{◌≡◌, ℕ, Bool, true, false, List, sym, refl, ap, ◌∙◌, arith}
 use Rattle.std.specs.Prelude.{Option, Some, None}
 use Rattle.definition.specs.Base.{◌>>=◌, same}
-use Rattle.definition.specs.Answer.{row_meaning}
 use Rattle.definition.specs.Text.{Text}
-use Rattle.definition.specs.declared.RowAnswer.{RowAnswer}
 use Rattle.index.specs.declared.Table.{Table}
-use Rattle.index.specs.declared.Row.{Row}
-use Rattle.index.specs.declared.Row.TheVariants as row
 use Rattle.index.specs.Hash.{hash_of}
 use Rattle.index.specs.Chains.{first_of, next_of, place_of, as_row}
 use Rattle.index.specs.Law.{Seeks, seeks_first, seeks_none, seeks_here, seeks_next}
 use Rattle.tree.specs.Place.{element_at}
-use Rattle.tree.specs.declared.Found.{Found}
 use Rattle.rows.specs.Rows.{found_meaning}
 use Rattle.rows.specs.Tables.{uid_of, sought_in, found_in}
 
@@ -20,46 +15,46 @@ use Rattle.rows.specs.Tables.{uid_of, sought_in, found_in}
 abbrev pub named : Text → List ℕ → Table → Text → ℕ → Bool
 named s w t u r = same (uid_of (element_at s (place_of w t r))) u
 
-row_is : (o : Option ℕ) {r : ℕ} → row.At r ≡ as_row o → row_meaning (RowAnswer.Is r) ≡ o
+row_is : (o : Option ℕ) {r : ℕ} → Some r ≡ as_row o → (Some r) ≡ o
 unfolding row_meaning
 row_is None {r} e = let y : ◌≡◌ {A = ℕ} 0 1 = cc in absurd (omega arith)
 row_is (Some k) {r} e = let y : r ≡ k = cc in ap Some y
 
-row_none : (o : Option ℕ) → row.None ≡ as_row o → row_meaning RowAnswer.Absent ≡ o
+row_none : (o : Option ℕ) → None ≡ as_row o → None ≡ o
 unfolding row_meaning
 row_none None e = refl
 row_none (Some k) e = let y : ◌≡◌ {A = ℕ} 0 1 = cc in absurd (omega arith)
 
-pub sought_first : (s : Text) {w : List ℕ} {t : Table} (u : Text) {h : ℕ} {at : Row} → h ≡ hash_of u → at ≡ first_of w t h → Seeks w t (named s w t u) (sought_in s w t u) at
+pub sought_first : (s : Text) {w : List ℕ} {t : Table} (u : Text) {h : ℕ} {at : Option ℕ} → h ≡ hash_of u → at ≡ first_of w t h → Seeks w t (named s w t u) (sought_in s w t u) at
 sought_first s u i e = rw (← i) (seeks_first _ e)
 
-module _ (s : Text) {w : List ℕ} {t : Table} (u : Text) {at : Row} (h : Seeks w t (named s w t u) (sought_in s w t u) at) where
-  pub sought_none : at ≡ row.None → row_meaning RowAnswer.Absent ≡ sought_in s w t u
+module _ (s : Text) {w : List ℕ} {t : Table} (u : Text) {at : Option ℕ} (h : Seeks w t (named s w t u) (sought_in s w t u) at) where
+  pub sought_none : at ≡ None → None ≡ sought_in s w t u
   sought_none e = row_none _ (seeks_none h e)
 
-  module _ {r : ℕ} (e : at ≡ row.At r) {p : ℕ} (i : p ≡ place_of w t r) {b : Bool} (j : b ≡ same (uid_of (element_at s p)) u) where
+  module _ {r : ℕ} (e : at ≡ Some r) {p : ℕ} (i : p ≡ place_of w t r) {b : Bool} (j : b ≡ same (uid_of (element_at s p)) u) where
     here : named s w t u r ≡ b
     here = sym (j ∙ ap (λ (p : ℕ). same (uid_of (element_at s p)) u) i)
 
-    pub sought_here : b ≡ true → row_meaning (RowAnswer.Is r) ≡ sought_in s w t u
+    pub sought_here : b ≡ true → (Some r) ≡ sought_in s w t u
     sought_here k = row_is _ (seeks_here h e (here ∙ k))
 
-    pub sought_on : b ≡ false → {at' : Row} → at' ≡ next_of w t r → Seeks w t (named s w t u) (sought_in s w t u) at'
+    pub sought_on : b ≡ false → {at' : Option ℕ} → at' ≡ next_of w t r → Seeks w t (named s w t u) (sought_in s w t u) at'
     sought_on k n = seeks_next h e (here ∙ k) n
 
 -- ---- where the element of a row stands
 
-module _ (w : List ℕ) (t : Table) {o : RowAnswer} where
-  pub found_at : {r : ℕ} → o ≡ RowAnswer.Is r → {p : ℕ} → p ≡ place_of w t r → Found.At p ≡ found_in w t (row_meaning o)
+module _ (w : List ℕ) (t : Table) {o : Option ℕ} where
+  pub found_at : {r : ℕ} → o ≡ Some r → {p : ℕ} → p ≡ place_of w t r → Some p ≡ found_in w t o
   unfolding row_meaning
-  found_at e i = rw e (ap Found.At i)
+  found_at e i = rw e (ap Some i)
 
-  pub found_none : o ≡ RowAnswer.Absent → Found.Nothing ≡ found_in w t (row_meaning o)
+  pub found_none : o ≡ None → None ≡ found_in w t o
   unfolding row_meaning
   found_none e = rw e
 
 -- the element where a row was found
-pub found_sought : (s : Text) (w : List ℕ) (t : Table) {o k : Option ℕ} {r : Found} → r ≡ found_in w t o → o ≡ k
+pub found_sought : (s : Text) (w : List ℕ) (t : Table) {o k : Option ℕ} {r : Option ℕ} → r ≡ found_in w t o → o ≡ k
     → found_meaning s r ≡ (k >>= λ r. Some (element_at s (place_of w t r)))
 unfolding found_meaning
 found_sought s w t {k = k} e i = ap (found_meaning s) (e ∙ ap (found_in w t) i) ∙ go k

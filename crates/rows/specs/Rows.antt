@@ -7,15 +7,11 @@ use Rattle.definition.specs.Tree.{Element}
 use Rattle.definition.specs.Field.{text_in}
 use Rattle.definition.specs.Calendar.{base_of, calendar_elements}
 use Rattle.tree.specs.Place.{element_at}
-use Rattle.tree.specs.declared.Found.{Found}
-use Rattle.tree.specs.declared.Found.TheVariants.{At, Nothing}
-use Rattle.rows.specs.declared.CalendarAnswer.{CalendarAnswer}
-use Rattle.rows.specs.declared.CalendarAnswer.TheVariants.{Is, Absent}
 
 -- the element that was found
-unfoldable pub found_meaning : Text → Found → Option Element
-found_meaning s Nothing = None
-found_meaning s (At p) = Some (element_at s p)
+unfoldable pub found_meaning : Text → Option ℕ → Option Element
+found_meaning s None = None
+found_meaning s (Some p) = Some (element_at s p)
 
 abbrev pub has_uid : Text → Element → Bool
 has_uid u e = same (text_in e "UID" or []) u
@@ -32,11 +28,11 @@ with_uid_in root u = find (λ (x : ℕ × Element). has_uid u x.1) (numbered 0 (
 unfoldable pub main_in : Element → Option (ℕ × Element)
 main_in root = (text_in root "CalendarUID" >>= with_uid_in root) or_else first (numbered 0 (in_order root))
 
-unfoldable pub calendar_meaning : Text → CalendarAnswer → Option (ℕ × Element)
-calendar_meaning s (Is row at) = Some (row, element_at s at)
-calendar_meaning s Absent = None
+unfoldable pub calendar_meaning : Text → Option (ℕ × ℕ) → Option (ℕ × Element)
+calendar_meaning s (Some (row, at)) = Some (row, element_at s at)
+calendar_meaning s None = None
 
 -- the first one, where there is any
-abbrev pub row_zero : Found → CalendarAnswer
-row_zero Nothing = Absent
-row_zero (At p) = Is 0 p
+abbrev pub row_zero : Option ℕ → Option (ℕ × ℕ)
+row_zero None = None
+row_zero (Some p) = Some (0, p)

@@ -11,8 +11,6 @@ use Rattle.definition.specs.Task.{kept_tasks, row_of}
 use Rattle.definition.specs.Resource.{cost_resources}
 use Rattle.laws.specs.FitTrees.{tasks_most}
 use Rattle.index.specs.declared.Table.{Table}
-use Rattle.index.specs.declared.Made.{Made}
-use Rattle.index.specs.declared.Made.TheVariants.{Ready, NoRoom}
 use Rattle.index.specs.Chains.{table_of, chain_of, place_of, end_in}
 use Rattle.index.specs.Last.{rows_of}
 use Rattle.index.proofs.Last.{last_in}
@@ -90,28 +88,28 @@ module _ {s : Text} {root : Element} {l : Listed} {t : Table} {w w' : List ℕ} 
 
 module _ {s : Text} {root : Element} {at : ℕ} {w w' : List ℕ} (u : Text) where
   -- a table that was made gives the row of the last with a UID
-  pub tabled_finds : {l : Listed} {m : Made} → Makes s root l at w w' m → row_in s root l w' m u ≡ row_in32 l root u
+  pub tabled_finds : {l : Listed} {m : Option Table} → Makes s root l at w w' m → row_in s root l w' m u ≡ row_in32 l root u
   unfolding row_in
   tabled_finds {l} {m} h = go m h.words
     where
-      go : (m : Made) → TabledIn s root l m w w' → row_in s root l w' m u ≡ row_in32 l root u
-      go NoRoom x = refl
-      go (Ready t) x = tabled_row x u
+      go : (m : Option Table) → TabledIn s root l m w w' → row_in s root l w' m u ≡ row_in32 l root u
+      go None x = refl
+      go (Some t) x = tabled_row x u
 
   -- and the last cost resource with a UID
-  pub tabled_cost : {m : Made} → Makes s root Listed.Cost at w w' m → cost_in s root w' m u ≡ find_last (has_uid u) (cost_resources root)
+  pub tabled_cost : {m : Option Table} → Makes s root Listed.Cost at w w' m → cost_in s root w' m u ≡ find_last (has_uid u) (cost_resources root)
   unfolding cost_in
   tabled_cost {m} h = go m h.words
     where
-      go : (m : Made) → TabledIn s root Listed.Cost m w w' → cost_in s root w' m u ≡ find_last (has_uid u) (cost_resources root)
-      go NoRoom x = refl
-      go (Ready t) x = tabled_last x u
+      go : (m : Option Table) → TabledIn s root Listed.Cost m w w' → cost_in s root w' m u ≡ find_last (has_uid u) (cost_resources root)
+      go None x = refl
+      go (Some t) x = tabled_last x u
 
 -- ---- nothing but a table's own words counts
 
 -- the words of a table are the same, where there is one
-pub record SameFor (m : Made) (w w' : List ℕ) : Type 0 where
-  pub same : (t : Table) → m ≡ Ready t → SameIn t w w'
+pub record SameFor (m : Option Table) (w w' : List ℕ) : Type 0 where
+  pub same : (t : Table) → m ≡ Some t → SameIn t w w'
 
 find_passes : (p : ℕ → Bool) (l : List ℕ) {r : ℕ} → find p l ≡ Some r → p r ≡ true
 unfolding first
@@ -146,33 +144,33 @@ module _ (s : Text) {t : Table} {w w' : List ℕ} (x : SameIn t w w') (u : Text)
   placed_same (Some r) e = ap (λ (p : ℕ). Some (element_at s p)) (place_same x r (chain_row _ w t _ e))
 
 module _ (s : Text) (root : Element) {w w' : List ℕ} where
-  pub row_same : (l : Listed) {m : Made} → SameFor m w w' → row_in s root l w' m ≡ row_in s root l w m
+  pub row_same : (l : Listed) {m : Option Table} → SameFor m w w' → row_in s root l w' m ≡ row_in s root l w m
   unfolding row_in
-  row_same l {m = NoRoom} x = refl
-  row_same l {m = Ready t} x = fun_ext (sought_same s (x.same t refl))
+  row_same l {m = None} x = refl
+  row_same l {m = Some t} x = fun_ext (sought_same s (x.same t refl))
 
-  pub cost_same : {m : Made} → SameFor m w w' → cost_in s root w' m ≡ cost_in s root w m
+  pub cost_same : {m : Option Table} → SameFor m w w' → cost_in s root w' m ≡ cost_in s root w m
   unfolding cost_in
-  cost_same {m = NoRoom} x = refl
-  cost_same {m = Ready t} x =
+  cost_same {m = None} x = refl
+  cost_same {m = Some t} x =
       let h : SameIn t w w' = x.same t refl in
       fun_ext (λ u. ap (λ o. o >>= λ r. Some (element_at s (place_of w' t r))) (sought_same s h u) ∙ placed_same s h u (sought_in s w t u) refl)
 
 -- ---- a table behind another
 
-made_at : (s : Text) (root : Element) (l : Listed) (len at : ℕ) {t : Table} → Ready t ≡ made_for s root l len at → t.at ≡ at
+made_at : (s : Text) (root : Element) (l : Listed) (len at : ℕ) {t : Table} → Some t ≡ made_for s root l len at → t.at ≡ at
 made_at s root l len at {t} e = go (nat_lt (length s) (2 ^ 32)) e
   where
-    go : (b : Bool) → Ready t ≡ (if b then table_of len at (max 1 (length (listed l root))) else NoRoom) → t.at ≡ at
+    go : (b : Bool) → Some t ≡ (if b then table_of len at (max 1 (length (listed l root))) else None) → t.at ≡ at
     go true e = ap (λ (t : Table). t.at) (table_placed len at (max 1 (length (listed l root))) e).is
     go false e = let y : ◌≡◌ {A = ℕ} 0 1 = cc in absurd (omega arith)
 
 -- the words of a table stay that ends before the place from which another is made
-pub makes_behind : {s : Text} {root : Element} {l : Listed} {at : ℕ} {w w' : List ℕ} {m : Made} → Makes s root l at w w' m → (before : Made) → end_in before ≤ at → SameFor before w w'
+pub makes_behind : {s : Text} {root : Element} {l : Listed} {at : ℕ} {w w' : List ℕ} {m : Option Table} → Makes s root l at w w' m → (before : Option Table) → end_in before ≤ at → SameFor before w w'
 makes_behind {s} {root} {l} {at} {w} {w'} {m} h before k = record { same = λ t i. go t (rw i at k) m h.made h.words }
   where
-    go : (t : Table) → end_in (Ready t) ≤ at → (m : Made) → m ≡ made_for s root l (length w) at → TabledIn s root l m w w' → SameIn t w w'
-    go t k NoRoom e x = rw x (same_refl t w)
-    go t k (Ready v) e x =
+    go : (t : Table) → end_in (Some t) ≤ at → (m : Option Table) → m ≡ made_for s root l (length w) at → TabledIn s root l m w w' → SameIn t w w'
+    go t k None e x = rw x (same_refl t w)
+    go t k (Some v) e x =
         let z : v.at ≡ at = made_at s root l (length w) at e in
         record { long = x.length_same; words = λ j a b. x.outside j (apart_before t v (omega arith) j a b) }

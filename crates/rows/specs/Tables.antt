@@ -9,18 +9,13 @@ use Rattle.definition.specs.Field.{text_in}
 use Rattle.definition.specs.Task.{is_kept, most_tasks, kept_tasks, row_of}
 use Rattle.definition.specs.Resource.{work_resources, cost_resources}
 use Rattle.index.specs.declared.Table.{Table}
-use Rattle.index.specs.declared.Made.{Made}
-use Rattle.index.specs.declared.Made.TheVariants.{Ready, NoRoom}
 use Rattle.index.specs.Hash.{hash_of}
 use Rattle.index.specs.Chains.{table_of, chain_of, place_of}
 use Rattle.index.specs.Frame.{Outside}
 use Rattle.index.specs.Law.{Fits, Indexed}
 use Rattle.tree.specs.Place.{element_at, later_at}
-use Rattle.tree.specs.declared.Found.{Found}
 use Rattle.rows.specs.Rows.{has_uid}
 use Rattle.rows.specs.Walks.{passes}
-use Rattle.rows.specs.declared.kept.KeptAnswer.{KeptAnswer}
-use Rattle.rows.specs.declared.kept.KeptAnswer.TheVariants.{Is, Absent}
 use Rattle.rows.specs.declared.section.Which.{Which}
 use Rattle.rows.specs.declared.table.Listed.{Listed}
 
@@ -42,19 +37,19 @@ abbrev pub sought_in : Text → List ℕ → Table → Text → Option ℕ
 sought_in s w t u = find (λ r. same (uid_of (element_at s (place_of w t r))) u) (chain_of w t (hash_of u))
 
 -- the row of the last of them with a UID, as words say it where there is a table
-unfoldable pub row_in : Text → Element → Listed → List ℕ → Made → Text → Option ℕ
-row_in s root l w NoRoom u = row_in32 l root u
-row_in s root l w (Ready t) u = sought_in s w t u
+unfoldable pub row_in : Text → Element → Listed → List ℕ → Option Table → Text → Option ℕ
+row_in s root l w None u = row_in32 l root u
+row_in s root l w (Some t) u = sought_in s w t u
 
 -- the last cost resource with a UID, as words say it where there is a table
-unfoldable pub cost_in : Text → Element → List ℕ → Made → Text → Option Element
-cost_in s root w NoRoom u = find_last (has_uid u) (cost_resources root)
-cost_in s root w (Ready t) u = sought_in s w t u >>= λ r. Some (element_at s (place_of w t r))
+unfoldable pub cost_in : Text → Element → List ℕ → Option Table → Text → Option Element
+cost_in s root w None u = find_last (has_uid u) (cost_resources root)
+cost_in s root w (Some t) u = sought_in s w t u >>= λ r. Some (element_at s (place_of w t r))
 
 -- where the element of a row stands
-abbrev pub found_in : List ℕ → Table → Option ℕ → Found
-found_in w t None = Found.Nothing
-found_in w t (Some r) = Found.At (place_of w t r)
+abbrev pub found_in : List ℕ → Table → Option ℕ → Option ℕ
+found_in w t None = None
+found_in w t (Some r) = Some (place_of w t r)
 
 -- ---- the walk over a list
 
@@ -65,9 +60,9 @@ later_in s Listed.Work at left = keep (passes Which.Work) (later_at s (bytes "Re
 later_in s Listed.Cost at left = keep (passes Which.Cost) (later_at s (bytes "Resource") at)
 
 -- none, or the one at a position and those that follow it
-unfoldable pub listed_by : Text → Listed → KeptAnswer → List Element
-listed_by s l Absent = []
-listed_by s l (Is at left) = element_at s at ∷ later_in s l at left
+unfoldable pub listed_by : Text → Listed → Option (ℕ × ℕ) → List Element
+listed_by s l None = []
+listed_by s l (Some (at, left)) = element_at s at ∷ later_in s l at left
 
 -- at most so many
 abbrev pub most_in : Text → Listed → ℕ
@@ -75,22 +70,22 @@ most_in s Listed.Tasks = most_tasks
 most_in s Listed.Work = length s
 most_in s Listed.Cost = length s
 
-unfoldable pub room_in : Text → Listed → KeptAnswer → ℕ
-room_in s l Absent = 0
-room_in s Listed.Tasks (Is at left) = suc left
-room_in s Listed.Work (Is at left) = suc (length s - at)
-room_in s Listed.Cost (Is at left) = suc (length s - at)
+unfoldable pub room_in : Text → Listed → Option (ℕ × ℕ) → ℕ
+room_in s l None = 0
+room_in s Listed.Tasks (Some (at, left)) = suc left
+room_in s Listed.Work (Some (at, left)) = suc (length s - at)
+room_in s Listed.Cost (Some (at, left)) = suc (length s - at)
 
 -- r stands for the list es, of fewer than n, and is a position in the tree
-pub record Lists (s : Text) (l : Listed) (es : List Element) (n : ℕ) (r : KeptAnswer) : Type 0 where
+pub record Lists (s : Text) (l : Listed) (es : List Element) (n : ℕ) (r : Option (ℕ × ℕ)) : Type 0 where
   pub is : es ≡ listed_by s l r
   pub on : room_in s l r < n
-  pub there : (at left : ℕ) → r ≡ Is at left → at < length s
+  pub there : (at left : ℕ) → r ≡ Some (at, left) → at < length s
 
 -- any number after it
-abbrev pub unbounded_of : Found → KeptAnswer
-unbounded_of (Found.At p) = Is p 0
-unbounded_of Found.Nothing = Absent
+abbrev pub unbounded_of : Option ℕ → Option (ℕ × ℕ)
+unbounded_of (Some p) = Some (p, 0)
+unbounded_of None = None
 
 -- ---- the table of a list
 
@@ -105,8 +100,8 @@ abbrev pub hash_in : Listed → Element → ℕ → ℕ
 hash_in l root r = hash_of (uid_of (nth l root r))
 
 -- where there is room for it, for one row at least, and 32 bits hold each position in the tree
-abbrev pub made_for : Text → Element → Listed → ℕ → ℕ → Made
-made_for s root l len at = if nat_lt (length s) (2 ^ 32) then table_of len at (max 1 (length (listed l root))) else NoRoom
+abbrev pub made_for : Text → Element → Listed → ℕ → ℕ → Option Table
+made_for s root l len at = if nat_lt (length s) (2 ^ 32) then table_of len at (max 1 (length (listed l root))) else None
 
 -- what a table needs that is to be filled
 pub record Ripe (s : Text) (root : Element) (l : Listed) (t : Table) (w : List ℕ) : Type 0 where
@@ -124,10 +119,10 @@ pub record Tabled (s : Text) (root : Element) (l : Listed) (t : Table) (w w' : L
   pub length_same : length w' ≡ length w
   pub outside : (j : ℕ) → Outside t j → slice_index w' j ≡ slice_index w j
 
-abbrev pub TabledIn : Text → Element → Listed → Made → List ℕ → List ℕ → Type 0
-TabledIn s root l NoRoom w w' = w' ≡ w
-TabledIn s root l (Ready t) w w' = Tabled s root l t w w'
+abbrev pub TabledIn : Text → Element → Listed → Option Table → List ℕ → List ℕ → Type 0
+TabledIn s root l None w w' = w' ≡ w
+TabledIn s root l (Some t) w w' = Tabled s root l t w w'
 
-pub record Makes (s : Text) (root : Element) (l : Listed) (at : ℕ) (w w' : List ℕ) (m : Made) : Type 0 where
+pub record Makes (s : Text) (root : Element) (l : Listed) (at : ℕ) (w w' : List ℕ) (m : Option Table) : Type 0 where
   pub made : m ≡ made_for s root l (length w) at
   pub words : TabledIn s root l m w w'

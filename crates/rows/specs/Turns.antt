@@ -15,47 +15,43 @@ use Rattle.definition.specs.Resource.{is_resource, is_cost, work_resources, cost
 use Rattle.laws.specs.Keep.{one_if, keep_more}
 use Rattle.tree.specs.Place.{element_at, later_at, list_of, Past, Starts}
 use Rattle.tree.specs.Root.{own_text}
-use Rattle.tree.specs.declared.Found.{Found}
-use Rattle.tree.specs.declared.Found.TheVariants.{At, Nothing}
 use Rattle.rows.specs.Walks.{ahead, kept_by, room, Kept, passes, picked_by, Picks, later_in_order, order_by, order_room, Orders}
-use Rattle.rows.specs.declared.kept.KeptAnswer.{KeptAnswer}
-use Rattle.rows.specs.declared.kept.KeptAnswer.TheVariants.{Is, Absent}
 use Rattle.rows.specs.declared.section.Which.{Which}
 use Rattle.rows.specs.declared.section.Which.TheVariants.{Work, Cost}
 
 -- ---- all elements of a name
 
-pub list_end : (s n : Text) {e : Found} → e ≡ Nothing → list_of s n e ≡ []
+pub list_end : (s n : Text) {e : Option ℕ} → e ≡ None → list_of s n e ≡ []
 unfolding list_of
 list_end s n i = rw i
 
-pub list_at : (s n : Text) {e : Found} {p : ℕ} → e ≡ At p → list_of s n e ≡ element_at s p ∷ later_at s n p
+pub list_at : (s n : Text) {e : Option ℕ} {p : ℕ} → e ≡ Some p → list_of s n e ≡ element_at s p ∷ later_at s n p
 unfolding list_of
 list_at s n i = rw i
 
-pub list_next : {s n : Text} {e : Found} {p : ℕ} → e ≡ At p → {from : ℕ} {r : Found} → Starts s n (later_at s n p) from r → list_of s n e ≡ element_at s p ∷ list_of s n r
+pub list_next : {s n : Text} {e : Option ℕ} {p : ℕ} → e ≡ Some p → {from : ℕ} {r : Option ℕ} → Starts s n (later_at s n p) from r → list_of s n e ≡ element_at s p ∷ list_of s n r
 list_next {s} {n} {p = p} i h = list_at s n i ∙ ap (λ (l : List Element). element_at s p ∷ l) h.is
 
-pub ahead_less : (s : Text) {e : Found} {p : ℕ} → e ≡ At p → (r : Found) → Past s (p + 1) r → ahead s r < ahead s e
+pub ahead_less : (s : Text) {e : Option ℕ} {p : ℕ} → e ≡ Some p → (r : Option ℕ) → Past s (p + 1) r → ahead s r < ahead s e
 unfolding ahead Past
-ahead_less s i Nothing h = rw i (omega arith)
-ahead_less s i (At q) h = rw i (omega (arith, h))
+ahead_less s i None h = rw i (omega arith)
+ahead_less s i (Some q) h = rw i (omega (arith, h))
 
 -- ---- the kept tasks
 
-pub kept_end : (s : Text) {task : KeptAnswer} → task ≡ Absent → kept_by s task ≡ []
+pub kept_end : (s : Text) {task : Option (ℕ × ℕ)} → task ≡ None → kept_by s task ≡ []
 unfolding kept_by
 kept_end s e = rw e
 
-pub kept_at : (s : Text) {task : KeptAnswer} {at left : ℕ} → task ≡ Is at left → kept_by s task ≡ element_at s at ∷ keep is_kept (take left (later_at s (bytes "Task") at))
+pub kept_at : (s : Text) {task : Option (ℕ × ℕ)} {at left : ℕ} → task ≡ Some (at, left) → kept_by s task ≡ element_at s at ∷ keep is_kept (take left (later_at s (bytes "Task") at))
 unfolding kept_by
 kept_at s e = rw e
 
-pub room_at : {task : KeptAnswer} {at left : ℕ} → task ≡ Is at left → room task ≡ suc left
+pub room_at : {task : Option (ℕ × ℕ)} {at left : ℕ} → task ≡ Some (at, left) → room task ≡ suc left
 unfolding room
 room_at e = rw e
 
-module _ {s : Text} {task : KeptAnswer} {at left : ℕ} (e : task ≡ Is at left) {n : ℕ} {r : KeptAnswer} (h : Kept s (keep is_kept (take left (later_at s (bytes "Task") at))) n r) where
+module _ {s : Text} {task : Option (ℕ × ℕ)} {at left : ℕ} (e : task ≡ Some (at, left)) {n : ℕ} {r : Option (ℕ × ℕ)} (h : Kept s (keep is_kept (take left (later_at s (bytes "Task") at))) n r) where
   pub kept_next : kept_by s task ≡ element_at s at ∷ kept_by s r
   kept_next = kept_at s e ∙ ap (λ (l : List Element). element_at s at ∷ l) h.is
 
@@ -64,11 +60,11 @@ module _ {s : Text} {task : KeptAnswer} {at left : ℕ} (e : task ≡ Is at left
 
 -- ---- elements that pass a test
 
-pub picked_end : (s n : Text) (w : Which) {e : Found} → e ≡ Nothing → picked_by s n w e ≡ []
+pub picked_end : (s n : Text) (w : Which) {e : Option ℕ} → e ≡ None → picked_by s n w e ≡ []
 unfolding picked_by
 picked_end s n w i = rw i
 
-pub picked_next : {s n : Text} {w : Which} {e : Found} {p : ℕ} → e ≡ At p → {from : ℕ} {r : Found} → Picks s n w (later_at s n p) from r → picked_by s n w e ≡ element_at s p ∷ picked_by s n w r
+pub picked_next : {s n : Text} {w : Which} {e : Option ℕ} {p : ℕ} → e ≡ Some p → {from : ℕ} {r : Option ℕ} → Picks s n w (later_at s n p) from r → picked_by s n w e ≡ element_at s p ∷ picked_by s n w r
 unfolding picked_by
 picked_next {s} {n} {w} {p = p} i h = ap (picked_by s n w) i ∙ ap (λ (l : List Element). element_at s p ∷ l) h.is
 
@@ -105,15 +101,15 @@ cost_picked root = keep_both is_resource is_cost _
 
 -- ---- the calendars in the order in which they are built
 
-pub order_end : (s : Text) (root : Element) {c : Found} → c ≡ Nothing → order_by s root c ≡ []
+pub order_end : (s : Text) (root : Element) {c : Option ℕ} → c ≡ None → order_by s root c ≡ []
 unfolding order_by
 order_end s root i = rw i
 
-pub order_at : (s : Text) (root : Element) {c : Found} {p : ℕ} → c ≡ At p → order_by s root c ≡ element_at s p ∷ later_in_order s root p
+pub order_at : (s : Text) (root : Element) {c : Option ℕ} {p : ℕ} → c ≡ Some p → order_by s root c ≡ element_at s p ∷ later_in_order s root p
 unfolding order_by
 order_at s root i = rw i
 
-pub order_some : (s : Text) {c : Found} {p : ℕ} → c ≡ At p → 0 < order_room s c
+pub order_some : (s : Text) {c : Option ℕ} {p : ℕ} → c ≡ Some p → 0 < order_room s c
 unfolding order_room
 order_some s {p = p} i = rw i (by (given (base_of (element_at s p))))
   where
@@ -121,7 +117,7 @@ order_some s {p = p} i = rw i (by (given (base_of (element_at s p))))
     by true = omega arith
     by false = omega arith
 
-module _ {s : Text} {root : Element} {c : Found} {p : ℕ} (i : c ≡ At p) {r : Found} (h : Orders s root (later_in_order s root p) (order_room s (At p)) r) where
+module _ {s : Text} {root : Element} {c : Option ℕ} {p : ℕ} (i : c ≡ Some p) {r : Option ℕ} (h : Orders s root (later_in_order s root p) (order_room s (Some p)) r) where
   pub order_next : order_by s root c ≡ element_at s p ∷ order_by s root r
   order_next = order_at s root i ∙ ap (λ (l : List Element). element_at s p ∷ l) h.is
 
@@ -200,8 +196,8 @@ own_missing e {t} h k = by (trim e.text) h
 
 -- ---- a section of the root
 
-pub starts_same : {s n : Text} {l k : List Element} {m : ℕ} {r : Found} → k ≡ l → Starts s n l m r → Starts s n k m r
+pub starts_same : {s n : Text} {l k : List Element} {m : ℕ} {r : Option ℕ} → k ≡ l → Starts s n l m r → Starts s n k m r
 starts_same e h = record { is = e ∙ h.is; on = h.on }
 
-pub picks_same : {s n : Text} {w : Which} {l k : List Element} {m : ℕ} {r : Found} → k ≡ l → Picks s n w l m r → Picks s n w k m r
+pub picks_same : {s n : Text} {w : Which} {l k : List Element} {m : ℕ} {r : Option ℕ} → k ≡ l → Picks s n w l m r → Picks s n w k m r
 picks_same {w = w} e h = record { is = ap (keep (passes w)) e ∙ h.is; on = h.on }

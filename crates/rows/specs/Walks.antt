@@ -1,5 +1,6 @@
 -- Walks over elements: what an answer stands for, and how much is left behind it. Assumes nothing: these are definitions.
 use Rattle.std.specs.Prelude.{if◌then◌else◌, ◌≡◌, ℕ, suc, ◌+◌, ◌-◌, ◌<◌, ◌≤◌, Bool, not, ◌&&◌, List, [], ◌∷◌, ◌++◌, length, take}
+use Rattle.std.specs.Prelude.{None, Option, Some}
 use Rattle.definition.specs.Base.{given, keep}
 use Rattle.definition.specs.Ascii.{bytes}
 use Rattle.definition.specs.Text.{Text}
@@ -8,32 +9,28 @@ use Rattle.definition.specs.Task.{is_kept}
 use Rattle.definition.specs.Resource.{is_resource, is_cost}
 use Rattle.definition.specs.Calendar.{base_of, calendar_elements}
 use Rattle.tree.specs.Place.{element_at, later_at, list_of, Past}
-use Rattle.tree.specs.declared.Found.{Found}
-use Rattle.tree.specs.declared.Found.TheVariants.{At, Nothing}
-use Rattle.rows.specs.declared.kept.KeptAnswer.{KeptAnswer}
-use Rattle.rows.specs.declared.kept.KeptAnswer.TheVariants.{Is, Absent}
 use Rattle.rows.specs.declared.section.Which.{Which}
 use Rattle.rows.specs.declared.section.Which.TheVariants.{Work, Cost, Plain, Derived}
 
 -- how far it is to the end
-unfoldable pub ahead : Text → Found → ℕ
-ahead s Nothing = 0
-ahead s (At p) = suc (length s - p)
+unfoldable pub ahead : Text → Option ℕ → ℕ
+ahead s None = 0
+ahead s (Some p) = suc (length s - p)
 
 -- ---- the kept tasks
 
 -- none, or the one at a position and those among so many later ones
-unfoldable pub kept_by : Text → KeptAnswer → List Element
-kept_by s Absent = []
-kept_by s (Is at left) = element_at s at ∷ keep is_kept (take left (later_at s (bytes "Task") at))
+unfoldable pub kept_by : Text → Option (ℕ × ℕ) → List Element
+kept_by s None = []
+kept_by s (Some (at, left)) = element_at s at ∷ keep is_kept (take left (later_at s (bytes "Task") at))
 
 -- at most so many
-unfoldable pub room : KeptAnswer → ℕ
-room Absent = 0
-room (Is at left) = suc left
+unfoldable pub room : Option (ℕ × ℕ) → ℕ
+room None = 0
+room (Some (at, left)) = suc left
 
 -- r stands for the list l, of at most n
-pub record Kept (s : Text) (l : List Element) (n : ℕ) (r : KeptAnswer) : Type 0 where
+pub record Kept (s : Text) (l : List Element) (n : ℕ) (r : Option (ℕ × ℕ)) : Type 0 where
   pub is : l ≡ kept_by s r
   pub on : room r ≤ n
 
@@ -46,17 +43,17 @@ passes Plain e = not (given (base_of e))
 passes Derived e = given (base_of e)
 
 -- none, or the one at a position and its later siblings that pass
-unfoldable pub picked_by : Text → Text → Which → Found → List Element
-picked_by s n w Nothing = []
-picked_by s n w (At p) = element_at s p ∷ keep (passes w) (later_at s n p)
+unfoldable pub picked_by : Text → Text → Which → Option ℕ → List Element
+picked_by s n w None = []
+picked_by s n w (Some p) = element_at s p ∷ keep (passes w) (later_at s n p)
 
 -- r stands for those of l that pass, from a position on
-pub record Picks (s n : Text) (w : Which) (l : List Element) (from : ℕ) (r : Found) : Type 0 where
+pub record Picks (s n : Text) (w : Which) (l : List Element) (from : ℕ) (r : Option ℕ) : Type 0 where
   pub is : keep (passes w) l ≡ picked_by s n w r
   pub on : Past s from r
 
 -- from where a list of elements starts
-pub record PicksFrom (s n : Text) (w : Which) (start r : Found) : Type 0 where
+pub record PicksFrom (s n : Text) (w : Which) (start r : Option ℕ) : Type 0 where
   pub go : (from : ℕ) → Past s from start → Picks s n w (list_of s n start) from r
 
 -- ---- the calendars in the order in which they are built
@@ -68,21 +65,21 @@ later_in_order s root p =
     keep (passes Plain) (later_at s (bytes "Calendar") p) ++ keep (passes Derived) (calendar_elements root)
 
 -- none, or the one at a position and those that follow it
-unfoldable pub order_by : Text → Element → Found → List Element
-order_by s root Nothing = []
-order_by s root (At p) = element_at s p ∷ later_in_order s root p
+unfoldable pub order_by : Text → Element → Option ℕ → List Element
+order_by s root None = []
+order_by s root (Some p) = element_at s p ∷ later_in_order s root p
 
 -- at most so many
-unfoldable pub order_room : Text → Found → ℕ
-order_room s Nothing = 0
-order_room s (At p) = if given (base_of (element_at s p)) then suc (length s - p) else suc (length s + (length s - p))
+unfoldable pub order_room : Text → Option ℕ → ℕ
+order_room s None = 0
+order_room s (Some p) = if given (base_of (element_at s p)) then suc (length s - p) else suc (length s + (length s - p))
 
 -- r stands for the list l, of fewer than n
-pub record Orders (s : Text) (root : Element) (l : List Element) (n : ℕ) (r : Found) : Type 0 where
+pub record Orders (s : Text) (root : Element) (l : List Element) (n : ℕ) (r : Option ℕ) : Type 0 where
   pub is : l ≡ order_by s root r
   pub on : order_room s r < n
 
 -- after those without a base
-pub record OrdersAfter (s : Text) (root : Element) (plain r : Found) : Type 0 where
+pub record OrdersAfter (s : Text) (root : Element) (plain r : Option ℕ) : Type 0 where
   pub go : (l : List Element) (from : ℕ) → Picks s (bytes "Calendar") Plain l from plain
       → Orders s root (keep (passes Plain) l ++ keep (passes Derived) (calendar_elements root)) (suc (length s + (suc (length s) - from))) r

@@ -3,38 +3,36 @@ ghost use Rattle.std.specs.Prelude.{◌≡◌, suc, ◌+◌, length};
 ghost use Rattle.definition.specs.Base.{◌>>=◌ as bind, ◌or_else◌, first as first_of, numbered};
 ghost use Rattle.definition.specs.Field.{text_in};
 ghost use Rattle.tree.specs.Root.{root_at};
-ghost use Rattle.tree.specs.declared.Found.TheVariants.{At as FoundAt};
 ghost use Rattle.rows.specs.Rows.{in_order, with_uid_in, main_in, calendar_meaning, row_zero};
 ghost use Rattle.rows.specs.Walks.{later_in_order, order_room, Orders, OrdersAfter};
 
-use crate::CalendarAnswer;
 use crate::section::{Which, first_which, next_which, which_from};
-use tree::{Found, Root};
+use tree::{Root};
 
 // After those without a base, the first over one.
-fn or_derived(s: &[u8], root: Root, plain: Found) -> Found
+fn or_derived(s: &[u8], root: Root, plain: Option<usize>) -> Option<usize>
     ensures { OrdersAfter s.now (root_at s.now root) plain result }
 {
     match plain {
-        Found::At(at) => Found::At(at),
-        Found::Nothing => first_which(s, root.calendars, b"Calendar", Which::Derived),
+        Some(at) => Some(at),
+        None => first_which(s, root.calendars, b"Calendar", Which::Derived),
     }
 }
 
 // The first calendar to be built.
-pub fn first_calendar(s: &[u8], root: Root) -> Found
+pub fn first_calendar(s: &[u8], root: Root) -> Option<usize>
     ensures { Orders s.now (root_at s.now root) (in_order (root_at s.now root)) (suc (length s.now + length s.now)) result }
 {
     let first = tree::child(s, root.calendars, b"Calendar");
     match which_from(s, first, b"Calendar", Which::Plain) {
-        Found::At(at) => Found::At(at),
-        Found::Nothing => which_from(s, first, b"Calendar", Which::Derived),
+        Some(at) => Some(at),
+        None => which_from(s, first, b"Calendar", Which::Derived),
     }
 }
 
 // The one to be built after that at `at`.
-pub fn next_calendar(s: &[u8], root: Root, at: usize) -> Found
-    ensures { Orders s.now (root_at s.now root) (later_in_order s.now (root_at s.now root) at) (order_room s.now (FoundAt at)) result }
+pub fn next_calendar(s: &[u8], root: Root, at: usize) -> Option<usize>
+    ensures { Orders s.now (root_at s.now root) (later_in_order s.now (root_at s.now root) at) (order_room s.now (Some at)) result }
 {
     if calendar::has_base(s, at) {
         return next_which(s, at, b"Calendar", Which::Derived);
@@ -43,17 +41,17 @@ pub fn next_calendar(s: &[u8], root: Root, at: usize) -> Found
 }
 
 // The first calendar with a UID, in the order in which calendars are built.
-pub fn calendar_with(s: &[u8], root: Root, uid: &[u8]) -> CalendarAnswer
+pub fn calendar_with(s: &[u8], root: Root, uid: &[u8]) -> Option<(usize, usize)>
     ensures { calendar_meaning s.now result ≡ with_uid_in (root_at s.now root) uid.now }
 {
     let mut row: usize = 0;
     let mut c = first_calendar(s, root);
     loop {
-        let Found::At(at) = c else {
-            return CalendarAnswer::Absent;
+        let Some(at) = c else {
+            return None;
         };
         if fields::text_is(s, at, b"UID", uid) {
-            return CalendarAnswer::Is(row, at);
+            return Some((row, at));
         }
         row += 1;
         c = next_calendar(s, root, at);
@@ -61,37 +59,37 @@ pub fn calendar_with(s: &[u8], root: Root, uid: &[u8]) -> CalendarAnswer
 }
 
 // The calendar of CalendarUID.
-fn named_calendar(s: &[u8], root: Root) -> CalendarAnswer
+fn named_calendar(s: &[u8], root: Root) -> Option<(usize, usize)>
     ensures { calendar_meaning s.now result ≡ bind (text_in (root_at s.now root) "CalendarUID") (with_uid_in (root_at s.now root)) }
 {
     let uid = tree::own_text(s, root.calendar);
     if uid.len() != 0 {
         return calendar_with(s, root, uid);
     }
-    CalendarAnswer::Absent
+    None
 }
 
-fn row_0(c: Found) -> CalendarAnswer
+fn row_0(c: Option<usize>) -> Option<(usize, usize)>
     ensures { result ≡ row_zero c }
 {
     match c {
-        Found::At(at) => CalendarAnswer::Is(0, at),
-        Found::Nothing => CalendarAnswer::Absent,
+        Some(at) => Some((0, at)),
+        None => None,
     }
 }
 
 // A calendar, or the first where there is none.
-fn or_first(s: &[u8], root: Root, c: CalendarAnswer) -> CalendarAnswer
+fn or_first(s: &[u8], root: Root, c: Option<(usize, usize)>) -> Option<(usize, usize)>
     ensures { calendar_meaning s.now result ≡ (calendar_meaning s.now c or_else first_of (numbered 0 (in_order (root_at s.now root)))) }
 {
     match c {
-        CalendarAnswer::Is(row, at) => CalendarAnswer::Is(row, at),
-        CalendarAnswer::Absent => row_0(first_calendar(s, root)),
+        Some((row, at)) => Some((row, at)),
+        None => row_0(first_calendar(s, root)),
     }
 }
 
 // The main calendar: that of CalendarUID, else the first.
-pub fn main_calendar(s: &[u8], root: Root) -> CalendarAnswer
+pub fn main_calendar(s: &[u8], root: Root) -> Option<(usize, usize)>
     ensures { calendar_meaning s.now result ≡ main_in (root_at s.now root) }
 {
     or_first(s, root, named_calendar(s, root))

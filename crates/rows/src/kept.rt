@@ -2,88 +2,79 @@
 ghost use Rattle.std.specs.Prelude.{◌≡◌, map, length, take};
 ghost use Rattle.definition.specs.Base.{◌or_else◌, when, keep, some?};
 ghost use Rattle.definition.specs.Ascii.{bytes};
-ghost use Rattle.definition.specs.Answer.{row_meaning};
 ghost use Rattle.definition.specs.Task.{level_of, most_tasks, is_kept, kept_tasks, parent_of, is_elapsed, is_fractional};
 ghost use Rattle.laws.specs.Keep.{one_if};
 ghost use Rattle.tree.specs.Place.{later_at, list_of};
 ghost use Rattle.tree.specs.Root.{root_at};
 ghost use Rattle.rows.specs.Walks.{Kept};
 
-use definition::RowAnswer;
-use tree::{Found, Root};
-
-// Where a kept task stands, and how many tasks after it may be kept.
-#[derive(Clone, Copy)]
-pub enum KeptAnswer {
-    Is(usize, u32),
-    Absent,
-}
+use tree::{Root};
 
 // The first of at most `most` tasks, from where a list of tasks starts.
-fn kept_from(s: &[u8], start: Found, most: u32) -> KeptAnswer
+fn kept_from(s: &[u8], start: Option<usize>, most: u32) -> Option<(usize, u32)>
     ensures { Kept s.now (keep is_kept (take most (list_of s.now (bytes "Task") start))) most result }
 {
     let mut task = start;
     let mut left = most;
     loop {
-        let Found::At(at) = task else {
-            return KeptAnswer::Absent;
+        let Some(at) = task else {
+            return None;
         };
         if left == 0 {
-            return KeptAnswer::Absent;
+            return None;
         }
         left -= 1;
         if tasks::is_kept(s, at) {
-            return KeptAnswer::Is(at, left);
+            return Some((at, left));
         }
         task = tree::next_child(s, at, b"Task");
     }
 }
 
 // The first kept task.
-pub fn first_kept(s: &[u8], root: Root) -> KeptAnswer
+pub fn first_kept(s: &[u8], root: Root) -> Option<(usize, u32)>
     ensures { Kept s.now (kept_tasks (root_at s.now root)) most_tasks result }
 {
     kept_from(s, tree::child(s, root.tasks, b"Task"), 100000)
 }
 
 // The next one, of at most `left` tasks after the one at `at`.
-pub fn next_kept(s: &[u8], at: usize, left: u32) -> KeptAnswer
+pub fn next_kept(s: &[u8], at: usize, left: u32) -> Option<(usize, u32)>
     ensures { Kept s.now (keep is_kept (take left (later_at s.now (bytes "Task") at))) left result }
 {
     kept_from(s, tree::next_child(s, at, b"Task"), left)
 }
 
 // The row where the test holds.
-pub(crate) fn row_when(test: bool, row: u32) -> RowAnswer
-    ensures { row_meaning result ≡ when «test» row }
+pub(crate) fn row_when(test: bool, row: u32) -> Option<u32>
+    ensures { result ≡ when «test» row }
 {
     if test {
-        RowAnswer::Is(row)
+        Some(row)
     } else {
-        RowAnswer::Absent
+        None
     }
 }
 
 // The first of two that is there.
-pub(crate) fn or_row(a: RowAnswer, b: RowAnswer) -> RowAnswer
-    ensures { row_meaning result ≡ (row_meaning a or_else row_meaning b) }
+pub(crate) fn or_row(a: Option<u32>, b: Option<u32>) -> Option<u32>
+    ensures { result ≡ (a or_else b) }
 {
     match a {
-        RowAnswer::Is(n) => RowAnswer::Is(n),
-        RowAnswer::Absent => b,
+        Some(n) => Some(n),
+        None => b,
     }
 }
 
 // The nearest kept task of a lower level before the task of a row.
-pub fn parent_row(s: &[u8], root: Root, row: u32, level: u64) -> RowAnswer
-    ensures { row_meaning result ≡ parent_of (map level_of (take row (kept_tasks (root_at s.now root)))) level }
+pub fn parent_row(s: &[u8], root: Root, row: u32, level: u64) -> Option<u32>
+    ensures { result ≡ parent_of (map level_of (take row (kept_tasks (root_at s.now root)))) level }
 {
-    let mut found = RowAnswer::Absent;
+    let mut found = None;
     let mut n: u32 = 0;
     let mut task = first_kept(s, root);
     while n < row {
-        let KeptAnswer::Is(at, left) = task else {
+        let Some((at, left)) = task else {
             return found;
         };
         let lower = row_when(tasks::level_of(s, at) < level, n);
@@ -99,7 +90,7 @@ pub fn any_elapsed(s: &[u8], root: Root) -> bool
 {
     let mut task = first_kept(s, root);
     loop {
-        let KeptAnswer::Is(at, left) = task else {
+        let Some((at, left)) = task else {
             return false;
         };
         if tasks::is_elapsed(s, at) {
@@ -122,7 +113,7 @@ pub fn count_fractional(s: &[u8], root: Root) -> u32
     let mut count = 0;
     let mut task = first_kept(s, root);
     loop {
-        let KeptAnswer::Is(at, left) = task else {
+        let Some((at, left)) = task else {
             return count;
         };
         count += one_if(tasks::is_fractional(s, at));

@@ -9,13 +9,7 @@ mod section; // elements of a section that pass a test
 mod table; // rows by their UIDs, from tables in lent words
 
 pub use built::{calendar_with, first_calendar, main_calendar, next_calendar};
-pub use kept::{KeptAnswer, any_elapsed, count_fractional, first_kept, next_kept, parent_row};
+pub use kept::{any_elapsed, count_fractional, first_kept, next_kept, parent_row};
 pub use section::first_in;
 pub use table::{Listed, cost_with, index_rows, row_with, seek};
 
-// A calendar's row in the order in which calendars are built, and where it stands in the tree.
-#[derive(Clone, Copy)]
-pub enum CalendarAnswer {
-    Is(usize, usize),
-    Absent,
-}

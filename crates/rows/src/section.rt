@@ -4,7 +4,6 @@ ghost use Rattle.definition.specs.Tree.{child as child_of, all, all_in};
 ghost use Rattle.tree.specs.Place.{element_at, later_at, Starts};
 ghost use Rattle.rows.specs.Walks.{passes as passes_by, Picks, PicksFrom};
 
-use tree::Found;
 
 // Work and cost resources; calendars without a base and over one.
 #[derive(Clone, Copy)]
@@ -16,12 +15,12 @@ pub(crate) enum Which {
 }
 
 // The first element of a name in a section, a child of the element at `at`.
-pub fn first_in(s: &[u8], at: usize, section: &[u8], name: &[u8]) -> Found
+pub fn first_in(s: &[u8], at: usize, section: &[u8], name: &[u8]) -> Option<usize>
     ensures { Starts s.now name.now (all_in (child_of (element_at s.now at) section.now) name.now) (at + 1) result }
 {
     match tree::child(s, at, section) {
-        Found::Nothing => Found::Nothing,
-        Found::At(p) => tree::child(s, p, name),
+        None => None,
+        Some(p) => tree::child(s, p, name),
     }
 }
 
@@ -37,30 +36,30 @@ fn passes(s: &[u8], at: usize, which: Which) -> bool
 }
 
 // The first that passes, from where a list of elements starts.
-pub(crate) fn which_from(s: &[u8], start: Found, name: &[u8], which: Which) -> Found
+pub(crate) fn which_from(s: &[u8], start: Option<usize>, name: &[u8], which: Which) -> Option<usize>
     ensures { PicksFrom s.now name.now which start result }
 {
     let mut e = start;
     loop {
-        let Found::At(at) = e else {
-            return Found::Nothing;
+        let Some(at) = e else {
+            return None;
         };
         if passes(s, at, which) {
-            return Found::At(at);
+            return Some(at);
         }
         e = tree::next_child(s, at, name);
     }
 }
 
 // The first of the section at `at` that passes.
-pub(crate) fn first_which(s: &[u8], at: usize, name: &[u8], which: Which) -> Found
+pub(crate) fn first_which(s: &[u8], at: usize, name: &[u8], which: Which) -> Option<usize>
     ensures { Picks s.now name.now which (all (element_at s.now at) name.now) (at + 1) result }
 {
     which_from(s, tree::child(s, at, name), name, which)
 }
 
 // The next sibling of the name that passes.
-pub(crate) fn next_which(s: &[u8], at: usize, name: &[u8], which: Which) -> Found
+pub(crate) fn next_which(s: &[u8], at: usize, name: &[u8], which: Which) -> Option<usize>
     ensures { Picks s.now name.now which (later_at s.now name.now at) (at + 1) result }
 {
     which_from(s, tree::next_child(s, at, name), name, which)

@@ -1,17 +1,14 @@
 // Tables of the elements that have a UID, in lent words: the hash of each UID, and where its element stands in the tree.
 ghost use Rattle.std.specs.Prelude.{◌≡◌, suc, ◌^◌, ◌<◌, max, length};
-ghost use Rattle.definition.specs.Answer.{row_meaning};
 ghost use Rattle.tree.specs.Root.{root_at};
-ghost use Rattle.rows.specs.declared.kept.KeptAnswer.TheVariants.{Is as KeptIs};
 ghost use Rattle.rows.specs.Rows.{found_meaning};
 ghost use Rattle.rows.specs.Tables.{listed, row_in32, sought_in, row_in, cost_in, later_in, most_in, room_in, Lists, unbounded_of, found_in, Ripe, Tabled, Makes};
 
-use crate::kept::{KeptAnswer, first_kept, next_kept, or_row, row_when};
+use crate::kept::{first_kept, next_kept, or_row, row_when};
 use crate::resource::cost_resource;
 use crate::section::{Which, first_which, next_which};
-use definition::RowAnswer;
-use index::{Made, Row, Table};
-use tree::{Found, Root};
+use index::{Table};
+use tree::{Root};
 
 // The kept tasks, the work resources, the cost resources.
 #[derive(Clone, Copy)]
@@ -24,16 +21,16 @@ pub enum Listed {
 // ---- the elements of a list, one after another
 
 // Any number after it.
-fn unbounded(e: Found) -> KeptAnswer
+fn unbounded(e: Option<usize>) -> Option<(usize, u32)>
     ensures { result ≡ unbounded_of e }
 {
     match e {
-        Found::At(at) => KeptAnswer::Is(at, 0),
-        Found::Nothing => KeptAnswer::Absent,
+        Some(at) => Some((at, 0)),
+        None => None,
     }
 }
 
-fn first_listed(s: &[u8], root: Root, list: Listed) -> KeptAnswer
+fn first_listed(s: &[u8], root: Root, list: Listed) -> Option<(usize, u32)>
     ensures { Lists s.now list (listed list (root_at s.now root)) (suc (most_in s.now list)) result }
 {
     match list {
@@ -43,8 +40,8 @@ fn first_listed(s: &[u8], root: Root, list: Listed) -> KeptAnswer
     }
 }
 
-fn next_listed(s: &[u8], list: Listed, at: usize, left: u32) -> KeptAnswer
-    ensures { Lists s.now list (later_in s.now list at left) (room_in s.now list (KeptIs at left)) result }
+fn next_listed(s: &[u8], list: Listed, at: usize, left: u32) -> Option<(usize, u32)>
+    ensures { Lists s.now list (later_in s.now list at left) (room_in s.now list (Some (at, left))) result }
 {
     match list {
         Listed::Tasks => next_kept(s, at, left),
@@ -56,14 +53,14 @@ fn next_listed(s: &[u8], list: Listed, at: usize, left: u32) -> KeptAnswer
 // ---- a table is made
 
 // How many there are, in a tree of fewer than 2 ^ 32 bytes.
-fn count_listed(s: &[u8], root: Root, list: Listed, first: KeptAnswer) -> u32
+fn count_listed(s: &[u8], root: Root, list: Listed, first: Option<(usize, u32)>) -> u32
     requires { (length s.now < 2 ^ 32) × Lists s.now list (listed list (root_at s.now root)) (suc (most_in s.now list)) first }
     ensures { result ≡ length (listed list (root_at s.now root)) }
 {
     let mut n: u32 = 0;
     let mut e = first;
     loop {
-        let KeptAnswer::Is(at, left) = e else {
+        let Some((at, left)) = e else {
             return n;
         };
         n += 1;
@@ -71,7 +68,7 @@ fn count_listed(s: &[u8], root: Root, list: Listed, first: KeptAnswer) -> u32
     }
 }
 
-fn fill(s: &[u8], root: Root, list: Listed, first: KeptAnswer, words: &mut [u32], t: Table)
+fn fill(s: &[u8], root: Root, list: Listed, first: Option<(usize, u32)>, words: &mut [u32], t: Table)
     requires { Ripe s.now (root_at s.now root) list t words.old × Lists s.now list (listed list (root_at s.now root)) (suc (most_in s.now list)) first }
     ensures { Tabled s.now (root_at s.now root) list t words.old words.new }
 {
@@ -79,7 +76,7 @@ fn fill(s: &[u8], root: Root, list: Listed, first: KeptAnswer, words: &mut [u32]
     let mut row: u32 = 0;
     let mut e = first;
     loop {
-        let KeptAnswer::Is(at, left) = e else {
+        let Some((at, left)) = e else {
             return;
         };
         let hash = index::hash_of(tree::text_of(s, at, b"UID"));
@@ -97,50 +94,50 @@ fn rows_for(n: u32) -> u32
 }
 
 // A table of a list, in the words from a place on, where there is room for it and 32 bits hold each position in the tree.
-pub fn index_rows(s: &[u8], root: Root, list: Listed, words: &mut [u32], at: usize) -> Made
+pub fn index_rows(s: &[u8], root: Root, list: Listed, words: &mut [u32], at: usize) -> Option<Table>
     ensures { Makes s.now (root_at s.now root) list at words.old words.new result }
 {
     if 4294967295 < s.len() {
-        return Made::NoRoom;
+        return None;
     }
     let first = first_listed(s, root, list);
     let rows = rows_for(count_listed(s, root, list, first));
     let made = index::table_at(words.len(), at, rows);
-    let Made::Ready(t) = made else {
-        return Made::NoRoom;
+    let Some(t) = made else {
+        return None;
     };
     fill(s, root, list, first, words, t);
-    Made::Ready(t)
+    Some(t)
 }
 
 // ---- the last with a UID
 
 // The first row of a chain whose element has the UID.
-pub fn seek(s: &[u8], words: &[u32], t: Table, uid: &[u8]) -> RowAnswer
-    ensures { row_meaning result ≡ sought_in s.now words.now t uid.now }
+pub fn seek(s: &[u8], words: &[u32], t: Table, uid: &[u8]) -> Option<u32>
+    ensures { result ≡ sought_in s.now words.now t uid.now }
 {
     let mut row = index::first(words, t, index::hash_of(uid));
     loop {
-        let Row::At(r) = row else {
-            return RowAnswer::Absent;
+        let Some(r) = row else {
+            return None;
         };
         let at = index::place(words, t, r) as usize;
         if fields::text_is(s, at, b"UID", uid) {
-            return RowAnswer::Is(r);
+            return Some(r);
         }
         row = index::next(words, t, r);
     }
 }
 
 // The row of the last of a list with a UID, as 32 bits hold it, by a look at all of them.
-fn scan(s: &[u8], root: Root, list: Listed, uid: &[u8]) -> RowAnswer
-    ensures { row_meaning result ≡ row_in32 list (root_at s.now root) uid.now }
+fn scan(s: &[u8], root: Root, list: Listed, uid: &[u8]) -> Option<u32>
+    ensures { result ≡ row_in32 list (root_at s.now root) uid.now }
 {
-    let mut found = RowAnswer::Absent;
+    let mut found = None;
     let mut row: u32 = 0;
     let mut e = first_listed(s, root, list);
     loop {
-        let KeptAnswer::Is(at, left) = e else {
+        let Some((at, left)) = e else {
             return found;
         };
         let named = row_when(fields::text_is(s, at, b"UID", uid), row);
@@ -156,33 +153,33 @@ pub fn row_with(
     root: Root,
     list: Listed,
     words: &[u32],
-    made: Made,
+    made: Option<Table>,
     uid: &[u8],
-) -> RowAnswer
-    ensures { row_meaning result ≡ row_in s.now (root_at s.now root) list words.now made uid.now }
+) -> Option<u32>
+    ensures { result ≡ row_in s.now (root_at s.now root) list words.now made uid.now }
 {
     match made {
-        Made::Ready(t) => seek(s, words, t, uid),
-        Made::NoRoom => scan(s, root, list, uid),
+        Some(t) => seek(s, words, t, uid),
+        None => scan(s, root, list, uid),
     }
 }
 
 // Where the element of a row stands.
-fn place_of(words: &[u32], t: Table, row: RowAnswer) -> Found
-    ensures { result ≡ found_in words.now t (row_meaning row) }
+fn place_of(words: &[u32], t: Table, row: Option<u32>) -> Option<usize>
+    ensures { result ≡ found_in words.now t row }
 {
     match row {
-        RowAnswer::Is(r) => Found::At(index::place(words, t, r) as usize),
-        RowAnswer::Absent => Found::Nothing,
+        Some(r) => Some(index::place(words, t, r) as usize),
+        None => None,
     }
 }
 
 // The last cost resource with a UID, by a table in the words; by a scan where there is none.
-pub fn cost_with(s: &[u8], root: Root, words: &[u32], made: Made, uid: &[u8]) -> Found
+pub fn cost_with(s: &[u8], root: Root, words: &[u32], made: Option<Table>, uid: &[u8]) -> Option<usize>
     ensures { found_meaning s.now result ≡ cost_in s.now (root_at s.now root) words.now made uid.now }
 {
     match made {
-        Made::Ready(t) => place_of(words, t, seek(s, words, t, uid)),
-        Made::NoRoom => cost_resource(s, root, uid),
+        Some(t) => place_of(words, t, seek(s, words, t, uid)),
+        None => cost_resource(s, root, uid),
     }
 }

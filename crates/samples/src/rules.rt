@@ -2,7 +2,7 @@
 // root is an Exception. The checksum goes on by check * 31 + day modulo 4294967291, a day being counted from 1 January of the year -9999.
 use crate::parts;
 use definition::Date;
-use recurrence::{Cursor, Rule, RuleAnswer, Step};
+use recurrence::{Cursor, Rule, Step};
 
 // The days so far.
 #[derive(Clone, Copy)]
@@ -75,7 +75,7 @@ pub fn agrees(body: &[u8]) -> bool {
     let days = parts::number(body) as u64;
     let check = parts::number(parts::behind(body, 4)) as u64;
     match recurrence::rule_of(parts::behind(body, 8), 0) {
-        RuleAnswer::Is(r) => rule_agrees(r, days, check),
-        RuleAnswer::Absent => (days == 4294967295) & (check == 0),
+        Some(r) => rule_agrees(r, days, check),
+        None => (days == 4294967295) & (check == 0),
     }
 }

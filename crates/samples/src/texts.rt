@@ -1,10 +1,8 @@
 // A text and what its reading gives: a tag (one byte), a value (eight bytes), the text. Tags: 0 absent, 1 the value, 2 the number -1 - value, 3
 // a number that is too long. A duration's value is its minutes, with 2^32 added where the sum was not whole. A float's value is its bits; a trimmed
 // text begins at value / 65536 and is value % 65536 bytes long.
+use definition::Unread;
 use crate::{floats, parts};
-use definition::DateAnswer;
-use number::{DurationAnswer, NumberAnswer, TimeAnswer};
-use text::{I32Answer, I64Answer, U16Answer, U32Answer, U64Answer};
 
 // ---- whether a number is the one that is expected
 
@@ -36,36 +34,36 @@ fn is_u64(n: u64, tag: u8, value: u64) -> bool {
 
 fn i64_agrees(s: &[u8], tag: u8, value: u64) -> bool {
     match text::i64_of(s) {
-        I64Answer::Is(n) => is_i64(n, tag, value),
-        I64Answer::Absent => tag == 0,
+        Some(n) => is_i64(n, tag, value),
+        None => tag == 0,
     }
 }
 
 fn i32_agrees(s: &[u8], tag: u8, value: u64) -> bool {
     match text::i32_of(s) {
-        I32Answer::Is(n) => is_i32(n, tag, value),
-        I32Answer::Absent => tag == 0,
+        Some(n) => is_i32(n, tag, value),
+        None => tag == 0,
     }
 }
 
 fn u64_agrees(s: &[u8], tag: u8, value: u64) -> bool {
     match text::u64_of(s) {
-        U64Answer::Is(n) => is_u64(n, tag, value),
-        U64Answer::Absent => tag == 0,
+        Some(n) => is_u64(n, tag, value),
+        None => tag == 0,
     }
 }
 
 fn u32_agrees(s: &[u8], tag: u8, value: u64) -> bool {
     match text::u32_of(s) {
-        U32Answer::Is(n) => is_u64(n as u64, tag, value),
-        U32Answer::Absent => tag == 0,
+        Some(n) => is_u64(n as u64, tag, value),
+        None => tag == 0,
     }
 }
 
 fn u16_agrees(s: &[u8], tag: u8, value: u64) -> bool {
     match text::u16_of(s) {
-        U16Answer::Is(n) => is_u64(n as u64, tag, value),
-        U16Answer::Absent => tag == 0,
+        Some(n) => is_u64(n as u64, tag, value),
+        None => tag == 0,
     }
 }
 
@@ -73,15 +71,15 @@ fn u16_agrees(s: &[u8], tag: u8, value: u64) -> bool {
 
 fn date_agrees(s: &[u8], tag: u8, value: u64) -> bool {
     match date::date_of(s) {
-        DateAnswer::Is(d) => is_i32(d.0, tag, value),
-        DateAnswer::Absent => tag == 0,
+        Some(d) => is_i32(d.0, tag, value),
+        None => tag == 0,
     }
 }
 
 fn time_agrees(s: &[u8], tag: u8, value: u64) -> bool {
     match number::time_of(s) {
-        TimeAnswer::Time(n) => is_u64(n as u64, tag, value),
-        TimeAnswer::Absent => tag == 0,
+        Some(n) => is_u64(n as u64, tag, value),
+        None => tag == 0,
     }
 }
 
@@ -94,17 +92,17 @@ fn duration_value(minutes: u32, whole: bool) -> u64 {
 
 fn duration_agrees(s: &[u8], tag: u8, value: u64) -> bool {
     match number::duration_of(s) {
-        DurationAnswer::Minutes(n, whole) => is_u64(duration_value(n, whole), tag, value),
-        DurationAnswer::Absent => tag == 0,
-        DurationAnswer::Long => tag == 3,
+        Ok(d) => is_u64(duration_value(d.minutes, d.whole), tag, value),
+        Err(Unread::Absent) => tag == 0,
+        Err(Unread::Long) => tag == 3,
     }
 }
 
 fn number_agrees(s: &[u8], tag: u8, value: u64) -> bool {
     match number::number_of(s) {
-        NumberAnswer::Value(x) => (tag == 1) & floats::has_bits(x, value),
-        NumberAnswer::Absent => tag == 0,
-        NumberAnswer::Long => tag == 3,
+        Ok(x) => (tag == 1) & floats::has_bits(x, value),
+        Err(Unread::Absent) => tag == 0,
+        Err(Unread::Long) => tag == 3,
     }
 }
 

@@ -2,7 +2,6 @@
 use Rattle.std.specs.Prelude.{ℕ, ℤ}
 use Rattle.std.specs.Prelude.{Option, Some, None}
 use Rattle.definition.specs.Link as D
-use Rattle.text.specs.Answers.{i64_of}
 use Rattle.tasks.specs.declared.link.Lag.{Lag}
 use Rattle.tasks.specs.declared.link.LagKind.{LagKind}
 use Rattle.tasks.specs.declared.link.LagKind.TheVariants as kind
@@ -14,4 +13,4 @@ lag_kind_means kind.Elapsed = (1, None)
 lag_kind_means (kind.Percent z) = (2, Some z)
 
 abbrev pub lag_means : Lag → D.Lag
-lag_means l = record { days = l.days; minutes = i64_of l.minutes; kind = lag_kind_means l.kind }
+lag_means l = record { days = l.days; minutes = l.minutes; kind = lag_kind_means l.kind }

@@ -5,8 +5,6 @@ use Rattle.definition.specs.Date.{Date}
 use Rattle.definition.specs.Answer.{day_number_of}
 use Rattle.tasks.specs.declared.task.Constraint.{Constraint}
 use Rattle.tasks.specs.declared.task.Constraint.TheVariants as constraint
-use Rattle.tasks.specs.declared.task.ConstraintAnswer.{ConstraintAnswer}
-use Rattle.tasks.specs.declared.task.ConstraintAnswer.TheVariants as answer
 
 -- MSPDI's code, and the day number of the date
 abbrev pub code_and_day : Constraint → ℕ × Option ℤ
@@ -18,9 +16,9 @@ code_and_day (constraint.StartOnOrBefore d) = (5, Some d.0)
 code_and_day (constraint.FinishOnOrAfter d) = (6, Some d.0)
 code_and_day (constraint.FinishOnOrBefore d) = (7, Some d.0)
 
-unfoldable pub constraint_means : ConstraintAnswer → Option (ℕ × Option ℤ)
-constraint_means (answer.Is c) = Some (code_and_day c)
-constraint_means answer.Absent = None
+unfoldable pub constraint_means : Option Constraint → Option (ℕ × Option ℤ)
+constraint_means (Some c) = Some (code_and_day c)
+constraint_means None = None
 
 -- a constraint of the definition, with the day number of its date
 unfoldable pub day_numbered : Option (ℕ × Option Date) → Option (ℕ × Option ℤ)

@@ -10,7 +10,7 @@ ghost use Rattle.tasks.specs.Link.{lag_means};
 
 use crate::task::{elapsed_format, format_of, percent_format};
 use crate::value::{least, quotient, remainder, signed};
-use text::{I64Answer, Signed};
+use text::{Signed};
 
 // Working time, elapsed time, or a share of the predecessor's duration in hundredths of a percent.
 #[derive(Clone, Copy)]
@@ -24,7 +24,7 @@ pub enum LagKind {
 #[derive(Clone, Copy)]
 pub struct Lag {
     pub days: i64,
-    pub minutes: I64Answer,
+    pub minutes: Option<i64>,
     pub kind: LagKind,
 }
 
@@ -44,13 +44,13 @@ fn working_lag(per_day: u64, negative: bool, minutes: u64) -> Lag
     if remainder(minutes, per_day) == 0 {
         return Lag {
             days: signed(negative, quotient(minutes, per_day)),
-            minutes: I64Answer::Absent,
+            minutes: None,
             kind: LagKind::Working,
         };
     }
     Lag {
         days: 0,
-        minutes: I64Answer::Is(signed(negative, minutes)),
+        minutes: Some(signed(negative, minutes)),
         kind: LagKind::Working,
     }
 }
@@ -62,14 +62,14 @@ fn lag_of(per_day: u64, format: u64, negative: bool, tenths: u64) -> Lag
     if percent_format(format) {
         return Lag {
             days: 0,
-            minutes: I64Answer::Absent,
+            minutes: None,
             kind: LagKind::Percent(signed(negative, least(tenths, 1000000) * 10)),
         };
     }
     if elapsed_format(format) {
         return Lag {
             days: 0,
-            minutes: I64Answer::Is(signed(negative, tenths / 10)),
+            minutes: Some(signed(negative, tenths / 10)),
             kind: LagKind::Elapsed,
         };
     }

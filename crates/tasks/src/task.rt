@@ -6,16 +6,13 @@ ghost use Rattle.definition.specs.Answer.{date_meaning};
 ghost use Rattle.definition.specs.Task.{not_below0, level_of, is_kept, unmarked, percent_format, elapsed_format, is_elapsed, is_fractional, per_day_from, per_day_of};
 ghost use Rattle.definition.specs.Task.{constraint_from, constraint_of, duration_type_from, duration_type_of, duration_days, duration_minutes};
 ghost use Rattle.definition.specs.Task.{under_way, remaining_of, percent_of};
-ghost use Rattle.text.specs.Answers.{i64_of};
 ghost use Rattle.tree.specs.Place.{element_at};
 ghost use Rattle.tree.specs.Root.{root_at};
 ghost use Rattle.fields.specs.Said.{whole_said};
 ghost use Rattle.tasks.specs.Task.{constraint_means, day_numbered};
 
 use crate::value::{quotient, remainder};
-use definition::{Date, DateAnswer};
-use fields::{FloatAnswer, MinutesAnswer};
-use text::I64Answer;
+use definition::{Date};
 use tree::Root;
 
 // MSPDI's codes 1 to 7.
@@ -30,18 +27,11 @@ pub enum Constraint {
     FinishOnOrBefore(Date),
 }
 
-// A constraint that may be missing.
-#[derive(Clone, Copy)]
-pub enum ConstraintAnswer {
-    Is(Constraint),
-    Absent,
-}
-
 // Minutes as days, rounded up, and the minutes themselves where they are not whole days.
 #[derive(Clone, Copy)]
 pub struct Parts {
     pub days: i64,
-    pub minutes: I64Answer,
+    pub minutes: Option<i64>,
 }
 
 // ---- the kept tasks
@@ -120,45 +110,45 @@ pub fn per_day(s: &[u8], root: Root) -> u64
     ensures { result ≡ per_day_of (root_at s.now root) }
 {
     match fields::number_at(s, root.minutes) {
-        FloatAnswer::Is(m) => day_from(m),
-        FloatAnswer::Absent => 480,
+        Some(m) => day_from(m),
+        None => 480,
     }
 }
 
 // ---- a constraint
 
-fn constraint_on(kind: u64, d: Date) -> ConstraintAnswer
+fn constraint_on(kind: u64, d: Date) -> Option<Constraint>
     ensures { constraint_means result ≡ constraint_from kind (Some d.0) }
 {
     match kind {
-        1 => ConstraintAnswer::Is(Constraint::AsLateAsPossible),
-        2 => ConstraintAnswer::Is(Constraint::StartOn(d)),
-        3 => ConstraintAnswer::Is(Constraint::FinishOn(d)),
-        4 => ConstraintAnswer::Is(Constraint::StartOnOrAfter(d)),
-        5 => ConstraintAnswer::Is(Constraint::StartOnOrBefore(d)),
-        6 => ConstraintAnswer::Is(Constraint::FinishOnOrAfter(d)),
-        7 => ConstraintAnswer::Is(Constraint::FinishOnOrBefore(d)),
-        _ => ConstraintAnswer::Absent,
+        1 => Some(Constraint::AsLateAsPossible),
+        2 => Some(Constraint::StartOn(d)),
+        3 => Some(Constraint::FinishOn(d)),
+        4 => Some(Constraint::StartOnOrAfter(d)),
+        5 => Some(Constraint::StartOnOrBefore(d)),
+        6 => Some(Constraint::FinishOnOrAfter(d)),
+        7 => Some(Constraint::FinishOnOrBefore(d)),
+        _ => None,
     }
 }
 
-fn constraint_by(kind: u64, a: DateAnswer) -> ConstraintAnswer
+fn constraint_by(kind: u64, a: Option<Date>) -> Option<Constraint>
     ensures { constraint_means result ≡ constraint_from kind (date_meaning a) }
 {
     match a {
-        DateAnswer::Is(d) => constraint_on(kind, d),
-        DateAnswer::Absent => {
+        Some(d) => constraint_on(kind, d),
+        None => {
             if kind == 1 {
-                ConstraintAnswer::Is(Constraint::AsLateAsPossible)
+                Some(Constraint::AsLateAsPossible)
             } else {
-                ConstraintAnswer::Absent
+                None
             }
         }
     }
 }
 
 // 1 is as late as possible and has no date; 2 to 7 need theirs.
-pub fn constraint_of(s: &[u8], at: usize) -> ConstraintAnswer
+pub fn constraint_of(s: &[u8], at: usize) -> Option<Constraint>
     ensures { constraint_means result ≡ day_numbered (constraint_of (element_at s.now at)) }
 {
     let kind = fields::unsigned_in(s, at, b"ConstraintType", 0, 0);
@@ -184,30 +174,30 @@ pub fn duration_type(s: &[u8], at: usize) -> u32
 }
 
 pub fn duration_parts(minutes: u32, day: u64) -> Parts
-    ensures { (result.days ≡ duration_days minutes day) × (i64_of result.minutes ≡ duration_minutes minutes day) }
+    ensures { (result.days ≡ duration_days minutes day) × (result.minutes ≡ duration_minutes minutes day) }
 {
     let n = minutes as u64;
     let whole = quotient(n, day);
     if remainder(n, day) == 0 {
         return Parts {
             days: whole as i64,
-            minutes: I64Answer::Absent,
+            minutes: None,
         };
     }
     Parts {
         days: (whole + 1) as i64,
-        minutes: I64Answer::Is(n as i64),
+        minutes: Some(n as i64),
     }
 }
 
 // ---- progress
 
-fn is_date(a: DateAnswer) -> bool
+fn is_date(a: Option<Date>) -> bool
     ensures { result ≡ given (date_meaning a) }
 {
     match a {
-        DateAnswer::Is(_) => true,
-        DateAnswer::Absent => false,
+        Some(_) => true,
+        None => false,
     }
 }
 
@@ -221,26 +211,26 @@ fn under_way(s: &[u8], at: usize) -> bool
 }
 
 // The minutes left, of a task that is under way.
-pub fn remaining_of(s: &[u8], at: usize) -> I64Answer
-    ensures { i64_of result ≡ remaining_of (element_at s.now at) }
+pub fn remaining_of(s: &[u8], at: usize) -> Option<i64>
+    ensures { result ≡ remaining_of (element_at s.now at) }
 {
     if under_way(s, at) {
         match fields::minutes_in(s, at, b"RemainingDuration") {
-            MinutesAnswer::Is(m) => I64Answer::Is(m as i64),
-            MinutesAnswer::Absent => I64Answer::Absent,
+            Some(m) => Some(m as i64),
+            None => None,
         }
     } else {
-        I64Answer::Absent
+        None
     }
 }
 
 // Hundredths of PhysicalPercentComplete, of one above 0 and up to 100.
-pub fn percent_of(s: &[u8], at: usize) -> I64Answer
-    ensures { i64_of result ≡ percent_of (element_at s.now at) }
+pub fn percent_of(s: &[u8], at: usize) -> Option<i64>
+    ensures { result ≡ percent_of (element_at s.now at) }
 {
     match fields::number_in(s, at, b"PhysicalPercentComplete") {
-        FloatAnswer::Is(p) => fields::hundredths_when((0.0 < p) & (p <= 100.0), p),
-        FloatAnswer::Absent => I64Answer::Absent,
+        Some(p) => fields::hundredths_when((0.0 < p) & (p <= 100.0), p),
+        None => None,
     }
 }
 

@@ -1,5 +1,6 @@
 -- What an answer of the readers up to a largest number says of a type of any width. Assumes nothing.
 use mathlib.Core.Path.{◌≡◌, sym, ap, subst, ◌∙◌}
+use Rattle.std.specs.Prelude.{Option}
 use Rattle.std.specs.Prelude.{Some, None}
 use Prim.Native.Nat.{ℕ, suc, ◌-◌, ◌^◌, ◌≤◌, ◌<◌}
 use native.Mathlib.Omega.{arith}
@@ -10,9 +11,7 @@ use mir.ValLaws.{bits-suc}
 use Rattle.definition.specs.Text.{Text, unsigned_of, signed_of}
 use Rattle.text.specs.Whole.{unsigned_to, signed_to, signed_to_lem, signed_least}
 use Rattle.text.proofs.Bounds.{unsigned_to_lem, unsigned_most, signed_most}
-use Rattle.text.specs.Answers.{u64_of, signed_means}
-use Rattle.text.specs.declared.U64Answer.{U64Answer}
-use Rattle.text.specs.declared.U64Answer.TheVariants as u64
+use Rattle.text.specs.Answers.{signed_means}
 use Rattle.text.specs.declared.Signed.{Signed}
 use Rattle.text.specs.declared.Signed.TheVariants as signed
 use Rattle.text.proofs.Edge.{above, below_fits, below_back}
@@ -20,18 +19,18 @@ use Rattle.text.proofs.Edge.{above, below_fits, below_back}
 under : (k most n : ℕ) → 2 ^ k ≡ suc most → n ≤ most → n < 2 ^ k
 under k most n full h = subst (λ (m : ℕ). n < m) (sym full) (omega arith)
 
-module _ (w : Width) (most : ℕ) (full : 2 ^ bits w ≡ suc most) (s : Text) (a : U64Answer) (e : u64_of a ≡ unsigned_to most s) where
-  pub whole : u64_of a ≡ unsigned_of (bits w) s
+module _ (w : Width) (most : ℕ) (full : 2 ^ bits w ≡ suc most) (s : Text) (a : Option ℕ) (e : a ≡ unsigned_to most s) where
+  pub whole : a ≡ unsigned_of (bits w) s
   whole = e ∙ sym (unsigned_to_lem (bits w) most full s)
 
-  pub is_fits : {n : ℕ} → a ≡ u64.Is n → Fits w n
-  is_fits {n} h = record { fits = under (bits w) most n full (unsigned_most most n s (sym (ap u64_of h) ∙ e)) }
+  pub is_fits : {n : ℕ} → a ≡ Some n → Fits w n
+  is_fits {n} h = record { fits = under (bits w) most n full (unsigned_most most n s (sym (h) ∙ e)) }
 
-  pub is : {n : ℕ} → a ≡ u64.Is n → Some n ≡ unsigned_of (bits w) s
-  is h = sym (ap u64_of h) ∙ whole
+  pub is : {n : ℕ} → a ≡ Some n → Some n ≡ unsigned_of (bits w) s
+  is h = sym (h) ∙ whole
 
-  pub is_absent : a ≡ u64.Absent → None ≡ unsigned_of (bits w) s
-  is_absent h = sym (ap u64_of h) ∙ whole
+  pub is_absent : a ≡ None → None ≡ unsigned_of (bits w) s
+  is_absent h = sym (h) ∙ whole
 
 module _ (w : Width) (most : ℕ) (half : 2 ^ hbits w ≡ suc most) (s : Text) (a : Signed) (e : signed_means a ≡ signed_to most s) where
   one_less : bits w - 1 ≡ hbits w

@@ -13,36 +13,6 @@ pub use utf8::is_utf8;
 pub use white::trim;
 pub use whole::{i32_of, i64_of, u16_of, u32_of, u64_of, whole_of, without_sign};
 
-#[derive(Clone, Copy)]
-pub enum U64Answer {
-    Is(u64),
-    Absent,
-}
-
-#[derive(Clone, Copy)]
-pub enum U32Answer {
-    Is(u32),
-    Absent,
-}
-
-#[derive(Clone, Copy)]
-pub enum U16Answer {
-    Is(u16),
-    Absent,
-}
-
-#[derive(Clone, Copy)]
-pub enum I64Answer {
-    Is(i64),
-    Absent,
-}
-
-#[derive(Clone, Copy)]
-pub enum I32Answer {
-    Is(i32),
-    Absent,
-}
-
 // A number with a sign: n, or -(n + 1).
 #[derive(Clone, Copy)]
 pub enum Signed {

@@ -2,11 +2,11 @@
 ghost use Rattle.std.specs.Prelude.{◌≡◌, ◌^◌, ◌≤◌, ◌<◌, pos, length};
 ghost use Rattle.definition.specs.Text.{sign_of, digits_after, unsigned_of, signed_of};
 ghost use Rattle.definition.specs.Number.{unsigned, with_sign};
-ghost use Rattle.text.specs.Answers.{u64_of, u32_of, u16_of, i64_of, i32_of, signed_means};
+ghost use Rattle.text.specs.Answers.{signed_means};
 ghost use Rattle.text.specs.Whole.{up_to, number_to, digits_to, unsigned_to, most_by, signed_to, signed, minus_of};
 
 use crate::parts::byte_at;
-use crate::{I32Answer, I64Answer, Signed, U16Answer, U32Answer, U64Answer};
+use crate::{Signed};
 
 fn wide(x: u8) -> u64
     ensures { result ≡ x }
@@ -26,9 +26,9 @@ pub fn without_sign(s: &[u8]) -> &[u8]
 }
 
 // The digits s, so few that their number fits.
-fn few_digits(s: &[u8]) -> U64Answer
+fn few_digits(s: &[u8]) -> Option<u64>
     requires { length s.now ≤ 18 }
-    ensures { u64_of result ≡ digits_after 0 s.now }
+    ensures { result ≡ digits_after 0 s.now }
 {
     let mut n: u64 = 0;
     let mut i = 0;
@@ -36,17 +36,17 @@ fn few_digits(s: &[u8]) -> U64Answer
         let b = s[i];
         let digit = (48 <= b) & (b <= 57);
         if !digit {
-            return U64Answer::Absent;
+            return None;
         }
         n = n * 10 + wide(b - 48);
         i += 1;
     }
-    U64Answer::Is(n)
+    Some(n)
 }
 
 // The digits s of a number that is at most `most`.
-fn many_digits(s: &[u8], most: u64) -> U64Answer
-    ensures { u64_of result ≡ digits_to most 0 s.now }
+fn many_digits(s: &[u8], most: u64) -> Option<u64>
+    ensures { result ≡ digits_to most 0 s.now }
 {
     let mut n: u64 = 0;
     let mut i = 0;
@@ -54,42 +54,42 @@ fn many_digits(s: &[u8], most: u64) -> U64Answer
         let b = s[i];
         let digit = (48 <= b) & (b <= 57);
         if !digit {
-            return U64Answer::Absent;
+            return None;
         }
         let d = wide(b - 48);
         if n > most / 10 {
-            return U64Answer::Absent;
+            return None;
         }
         if d > most - n * 10 {
-            return U64Answer::Absent;
+            return None;
         }
         n = n * 10 + d;
         i += 1;
     }
-    U64Answer::Is(n)
+    Some(n)
 }
 
-fn at_most(a: U64Answer, most: u64) -> U64Answer
-    ensures { u64_of result ≡ up_to most (u64_of a) }
+fn at_most(a: Option<u64>, most: u64) -> Option<u64>
+    ensures { result ≡ up_to most a }
 {
     match a {
-        U64Answer::Is(n) => {
+        Some(n) => {
             if n <= most {
-                U64Answer::Is(n)
+                Some(n)
             } else {
-                U64Answer::Absent
+                None
             }
         }
-        U64Answer::Absent => U64Answer::Absent,
+        None => None,
     }
 }
 
 // Digits, one at least, of a number that is at most `most`.
-fn number_to(s: &[u8], most: u64) -> U64Answer
-    ensures { u64_of result ≡ number_to most s.now }
+fn number_to(s: &[u8], most: u64) -> Option<u64>
+    ensures { result ≡ number_to most s.now }
 {
     if s.len() == 0 {
-        return U64Answer::Absent;
+        return None;
     }
     if s.len() <= 18 {
         return at_most(few_digits(s), most);
@@ -98,42 +98,42 @@ fn number_to(s: &[u8], most: u64) -> U64Answer
 }
 
 // The same with a `+` or none in front.
-fn unsigned_to(s: &[u8], most: u64) -> U64Answer
-    ensures { u64_of result ≡ unsigned_to most s.now }
+fn unsigned_to(s: &[u8], most: u64) -> Option<u64>
+    ensures { result ≡ unsigned_to most s.now }
 {
     if byte_at(s, 0) == 45 {
-        return U64Answer::Absent;
+        return None;
     }
     number_to(without_sign(s), most)
 }
 
 // n; and -n.
-fn upward(a: U64Answer) -> Signed
-    ensures { signed_means result ≡ signed pos (u64_of a) }
+fn upward(a: Option<u64>) -> Signed
+    ensures { signed_means result ≡ signed pos a }
 {
     match a {
-        U64Answer::Is(n) => Signed::Up(n),
-        U64Answer::Absent => Signed::Absent,
+        Some(n) => Signed::Up(n),
+        None => Signed::Absent,
     }
 }
 
-fn downward(a: U64Answer) -> Signed
-    ensures { signed_means result ≡ signed minus_of (u64_of a) }
+fn downward(a: Option<u64>) -> Signed
+    ensures { signed_means result ≡ signed minus_of a }
 {
     match a {
-        U64Answer::Is(n) => {
+        Some(n) => {
             if n == 0 {
                 Signed::Up(0)
             } else {
                 Signed::Down(n - 1)
             }
         }
-        U64Answer::Absent => Signed::Absent,
+        None => Signed::Absent,
     }
 }
 
-fn with_sign(minus: bool, a: U64Answer) -> Signed
-    ensures { signed_means result ≡ signed (with_sign minus) (u64_of a) }
+fn with_sign(minus: bool, a: Option<u64>) -> Signed
+    ensures { signed_means result ≡ signed (with_sign minus) a }
 {
     if minus {
         return downward(a);
@@ -162,27 +162,27 @@ fn signed_to(s: &[u8], most: u64) -> Signed
 }
 
 // The whole number that a text is, as Rust's `parse` reads it for the type.
-pub fn u64_of(s: &[u8]) -> U64Answer
-    ensures { u64_of result ≡ unsigned_of 64 s.now }
+pub fn u64_of(s: &[u8]) -> Option<u64>
+    ensures { result ≡ unsigned_of 64 s.now }
 {
     unsigned_to(s, 18446744073709551615)
 }
 
-pub fn u32_of(s: &[u8]) -> U32Answer
-    ensures { u32_of result ≡ unsigned_of 32 s.now }
+pub fn u32_of(s: &[u8]) -> Option<u32>
+    ensures { result ≡ unsigned_of 32 s.now }
 {
     match unsigned_to(s, 4294967295) {
-        U64Answer::Is(n) => U32Answer::Is(n as u32),
-        U64Answer::Absent => U32Answer::Absent,
+        Some(n) => Some(n as u32),
+        None => None,
     }
 }
 
-pub fn u16_of(s: &[u8]) -> U16Answer
-    ensures { u16_of result ≡ unsigned_of 16 s.now }
+pub fn u16_of(s: &[u8]) -> Option<u16>
+    ensures { result ≡ unsigned_of 16 s.now }
 {
     match unsigned_to(s, 65535) {
-        U64Answer::Is(n) => U16Answer::Is(n as u16),
-        U64Answer::Absent => U16Answer::Absent,
+        Some(n) => Some(n as u16),
+        None => None,
     }
 }
 
@@ -192,22 +192,22 @@ pub fn whole_of(s: &[u8]) -> Signed
     signed_to(s, 9223372036854775807)
 }
 
-pub fn i64_of(s: &[u8]) -> I64Answer
-    ensures { i64_of result ≡ signed_of 64 s.now }
+pub fn i64_of(s: &[u8]) -> Option<i64>
+    ensures { result ≡ signed_of 64 s.now }
 {
     match signed_to(s, 9223372036854775807) {
-        Signed::Up(n) => I64Answer::Is(n as i64),
-        Signed::Down(n) => I64Answer::Is(-1 - (n as i64)),
-        Signed::Absent => I64Answer::Absent,
+        Signed::Up(n) => Some(n as i64),
+        Signed::Down(n) => Some(-1 - (n as i64)),
+        Signed::Absent => None,
     }
 }
 
-pub fn i32_of(s: &[u8]) -> I32Answer
-    ensures { i32_of result ≡ signed_of 32 s.now }
+pub fn i32_of(s: &[u8]) -> Option<i32>
+    ensures { result ≡ signed_of 32 s.now }
 {
     match signed_to(s, 2147483647) {
-        Signed::Up(n) => I32Answer::Is(n as i32),
-        Signed::Down(n) => I32Answer::Is(-1 - (n as i32)),
-        Signed::Absent => I32Answer::Absent,
+        Signed::Up(n) => Some(n as i32),
+        Signed::Down(n) => Some(-1 - (n as i32)),
+        Signed::Absent => None,
     }
 }

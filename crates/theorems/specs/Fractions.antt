@@ -1,5 +1,7 @@
 -- The fourth count of a project: how many kept tasks have a duration that was not whole minutes, by the sum of its figures. Assumes nothing.
 use Rattle.std.specs.Prelude.{if◌then◌else◌, ◌≡◌, Bool, ◌≤◌, T, length, Float}
+use Rattle.definition.specs.declared.Unread.TheVariants.{Absent, Long}
+use Rattle.std.specs.Prelude.{Err, Ok}
 use Rattle.std.proofs.Math.Path.{refl, ap}
 use Rattle.std.proofs.Common.{sym, subst, arith}
 use Rattle.std.proofs.Math.Bool.{true, false, not}
@@ -7,7 +9,7 @@ use Rattle.std.specs.Prelude.{Option, Some, None}
 use Rattle.std.specs.Float.Ieee.{le}
 use Rattle.definition.specs.Base.{◌>>=◌, keep, when}
 use Rattle.definition.specs.Text.{Text, trim}
-use Rattle.definition.specs.Number.{Reading, absent, long, value, float, half_away, found}
+use Rattle.definition.specs.Number.{Reading, float, half_away, found}
 use Rattle.definition.specs.Duration.{◌then◌, figures_of, total_of, most_minutes, duration_at, duration_from, duration_of}
 use Rattle.definition.specs.declared.Figures.{Figures}
 use Rattle.definition.specs.Tree.{Element}
@@ -29,7 +31,7 @@ module _ (f : Figures) (h : T (not_below f)) where
   unfolding duration_from
   sum_is = by (le (total_of f) (float most_minutes)) refl
     where
-      by : (t : Bool) → le (total_of f) (float most_minutes) ≡ t → not_whole (found (if t then value (duration_at (total_of f)) else absent)) ≡ in_part (when t (total_of f))
+      by : (t : Bool) → le (total_of f) (float most_minutes) ≡ t → not_whole (found (if t then Ok (duration_at (total_of f)) else (Err Absent))) ≡ in_part (when t (total_of f))
       by true e = ap (λ (w : Bool). not w) (sym (eq_whole (total_of f) (total_least f h) (half_away (total_of f)) refl (omega (arith, most e))))
       by false e = refl
 
@@ -40,9 +42,9 @@ unfolding duration_of
 text_is s = by (figures_of (trim s)) (figures_least (trim s))
   where
     by : (r : Reading Figures) → T (none_below r) → not_whole (found (r then duration_from)) ≡ in_part (found r >>= λ f. when (le (total_of f) (float most_minutes)) (total_of f))
-    by absent h = refl
-    by long h = refl
-    by (value f) h = sum_is f h
+    by (Err Absent) h = refl
+    by (Err Long) h = refl
+    by (Ok f) h = sum_is f h
 
 pub is_in_part : (t : Element) → is_fractional t ≡ in_part (sum_in t)
 unfolding is_fractional

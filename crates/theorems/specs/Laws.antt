@@ -1,5 +1,7 @@
 -- Laws of the definitions of texts, of number texts and of the pieces of a duration. Assumes nothing.
 use Rattle.std.specs.Prelude.{if◌then◌else◌, ◌≡◌, refl, Bool, true, false, ◌||◌, [], ◌∷◌, ◌++◌, reverse, ℕ, zero, suc, ◌+◌, ◌-◌, ◌*◌, ◌/◌, ◌%◌, ◌^◌, ◌≤◌, ◌<◌, leb, ltb, eqb, length, get_or}
+use Rattle.definition.specs.declared.Unread.TheVariants.{Long}
+use Rattle.std.specs.Prelude.{Err, Ok}
 use Rattle.std.proofs.Common.{sym, ap, ◌∙◌, append-nil, append_assoc, mul-one, pow-suc, div-lt_iff_lt-mul, arith, leb-true, ltb-true, eqb-true, le-leb, lt-ltb, ne_eqb}
 use Rattle.std.proofs.Math.Bool.{and-false}
 use Rattle.std.proofs.lemmas.List.{reverse-append, reverse-reverse}
@@ -9,7 +11,7 @@ use Rattle.std.specs.Float.Ieee.{round}
 use Rattle.std.specs.Float.{binary64}
 use Rattle.definition.specs.Base.{◌>>=◌}
 use Rattle.definition.specs.Text.{Text, white1, front_width, back_width, strip, trim_front, trim_back, trim, before, after, is_digit, digits_after, digits, bare, sign_of, unsigned_of}
-use Rattle.definition.specs.Number.{long, value, is_dot, is_e, decimal_of, most_digits, short?, nearest, number_of, float, zero_float}
+use Rattle.definition.specs.Number.{is_dot, is_e, decimal_of, most_digits, short?, nearest, number_of, float, zero_float}
 use Rattle.definition.specs.Duration.{is_unit, set_unit, piece_of, ◌then◌, time_figures, decimal_up, decimal}
 use Rattle.definition.specs.Time.{two_digits}
 use Rattle.definition.specs.declared.Figures.{Figures}
@@ -200,18 +202,18 @@ unfolding round
 float_zero = refl
 
 -- a number in digits alone is the float of it
-pub number_digits : (s : Text) (n : ℕ) → digits s ≡ Some n → n < 10 ^ most_digits → number_of s ≡ value (float n)
+pub number_digits : (s : Text) (n : ℕ) → digits s ≡ Some n → n < 10 ^ most_digits → number_of s ≡ Ok (float n)
 unfolding number_of short? nearest
 number_digits s n h l = rw (digits_bare s n h, decimal_of_digits s n h, lt-ltb n (10 ^ most_digits) l) (go (eqb n 0) refl)
   where
-    go : (t : Bool) → eqb n 0 ≡ t → (if t || true then value (if t then zero_float else round binary64 false (n * 1) 1) else long) ≡ value (float n)
-    go true e = ap value (sym (ap float (eqb-true n 0 e) ∙ float_zero))
+    go : (t : Bool) → eqb n 0 ≡ t → (if t || true then Ok (if t then zero_float else round binary64 false (n * 1) 1) else (Err Long)) ≡ Ok (float n)
+    go true e = ap Ok (sym (ap float (eqb-true n 0 e) ∙ float_zero))
     go false e = rw mul-one
 
 -- ---- the pieces of a duration
 
 -- a number in digits alone
-pub piece_digits : (s : Text) (n : ℕ) → digits s ≡ Some n → n < 10 ^ most_digits → piece_of s ≡ value (float n)
+pub piece_digits : (s : Text) (n : ℕ) → digits s ≡ Some n → n < 10 ^ most_digits → piece_of s ≡ Ok (float n)
 unfolding piece_of
 piece_digits s n h l = rw (number_digits s n h l, le_whole zero_float (float n) 0 n (refl, refl) (float_whole n (omega arith)) (omega arith))
 

@@ -1,12 +1,13 @@
 -- The texts of minutes and of times are read back. Assumes nothing.
 use Rattle.std.specs.Prelude.{◌≡◌, refl, Bool, true, false, [], ◌∷◌, ◌++◌, ℕ, ◌+◌, ◌*◌, ◌/◌, ◌%◌, ◌^◌, ◌≤◌, ◌<◌, Float}
+use Rattle.std.specs.Prelude.{Ok}
 use Rattle.std.proofs.Common.{ap, ◌∙◌, subst, append_assoc, arith, le-leb, lt-ltb, ne_eqb}
 use Rattle.std.specs.Prelude.{Some}
 use Rattle.std.specs.Float.{binary64}
 use Rattle.std.specs.Float.Ieee.{round, mul, div}
 use Rattle.definition.specs.Ascii.{bytes}
 use Rattle.definition.specs.Text.{Text, trim, before, after, digits, digits_after}
-use Rattle.definition.specs.Number.{value, zero_float, float, half_away}
+use Rattle.definition.specs.Number.{zero_float, float, half_away}
 use Rattle.definition.specs.Duration.{is_unit, set_unit, piece_of, time_figures, days_of, figures_of, total_of, most_minutes, duration_from, duration_of, decimal, duration_text}
 use Rattle.definition.specs.Time.{most_time, is_colon, time_parts, time_of, two_digits, time_text}
 use Rattle.definition.specs.declared.Figures.{Figures}
@@ -37,28 +38,28 @@ total_whole h m l =
     (add_whole (float (0 + h * 60 + m)) zero_float (0 + h * 60 + m) 0 (whole (0 + h * 60 + m) (omega arith)) (refl, refl)
     ∙ ap float (omega arith))))
 
-minutes_whole : (h m : ℕ) → h * 60 + m ≤ most_minutes → duration_from (figures (float h) (float m)) ≡ value (record { minutes = h * 60 + m; whole = true })
+minutes_whole : (h m : ℕ) → h * 60 + m ≤ most_minutes → duration_from (figures (float h) (float m)) ≡ Ok (record { minutes = h * 60 + m; whole = true })
 unfolding duration_from
 minutes_whole h m l =
     let n = h * 60 + m in
     let w : IsWhole (float n) n = float_whole n (omega arith) in
     rw (total_whole h m l, le_whole (float n) (float most_minutes) n most_minutes w (float_whole most_minutes (omega arith)) l)
-    (ap (λ (b : Bool). value (record { minutes = half_away (float n); whole = b })) (is_whole_whole (float n) n w)
-    ∙ ap (λ (k : ℕ). value (record { minutes = k; whole = true })) (half_away_whole (float n) n w))
+    (ap (λ (b : Bool). Ok (record { minutes = half_away (float n); whole = b })) (is_whole_whole (float n) n w)
+    ∙ ap (λ (k : ℕ). Ok (record { minutes = k; whole = true })) (half_away_whole (float n) n w))
 
 no_unit : (b : ℕ) → 48 ≤ b → b ≤ 57 → is_unit b ≡ false
 no_unit b l u = rw (ne_eqb 72 b (λ e. omega arith), ne_eqb 77 b (λ e. omega arith), ne_eqb 83 b (λ e. omega arith))
 
-piece_zero : piece_of (bytes "0") ≡ value zero_float
+piece_zero : piece_of (bytes "0") ≡ Ok zero_float
 unfolding digits digits_after
-piece_zero = piece_digits (bytes "0") 0 refl (omega arith) ∙ ap value float_zero
+piece_zero = piece_digits (bytes "0") 0 refl (omega arith) ∙ ap Ok float_zero
 
 -- hours and minutes as a text
 abbrev clock : Text → Text → Text
 clock x y = bytes "PT" ++ (x ++ (bytes "H" ++ (y ++ bytes "M0S")))
 
 figures_clock : (x y : Text) (h m : ℕ) → digits x ≡ Some h → digits y ≡ Some m → h < 10 ^ 15 → m < 10 ^ 15
-    → figures_of (clock x y) ≡ value (figures (float h) (float m))
+    → figures_of (clock x y) ≡ Ok (figures (float h) (float m))
 unfolding figures_of before after days_of time_figures set_unit figures
 figures_clock x y h m p q a b =
     figures_piece 72 (y ++ bytes "M0S") [] (figures zero_float zero_float) (digits_free no_unit x h p) refl
@@ -73,7 +74,7 @@ trim_clock x y =
     subst (λ (t : Text). trim t ≡ t) e (trim_ends 80 inner 83 (record { ascii = omega arith; black = refl }) (record { ascii = omega arith; black = refl }))
 
 -- the text of minutes is read back, as whole minutes
-pub duration_back : (n : ℕ) → n ≤ most_minutes → duration_of (duration_text n) ≡ value (record { minutes = n; whole = true })
+pub duration_back : (n : ℕ) → n ≤ most_minutes → duration_of (duration_text n) ≡ Ok (record { minutes = n; whole = true })
 unfolding duration_of duration_text
 duration_back n l =
     let h = n / 60 in
@@ -81,7 +82,7 @@ duration_back n l =
     let x = digits_decimal h (omega arith) in
     let y = digits_decimal m (omega arith) in
     rw (trim_clock (decimal h) (decimal m), figures_clock (decimal h) (decimal m) h m x y (omega arith) (omega arith))
-    (minutes_whole h m (omega arith) ∙ ap (λ (k : ℕ). value (record { minutes = k; whole = true })) (omega arith))
+    (minutes_whole h m (omega arith) ∙ ap (λ (k : ℕ). Ok (record { minutes = k; whole = true })) (omega arith))
 
 -- ---- times
 

@@ -1,5 +1,6 @@
 -- The walk over a project's children: what is noted so far, and what is left. Assumes nothing.
 use Rattle.std.specs.Prelude.{if◌then◌else◌}
+use Rattle.std.specs.Prelude.{None}
 use Prim.Native.Nat.{ℕ, ◌+◌, ◌<◌}
 use native.Mathlib.Omega.{arith}
 use mathlib.Core.Path.{◌≡◌, refl, sym, ap, ◌∙◌, subst}
@@ -15,7 +16,6 @@ use Rattle.definition.specs.Tree.{Element, size, child}
 use Rattle.tree.specs.Place.{head_at, records_at, under, element_at, list_of}
 use Rattle.tree.specs.Root.{note_at, Notes, Parts, Stands}
 use Rattle.tree.specs.declared.Head.TheVariants.{Whole, Cut}
-use Rattle.tree.specs.declared.Found.TheVariants.{At, Nothing}
 use Rattle.tree.specs.declared.root.Root.{Root}
 use Rattle.tree.proofs.Heads.{part, bounds}
 use Rattle.tree.proofs.Rows.{row, row_cut, row_end, row_hit, row_miss, row_under, name_whole, all_cut, all_row}
@@ -63,7 +63,7 @@ module _ (P Q : Text → ℕ → Type 0) where
 abbrev Left : Text → ℕ → ℕ → ℕ → Text → ℕ → Type 0
 Left s w from p n x = first (row s n w from) ≡ (if ltb x (length s) then Some (element_at s x) else first (row s n w p))
 
-first_hit : (s n : Text) (p : ℕ) {l : List Element} → l ≡ list_of s n (At p) → first l ≡ Some (element_at s p)
+first_hit : (s n : Text) (p : ℕ) {l : List Element} → l ≡ list_of s n (Some p) → first l ≡ Some (element_at s p)
 unfolding first list_of
 first_hit s n p e = rw e
 
@@ -71,7 +71,7 @@ module _ (s : Text) (w from : ℕ) where
   left_all : (n : Text) (x : ℕ) → x ≡ length s → Left s w from from n x
   left_all n x e = rw (e, le-ltb (length s) (length s) (omega arith))
 
-  left_end : (p : ℕ) (n : Text) (x : ℕ) → row s n w p ≡ list_of s n Nothing → Left s w from p n x → Stands s x (first (row s n w from))
+  left_end : (p : ℕ) (n : Text) (x : ℕ) → row s n w p ≡ list_of s n None → Left s w from p n x → Stands s x (first (row s n w from))
   unfolding first list_of
   left_end p n x e h = record { is = h ∙ ap (λ (o : Option Element). if ltb x (length s) then Some (element_at s x) else o) (ap (λ l. first l) e) }
 

@@ -1,5 +1,9 @@
 -- The passes over all records, by the head at a position; and the refusals in their order. Assumes nothing.
 use mathlib.Core.Path.{◌≡◌, refl, sym, ◌∙◌}
+use Rattle.definition.specs.declared.Duration.{Duration}
+use Rattle.definition.specs.declared.Unread.{Unread}
+use Rattle.definition.specs.declared.Unread.TheVariants.{Absent, Long}
+use Rattle.std.specs.Prelude.{Err, Float, None, Ok, Result, Some}
 use mathlib.Core.List.{List, [], ◌∷◌}
 use mathlib.Core.Bool.{Bool, true, false, ◌||◌, or-false}
 use Prim.Native.Nat.{ℕ, ◌≤◌, ◌<◌}
@@ -13,16 +17,11 @@ use Rattle.definition.specs.Text.{Text, is_utf8, trim}
 use Rattle.definition.specs.Number.{number_of}
 use Rattle.definition.specs.Tree.{Rec, records, layout, element, deeper, below_root}
 use Rattle.definition.specs.Duration.{duration_of}
-use Rattle.number.specs.Number.{meaning, number_refusal}
-use Rattle.number.specs.Duration.{meaning as minutes, duration_refusal}
-use Rattle.number.specs.declared.duration.DurationAnswer.{DurationAnswer}
-use Rattle.number.specs.declared.duration.DurationAnswer.TheVariants as duration
-use Rattle.number.specs.declared.decimal.NumberAnswer.{NumberAnswer}
-use Rattle.number.specs.declared.decimal.NumberAnswer.TheVariants as number
+use Rattle.number.specs.Number.{number_refusal}
+use Rattle.number.specs.Duration.{duration_refusal}
 use Rattle.tree.specs.Place.{head_at, verdict, verdict_refusal, records_at, element_at}
 use Rattle.definition.specs.Refusal.{utf8?, project?, long?, number_names, duration_names, long_in, too_long, tree_refusal, most_elements}
 use Rattle.tree.specs.declared.Head.TheVariants.{Whole, Cut}
-use Rattle.tree.specs.declared.Verdict.TheVariants.{Fine, Broken}
 use Rattle.tree.proofs.Heads.{part, bounds, records_cut}
 
 -- ---- UTF-8
@@ -88,23 +87,23 @@ unfolding element project? same
 project_is [] = refl
 project_is (r ∷ rs) = refl
 
-verdict_fine : (s : Text) → layout s ≡ true → verdict s ≡ Fine (length (records s))
+verdict_fine : (s : Text) → layout s ≡ true → verdict s ≡ Some (length (records s))
 unfolding verdict
 verdict_fine s h = rw h
 
-verdict_broken : (s : Text) → layout s ≡ false → verdict s ≡ Broken
+verdict_broken : (s : Text) → layout s ≡ false → verdict s ≡ None
 unfolding verdict
 verdict_broken s h = rw h
 
 -- what a verdict tells of the layout
-broken_is : (s : Text) → verdict s ≡ Broken → layout s ≡ false
+broken_is : (s : Text) → verdict s ≡ None → layout s ≡ false
 broken_is s h = go (layout s) refl
   where
     go : (x : Bool) → layout s ≡ x → layout s ≡ false
     go true e = let f = verdict_fine s e in let z : ◌≡◌ {A = ℕ} 0 1 = cc in absurd (omega arith)
     go false e = e
 
-fine_is : (s : Text) {n : ℕ} → verdict s ≡ Fine n → (layout s ≡ true) × (length (records s) ≡ n)
+fine_is : (s : Text) {n : ℕ} → verdict s ≡ Some n → (layout s ≡ true) × (length (records s) ≡ n)
 fine_is s {n} h = go (layout s) refl
   where
     go : (x : Bool) → layout s ≡ x → (layout s ≡ true) × (length (records s) ≡ n)
@@ -112,11 +111,11 @@ fine_is s {n} h = go (layout s) refl
     go false e = let f = verdict_broken s e in let z : ◌≡◌ {A = ℕ} 0 1 = cc in absurd (omega arith)
 
 module _ (s : Text) where
-  pub refused_1 : verdict s ≡ Broken → verdict_refusal Broken ≡ tree_refusal s
+  pub refused_1 : verdict s ≡ None → verdict_refusal None ≡ tree_refusal s
   unfolding tree_refusal
   refused_1 v = rw (broken_is s v)
 
-  module _ {n : ℕ} (v : verdict s ≡ Fine n) where
+  module _ {n : ℕ} (v : verdict s ≡ Some n) where
     pub refused_2 : utf8_from s 0 ≡ false → 2 ≡ tree_refusal s
     unfolding tree_refusal
     refused_2 u = rw ((fine_is s v).0, u)
@@ -156,25 +155,25 @@ module _ (p : Text → Bool) where
   some_last n h = rw h (sym (or-false (p n)))
 
 -- a reading refuses where the number is too long
-number_long : (a : NumberAnswer) → eqb (number_refusal a) 5 ≡ long? (meaning a)
+number_long : (a : Result Float Unread) → eqb (number_refusal a) 5 ≡ long? a
 unfolding long?
-number_long number.Absent = refl
-number_long number.Long = refl
-number_long (number.Value x) = refl
+number_long (Err Absent) = refl
+number_long (Err Long) = refl
+number_long (Ok x) = refl
 
-duration_long : (a : DurationAnswer) → eqb (duration_refusal a) 5 ≡ long? (minutes a)
+duration_long : (a : Result Duration Unread) → eqb (duration_refusal a) 5 ≡ long? a
 unfolding long?
-duration_long duration.Absent = refl
-duration_long duration.Long = refl
-duration_long (duration.Minutes n w) = refl
+duration_long (Err Absent) = refl
+duration_long (Err Long) = refl
+duration_long (Ok (record { minutes = n; whole = w })) = refl
 
 module _ (name text : Text) where
-  pub as_number : (a : NumberAnswer) {u : Text} {r : ℕ} → some? (same name) number_names ≡ true → u ≡ trim text → meaning a ≡ number_of u → r ≡ number_refusal a
+  pub as_number : (a : Result Float Unread) {u : Text} {r : ℕ} → some? (same name) number_names ≡ true → u ≡ trim text → a ≡ number_of u → r ≡ number_refusal a
       → eqb r 5 ≡ long_in name text
   unfolding long_in
   as_number a h e m k = rw (k, h, ← e, ← m) (number_long a)
 
-  pub as_duration : (a : DurationAnswer) {r : ℕ} → some? (same name) number_names ≡ false → some? (same name) duration_names ≡ true → minutes a ≡ duration_of text
+  pub as_duration : (a : Result Duration Unread) {r : ℕ} → some? (same name) number_names ≡ false → some? (same name) duration_names ≡ true → a ≡ duration_of text
       → r ≡ duration_refusal a → eqb r 5 ≡ long_in name text
   unfolding long_in
   as_duration a h i m k = rw (k, h, i, ← m) (duration_long a)

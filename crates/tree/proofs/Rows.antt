@@ -1,5 +1,6 @@
 -- The elements of a name in a row, by the head at a position. Assumes nothing.
 use mathlib.Core.Path.{◌≡◌, refl, ◌∙◌}
+use Rattle.std.specs.Prelude.{None, Option, Some}
 use mathlib.Core.Logic.{◌⊎◌, inl, inr}
 use mathlib.Core.List.{List, [], ◌∷◌}
 use mathlib.Core.Bool.{Bool, true, false}
@@ -15,8 +16,6 @@ use Rattle.tree.specs.Place.{head_at, records_at, under, after, element_at, name
 use Rattle.tree.specs.Answer.{found_child, none_child}
 use Rattle.tree.specs.Root.{own_text}
 use Rattle.tree.specs.declared.Head.TheVariants.{Whole, Cut}
-use Rattle.tree.specs.declared.Found.{Found}
-use Rattle.tree.specs.declared.Found.TheVariants.{At, Nothing}
 use Rattle.tree.proofs.Heads.{le_or_lt, part, bounds, records_cut}
 use Rattle.tree.proofs.Walk.{records_after}
 
@@ -37,16 +36,16 @@ abbrev pub row : Text → Text → ℕ → ℕ → List Element
 row s n w at = named n (level w (records_at s at))
 
 module _ (s n : Text) (w at : ℕ) where
-  pub row_cut : head_at s at ≡ Cut → row s n w at ≡ list_of s n Nothing
+  pub row_cut : head_at s at ≡ Cut → row s n w at ≡ list_of s n None
   unfolding level elements keep list_of
   row_cut h = rw (records_cut s at h)
 
   module _ {d a b e : ℕ} (h : head_at s at ≡ Whole d a b e) where
-    pub row_end : d < w → row s n w at ≡ list_of s n Nothing
+    pub row_end : d < w → row s n w at ≡ list_of s n None
     unfolding level elements keep list_of
     row_end q = rw (bounds s at h).here (simp (lt-ltb _ _ q))
 
-    pub row_hit : d ≡ w → same (part s a b) n ≡ true → row s n w at ≡ list_of s n (At at)
+    pub row_hit : d ≡ w → same (part s a b) n ≡ true → row s n w at ≡ list_of s n (Some at)
     unfolding level elements keep list_of element siblings
     row_hit q i = rw (← q, (bounds s at h).here) (simp (le-ltb d d (omega arith), eq-eqb d d refl, i))
 
@@ -87,21 +86,21 @@ unfolding same
 empty_is s [] at h = rw (← name_cut s at h)
 empty_is s (x ∷ n) at h = rw (← name_cut s at h) (ne_eqb (suc (length n)) 0 (λ q. omega arith))
 
-past_more : (s : Text) {from m : ℕ} (r : Found) → m ≤ from → Past s from r → Past s m r
+past_more : (s : Text) {from m : ℕ} (r : Option ℕ) → m ≤ from → Past s from r → Past s m r
 unfolding Past
-past_more s Nothing q h = tt
-past_more s (At p) q h = (omega arith, h.1)
+past_more s None q h = tt
+past_more s (Some p) q h = (omega arith, h.1)
 
 -- the same list, named otherwise, and from an earlier place on
-starts_also : {s n : Text} {l k : List Element} {from m : ℕ} {r : Found} → k ≡ l → m ≤ from → Starts s n l from r → Starts s n k m r
+starts_also : {s n : Text} {l k : List Element} {from m : ℕ} {r : Option ℕ} → k ≡ l → m ≤ from → Starts s n l from r → Starts s n k m r
 starts_also e q h = record { is = e ∙ h.is; on = past_more _ _ q h.on }
 
 module _ (s n : Text) (at : ℕ) where
-  pub all_cut : head_at s at ≡ Cut → Starts s n (all (element_at s at) n) (at + 1) Nothing
+  pub all_cut : head_at s at ≡ Cut → Starts s n (all (element_at s at) n) (at + 1) None
   unfolding all element elements keep list_of Past
   all_cut h = record { is = rw (records_cut s at h); on = tt }
 
-  pub later_cut : head_at s at ≡ Cut → Starts s n (later_at s n at) (at + 1) Nothing
+  pub later_cut : head_at s at ≡ Cut → Starts s n (later_at s n at) (at + 1) None
   unfolding siblings elements keep list_of Past
   later_cut h = record { is = rw (records_cut s at h); on = tt }
 
@@ -117,10 +116,10 @@ module _ (s n : Text) (at : ℕ) where
     beyond : at + 1 ≤ e
     beyond = omega (arith, bounds s at h)
 
-    pub all_whole : {r : Found} → Starts s n (row s n (d + 1) e) e r → Starts s n (all (element_at s at) n) (at + 1) r
+    pub all_whole : {r : Option ℕ} → Starts s n (row s n (d + 1) e) e r → Starts s n (all (element_at s at) n) (at + 1) r
     all_whole = starts_also all_row beyond
 
-    pub later_whole : {r : Found} → Starts s n (row s n d e) e r → Starts s n (later_at s n at) (at + 1) r
+    pub later_whole : {r : Option ℕ} → Starts s n (row s n d e) e r → Starts s n (later_at s n at) (at + 1) r
     later_whole = starts_also later_row beyond
 
 pub name_is : (s n : Text) (at : ℕ) {d a b e : ℕ} {r : Bool} → head_at s at ≡ Whole d a b e → r ≡ same (part s a b) n → r ≡ same (element_at s at).name n
@@ -135,11 +134,11 @@ non_empty_lem (b ∷ t) = refl
 pub own_trimmed : (e : Element) {t u : Text} → t ≡ e.text → u ≡ trim t → u ≡ (own_text e or [])
 own_trimmed e i k = k ∙ rw i (non_empty_lem _)
 
-module _ {s n : Text} (e : Element) {m : ℕ} {r : Found} (h : Starts s n (all e n) m r) where
-  pub text_none : r ≡ Nothing → [] ≡ (text_of e n or [])
+module _ {s n : Text} (e : Element) {m : ℕ} {r : Option ℕ} (h : Starts s n (all e n) m r) where
+  pub text_none : r ≡ None → [] ≡ (text_of e n or [])
   unfolding text_of
   text_none q = rw (none_child e h q)
 
-  pub text_found : {p : ℕ} {u : Text} → r ≡ At p → u ≡ (own_text (element_at s p) or []) → u ≡ (text_of e n or [])
+  pub text_found : {p : ℕ} {u : Text} → r ≡ Some p → u ≡ (own_text (element_at s p) or []) → u ≡ (text_of e n or [])
   unfolding text_of
   text_found q k = k ∙ rw (found_child e h q)

@@ -1,5 +1,6 @@
 -- Walking the records: the layout's verdict by what is left, and where an element with all below it ends. Assumes nothing.
 use Rattle.std.specs.Prelude.{if◌then◌else◌}
+use Rattle.std.specs.Prelude.{None, Option, Some}
 use mathlib.Core.Path.{◌≡◌, refl, ap, sym, ◌∙◌}
 use mathlib.Core.Logic.{◌⊎◌, inl, inr}
 use mathlib.Core.List.{List, [], ◌∷◌, ◌++◌}
@@ -15,8 +16,6 @@ use Rattle.definition.specs.Tree.{Rec, right_at, right, size, layout}
 use Rattle.tree.specs.Place.{head_at, verdict, records_at, under, after}
 use Rattle.tree.specs.declared.Head.{Head}
 use Rattle.tree.specs.declared.Head.TheVariants.{Whole, Cut}
-use Rattle.tree.specs.declared.Verdict.{Verdict}
-use Rattle.tree.specs.declared.Verdict.TheVariants.{Fine, Broken}
 use Rattle.tree.proofs.Heads.{le_or_lt, part, rec_of, bounds, records_cut}
 
 -- a part of the bytes is as long as it says
@@ -38,27 +37,27 @@ module _ (s : Text) (at : ℕ) {d a b e : ℕ} (h : head_at s at ≡ Whole d a b
 -- ---- the layout
 
 -- the verdict, after a record of depth p and n records, by the records that are left at a position
-unfoldable pub verdict_from : ℕ → ℕ → ℕ → List Rec → ℕ → Verdict
-verdict_from p n at rs len = if right p rs && eqb (at + size rs) len then Fine (n + length rs) else Broken
+unfoldable pub verdict_from : ℕ → ℕ → ℕ → List Rec → ℕ → Option ℕ
+verdict_from p n at rs len = if right p rs && eqb (at + size rs) len then Some (n + length rs) else None
 
 pub verdict_all : (s : Text) → verdict s ≡ verdict_from 0 0 0 (records_at s 0) (length s)
 unfolding verdict verdict_from layout
 verdict_all s = simp zero-add
 
 module _ (p n : ℕ) (s : Text) (at : ℕ) where
-  abbrev pub left : Verdict
+  abbrev pub left : Option ℕ
   left = verdict_from p n at (records_at s at) (length s)
 
-  pub left_fine : head_at s at ≡ Cut → at ≡ length s → left ≡ Fine n
+  pub left_fine : head_at s at ≡ Cut → at ≡ length s → left ≡ Some n
   unfolding verdict_from right size
   left_fine h q = rw (records_cut s at h) (simp (add-zero, eq-eqb _ _ q))
 
-  pub left_cut : head_at s at ≡ Cut → (at ≡ length s → ⊥) → left ≡ Broken
+  pub left_cut : head_at s at ≡ Cut → (at ≡ length s → ⊥) → left ≡ None
   unfolding verdict_from right size
   left_cut h q = rw (records_cut s at h) (simp (add-zero, ne_eqb _ _ q))
 
   module _ {d a b e : ℕ} (h : head_at s at ≡ Whole d a b e) where
-    pub left_wrong : right_at p d (e - b) ≡ false → left ≡ Broken
+    pub left_wrong : right_at p d (e - b) ≡ false → left ≡ None
     unfolding verdict_from right
     left_wrong q = rw (bounds s at h).here (simp (text_length s at h, q))
 

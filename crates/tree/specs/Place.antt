@@ -6,10 +6,6 @@ use Rattle.definition.specs.Text.{Text}
 use Rattle.definition.specs.Tree.{Rec, head_bytes, record_of, records, layout, Forest, nothing, Element, elements, level, element}
 use Rattle.tree.specs.declared.Head.{Head}
 use Rattle.tree.specs.declared.Head.TheVariants.{Whole, Cut}
-use Rattle.tree.specs.declared.Found.{Found}
-use Rattle.tree.specs.declared.Found.TheVariants.{At, Nothing}
-use Rattle.tree.specs.declared.Verdict.{Verdict}
-use Rattle.tree.specs.declared.Verdict.TheVariants.{Fine, Broken}
 
 -- ---- heads
 
@@ -29,13 +25,13 @@ unfoldable pub head_at : Text → ℕ → Head
 head_at s at = head_by at (record_of (drop at s))
 
 -- the layout, and how many records there are
-unfoldable pub verdict : Text → Verdict
-verdict s = if layout s then Fine (length (records s)) else Broken
+unfoldable pub verdict : Text → Option ℕ
+verdict s = if layout s then Some (length (records s)) else None
 
 -- document 01's number for a verdict
-abbrev pub verdict_refusal : Verdict → ℕ
-verdict_refusal (Fine n) = 0
-verdict_refusal Broken = 1
+abbrev pub verdict_refusal : Option ℕ → ℕ
+verdict_refusal (Some n) = 0
+verdict_refusal None = 1
 
 -- ---- records
 
@@ -72,16 +68,16 @@ abbrev pub later_at : Text → Text → ℕ → List Element
 later_at s n at = named n (siblings (records_at s at))
 
 -- the elements of a name that an answer stands for: none, or the element at a position and its later siblings
-unfoldable pub list_of : Text → Text → Found → List Element
-list_of s n Nothing = []
-list_of s n (At p) = element_at s p ∷ later_at s n p
+unfoldable pub list_of : Text → Text → Option ℕ → List Element
+list_of s n None = []
+list_of s n (Some p) = element_at s p ∷ later_at s n p
 
 -- what is found stands in the bytes, at a position or after it
-unfoldable pub Past : Text → ℕ → Found → Type 0
-Past s from Nothing = Unit
-Past s from (At p) = (from ≤ p) × (p < length s)
+unfoldable pub Past : Text → ℕ → Option ℕ → Type 0
+Past s from None = Unit
+Past s from (Some p) = (from ≤ p) × (p < length s)
 
 -- r is where the list of elements l starts, at `from` or after it
-pub record Starts (s n : Text) (l : List Element) (from : ℕ) (r : Found) : Type 0 where
+pub record Starts (s n : Text) (l : List Element) (from : ℕ) (r : Option ℕ) : Type 0 where
   pub is : l ≡ list_of s n r
   pub on : Past s from r

@@ -28,20 +28,6 @@ enum Head {
     Cut,
 }
 
-// Whether the layout is right, and how many records there are.
-#[derive(Clone, Copy)]
-enum Verdict {
-    Fine(usize),
-    Broken,
-}
-
-// Where an element stands.
-#[derive(Clone, Copy)]
-pub enum Found {
-    At(usize),
-    Nothing,
-}
-
 fn wide(b: u8) -> usize
     ensures { (result ≡ b) × (result < 256) }
 {
@@ -103,7 +89,7 @@ fn right_at(p: usize, d: usize, t: usize) -> bool
 }
 
 // Walks all records once.
-fn layout(s: &[u8]) -> Verdict
+fn layout(s: &[u8]) -> Option<usize>
     ensures { result ≡ verdict s.now }
 {
     let mut at: usize = 0;
@@ -113,9 +99,9 @@ fn layout(s: &[u8]) -> Verdict
         match read_head(s, at) {
             Head::Cut => {
                 if at == s.len() {
-                    return Verdict::Fine(count);
+                    return Some(count);
                 }
-                return Verdict::Broken;
+                return None;
             }
             Head::Whole {
                 depth,
@@ -124,7 +110,7 @@ fn layout(s: &[u8]) -> Verdict
                 next,
             } => {
                 if !right_at(prev, depth, next - text_at) {
-                    return Verdict::Broken;
+                    return None;
                 }
                 prev = depth;
                 at = next;
@@ -177,13 +163,13 @@ pub fn name_is(s: &[u8], at: usize, name: &[u8]) -> bool
 }
 
 // The first record of depth w and of the name from `from` on, before any of less depth.
-fn find(s: &[u8], from: usize, w: usize, name: &[u8]) -> Found
+fn find(s: &[u8], from: usize, w: usize, name: &[u8]) -> Option<usize>
     ensures { Starts s.now name.now (named name.now (level w (records_at s.now from))) from result }
 {
     let mut p = from;
     loop {
         match read_head(s, p) {
-            Head::Cut => return Found::Nothing,
+            Head::Cut => return None,
             Head::Whole {
                 depth,
                 name_at,
@@ -191,11 +177,11 @@ fn find(s: &[u8], from: usize, w: usize, name: &[u8]) -> Found
                 next,
             } => {
                 if depth < w {
-                    return Found::Nothing;
+                    return None;
                 }
                 if depth == w {
                     if text::same(&s[name_at..text_at], name) {
-                        return Found::At(p);
+                        return Some(p);
                     }
                     p = next;
                 } else {
@@ -207,11 +193,11 @@ fn find(s: &[u8], from: usize, w: usize, name: &[u8]) -> Found
 }
 
 // The first child of the name of the element at `at`.
-pub fn child(s: &[u8], at: usize, name: &[u8]) -> Found
+pub fn child(s: &[u8], at: usize, name: &[u8]) -> Option<usize>
     ensures { Starts s.now name.now (all (element_at s.now at) name.now) (at + 1) result }
 {
     match read_head(s, at) {
-        Head::Cut => Found::Nothing,
+        Head::Cut => None,
         Head::Whole {
             depth,
             name_at: _,
@@ -222,11 +208,11 @@ pub fn child(s: &[u8], at: usize, name: &[u8]) -> Found
 }
 
 // The next sibling of the name after the element at `at`.
-pub fn next_child(s: &[u8], at: usize, name: &[u8]) -> Found
+pub fn next_child(s: &[u8], at: usize, name: &[u8]) -> Option<usize>
     ensures { Starts s.now name.now (later_at s.now name.now at) (at + 1) result }
 {
     match read_head(s, at) {
-        Head::Cut => Found::Nothing,
+        Head::Cut => None,
         Head::Whole {
             depth,
             name_at: _,
@@ -263,7 +249,7 @@ pub fn text_of<'a>(s: &'a [u8], at: usize, name: &[u8]) -> &'a [u8]
     ensures { result.now ≡ (text_of (element_at s.now at) name.now or []) }
 {
     match child(s, at, name) {
-        Found::Nothing => &s[0..0],
-        Found::At(p) => own_text(s, p),
+        None => &s[0..0],
+        Some(p) => own_text(s, p),
     }
 }

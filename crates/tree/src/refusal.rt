@@ -5,10 +5,11 @@ ghost use Rattle.definition.specs.Tree.{records, deeper, below_root};
 ghost use Rattle.number.specs.Number.{number_refusal};
 ghost use Rattle.number.specs.Duration.{duration_refusal};
 ghost use Rattle.tree.specs.Place.{records_at};
+ghost use Rattle.definition.specs.Answer.{answer_number};
 ghost use Rattle.definition.specs.Refusal.{utf8?, number_names, duration_names, long_in, too_long, tree_refusal};
 
-use crate::{Head, Verdict};
-use number::{DurationAnswer, NumberAnswer};
+use definition::{Duration, Refusal, Unread};
+use crate::{Head};
 
 // Whether all names and texts are UTF-8.
 fn all_utf8(s: &[u8]) -> bool
@@ -59,23 +60,23 @@ fn is_duration(name: &[u8]) -> bool
 }
 
 // The refusal that the reading of a number is, 0 where it is none.
-fn number_refusal(a: NumberAnswer) -> u32
+fn number_refusal(a: Result<f64, Unread>) -> u32
     ensures { result ≡ number_refusal a }
 {
     match a {
-        NumberAnswer::Absent => 0,
-        NumberAnswer::Long => 5,
-        NumberAnswer::Value(_) => 0,
+        Err(Unread::Absent) => 0,
+        Err(Unread::Long) => 5,
+        Ok(_) => 0,
     }
 }
 
-fn duration_refusal(a: DurationAnswer) -> u32
+fn duration_refusal(a: Result<Duration, Unread>) -> u32
     ensures { result ≡ duration_refusal a }
 {
     match a {
-        DurationAnswer::Absent => 0,
-        DurationAnswer::Long => 5,
-        DurationAnswer::Minutes(_, _) => 0,
+        Err(Unread::Absent) => 0,
+        Err(Unread::Long) => 5,
+        Ok(_) => 0,
     }
 }
 
@@ -133,26 +134,26 @@ fn any_long(s: &[u8]) -> bool
     }
 }
 
-// The lowest refusal that applies to a tree, 0 where none does.
-pub fn judge(s: &[u8]) -> u32
-    ensures { result ≡ tree_refusal s.now }
+// The lowest refusal that applies to a tree.
+pub fn judge(s: &[u8]) -> Result<(), Refusal>
+    ensures { answer_number result ≡ tree_refusal s.now }
 {
     match crate::layout(s) {
-        Verdict::Broken => 1,
-        Verdict::Fine(count) => {
+        None => Err(Refusal::Layout),
+        Some(count) => {
             if !all_utf8(s) {
-                return 2;
+                return Err(Refusal::Utf8);
             }
             if 5000000 < count {
-                return 3;
+                return Err(Refusal::TooMany);
             }
             if !crate::name_is(s, 0, b"Project") {
-                return 4;
+                return Err(Refusal::NoProject);
             }
             if any_long(s) {
-                return 5;
+                return Err(Refusal::TooLong);
             }
-            0
+            Ok(())
         }
     }
 }

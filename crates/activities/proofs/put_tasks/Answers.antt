@@ -34,31 +34,31 @@ put_row-q-requires c =
     let bytes = bytes_of_lem a.s.now (λ i. omega (arith, c.shared_slice_known-1.given i)) in
     let root = root_at a.s.now a.root in
     let small = small_root a.s.now a.root bytes in
-    let w = rw (kept_at a.s.now c.in-Is.is) at c.loop-task.invariant.2 in
+    let w = rw (kept_at a.s.now c.in-Some.is) at c.loop-task.invariant.2 in
     let g = goes_task _ a.c root c.requires.0 small w in
-    (stays_ready c.loop-task.invariant.3 c.requires.1 c.in-Is.is g.1, c.per_day-per_day.ensures, goes_finds _ a.c root c.requires.0 small w c.loop-task.invariant.3.names c.requires.2, rw c.loop-task.invariant.0 c.requires.1.opened, c.loop-task.invariant.3.ids)
+    (stays_ready c.loop-task.invariant.3 c.requires.1 c.in-Some.is g.1, c.per_day-per_day.ensures, goes_finds _ a.c root c.requires.0 small w c.loop-task.invariant.3.names c.requires.2, rw c.loop-task.invariant.0 c.requires.1.opened, c.loop-task.invariant.3.ids)
 
 pub overflow_add-row : goal.overflow_add-row
 overflow_add-row c =
-    let k = room_at c.in-Is.is in
+    let k = room_at c.in-Some.is in
     record { fits = omega (arith, k, c.loop-task.invariant.1) }
 
 pub loop-task-smaller : goal.loop-task-smaller
 loop-task-smaller c =
-    let k = room_at c.in-Is.is in
+    let k = room_at c.in-Some.is in
     omega (arith, k, c.next_kept-task.ensures.on)
 
 pub loop-task-preserved : goal.loop-task-preserved
 loop-task-preserved c =
     let a = c.args in
     let root = root_at a.s.now a.root in
-    let at = c.in-Is.at in
-    let k = room_at c.in-Is.is in
+    let at = c.in-Some.at in
+    let k = room_at c.in-Some.is in
     let bytes = bytes_of_lem a.s.now (λ i. omega (arith, c.shared_slice_known-1.given i)) in
     let small = small_root a.s.now a.root bytes in
     let own = small_at a.s.now bytes at in
     let x = c.loop-task.invariant.3 in
-    let w = rw (kept_at a.s.now c.in-Is.is) at c.loop-task.invariant.2 in
+    let w = rw (kept_at a.s.now c.in-Some.is) at c.loop-task.invariant.2 in
     let g = goes_task _ a.c root c.requires.0 small w in
     let n = c.put_row-q.ensures.1 in
     let opened = rw (sym c.loop-task.invariant.0) at c.requires.1.opened in
@@ -72,6 +72,6 @@ loop-task-preserved c =
         names = below_then x.names (row_below n opened c.requires.1.behind_names);
         held = row_held n opened (rw (sym x.same.long) at c.requires.1.room) x.held g.0 g.1 refl;
         ids = ids_on _ a.c root c.requires.0 small w found c.put_row-q.ensures.0 (omega (arith, c.loop-task.invariant.1)) own n opened x.ids;
-        there = (next_tasks a.s.now at c.in-Is.left c.next_kept-task.ensures).there;
+        there = (next_tasks a.s.now at c.in-Some.left c.next_kept-task.ensures).there;
       },
     )

@@ -3,7 +3,7 @@ use Rattle.std.specs.Prelude.{Some}
 use lib.IntN.{ℤ}
 use Rattle.definition.specs.Base.{◌or◌}
 use Rattle.definition.specs.Date.{year_at}
-use Rattle.date.specs.Answer.{length_at, length_meaning}
+use Rattle.date.specs.Answer.{length_at}
 use Rattle.date.proofs.Signs.{back, no_year, some_placed}
 use Rattle.date.proofs.days_in_month.Goals as goal
 use Rattle.date.proofs.days_in_month.Goals.{After-year_at-y, Else-y-eq0}

@@ -3,7 +3,7 @@ use mathlib.Core.Path.{◌≡◌, ◌∙◌, ap}
 use lib.IntN.{ℤ}
 use Rattle.definition.specs.Base.{◌or◌}
 use Rattle.definition.specs.Date.{from_days}
-use Rattle.date.specs.Answer.{weekday_at, weekday_meaning}
+use Rattle.date.specs.Answer.{weekday_at}
 use Rattle.date.proofs.Signs.{back, no_day, some_placed}
 use Rattle.date.proofs.weekday.Goals as goal
 use Rattle.date.proofs.weekday.Goals.{After-date_of_number-n}

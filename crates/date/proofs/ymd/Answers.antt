@@ -3,7 +3,7 @@ use lib.IntN.{ℤ, pos, ◌-ℤ◌}
 use Rattle.definition.specs.Base.{◌or◌}
 use Rattle.definition.specs.Date.{from_days, ymd_of}
 use Rattle.std.specs.Prelude.{Some}
-use Rattle.date.specs.Answer.{ymd_meaning, ymd_at, civil_of}
+use Rattle.date.specs.Answer.{ymd_at, civil_of}
 use Rattle.date.specs.declared.Civil.{Civil}
 use Rattle.date.proofs.Steps.{year_most}
 use Rattle.date.proofs.Signs.{back, difference_back, no_day, some_placed, days_counted}
@@ -20,7 +20,7 @@ given : (c : Else-n-eq0) → from_days c.args.d.0 ≡ Some c.date_of_number-n.re
 given c = some_placed (from_days c.args.d.0) _ (told c.before) c.if-n-eq0.false
 
 pub returns-then-n-eq0 : goal.returns-then-n-eq0
-unfolding ymd_meaning ymd_at ymd_of
+unfolding ymd_at ymd_of
 returns-then-n-eq0 c = rw (no_day c.args.d.0 _ (told (goal.at.returns-then-n-eq0 c).After-date_of_number-n) c.if-n-eq0.true)
 
 pub lowered-requires : goal.lowered-requires
@@ -31,7 +31,7 @@ lowered-requires c =
     record { fact_1 = omega (arith, year_most n, (days_counted _ _ e).high); fact_2 = omega arith }
 
 pub returns : goal.returns
-unfolding ymd_meaning ymd_at ymd_of
+unfolding ymd_at ymd_of
 returns c =
     let n = c.date_of_number-n.result in
     let e : c.civil_of-c.result ≡ civil_of n = c.civil_of-c.ensures in

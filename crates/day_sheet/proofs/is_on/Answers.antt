@@ -3,10 +3,10 @@ use Rattle.day_sheet.proofs.Walks.{same_bits}
 use borrow.Author.Rules.{rules}
 use Rattle.day_sheet.proofs.is_on.Goals as goal
 
-pub returns-in-Is : goal.returns-in-Is
+pub returns-in-Some : goal.returns-in-Some
 unfolding date_meaning
-returns-in-Is c = rw c.in-Is.is (same_bits c.in-Is.x.0 c.args.day.0 (search rules) (search rules))
+returns-in-Some c = rw c.in-Some.is (same_bits c.in-Some.x.0 c.args.day.0 (search rules) (search rules))
 
-pub returns-in-Absent : goal.returns-in-Absent
+pub returns-in-None : goal.returns-in-None
 unfolding date_meaning
-returns-in-Absent c = rw c.in-Absent.is
+returns-in-None c = rw c.in-None.is

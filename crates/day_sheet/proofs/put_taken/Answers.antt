@@ -1,10 +1,10 @@
 use Rattle.model.specs.Answers.{period_meaning}
 use Rattle.day_sheet.proofs.put_taken.Goals as goal
 
-pub returns-in-Is : goal.returns-in-Is
+pub returns-in-Some : goal.returns-in-Some
 unfolding period_meaning
-returns-in-Is c = rw c.in-Is.is c.put_period.ensures
+returns-in-Some c = rw c.in-Some.is c.put_period.ensures
 
-pub returns-in-Absent : goal.returns-in-Absent
+pub returns-in-None : goal.returns-in-None
 unfolding period_meaning
-returns-in-Absent c = rw c.in-Absent.is c.put_period-in-Absent.ensures
+returns-in-None c = rw c.in-None.is c.put_period-in-None.ensures

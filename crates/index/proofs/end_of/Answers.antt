@@ -8,12 +8,12 @@ returns-in_default c = end_none c.args.len c.in_default.is
 
 pub returns-then-len-t : goal.returns-then-len-t
 returns-then-len-t c =
-    end_is c.args.len c.in-Ready.is (omega arith)
+    end_is c.args.len c.in-Some.is (omega arith)
 
 pub returns-then-len-t-2 : goal.returns-then-len-t-2
 returns-then-len-t-2 c =
-    end_is c.args.len c.in-Ready.is (omega arith)
+    end_is c.args.len c.in-Some.is (omega arith)
 
 pub returns : goal.returns
 returns c =
-    end_is c.args.len c.in-Ready.is (omega arith)
+    end_is c.args.len c.in-Some.is (omega arith)

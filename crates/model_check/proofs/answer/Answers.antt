@@ -8,8 +8,8 @@ returns-in_default c =
 
 pub returns-then-not-keeps_list : goal.returns-then-not-keeps_list
 returns-then-not-keeps_list c =
-    judged c.take_counts-counts.ensures c.walk_model-walked.ensures c.sections_of-opened.ensures c.in-Model.is c.keeps_list.ensures c.if-not-keeps_list.true
+    judged c.take_counts-counts.ensures c.walk_model-walked.ensures c.sections_of-opened.ensures c.in-Some.is c.keeps_list.ensures c.if-not-keeps_list.true
 
 pub returns : goal.returns
 returns c =
-    judged c.take_counts-counts.ensures c.walk_model-walked.ensures c.sections_of-opened.ensures c.in-Model.is c.keeps_list.ensures c.if-not-keeps_list.false
+    judged c.take_counts-counts.ensures c.walk_model-walked.ensures c.sections_of-opened.ensures c.in-Some.is c.keeps_list.ensures c.if-not-keeps_list.false

@@ -1,3 +1,4 @@
+use Rattle.definition.specs.Answer.{answer_number}
 use Prim.Native.Nat.{ℕ}
 use mathlib.Core.Path.{ap, ◌∙◌}
 use lib.IntN.{ℤ}
@@ -5,7 +6,6 @@ use lib.ListN.{length}
 use mir.Syntax.{w32}
 use mir.ValLaws.{to_z-of_z}
 use Rattle.definition.specs.Refusal.{day_sheet_answer}
-use Rattle.day_sheet.specs.Answer.{sheet_number}
 use Rattle.mspdi.specs.Outcome.{leaves}
 use Rattle.mspdi.proofs.mspdi_day_sheet.Goals as goal
 
@@ -15,6 +15,6 @@ returns c =
     let room = length a.sheet.now in
     let out = c.day_sheet-a.new.sheet in
     ap (λ (n : ℕ). (n, out, c.sheet_length.result)) c.sheet_number.ensures
-    ∙ ap (λ (n : ℕ). (sheet_number c.day_sheet-a.result, out, n)) c.sheet_length.ensures
+    ∙ ap (λ (n : ℕ). (answer_number c.day_sheet-a.result, out, n)) c.sheet_length.ensures
     ∙ c.day_sheet-a.ensures
     ∙ ap (λ (z : ℤ). leaves room (day_sheet_answer a.model.now a.calendar z room)) (to_z-of_z w32 a.date c.ranges.date)

@@ -1,9 +1,8 @@
 use mathlib.Core.Path.{ap}
 use mir.Syntax.{w64}
-use Rattle.text.specs.Answers.{i64_of}
 use Rattle.probe.specs.Answer.{signed_is}
 use Rattle.probe.proofs.put_i64.Goals as goal
 
-pub returns-in-Is : goal.returns-in-Is
-returns-in-Is c =
-    signed_is (i64_of c.args.a) w64 (ap i64_of c.in-Is.is) (record { sfits = c.in-Is.known_told-1-own.given.0.1 })
+pub returns-in-Some : goal.returns-in-Some
+returns-in-Some c =
+    signed_is c.args.a w64 (c.in-Some.is) (record { sfits = c.in-Some.known_told-1-own.given.0.1 })

@@ -6,14 +6,14 @@ use Rattle.assignments.specs.Finders.{finders_in}
 use Rattle.assignments.proofs.Assignments.{assignments_none, assignments_all}
 use Rattle.assignments.proofs.assignment.put_assignments.Goals as goal
 
-pub returns-in-Nothing : goal.returns-in-Nothing
-returns-in-Nothing c =
+pub returns-in-None : goal.returns-in-None
+returns-in-None c =
     let a = c.args in
     let root = root_at a.s.now a.root in
-    assignments_none (finders_in a.s.now root a.words.now a.tasks a.work a.cost) root (in_assignments a.s.now a.root (bytes "Assignment") ∙ none_list c.child.ensures c.in-Nothing.is)
+    assignments_none (finders_in a.s.now root a.words.now a.tasks a.work a.cost) root (in_assignments a.s.now a.root (bytes "Assignment") ∙ none_list c.child.ensures c.in-None.is)
 
-pub returns-in-At : goal.returns-in-At
-returns-in-At c =
+pub returns-in-Some : goal.returns-in-Some
+returns-in-Some c =
     let a = c.args in
     let root = root_at a.s.now a.root in
-    assignments_all (finders_in a.s.now root a.words.now a.tasks a.work a.cost) root (in_assignments a.s.now a.root (bytes "Assignment") ∙ found_list c.child.ensures c.in-At.is) c.put_from.ensures c.records_of.ensures
+    assignments_all (finders_in a.s.now root a.words.now a.tasks a.work a.cost) root (in_assignments a.s.now a.root (bytes "Assignment") ∙ found_list c.child.ensures c.in-Some.is) c.put_from.ensures c.records_of.ensures

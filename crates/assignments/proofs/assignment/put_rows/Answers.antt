@@ -15,4 +15,4 @@ returns-in_default-resource c =
 pub returns : goal.returns
 returns c =
     let a = c.args in
-    adds_rows a.task a.resource (element_at a.s.now a.at) c.work-work.result c.rate-rate.result c.in-Is.is c.in-Is-resource.is c.work-work.ensures c.rate-rate.ensures c.put_assignment-next.ensures c.more.ensures
+    adds_rows a.task a.resource (element_at a.s.now a.at) c.work-work.result c.rate-rate.result c.in-Some.is c.in-Some-resource.is c.work-work.ensures c.rate-rate.ensures c.put_assignment-next.ensures c.more.ensures

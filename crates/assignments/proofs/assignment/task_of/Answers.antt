@@ -1,4 +1,3 @@
-use Rattle.definition.specs.Answer.{row_meaning}
 use Rattle.definition.specs.Field.{text_in}
 use Rattle.tree.specs.Place.{element_at}
 use Rattle.tree.specs.Root.{root_at}

@@ -10,19 +10,19 @@ returns-in_default c =
 pub returns-then-p-t : goal.returns-then-p-t
 returns-then-p-t c =
     let a = c.args in
-    note_full a.words.now a.row a.p a.key c.in-Ready.is c.if-p-t.true
+    note_full a.words.now a.row a.p a.key c.in-Some.is c.if-p-t.true
 
 pub overflow_cast-row : goal.overflow_cast-row
 overflow_cast-row c =
     let a = c.args in
-    omega (arith, (room_at c.in-Ready.t a.row a.p c.if-p-t.false).1.1)
+    omega (arith, (room_at c.in-Some.t a.row a.p c.if-p-t.false).1.1)
 
 pub overflow_cast-p : goal.overflow_cast-p
 overflow_cast-p c =
     let a = c.args in
-    omega (arith, (room_at c.in-Ready.t a.row a.p c.if-p-t.false).1.0)
+    omega (arith, (room_at c.in-Some.t a.row a.p c.if-p-t.false).1.0)
 
 pub returns : goal.returns
 returns c =
     let a = c.args in
-    note_more a.words.now a.row a.p a.key c.in-Ready.is c.if-p-t.false c.put.ensures
+    note_more a.words.now a.row a.p a.key c.in-Some.is c.if-p-t.false c.put.ensures

@@ -29,11 +29,11 @@ returns-in_default c =
     section_from s a.root a.t (element_at s a.first ∷ later_at s (bytes "Assignment") a.first) (table_below (ends_of a.t.tasks a.t.work a.t.cost) a.words.now _ c.ends_of-end.ensures c.table_behind-made.ensures.0 c.table_behind-made.ensures.1) (go_last b (omega (arith, c.well_formed)) a.root a.t c.loop-next.invariant.1 c.put_one-used.ensures (none_list c.next_child.ensures c.in_default.is))
 
 pub loop-next-smaller : goal.loop-next-smaller
-loop-next-smaller c = omega (arith, found_on c.next_child.ensures c.in-At.is)
+loop-next-smaller c = omega (arith, found_on c.next_child.ensures c.in-Some.is)
 
 pub loop-next-preserved : goal.loop-next-preserved
 loop-next-preserved c =
     let a = c.args in
     let s = a.s.now in
     let b = bytes_of_lem s (λ i. omega (arith, c.shared_slice_known-1.given i)) in
-    (c.put_one-used.auto.out ∙ c.loop-next.invariant.0, go_more b (omega (arith, c.well_formed)) a.root a.t c.loop-next.invariant.1 c.put_one-used.ensures (found_list c.next_child.ensures c.in-At.is) (found_on c.next_child.ensures c.in-At.is))
+    (c.put_one-used.auto.out ∙ c.loop-next.invariant.0, go_more b (omega (arith, c.well_formed)) a.root a.t c.loop-next.invariant.1 c.put_one-used.ensures (found_list c.next_child.ensures c.in-Some.is) (found_on c.next_child.ensures c.in-Some.is))

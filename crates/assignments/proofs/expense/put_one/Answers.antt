@@ -13,10 +13,10 @@ pub returns-in_default-cost_of : goal.returns-in_default-cost_of
 returns-in_default-cost_of c =
     let a = c.args in
     let s = a.s.now in
-    no_cost_there (finders_at s a.root a.words.now a.t) (element_at s a.at) c.task_of.ensures s c.cost_of.ensures c.in-Is.is c.in_default-cost_of.is
+    no_cost_there (finders_at s a.root a.words.now a.t) (element_at s a.at) c.task_of.ensures s c.cost_of.ensures c.in-Some.is c.in_default-cost_of.is
 
 pub returns : goal.returns
 returns c =
     let a = c.args in
     let s = a.s.now in
-    cost_there (finders_at s a.root a.words.now a.t) (element_at s a.at) c.task_of.ensures s c.cost_of.ensures c.in-Is.is c.in-At.is c.put_new.ensures
+    cost_there (finders_at s a.root a.words.now a.t) (element_at s a.at) c.task_of.ensures s c.cost_of.ensures c.in-Some.is c.in-Some.is c.put_new.ensures

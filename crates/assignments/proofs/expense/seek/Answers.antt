@@ -9,12 +9,12 @@ pub returns-in_default : goal.returns-in_default
 returns-in_default c = used_none _ _ _ c.loop-row.invariant c.in_default.is
 
 pub returns-then-is_expense : goal.returns-then-is_expense
-returns-then-is_expense c = used_here _ _ _ c.loop-row.invariant c.in-At.is c.place-byte.ensures c.is_expense.ensures c.if-is_expense.true
+returns-then-is_expense c = used_here _ _ _ c.loop-row.invariant c.in-Some.is c.place-byte.ensures c.is_expense.ensures c.if-is_expense.true
 
 pub loop-row-smaller : goal.loop-row-smaller
 loop-row-smaller c =
     let a = c.args in
-    next_less a.words.now a.t c.in-At.is c.next-row.ensures
+    next_less a.words.now a.t c.in-Some.is c.next-row.ensures
 
 pub loop-row-preserved : goal.loop-row-preserved
-loop-row-preserved c = used_on _ _ _ c.loop-row.invariant c.in-At.is c.place-byte.ensures c.is_expense.ensures c.if-is_expense.false c.next-row.ensures
+loop-row-preserved c = used_on _ _ _ c.loop-row.invariant c.in-Some.is c.place-byte.ensures c.is_expense.ensures c.if-is_expense.false c.next-row.ensures

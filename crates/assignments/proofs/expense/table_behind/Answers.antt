@@ -9,4 +9,4 @@ returns-in_default c =
 pub returns : goal.returns
 returns c =
     let a = c.args in
-    empty_table a.words.now a.end a.rows c.table_at-made.ensures c.in-Ready.is c.clear.ensures
+    empty_table a.words.now a.end a.rows c.table_at-made.ensures c.in-Some.is c.clear.ensures

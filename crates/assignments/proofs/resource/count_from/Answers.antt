@@ -12,8 +12,8 @@ returns-in_default c =
 
 pub loop-next-smaller : goal.loop-next-smaller
 loop-next-smaller c =
-    omega (arith, found_on c.next_child.ensures c.in-At.is)
+    omega (arith, found_on c.next_child.ensures c.in-Some.is)
 
 pub loop-next-preserved : goal.loop-next-preserved
 loop-next-preserved c =
-    counted_more _ _ c.is_work.ensures c.counted-n.ensures c.loop-next.invariant (found_list c.next_child.ensures c.in-At.is)
+    counted_more _ _ c.is_work.ensures c.counted-n.ensures c.loop-next.invariant (found_list c.next_child.ensures c.in-Some.is)

@@ -11,12 +11,12 @@ returns-then-not-count-calendars_before c =
     let a = c.args in
     (resources_not a.out.now a.c (root_at a.s.now a.root) a.p c.count_work-count.ensures c.calendars_before.ensures c.if-not-count-calendars_before.true-raw, refl)
 
-pub returns-in-Nothing : goal.returns-in-Nothing
-returns-in-Nothing c =
+pub returns-in-None : goal.returns-in-None
+returns-in-None c =
     let a = c.args in
-    (resources_none a.out.now a.c (root_at a.s.now a.root) a.p c.count_work-count.ensures c.calendars_before.ensures c.if-not-count-calendars_before.false-raw (in_resources a.s.now a.root (bytes "Resource") ∙ none_list c.child.ensures c.in-Nothing.is), refl)
+    (resources_none a.out.now a.c (root_at a.s.now a.root) a.p c.count_work-count.ensures c.calendars_before.ensures c.if-not-count-calendars_before.false-raw (in_resources a.s.now a.root (bytes "Resource") ∙ none_list c.child.ensures c.in-None.is), refl)
 
-pub returns-in-At : goal.returns-in-At
-returns-in-At c =
+pub returns-in-Some : goal.returns-in-Some
+returns-in-Some c =
     let a = c.args in
-    resources_all a.out.now a.c (root_at a.s.now a.root) a.p c.count_work-count.ensures c.calendars_before.ensures c.if-not-count-calendars_before.false-raw (in_resources a.s.now a.root (bytes "Resource") ∙ found_list c.child.ensures c.in-At.is) c.index_calendars-calendars.ensures c.ids_for-ids.ensures c.put_from-done.ensures c.records_of.ensures
+    resources_all a.out.now a.c (root_at a.s.now a.root) a.p c.count_work-count.ensures c.calendars_before.ensures c.if-not-count-calendars_before.false-raw (in_resources a.s.now a.root (bytes "Resource") ∙ found_list c.child.ensures c.in-Some.is) c.index_calendars-calendars.ensures c.ids_for-ids.ensures c.put_from-done.ensures c.records_of.ensures

@@ -22,7 +22,7 @@ returns-in_default c =
 
 pub loop-next-smaller : goal.loop-next-smaller
 loop-next-smaller c =
-    omega (arith, found_on c.next_child.ensures c.in-At.is)
+    omega (arith, found_on c.next_child.ensures c.in-Some.is)
 
 pub loop-next-preserved : goal.loop-next-preserved
 loop-next-preserved c =
@@ -30,5 +30,5 @@ loop-next-preserved c =
     let is = bytes_of_lem s (λ i. omega (arith, c.shared_slice_known-1.given i)) in (
       c.put_one-done.auto.out ∙ c.loop-next.invariant.0,
       c.put_one-done.auto.words ∙ c.loop-next.invariant.1,
-      go_more _ _ _ _ _ c.loop-next.invariant.2 c.put_one-done.ensures (found_list c.next_child.ensures c.in-At.is) (small_root s c.args.root is) (small_at s is c.loop-next.at),
+      go_more _ _ _ _ _ c.loop-next.invariant.2 c.put_one-done.ensures (found_list c.next_child.ensures c.in-Some.is) (small_root s c.args.root is) (small_at s is c.loop-next.at),
     )

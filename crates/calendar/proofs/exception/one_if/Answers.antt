@@ -5,8 +5,8 @@ use Rattle.calendar.proofs.exception.one_if.Goals as goal
 pub enum_told-1 : goal.enum_told-1
 enum_told-1 c = search rules
 
-pub returns-in-Is : goal.returns-in-Is
-returns-in-Is c = one_rule _ _ c.rule_of.ensures.is _ c.in-Is.is
+pub returns-in-Some : goal.returns-in-Some
+returns-in-Some c = one_rule _ _ c.rule_of.ensures.is _ c.in-Some.is
 
-pub returns-in-Absent : goal.returns-in-Absent
-returns-in-Absent c = no_rule _ _ c.rule_of.ensures.is c.in-Absent.is
+pub returns-in-None : goal.returns-in-None
+returns-in-None c = no_rule _ _ c.rule_of.ensures.is c.in-None.is

@@ -10,15 +10,15 @@ use Rattle.calendar.proofs.exception.skipped.Goals as goal
 pub enum_told-1 : goal.enum_told-1
 enum_told-1 c = search rules
 
-pub returns-in-Nothing : goal.returns-in-Nothing
-returns-in-Nothing c =
+pub returns-in-None : goal.returns-in-None
+returns-in-None c =
     let a = c.args in
-    no_sum (2 ^ 32) (λ l. in_all l) all_none _ (in_calendars a.s.now a.root (bytes "Calendar") ∙ none_list c.child.ensures c.in-Nothing.is)
+    no_sum (2 ^ 32) (λ l. in_all l) all_none _ (in_calendars a.s.now a.root (bytes "Calendar") ∙ none_list c.child.ensures c.in-None.is)
     ∙ ap (λ (n : ℕ). n % 2 ^ 32) (sym (skipped_is (root_at a.s.now a.root)))
 
-pub returns-in-At : goal.returns-in-At
-returns-in-At c =
+pub returns-in-Some : goal.returns-in-Some
+returns-in-Some c =
     let a = c.args in
     c.skipped_on.ensures
-    ∙ sym (ap (λ (l : List Element). in_all l % 2 ^ 32) (in_calendars a.s.now a.root (bytes "Calendar") ∙ found_list c.child.ensures c.in-At.is))
+    ∙ sym (ap (λ (l : List Element). in_all l % 2 ^ 32) (in_calendars a.s.now a.root (bytes "Calendar") ∙ found_list c.child.ensures c.in-Some.is))
     ∙ ap (λ (n : ℕ). n % 2 ^ 32) (sym (skipped_is (root_at a.s.now a.root)))

@@ -12,13 +12,13 @@ use Rattle.calendar.proofs.exception.skipped_by.Goals as goal
 pub enum_told-1 : goal.enum_told-1
 enum_told-1 c = search rules
 
-pub returns-in-Nothing : goal.returns-in-Nothing
-returns-in-Nothing c =
+pub returns-in-None : goal.returns-in-None
+returns-in-None c =
     let e = element_at c.args.s.now c.args.at in
-    no_sum (2 ^ 32) without_rule without_none (recurring e) (ap (λ (o : Option Element). all_in o (bytes "Exception")) (none_child e c.child.ensures c.in-Nothing.is))
+    no_sum (2 ^ 32) without_rule without_none (recurring e) (ap (λ (o : Option Element). all_in o (bytes "Exception")) (none_child e c.child.ensures c.in-None.is))
 
-pub returns-in-At : goal.returns-in-At
-returns-in-At c =
+pub returns-in-Some : goal.returns-in-Some
+returns-in-Some c =
     let e = element_at c.args.s.now c.args.at in
     c.skipped_in.ensures
-    ∙ sym (ap (λ (o : Option Element). without_rule (all_in o (bytes "Exception")) % 2 ^ 32) (found_child e c.child.ensures c.in-At.is))
+    ∙ sym (ap (λ (o : Option Element). without_rule (all_in o (bytes "Exception")) % 2 ^ 32) (found_child e c.child.ensures c.in-Some.is))

@@ -15,8 +15,8 @@ returns-in_default c =
     last_sum (2 ^ 32) without_rule (λ x. one_if x) without_more _ _ _ _ _ _ c.loop-q.invariant (ap (λ (u : ℕ). u % 2 ^ 32) c.one_if.ensures) c.wrapping_add_u32-n.ensures.value without_none (none_list c.next_child.ensures c.in_default.is)
 
 pub loop-q-smaller : goal.loop-q-smaller
-loop-q-smaller c = omega (arith, found_on c.next_child.ensures c.in-At.is)
+loop-q-smaller c = omega (arith, found_on c.next_child.ensures c.in-Some.is)
 
 pub loop-q-preserved : goal.loop-q-preserved
 loop-q-preserved c =
-    next_sum (2 ^ 32) without_rule (λ x. one_if x) without_more _ _ _ _ _ _ c.loop-q.invariant (ap (λ (u : ℕ). u % 2 ^ 32) c.one_if.ensures) c.wrapping_add_u32-n.ensures.value _ (found_list c.next_child.ensures c.in-At.is)
+    next_sum (2 ^ 32) without_rule (λ x. one_if x) without_more _ _ _ _ _ _ c.loop-q.invariant (ap (λ (u : ℕ). u % 2 ^ 32) c.one_if.ensures) c.wrapping_add_u32-n.ensures.value _ (found_list c.next_child.ensures c.in-Some.is)

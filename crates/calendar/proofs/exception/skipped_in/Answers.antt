@@ -8,10 +8,10 @@ use Rattle.calendar.proofs.exception.skipped_in.Goals as goal
 pub enum_told-1 : goal.enum_told-1
 enum_told-1 c = search rules
 
-pub returns-in-Nothing : goal.returns-in-Nothing
-returns-in-Nothing c = no_sum (2 ^ 32) without_rule without_none _ (none_list c.child.ensures c.in-Nothing.is)
+pub returns-in-None : goal.returns-in-None
+returns-in-None c = no_sum (2 ^ 32) without_rule without_none _ (none_list c.child.ensures c.in-None.is)
 
-pub returns-in-At : goal.returns-in-At
-returns-in-At c =
+pub returns-in-Some : goal.returns-in-Some
+returns-in-Some c =
     c.skipped_from.ensures
-    ∙ sym (ap (λ (l : List Element). without_rule l % 2 ^ 32) (found_list c.child.ensures c.in-At.is))
+    ∙ sym (ap (λ (l : List Element). without_rule l % 2 ^ 32) (found_list c.child.ensures c.in-Some.is))

@@ -17,8 +17,8 @@ returns-in_default c =
     last_sum (2 ^ 32) (λ l. in_all l) (λ e. without_rule (recurring e)) all_more _ _ _ _ _ _ c.loop-q.invariant (ap (λ (u : ℕ). u % 2 ^ 32) c.skipped_by.ensures ∙ mod-mod _ (2 ^ 32)) c.wrapping_add_u32-n.ensures.value all_none (none_list c.next_child.ensures c.in_default.is)
 
 pub loop-q-smaller : goal.loop-q-smaller
-loop-q-smaller c = omega (arith, found_on c.next_child.ensures c.in-At.is)
+loop-q-smaller c = omega (arith, found_on c.next_child.ensures c.in-Some.is)
 
 pub loop-q-preserved : goal.loop-q-preserved
 loop-q-preserved c =
-    next_sum (2 ^ 32) (λ l. in_all l) (λ e. without_rule (recurring e)) all_more _ _ _ _ _ _ c.loop-q.invariant (ap (λ (u : ℕ). u % 2 ^ 32) c.skipped_by.ensures ∙ mod-mod _ (2 ^ 32)) c.wrapping_add_u32-n.ensures.value _ (found_list c.next_child.ensures c.in-At.is)
+    next_sum (2 ^ 32) (λ l. in_all l) (λ e. without_rule (recurring e)) all_more _ _ _ _ _ _ c.loop-q.invariant (ap (λ (u : ℕ). u % 2 ^ 32) c.skipped_by.ensures ∙ mod-mod _ (2 ^ 32)) c.wrapping_add_u32-n.ensures.value _ (found_list c.next_child.ensures c.in-Some.is)

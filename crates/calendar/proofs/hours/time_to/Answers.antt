@@ -1,18 +1,17 @@
 use Rattle.std.proofs.Common.{sym, ap, ◌∙◌, rules}
+use Rattle.std.specs.Prelude.{Option, ℕ}
 use Rattle.std.specs.Prelude.{Some}
-use Rattle.number.specs.Time.{meaning}
-use Rattle.number.specs.declared.time.TimeAnswer.{TimeAnswer}
 use Rattle.calendar.specs.Hours.{working_meaning, time_by}
 use Rattle.calendar.proofs.hours.time_to.Goals as goal
 
 pub enum_told-1 : goal.enum_told-1
 enum_told-1 c = search rules
 
-pub returns-in-Time : goal.returns-in-Time
+pub returns-in-Some : goal.returns-in-Some
 unfolding working_meaning
-returns-in-Time c =
-    c.time_from.ensures ∙ sym (ap (λ (a : TimeAnswer). time_by (Some c.args.from) (meaning a)) c.in-Time.is)
+returns-in-Some c =
+    c.time_from.ensures ∙ sym (ap (λ (a : Option ℕ). time_by (Some c.args.from) a) c.in-Some.is)
 
-pub returns-in-Absent : goal.returns-in-Absent
+pub returns-in-None : goal.returns-in-None
 unfolding working_meaning
-returns-in-Absent c = sym (ap (λ (a : TimeAnswer). time_by (Some c.args.from) (meaning a)) c.in-Absent.is)
+returns-in-None c = sym (ap (λ (a : Option ℕ). time_by (Some c.args.from) a) c.in-None.is)

@@ -14,8 +14,8 @@ returns-in_default c =
     day_last _ _ _ _ _ c.loop-q.invariant c.with_day-week.ensures (none_list c.next_child.ensures c.in_default.is)
 
 pub loop-q-smaller : goal.loop-q-smaller
-loop-q-smaller c = omega (arith, found_on c.next_child.ensures c.in-At.is)
+loop-q-smaller c = omega (arith, found_on c.next_child.ensures c.in-Some.is)
 
 pub loop-q-preserved : goal.loop-q-preserved
 loop-q-preserved c =
-    day_next _ _ _ _ _ c.loop-q.invariant c.with_day-week.ensures _ (found_list c.next_child.ensures c.in-At.is)
+    day_next _ _ _ _ _ c.loop-q.invariant c.with_day-week.ensures _ (found_list c.next_child.ensures c.in-Some.is)

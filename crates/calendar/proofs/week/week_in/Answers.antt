@@ -9,11 +9,11 @@ use Rattle.calendar.proofs.week.week_in.Goals as goal
 pub enum_told-1 : goal.enum_told-1
 enum_told-1 c = search rules
 
-pub returns-in-Nothing : goal.returns-in-Nothing
-returns-in-Nothing c =
-    no_days _ (flags_in c.args.base) (none_list c.child.ensures c.in-Nothing.is)
+pub returns-in-None : goal.returns-in-None
+returns-in-None c =
+    no_days _ (flags_in c.args.base) (none_list c.child.ensures c.in-None.is)
 
-pub returns-in-At : goal.returns-in-At
-returns-in-At c =
+pub returns-in-Some : goal.returns-in-Some
+returns-in-Some c =
     c.week_from.ensures
-    ∙ sym (ap (λ (l : List Element). week_by l (flags_in c.args.base)) (found_list c.child.ensures c.in-At.is))
+    ∙ sym (ap (λ (l : List Element). week_by l (flags_in c.args.base)) (found_list c.child.ensures c.in-Some.is))

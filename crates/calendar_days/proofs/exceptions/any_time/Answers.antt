@@ -17,8 +17,8 @@ returns-in_default c =
     sym (c.loop-first.invariant ∙ time_on _ _ (time_is _ c.is_time.ensures c.working_time.ensures ∙ c.if-is_time.false) ∙ no_times (none_list c.next_child.ensures c.in_default.is))
 
 pub loop-first-smaller : goal.loop-first-smaller
-loop-first-smaller c = omega (arith, found_on c.next_child.ensures c.in-At.is)
+loop-first-smaller c = omega (arith, found_on c.next_child.ensures c.in-Some.is)
 
 pub loop-first-preserved : goal.loop-first-preserved
 loop-first-preserved c =
-    c.loop-first.invariant ∙ time_on _ _ (time_is _ c.is_time.ensures c.working_time.ensures ∙ c.if-is_time.false) ∙ ap (some? is_time) (found_list c.next_child.ensures c.in-At.is)
+    c.loop-first.invariant ∙ time_on _ _ (time_is _ c.is_time.ensures c.working_time.ensures ∙ c.if-is_time.false) ∙ ap (some? is_time) (found_list c.next_child.ensures c.in-Some.is)

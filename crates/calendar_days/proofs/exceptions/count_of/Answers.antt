@@ -10,10 +10,10 @@ returns-in_default c = count_end c.loop-f.invariant c.in_default.is
 
 pub overflow_add-n : goal.overflow_add-n
 overflow_add-n c =
-    omega (arith, count_within c.loop-f.invariant c.in-At.is, c.well_formed)
+    omega (arith, count_within c.loop-f.invariant c.in-Some.is, c.well_formed)
 
 pub loop-f-smaller : goal.loop-f-smaller
-loop-f-smaller c = omega (arith, count_less c.loop-f.invariant c.in-At.is)
+loop-f-smaller c = omega (arith, count_less c.loop-f.invariant c.in-Some.is)
 
 pub loop-f-preserved : goal.loop-f-preserved
-loop-f-preserved c = count_more c.loop-f.invariant c.in-At.is c.next_of-f.ensures
+loop-f-preserved c = count_more c.loop-f.invariant c.in-Some.is c.next_of-f.ensures

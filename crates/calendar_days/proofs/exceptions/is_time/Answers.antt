@@ -1,10 +1,10 @@
 use Rattle.calendar.specs.Hours.{working_meaning}
 use Rattle.calendar_days.proofs.exceptions.is_time.Goals as goal
 
-pub returns-in-Is : goal.returns-in-Is
+pub returns-in-Some : goal.returns-in-Some
 unfolding working_meaning
-returns-in-Is c = rw c.in-Is.is
+returns-in-Some c = rw c.in-Some.is
 
-pub returns-in-Absent : goal.returns-in-Absent
+pub returns-in-None : goal.returns-in-None
 unfolding working_meaning
-returns-in-Absent c = rw c.in-Absent.is
+returns-in-None c = rw c.in-None.is

@@ -1,10 +1,10 @@
 use Rattle.std.proofs.Common.{ap}
-use Rattle.recurrence.specs.declared.RuleAnswer.{RuleAnswer}
+use Rattle.std.specs.Prelude.{Some}
 use Rattle.calendar_days.proofs.RuleDays.{ruled, not_ruled}
 use Rattle.calendar_days.proofs.exceptions.rule_by.Goals as goal
 
-pub returns-in-Is : goal.returns-in-Is
-returns-in-Is c = ruled _ c.in-Is.is (ap RuleAnswer.Is c.daily.ensures)
+pub returns-in-Some : goal.returns-in-Some
+returns-in-Some c = ruled _ c.in-Some.is (ap Some c.daily.ensures)
 
-pub returns-in-Absent : goal.returns-in-Absent
-returns-in-Absent c = not_ruled c.in-Absent.is
+pub returns-in-None : goal.returns-in-None
+returns-in-None c = not_ruled c.in-None.is

@@ -19,10 +19,10 @@ returns-in_default c =
     sofar_all (order_end a.s.now (root_at a.s.now a.root) c.in_default.is) c.loop-found.invariant.1
 
 pub loop-found-smaller : goal.loop-found-smaller
-loop-found-smaller c = order_less c.in-At.is c.next_calendar-found.ensures
+loop-found-smaller c = order_less c.in-Some.is c.next_calendar-found.ensures
 
 pub loop-found-preserved : goal.loop-found-preserved
 loop-found-preserved c = (
   (c.put_next-built.auto.out ∙ c.loop-found.invariant.0.0, c.put_next-built.auto.words ∙ c.loop-found.invariant.0.1),
-  sofar_more (order_next c.in-At.is c.next_calendar-found.ensures) c.loop-found.invariant.1 c.put_next-built.ensures,
+  sofar_more (order_next c.in-Some.is c.next_calendar-found.ensures) c.loop-found.invariant.1 c.put_next-built.ensures,
 )

@@ -1,10 +1,10 @@
 use Rattle.calendars.specs.Built.{TurnsMain}
 use Rattle.calendars.proofs.built.turn_main.Goals as goal
 
-pub returns-in-Is : goal.returns-in-Is
+pub returns-in-Some : goal.returns-in-Some
 unfolding TurnsMain
-returns-in-Is c = rw c.in-Is.is c.turn.ensures
+returns-in-Some c = rw c.in-Some.is c.turn.ensures
 
-pub returns-in-Absent : goal.returns-in-Absent
+pub returns-in-None : goal.returns-in-None
 unfolding TurnsMain
-returns-in-Absent c = rw c.in-Absent.is
+returns-in-None c = rw c.in-None.is

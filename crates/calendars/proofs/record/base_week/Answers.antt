@@ -6,8 +6,8 @@ use Rattle.calendars.proofs.record.base_week.Goals as goal
 pub overflow_cast-result : goal.overflow_cast-result
 overflow_cast-result c = let h = field_lt c.args.out.now _ 7 c.take.ensures in record { fits = omega (arith, h) }
 
-pub returns-in-At : goal.returns-in-At
-returns-in-At c = rw c.in-At.is (week_at (ap (λ x. x.value) c.take.ensures))
+pub returns-in-Some : goal.returns-in-Some
+returns-in-Some c = rw c.in-Some.is (week_at (ap (λ x. x.value) c.take.ensures))
 
-pub returns-in-Default : goal.returns-in-Default
-returns-in-Default c = rw c.in-Default.is (week_default c.args.out.now)
+pub returns-in-None : goal.returns-in-None
+returns-in-None c = rw c.in-None.is (week_default c.args.out.now)

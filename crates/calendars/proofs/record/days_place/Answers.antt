@@ -1,10 +1,10 @@
 use Rattle.calendars.specs.Base.{days_place}
 use Rattle.calendars.proofs.record.days_place.Goals as goal
 
-pub returns-in-At : goal.returns-in-At
+pub returns-in-Some : goal.returns-in-Some
 unfolding days_place
-returns-in-At c = rw c.in-At.is
+returns-in-Some c = rw c.in-Some.is
 
-pub returns-in-Default : goal.returns-in-Default
+pub returns-in-None : goal.returns-in-None
 unfolding days_place
-returns-in-Default c = rw c.in-Default.is
+returns-in-None c = rw c.in-None.is

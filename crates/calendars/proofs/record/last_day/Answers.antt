@@ -5,9 +5,9 @@ use Rattle.rows.specs.Rows.{found_meaning}
 use Rattle.calendars.specs.Record.{on_place}
 use Rattle.calendars.proofs.record.last_day.Goals as goal
 
-pub returns-in-Nothing : goal.returns-in-Nothing
+pub returns-in-None : goal.returns-in-None
 unfolding found_meaning find_last
-returns-in-Nothing c = sym (ap (find_last (on_place c.args.day)) (none_list c.first_in.ensures c.in-Nothing.is))
+returns-in-None c = sym (ap (find_last (on_place c.args.day)) (none_list c.first_in.ensures c.in-None.is))
 
-pub returns-in-At : goal.returns-in-At
-returns-in-At c = c.last_day_from.ensures ∙ sym (ap (find_last (on_place c.args.day)) (found_list c.first_in.ensures c.in-At.is))
+pub returns-in-Some : goal.returns-in-Some
+returns-in-Some c = c.last_day_from.ensures ∙ sym (ap (find_last (on_place c.args.day)) (found_list c.first_in.ensures c.in-Some.is))

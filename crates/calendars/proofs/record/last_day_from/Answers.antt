@@ -13,7 +13,7 @@ pub returns-in_default : goal.returns-in_default
 returns-in_default c = last_done (on_place c.args.day) (element_at c.args.s.now c.loop-next.at) (found_meaning c.args.s.now c.loop-next.found) c.loop-next.invariant c.later_day-found.ensures (none_list c.next_child.ensures c.in_default.is)
 
 pub loop-next-smaller : goal.loop-next-smaller
-loop-next-smaller c = omega (arith, found_on c.next_child.ensures c.in-At.is)
+loop-next-smaller c = omega (arith, found_on c.next_child.ensures c.in-Some.is)
 
 pub loop-next-preserved : goal.loop-next-preserved
-loop-next-preserved c = last_more (on_place c.args.day) (element_at c.args.s.now c.loop-next.at) (found_meaning c.args.s.now c.loop-next.found) c.loop-next.invariant c.later_day-found.ensures (found_list c.next_child.ensures c.in-At.is)
+loop-next-preserved c = last_more (on_place c.args.day) (element_at c.args.s.now c.loop-next.at) (found_meaning c.args.s.now c.loop-next.found) c.loop-next.invariant c.later_day-found.ensures (found_list c.next_child.ensures c.in-Some.is)

@@ -9,6 +9,6 @@ pub returns-in-Down : goal.returns-in-Down
 unfolding unsigned_or
 returns-in-Down c = rw c.in-Down.is
 
-pub returns-in-Absent : goal.returns-in-Absent
+pub returns-in-None : goal.returns-in-None
 unfolding unsigned_or
-returns-in-Absent c = rw c.in-Absent.is
+returns-in-None c = rw c.in-None.is

@@ -10,8 +10,8 @@ pub returns-in_default : goal.returns-in_default
 returns-in_default c = tasks_end _ _ c.loop-task.invariant (kept_end _ c.in_default.is)
 
 pub loop-task-smaller : goal.loop-task-smaller
-loop-task-smaller c = kept_less c.in-Is.is c.next_kept-task.ensures (omega arith)
+loop-task-smaller c = kept_less c.in-Some.is c.next_kept-task.ensures (omega arith)
 
 pub loop-task-preserved : goal.loop-task-preserved
 loop-task-preserved c =
-    tasks_next c.loop-task.invariant (kept_next c.in-Is.is c.next_kept-task.ensures) c.counted_in-count.ensures
+    tasks_next c.loop-task.invariant (kept_next c.in-Some.is c.next_kept-task.ensures) c.counted_in-count.ensures

@@ -9,8 +9,8 @@ pub returns-in_default : goal.returns-in_default
 returns-in_default c = count_end c.loop-link.invariant (list_end _ _ c.in_default.is)
 
 pub loop-link-smaller : goal.loop-link-smaller
-loop-link-smaller c = ahead_less _ c.in-At.is _ c.next_child-link.ensures.on
+loop-link-smaller c = ahead_less _ c.in-Some.is _ c.next_child-link.ensures.on
 
 pub loop-link-preserved : goal.loop-link-preserved
 loop-link-preserved c =
-    count_next c.loop-link.invariant (list_next c.in-At.is c.next_child-link.ensures) c.fate_of.ensures c.counted-count.ensures
+    count_next c.loop-link.invariant (list_next c.in-Some.is c.next_child-link.ensures) c.fate_of.ensures c.counted-count.ensures

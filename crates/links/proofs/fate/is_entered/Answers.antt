@@ -12,11 +12,11 @@ returns-in_default c = any_end c.loop-link.invariant (list_end _ _ c.in_default.
 
 pub returns-then-is_kept : goal.returns-then-is_kept
 returns-then-is_kept c =
-    any_here c.loop-link.invariant (list_at _ _ c.in-At.is) (fate_kept _ _ c.fate_of.ensures c.is_kept.ensures c.if-is_kept.true)
+    any_here c.loop-link.invariant (list_at _ _ c.in-Some.is) (fate_kept _ _ c.fate_of.ensures c.is_kept.ensures c.if-is_kept.true)
 
 pub loop-link-smaller : goal.loop-link-smaller
-loop-link-smaller c = ahead_less _ c.in-At.is _ c.next_child-link.ensures.on
+loop-link-smaller c = ahead_less _ c.in-Some.is _ c.next_child-link.ensures.on
 
 pub loop-link-preserved : goal.loop-link-preserved
 loop-link-preserved c =
-    any_on c.loop-link.invariant (list_at _ _ c.in-At.is) (fate_kept _ _ c.fate_of.ensures c.is_kept.ensures c.if-is_kept.false) c.next_child-link.ensures.is
+    any_on c.loop-link.invariant (list_at _ _ c.in-Some.is) (fate_kept _ _ c.fate_of.ensures c.is_kept.ensures c.if-is_kept.false) c.next_child-link.ensures.is

@@ -15,11 +15,11 @@ returns-in_default c = more_all (from_end _ _ _ c.loop-task.invariant.1 (kept_en
 
 pub overflow_add-row : goal.overflow_add-row
 overflow_add-row c =
-    omega (arith, c.loop-task.invariant.2, room_at c.in-Is.is)
+    omega (arith, c.loop-task.invariant.2, room_at c.in-Some.is)
 
 pub loop-task-smaller : goal.loop-task-smaller
-loop-task-smaller c = kept_less c.in-Is.is c.next_kept-task.ensures (omega arith)
+loop-task-smaller c = kept_less c.in-Some.is c.next_kept-task.ensures (omega arith)
 
 pub loop-task-preserved : goal.loop-task-preserved
 loop-task-preserved c =
-    (c.put_links_in-r.auto.out ∙ c.loop-task.invariant.0, from_next _ _ _ c.loop-task.invariant.1 (kept_next c.in-Is.is c.next_kept-task.ensures) c.put_links_in-r.ensures, omega (arith, c.loop-task.invariant.2, kept_less c.in-Is.is c.next_kept-task.ensures (omega arith)))
+    (c.put_links_in-r.auto.out ∙ c.loop-task.invariant.0, from_next _ _ _ c.loop-task.invariant.1 (kept_next c.in-Some.is c.next_kept-task.ensures) c.put_links_in-r.ensures, omega (arith, c.loop-task.invariant.2, kept_less c.in-Some.is c.next_kept-task.ensures (omega arith)))

@@ -13,8 +13,8 @@ pub returns-in_default : goal.returns-in_default
 returns-in_default c = in_end _ _ _ c.loop-link.invariant.1 (list_end _ _ c.in_default.is)
 
 pub loop-link-smaller : goal.loop-link-smaller
-loop-link-smaller c = ahead_less _ c.in-At.is _ c.next_child-link.ensures.on
+loop-link-smaller c = ahead_less _ c.in-Some.is _ c.next_child-link.ensures.on
 
 pub loop-link-preserved : goal.loop-link-preserved
 loop-link-preserved c =
-    (c.put_fate-r.auto.out ∙ c.loop-link.invariant.0, in_next _ _ _ c.loop-link.invariant.1 (list_next c.in-At.is c.next_child-link.ensures) c.fate_of.ensures c.put_fate-r.ensures)
+    (c.put_fate-r.auto.out ∙ c.loop-link.invariant.0, in_next _ _ _ c.loop-link.invariant.1 (list_next c.in-Some.is c.next_child-link.ensures) c.fate_of.ensures c.put_fate-r.ensures)

@@ -1,7 +1,6 @@
 use borrow.Author.Tests.{not-true, not-false}
 use Rattle.model.proofs.Single.{row_missing, row_cut, row_given}
 use Rattle.bits.specs.Reads.{field_lt}
-use Rattle.definition.specs.Answer.{row_meaning}
 use Rattle.model.proofs.parts.take_row.Goals as goal
 
 pub returns-then-not-f : goal.returns-then-not-f

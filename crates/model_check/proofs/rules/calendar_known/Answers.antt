@@ -9,11 +9,11 @@ pub returns-in_default : goal.returns-in_default
 returns-in_default c = λ m end d x o h. no_name m h c.take_name-n.ensures c.in_default.is
 
 pub overflow_add-end : goal.overflow_add-end
-overflow_add-end c = omega (arith, c.take_name-n.ensures.within _ _ c.in-At.is, c.well_formed)
+overflow_add-end c = omega (arith, c.take_name-n.ensures.within _ _ c.in-Some.is, c.well_formed)
 
 pub slice_bounds-is_calendar-end : goal.slice_bounds-is_calendar-end
-slice_bounds-is_calendar-end c = c.take_name-n.ensures.within _ _ c.in-At.is
+slice_bounds-is_calendar-end c = c.take_name-n.ensures.within _ _ c.in-Some.is
 
 pub returns : goal.returns
 returns c =
-    λ m end d x o h. c.is_calendar.ensures m end d x ∙ rw between (a_name m h c.take_name-n.ensures _ _ c.in-At.is)
+    λ m end d x o h. c.is_calendar.ensures m end d x ∙ rw between (a_name m h c.take_name-n.ensures _ _ c.in-Some.is)

@@ -14,17 +14,17 @@ pub returns-then-has_key : goal.returns-then-has_key
 returns-then-has_key c =
     λ ks x u.
     let v = c.loop-at.invariant ks x u in
-    walk_hits v.1 c.in-At.is (sym (c.has_key.ensures _ (key_there x (row_in c.in-At.is v.0) c.place-byte.ensures)) ∙ c.if-has_key.true)
+    walk_hits v.1 c.in-Some.is (sym (c.has_key.ensures _ (key_there x (row_in c.in-Some.is v.0) c.place-byte.ensures)) ∙ c.if-has_key.true)
 
 pub loop-at-smaller : goal.loop-at-smaller
 loop-at-smaller c =
     let b = c.args in
-    next_less b.words.now b.t c.in-At.is c.next-at.ensures
+    next_less b.words.now b.t c.in-Some.is c.next-at.ensures
 
 pub loop-at-preserved : goal.loop-at-preserved
 loop-at-preserved c =
     let b = c.args in
     λ ks x u.
     let v = c.loop-at.invariant ks x u in
-    let l = next_less b.words.now b.t c.in-At.is c.next-at.ensures in
-    (omega (arith, l, v.0), seeks_next v.1 c.in-At.is (sym (c.has_key.ensures _ (key_there x (row_in c.in-At.is v.0) c.place-byte.ensures)) ∙ c.if-has_key.false) c.next-at.ensures)
+    let l = next_less b.words.now b.t c.in-Some.is c.next-at.ensures in
+    (omega (arith, l, v.0), seeks_next v.1 c.in-Some.is (sym (c.has_key.ensures _ (key_there x (row_in c.in-Some.is v.0) c.place-byte.ensures)) ∙ c.if-has_key.false) c.next-at.ensures)

@@ -11,4 +11,4 @@ returns-in_default c = none_made _ _ _ _
 
 pub returns : goal.returns
 returns c =
-    one_made (emptied _ (omega (arith, c.if-s-gt4294967295.false)) c.table_at-made.ensures c.in-Ready.is c.clear.ensures)
+    one_made (emptied _ (omega (arith, c.if-s-gt4294967295.false)) c.table_at-made.ensures c.in-Some.is c.clear.ensures)

@@ -8,5 +8,5 @@ returns-in_default c = λ key k xs end h. tt
 
 pub returns : goal.returns
 returns c =
-    let e = c.empty_table-made.ensures.ready _ c.in-Ready.is in
+    let e = c.empty_table-made.ensures.ready _ c.in-Some.is in
     c.fill.ensures e.small (ap (λ (t : Table). t.rows) e.is) e.empty

@@ -1,5 +1,5 @@
 -- `model_check::walk::table_of` meets its contract. Assumes nothing.
 use Rattle.model_check.proofs.walk.table_of.Goals as goal
 
-pub returns-in-NoRoom : goal.returns-in-NoRoom
-returns-in-NoRoom c = rw c.in-NoRoom.is
+pub returns-in-None : goal.returns-in-None
+returns-in-None c = rw c.in-None.is

@@ -13,10 +13,10 @@ pub returns-in_default : goal.returns-in_default
 returns-in_default c = omega (arith, c.loop-q.invariant.1, ap (λ (l : List Element). length l) (none_list c.next_child.ensures c.in_default.is))
 
 pub overflow_add-n : goal.overflow_add-n
-overflow_add-n c = omega (arith, c.loop-q.invariant.0, found_on c.next_child.ensures c.in-At.is, c.well_formed)
+overflow_add-n c = omega (arith, c.loop-q.invariant.0, found_on c.next_child.ensures c.in-Some.is, c.well_formed)
 
 pub loop-q-smaller : goal.loop-q-smaller
-loop-q-smaller c = omega (arith, found_on c.next_child.ensures c.in-At.is)
+loop-q-smaller c = omega (arith, found_on c.next_child.ensures c.in-Some.is)
 
 pub loop-q-preserved : goal.loop-q-preserved
-loop-q-preserved c = (omega (arith, c.loop-q.invariant.0, found_on c.next_child.ensures c.in-At.is), omega (arith, c.loop-q.invariant.1, ap (λ (l : List Element). length l) (found_list c.next_child.ensures c.in-At.is)))
+loop-q-preserved c = (omega (arith, c.loop-q.invariant.0, found_on c.next_child.ensures c.in-Some.is), omega (arith, c.loop-q.invariant.1, ap (λ (l : List Element). length l) (found_list c.next_child.ensures c.in-Some.is)))

@@ -9,16 +9,16 @@ use Rattle.names.specs.ByUid.{main_there, main_absent}
 use Rattle.names.proofs.Found.{is_there, is_absent, main_same}
 use Rattle.names.proofs.calendars.is_main.Goals as goal
 
-pub returns-in-Is : goal.returns-in-Is
-returns-in-Is c =
+pub returns-in-Some : goal.returns-in-Some
+returns-in-Some c =
     let a = c.args in
     let x = c.main_calendar in
     let t = starred_by a.text.now a.stars in
-    c.same_starred.ensures ∙ main_same a.out.now a.c (root_at a.s.now a.root) _ _ c.wanted_name.ensures t c.stars_of-m.ensures ∙ ap (same t) (sym (main_there a.out.now a.c (root_at a.s.now a.root) _ (is_there a.s.now x.result x.ensures c.in-Is.is)))
+    c.same_starred.ensures ∙ main_same a.out.now a.c (root_at a.s.now a.root) _ _ c.wanted_name.ensures t c.stars_of-m.ensures ∙ ap (same t) (sym (main_there a.out.now a.c (root_at a.s.now a.root) _ (is_there a.s.now x.result x.ensures c.in-Some.is)))
 
-pub returns-in-Absent : goal.returns-in-Absent
-returns-in-Absent c =
+pub returns-in-None : goal.returns-in-None
+returns-in-None c =
     let a = c.args in
     let x = c.main_calendar in
     let t = starred_by a.text.now a.stars in
-    c.same_starred-in-Absent.ensures ∙ ap (same t) (star_none (bytes "Standard") ∙ sym (main_absent a.out.now a.c (root_at a.s.now a.root) (is_absent a.s.now x.result x.ensures c.in-Absent.is)))
+    c.same_starred-in-None.ensures ∙ ap (same t) (star_none (bytes "Standard") ∙ sym (main_absent a.out.now a.c (root_at a.s.now a.root) (is_absent a.s.now x.result x.ensures c.in-None.is)))

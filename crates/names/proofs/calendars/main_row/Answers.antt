@@ -7,12 +7,12 @@ use Rattle.definition.specs.Tree.{Element}
 use Rattle.names.proofs.Found.{is_there, is_absent}
 use Rattle.names.proofs.calendars.main_row.Goals as goal
 
-pub returns-in-Is : goal.returns-in-Is
-returns-in-Is c =
+pub returns-in-Some : goal.returns-in-Some
+returns-in-Some c =
     let x = c.main_calendar in
-    sym (ap (λ (o : Option (ℕ × Element)). (o >>= λ x. Some x.0) or 0) (is_there c.args.s.now x.result x.ensures c.in-Is.is))
+    sym (ap (λ (o : Option (ℕ × Element)). (o >>= λ x. Some x.0) or 0) (is_there c.args.s.now x.result x.ensures c.in-Some.is))
 
-pub returns-in-Absent : goal.returns-in-Absent
-returns-in-Absent c =
+pub returns-in-None : goal.returns-in-None
+returns-in-None c =
     let x = c.main_calendar in
-    sym (ap (λ (o : Option (ℕ × Element)). (o >>= λ x. Some x.0) or 0) (is_absent c.args.s.now x.result x.ensures c.in-Absent.is))
+    sym (ap (λ (o : Option (ℕ × Element)). (o >>= λ x. Some x.0) or 0) (is_absent c.args.s.now x.result x.ensures c.in-None.is))

@@ -8,4 +8,4 @@ pub returns-in_default : goal.returns-in_default
 returns-in_default c = tables_refused _ _ _ _ _ c.if-p-len.false c.ids_at.ensures c.in_default.is
 
 pub returns : goal.returns
-returns c = tables_ready _ _ _ _ _ c.if-p-len.false c.ids_at.ensures c.in-Ready.is c.clear_ids.ensures
+returns c = tables_ready _ _ _ _ _ c.if-p-len.false c.ids_at.ensures c.in-Some.is c.clear_ids.ensures

@@ -2,4 +2,4 @@ use Rattle.names.proofs.Chained.{noted_by_made}
 use Rattle.names.proofs.ids.note_stars.Goals as goal
 
 pub returns : goal.returns
-returns c = noted_by_made _ _ _ _ _ _ c.in-Ready.is c.note_id.ensures
+returns c = noted_by_made _ _ _ _ _ _ c.in-Some.is c.note_id.ensures

@@ -10,7 +10,7 @@ pub returns-in_default : goal.returns-in_default
 returns-in_default c = starred_scan _ _ _ _ _ _ _ _ (sym c.inside.ensures ∙ not-false _ c.if-not-inside.false-raw) c.free_stars.result c.in_default.is c.free_stars.ensures
 
 pub returns-then-t-row : goal.returns-then-t-row
-returns-then-t-row c = starred_few _ _ _ _ _ _ _ _ (sym c.inside.ensures ∙ not-false _ c.if-not-inside.false-raw) c.free_stars-then-t-row.result c.in-Ready.is c.if-t-row.true c.free_stars-then-t-row.ensures
+returns-then-t-row c = starred_few _ _ _ _ _ _ _ _ (sym c.inside.ensures ∙ not-false _ c.if-not-inside.false-raw) c.free_stars-then-t-row.result c.in-Some.is c.if-t-row.true c.free_stars-then-t-row.ensures
 
 pub returns : goal.returns
-returns c = starred_by_lem _ _ _ _ _ _ _ _ (sym c.inside.ensures ∙ not-false _ c.if-not-inside.false-raw) c.free_in.result c.in-Ready.is c.if-t-row.false c.free_in.ensures
+returns c = starred_by_lem _ _ _ _ _ _ _ _ (sym c.inside.ensures ∙ not-false _ c.if-not-inside.false-raw) c.free_in.result c.in-Some.is c.if-t-row.false c.free_in.ensures

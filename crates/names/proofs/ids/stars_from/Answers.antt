@@ -23,15 +23,15 @@ unfolding stars_from
 returns-then-same_starred c =
     let a = c.args in
     c.behind.ensures ∙ ap (λ (s : ℕ). behind s a.count) c.place-stars.ensures
-    ∙ its_number c.loop-row.invariant (λ r. behind (place_of a.words.now a.ids.wanted r) a.count) c.in-At.is
+    ∙ its_number c.loop-row.invariant (λ r. behind (place_of a.words.now a.ids.wanted r) a.count) c.in-Some.is
     (seen_own a.wanted.now c.place-stars.ensures c.same_starred.ensures c.id_of.ensures c.if-same_starred.true)
 
 pub loop-row-smaller : goal.loop-row-smaller
 loop-row-smaller c =
     let a = c.args in
-    next_less a.words.now a.ids.wanted c.in-At.is c.next-row.ensures
+    next_less a.words.now a.ids.wanted c.in-Some.is c.next-row.ensures
 
 pub loop-row-preserved : goal.loop-row-preserved
 loop-row-preserved c =
     let a = c.args in
-    seeks_next c.loop-row.invariant c.in-At.is (seen_own a.wanted.now c.place-stars.ensures c.same_starred.ensures c.id_of.ensures c.if-same_starred.false) c.next-row.ensures
+    seeks_next c.loop-row.invariant c.in-Some.is (seen_own a.wanted.now c.place-stars.ensures c.same_starred.ensures c.id_of.ensures c.if-same_starred.false) c.next-row.ensures

@@ -21,14 +21,14 @@ pub returns-then-same_starred : goal.returns-then-same_starred
 unfolding taken_in
 returns-then-same_starred c =
     let a = c.args in
-    is_given_lem c.loop-row.invariant c.in-At.is (seen_id (starred_by a.wanted.now a.stars) c.same_starred.ensures c.id_of.ensures c.if-same_starred.true)
+    is_given_lem c.loop-row.invariant c.in-Some.is (seen_id (starred_by a.wanted.now a.stars) c.same_starred.ensures c.id_of.ensures c.if-same_starred.true)
 
 pub loop-row-smaller : goal.loop-row-smaller
 loop-row-smaller c =
     let a = c.args in
-    next_less a.words.now a.ids.ids c.in-At.is c.next-row.ensures
+    next_less a.words.now a.ids.ids c.in-Some.is c.next-row.ensures
 
 pub loop-row-preserved : goal.loop-row-preserved
 loop-row-preserved c =
     let a = c.args in
-    seeks_next c.loop-row.invariant c.in-At.is (seen_id (starred_by a.wanted.now a.stars) c.same_starred.ensures c.id_of.ensures c.if-same_starred.false) c.next-row.ensures
+    seeks_next c.loop-row.invariant c.in-Some.is (seen_id (starred_by a.wanted.now a.stars) c.same_starred.ensures c.id_of.ensures c.if-same_starred.false) c.next-row.ensures

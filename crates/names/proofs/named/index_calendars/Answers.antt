@@ -5,7 +5,7 @@ pub returns-in_default : goal.returns-in_default
 returns-in_default c = makes_none c.index_uids-made.ensures c.in_default.is
 
 pub note_all-requires : goal.note_all-requires
-note_all-requires c = makes_uids c.index_uids-made.ensures c.in-Ready.is
+note_all-requires c = makes_uids c.index_uids-made.ensures c.in-Some.is
 
 pub returns : goal.returns
-returns c = makes_ready c.index_uids-made.ensures c.in-Ready.is c.note_all.ensures
+returns c = makes_ready c.index_uids-made.ensures c.in-Some.is c.note_all.ensures

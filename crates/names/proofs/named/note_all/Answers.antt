@@ -8,4 +8,4 @@ pub note_names-requires : goal.note_names-requires
 note_names-requires c = c.requires.room
 
 pub returns : goal.returns
-returns c = filled c.requires (main_given _ _ c.main_calendar.ensures c.in-Is.is c.stars_of-stars.ensures) c.note_names.ensures c.word_of-elapsed.ensures c.set_word-2.ensures
+returns c = filled c.requires (main_given _ _ c.main_calendar.ensures c.in-Some.is c.stars_of-stars.ensures) c.note_names.ensures c.word_of-elapsed.ensures c.set_word-2.ensures

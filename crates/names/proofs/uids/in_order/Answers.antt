@@ -1,8 +1,8 @@
 use Rattle.names.proofs.Wording.{row_there, row_absent}
 use Rattle.names.proofs.uids.in_order.Goals as goal
 
-pub returns-in-Is : goal.returns-in-Is
-returns-in-Is c = row_there _ _ c.in-Is.is c.order_row.ensures c.place.ensures
+pub returns-in-Some : goal.returns-in-Some
+returns-in-Some c = row_there _ _ c.in-Some.is c.order_row.ensures c.place.ensures
 
-pub returns-in-Absent : goal.returns-in-Absent
-returns-in-Absent c = row_absent _ _ c.in-Absent.is
+pub returns-in-None : goal.returns-in-None
+returns-in-None c = row_absent _ _ c.in-None.is

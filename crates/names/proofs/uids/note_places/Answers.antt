@@ -16,15 +16,15 @@ pub returns-in_default : goal.returns-in_default
 returns-in_default c = placing_end c.requires c.loop-e.invariant c.in_default.is
 
 pub overflow_sub-left : goal.overflow_sub-left
-overflow_sub-left c = omega (arith, placing_more c.requires c.loop-e.invariant c.in-At.is)
+overflow_sub-left c = omega (arith, placing_more c.requires c.loop-e.invariant c.in-Some.is)
 
 pub overflow_cast-at : goal.overflow_cast-at
 overflow_cast-at c =
-    omega (arith, placing_at c.requires c.loop-e.invariant c.in-At.is)
+    omega (arith, placing_at c.requires c.loop-e.invariant c.in-Some.is)
 
 pub loop-e-smaller : goal.loop-e-smaller
-loop-e-smaller c = order_less c.in-At.is c.next_calendar-e.ensures
+loop-e-smaller c = order_less c.in-Some.is c.next_calendar-e.ensures
 
 pub loop-e-preserved : goal.loop-e-preserved
 loop-e-preserved c =
-    placing_turn c.requires c.loop-e.invariant c.in-At.is c.set_word.ensures c.next_calendar-e.ensures
+    placing_turn c.requires c.loop-e.invariant c.in-Some.is c.set_word.ensures c.next_calendar-e.ensures

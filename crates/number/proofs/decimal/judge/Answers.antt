@@ -1,6 +1,6 @@
 use Rattle.std.proofs.Common.{sym, ap, ◌∙◌, arith, rules}
+use Rattle.std.specs.Prelude.{Ok}
 use lib.Ieee.{of_bits}
-use Rattle.definition.specs.Number.{value}
 use Rattle.number.proofs.Limits.{zero_is, long_is, short_is}
 use Rattle.number.proofs.decimal.judge.Goals as goal
 
@@ -19,5 +19,5 @@ returns-then-above-gt22-2 c = sym (long_is c.args.v c.args.up c.args.down (searc
 
 pub returns : goal.returns
 returns c =
-    ap value c.short.ensures
+    ap Ok c.short.ensures
     ∙ sym (short_is c.args.v c.args.up c.args.down (search rules) (record { few = omega arith; not_high = omega arith; not_low = omega arith }))

@@ -22,10 +22,10 @@ returns-in-Long c =
     let s = c.args.s.now in
     read s c.loop-from.from c.first.result c.loop-from.f c.first.ensures c.piece_of.result (search rules) c.piece_of.ensures c.in-Long.is ∙ c.loop-from.invariant.1
 
-pub returns-in-Absent : goal.returns-in-Absent
-returns-in-Absent c =
+pub returns-in-None : goal.returns-in-None
+returns-in-None c =
     let s = c.args.s.now in
-    read s c.loop-from.from c.first.result c.loop-from.f c.first.ensures c.piece_of.result (search rules) c.piece_of.ensures c.in-Absent.is ∙ c.loop-from.invariant.1
+    read s c.loop-from.from c.first.result c.loop-from.f c.first.ensures c.piece_of.result (search rules) c.piece_of.ensures c.in-None.is ∙ c.loop-from.invariant.1
 
 pub loop-from-preserved : goal.loop-from-preserved
 loop-from-preserved c =

@@ -1,11 +1,10 @@
 -- `outline::parents::word_of` meets its contract. Assumes nothing.
-use Rattle.definition.specs.Answer.{row_meaning}
 use Rattle.outline.proofs.parents.word_of.Goals as goal
 
-pub returns-in-Is : goal.returns-in-Is
+pub returns-in-Some : goal.returns-in-Some
 unfolding row_meaning
-returns-in-Is c = rw c.in-Is.is
+returns-in-Some c = rw c.in-Some.is
 
-pub returns-in-Absent : goal.returns-in-Absent
+pub returns-in-None : goal.returns-in-None
 unfolding row_meaning
-returns-in-Absent c = rw c.in-Absent.is
+returns-in-None c = rw c.in-None.is

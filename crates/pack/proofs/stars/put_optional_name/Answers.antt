@@ -8,12 +8,12 @@ use Rattle.pack.proofs.stars.put_optional_name.Goals as goal
 pub enum_told-1 : goal.enum_told-1
 enum_told-1 c = search rules
 
-pub returns-in-Starred : goal.returns-in-Starred
+pub returns-in-Some : goal.returns-in-Some
 unfolding name_meaning
-returns-in-Starred c =
-    put_given_lem (ap (name_meaning _) c.in-Starred.is) c.put_flag-q.ensures c.put_starred.ensures
+returns-in-Some c =
+    put_given_lem (ap (name_meaning _) c.in-Some.is) c.put_flag-q.ensures c.put_starred.ensures
 
-pub returns-in-Absent : goal.returns-in-Absent
+pub returns-in-None : goal.returns-in-None
 unfolding name_meaning
-returns-in-Absent c =
-    put_missing text (ap (name_meaning _) c.in-Absent.is) c.put_flag.ensures
+returns-in-None c =
+    put_missing text (ap (name_meaning _) c.in-None.is) c.put_flag.ensures

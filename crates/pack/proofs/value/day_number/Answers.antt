@@ -11,12 +11,12 @@ use Rattle.pack.proofs.value.day_number.Goals as goal
 pub enum_told-1 : goal.enum_told-1
 enum_told-1 c = search rules
 
-pub returns-in-Is : goal.returns-in-Is
-returns-in-Is c =
+pub returns-in-Some : goal.returns-in-Some
+returns-in-Some c =
     let e = c.from_days.ensures ∙ ap (λ (z : ℤ). day_number_of (from_days z)) (to_z-of_z {w = w32} (record { sfits = c.struct_told-1.given.0.1 })) in
-    to_z-of_z {w = w32} (record { sfits = c.struct_told-in-Is-1.given.0.1 }) ∙ day_is _ e c.in-Is.is
+    to_z-of_z {w = w32} (record { sfits = c.struct_told-in-Some-1.given.0.1 }) ∙ day_is _ e c.in-Some.is
 
-pub returns-in-Absent : goal.returns-in-Absent
-returns-in-Absent c =
+pub returns-in-None : goal.returns-in-None
+returns-in-None c =
     let e = c.from_days.ensures ∙ ap (λ (z : ℤ). day_number_of (from_days z)) (to_z-of_z {w = w32} (record { sfits = c.struct_told-1.given.0.1 })) in
-    no_day _ e c.in-Absent.is
+    no_day _ e c.in-None.is

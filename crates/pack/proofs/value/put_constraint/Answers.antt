@@ -9,11 +9,11 @@ use Rattle.pack.proofs.value.put_constraint.Goals as goal
 pub enum_told-1 : goal.enum_told-1
 enum_told-1 c = search rules
 
-pub returns-in-Is : goal.returns-in-Is
-returns-in-Is c =
-    rw c.in-Is.is c.put_given_constraint.ensures
+pub returns-in-Some : goal.returns-in-Some
+returns-in-Some c =
+    rw c.in-Some.is c.put_given_constraint.ensures
 
-pub returns-in-Absent : goal.returns-in-Absent
+pub returns-in-None : goal.returns-in-None
 unfolding constraint_means
-returns-in-Absent c =
-    put_missing constraint (ap constraint_given c.in-Absent.is) c.put_flag.ensures
+returns-in-None c =
+    put_missing constraint (ap constraint_given c.in-None.is) c.put_flag.ensures

@@ -9,12 +9,12 @@ use Rattle.pack.proofs.value.put_optional_date.Goals as goal
 pub enum_told-1 : goal.enum_told-1
 enum_told-1 c = search rules
 
-pub returns-in-Is : goal.returns-in-Is
+pub returns-in-Some : goal.returns-in-Some
 unfolding date_meaning
-returns-in-Is c =
-    put_given_lem (ap date_given c.in-Is.is) c.put_flag-q.ensures c.put_date.ensures
+returns-in-Some c =
+    put_given_lem (ap date_given c.in-Some.is) c.put_flag-q.ensures c.put_date.ensures
 
-pub returns-in-Absent : goal.returns-in-Absent
+pub returns-in-None : goal.returns-in-None
 unfolding date_meaning
-returns-in-Absent c =
-    put_missing date (ap date_given c.in-Absent.is) c.put_flag.ensures
+returns-in-None c =
+    put_missing date (ap date_given c.in-None.is) c.put_flag.ensures

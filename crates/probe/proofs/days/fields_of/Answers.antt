@@ -2,8 +2,8 @@ use mathlib.Core.Path.{ap, sym, ◌∙◌}
 use Rattle.probe.specs.Fields.{fields_of}
 use Rattle.probe.proofs.days.fields_of.Goals as goal
 
-pub returns-in-Is : goal.returns-in-Is
-returns-in-Is c = c.fields_by.ensures ∙ sym (ap fields_of c.in-Is.is)
+pub returns-in-Some : goal.returns-in-Some
+returns-in-Some c = c.fields_by.ensures ∙ sym (ap fields_of c.in-Some.is)
 
-pub returns-in-Absent : goal.returns-in-Absent
-returns-in-Absent c = sym (ap fields_of c.in-Absent.is)
+pub returns-in-None : goal.returns-in-None
+returns-in-None c = sym (ap fields_of c.in-None.is)

@@ -1,10 +1,10 @@
 use Rattle.recurrence.specs.Scale.{month_meaning}
 use Rattle.probe.proofs.days.month_number.Goals as goal
 
-pub returns-in-Is : goal.returns-in-Is
+pub returns-in-Some : goal.returns-in-Some
 unfolding month_meaning
-returns-in-Is c = rw c.in-Is.is
+returns-in-Some c = rw c.in-Some.is
 
-pub returns-in-Absent : goal.returns-in-Absent
+pub returns-in-None : goal.returns-in-None
 unfolding month_meaning
-returns-in-Absent c = rw c.in-Absent.is
+returns-in-None c = rw c.in-None.is

@@ -11,16 +11,16 @@ use Rattle.recurrence.proofs.element.judge.Goals as goal
 pub enum_told-1 : goal.enum_told-1
 enum_told-1 c = search std-rules
 
-pub returns-in-Is : goal.returns-in-Is
+pub returns-in-Some : goal.returns-in-Some
 unfolding judged
-returns-in-Is c =
+returns-in-Some c =
     let r = c.args.r in
-    let e : rules r.kind (month_meaning r.month or 13) ≡ true = ap (rules r.kind) (sym c.month_number.ensures) ∙ chosen_rule r.kind c.month_number.result c.kind_of.ensures c.in-Is.is in
+    let e : rules r.kind (month_meaning r.month or 13) ≡ true = ap (rules r.kind) (sym c.month_number.ensures) ∙ chosen_rule r.kind c.month_number.result c.kind_of.ensures c.in-Some.is in
     rw e
 
-pub returns-in-NoRule : goal.returns-in-NoRule
+pub returns-in-None : goal.returns-in-None
 unfolding judged
-returns-in-NoRule c =
+returns-in-None c =
     let r = c.args.r in
-    let e : rules r.kind (month_meaning r.month or 13) ≡ false = ap (rules r.kind) (sym c.month_number.ensures) ∙ chosen_none r.kind c.month_number.result c.kind_of.ensures c.in-NoRule.is in
+    let e : rules r.kind (month_meaning r.month or 13) ≡ false = ap (rules r.kind) (sym c.month_number.ensures) ∙ chosen_none r.kind c.month_number.result c.kind_of.ensures c.in-None.is in
     rw e

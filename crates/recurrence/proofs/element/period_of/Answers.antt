@@ -8,13 +8,13 @@ use Rattle.recurrence.proofs.element.period_of.Goals as goal
 pub enum_told-1 : goal.enum_told-1
 enum_told-1 c = search rules
 
-pub returns-in-Nothing : goal.returns-in-Nothing
+pub returns-in-None : goal.returns-in-None
 unfolding period_of
-returns-in-Nothing c =
-    rw (none_child (element_at c.args.s.now c.args.at) c.child.ensures c.in-Nothing.is)
+returns-in-None c =
+    rw (none_child (element_at c.args.s.now c.args.at) c.child.ensures c.in-None.is)
 
-pub returns-in-At : goal.returns-in-At
+pub returns-in-Some : goal.returns-in-Some
 unfolding period_of date_in
-returns-in-At c =
-    rw (found_child (element_at c.args.s.now c.args.at) c.child.ensures c.in-At.is)
-    (λ i. record { from = c.day_said.ensures i; to = c.day_said-in-At.ensures i })
+returns-in-Some c =
+    rw (found_child (element_at c.args.s.now c.args.at) c.child.ensures c.in-Some.is)
+    (λ i. record { from = c.day_said.ensures i; to = c.day_said-in-Some.ensures i })

@@ -6,10 +6,10 @@ use Rattle.recurrence.proofs.scale.count_or.Goals as goal
 pub enum_told-1 : goal.enum_told-1
 enum_told-1 c = search rules
 
-pub returns-in-Is : goal.returns-in-Is
+pub returns-in-Some : goal.returns-in-Some
 unfolding count_by
-returns-in-Is c = c.count_of.ensures ∙ sym (ap count_by c.in-Is.is)
+returns-in-Some c = c.count_of.ensures ∙ sym (ap count_by c.in-Some.is)
 
-pub returns-in-Absent : goal.returns-in-Absent
+pub returns-in-None : goal.returns-in-None
 unfolding count_by
-returns-in-Absent c = sym (ap count_by c.in-Absent.is)
+returns-in-None c = sym (ap count_by c.in-None.is)

@@ -19,7 +19,7 @@ sounds : (c : Else-not-is_sound) → sound c.to_scale-t.result ≡ true
 sounds c = sym c.is_sound.ensures ∙ not-false _ c.if-not-is_sound.false-raw
 
 yes : (c : In-Is) → is_one c.to_scale-t.result ≡ true
-yes c = is_one_lem c.to_scale-t.result (sounds c.before.before) c.kind_of.ensures c.in-Is.is
+yes c = is_one_lem c.to_scale-t.result (sounds c.before.before) c.kind_of.ensures c.in-Some.is
 
 at_is : (c : After-later-at) →
     c.later-at.result ≡ max c.to_scale-t.result.from (day_count c.args.c.at.0)
@@ -48,7 +48,7 @@ returns-then-t-at c =
 
 pub first_fit-x-requires : goal.first_fit-x-requires
 first_fit-x-requires c =
-    record { fact_1 = goes (goal.at.first_fit-x-requires c).Else-t-at; fact_2 = chosen_kind c.to_scale-t.result.kind c.to_scale-t.result.month c.kind_of.ensures c.in-Is.is }
+    record { fact_1 = goes (goal.at.first_fit-x-requires c).Else-t-at; fact_2 = chosen_kind c.to_scale-t.result.kind c.to_scale-t.result.month c.kind_of.ensures c.in-Some.is }
 
 pub returns-then-t-x : goal.returns-then-t-x
 returns-then-t-x c =
@@ -63,9 +63,9 @@ overflow_add-x c = omega (arith, c.if-t-x.false, (goes (goal.at.overflow_add-x c
 pub date_at-requires : goal.date_at-requires
 date_at-requires c = omega (arith, c.if-t-x.false, (goes (goal.at.date_at-requires c).Else-t-at).last)
 
-pub returns-in-NoRule : goal.returns-in-NoRule
-returns-in-NoRule c =
-    no_rule c.args.r c.args.c c.to_scale-t.result c.to_scale-t.ensures (no_kind c.to_scale-t.result (sounds (goal.at.returns-in-NoRule c).Else-not-is_sound) c.kind_of.ensures c.in-NoRule.is)
+pub returns-in-None : goal.returns-in-None
+returns-in-None c =
+    no_rule c.args.r c.args.c c.to_scale-t.result c.to_scale-t.ensures (no_kind c.to_scale-t.result (sounds (goal.at.returns-in-None c).Else-not-is_sound) c.kind_of.ensures c.in-None.is)
 
 pub returns-else-t-x : goal.returns-else-t-x
 returns-else-t-x c =

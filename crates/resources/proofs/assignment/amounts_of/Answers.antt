@@ -4,7 +4,6 @@ use lib.IntN.{ℤ, nat_abs}
 use mir.Syntax.{w64}
 use mir.ValLaws.{to_z-of_z}
 use Rattle.definition.specs.Resource.{left_of, other_than}
-use Rattle.text.specs.Answers.{i64_of}
 use Rattle.resources.proofs.assignment.amounts_of.Goals as goal
 
 pub left-requires : goal.left-requires
@@ -18,4 +17,4 @@ returns c =
     let p = to_z-of_z w64 c.number_or-planned.result (record { sfits = c.number_or-planned.type_inv }) ∙ c.number_or-planned.ensures in
     let a = to_z-of_z w64 c.number_or-actual.result (record { sfits = c.number_or-actual.type_inv }) ∙ c.number_or-actual.ensures in
     let z = to_z-of_z w64 c.left.result (record { sfits = c.left.type_inv }) ∙ c.left.ensures ∙ (λ i. left_of (p i) (a i)) in
-    record { planned_is = p; actual_is = a; remaining_is = c.other_than-remaining.ensures ∙ ap (λ (z : ℤ). other_than z (i64_of c.args.remaining)) z }
+    record { planned_is = p; actual_is = a; remaining_is = c.other_than-remaining.ensures ∙ ap (λ (z : ℤ). other_than z c.args.remaining) z }

@@ -7,18 +7,18 @@ use mir.Syntax.{w64}
 use mir.ValLaws.{to_z_pos}
 use Rattle.definition.specs.Base.{◌>>=◌}
 use Rattle.definition.specs.Resource.{hours_from}
-use Rattle.fields.specs.Answers.{minutes_means, arm}
+use Rattle.fields.specs.Answers.{arm}
 use borrow.Author.Rules.{rules}
 use Rattle.resources.proofs.assignment.hours.Goals as goal
 use Rattle.resources.proofs.assignment.hours.Goals.{In-Is}
 
-pub overflow_cast-result-in-Is : goal.overflow_cast-result-in-Is
-overflow_cast-result-in-Is c = search rules
+pub overflow_cast-result-in-Some : goal.overflow_cast-result-in-Some
+overflow_cast-result-in-Some c = search rules
 
-pub returns-in-Is : goal.returns-in-Is
-returns-in-Is c =
-    let h = to_z_pos w64 _ (overflow_cast-result-in-Is (goal.at.returns-in-Is c).In-Is).sfits in
-    record { is = arm minutes_means (λ (o : Option ℕ). o >>= hours_from) c.minutes_in.ensures c.in-Is.is (ap Some h); small = subst (λ (z : ℤ). nat_abs z ≤ 10 ^ 18) (sym h) (omega arith) }
+pub returns-in-Some : goal.returns-in-Some
+returns-in-Some c =
+    let h = to_z_pos w64 _ (overflow_cast-result-in-Some (goal.at.returns-in-Some c).In-Is).sfits in
+    record { is = arm (λ (o : Option ℕ). o >>= hours_from) c.minutes_in.ensures c.in-Some.is (ap Some h); small = subst (λ (z : ℤ). nat_abs z ≤ 10 ^ 18) (sym h) (omega arith) }
 
-pub returns-in-Absent : goal.returns-in-Absent
-returns-in-Absent c = record { is = arm minutes_means (λ (o : Option ℕ). o >>= hours_from) c.minutes_in.ensures c.in-Absent.is refl; small = omega arith }
+pub returns-in-None : goal.returns-in-None
+returns-in-None c = record { is = arm (λ (o : Option ℕ). o >>= hours_from) c.minutes_in.ensures c.in-None.is refl; small = omega arith }

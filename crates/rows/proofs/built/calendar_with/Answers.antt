@@ -17,15 +17,15 @@ returns-in_default c = find_end c.loop-c.invariant.0 (order_end _ _ c.in_default
 pub returns-then-text_is : goal.returns-then-text_is
 unfolding calendar_meaning
 returns-then-text_is c =
-    find_here c.loop-c.invariant.0 (order_at _ _ c.in-At.is) (sym c.text_is.ensures ∙ c.if-text_is.true)
+    find_here c.loop-c.invariant.0 (order_at _ _ c.in-Some.is) (sym c.text_is.ensures ∙ c.if-text_is.true)
 
 pub overflow_add-row : goal.overflow_add-row
 overflow_add-row c =
-    omega (arith, c.loop-c.invariant.1, order_some c.args.s.now c.in-At.is, c.well_formed)
+    omega (arith, c.loop-c.invariant.1, order_some c.args.s.now c.in-Some.is, c.well_formed)
 
 pub loop-c-smaller : goal.loop-c-smaller
-loop-c-smaller c = order_less c.in-At.is c.next_calendar-c.ensures
+loop-c-smaller c = order_less c.in-Some.is c.next_calendar-c.ensures
 
 pub loop-c-preserved : goal.loop-c-preserved
 loop-c-preserved c =
-    (find_on c.loop-c.invariant.0 (order_next c.in-At.is c.next_calendar-c.ensures) (sym c.text_is.ensures ∙ c.if-text_is.false), omega (arith, c.loop-c.invariant.1, order_less c.in-At.is c.next_calendar-c.ensures))
+    (find_on c.loop-c.invariant.0 (order_next c.in-Some.is c.next_calendar-c.ensures) (sym c.text_is.ensures ∙ c.if-text_is.false), omega (arith, c.loop-c.invariant.1, order_less c.in-Some.is c.next_calendar-c.ensures))

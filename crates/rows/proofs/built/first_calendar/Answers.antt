@@ -8,14 +8,14 @@ use Rattle.rows.proofs.built.first_calendar.Goals as goal
 pub enum_told-1 : goal.enum_told-1
 enum_told-1 c = search rules
 
-pub returns-in-At : goal.returns-in-At
-returns-in-At c =
+pub returns-in-Some : goal.returns-in-Some
+returns-in-Some c =
     let a = c.args in
     let first = starts_same (in_calendars a.s.now a.root (bytes "Calendar")) c.child-first.ensures in
-    order_first _ _ (picks_of first c.which_from.ensures) (after_plain _ c.in-At.is)
+    order_first _ _ (picks_of first c.which_from.ensures) (after_plain _ c.in-Some.is)
 
-pub returns-in-Nothing : goal.returns-in-Nothing
-returns-in-Nothing c =
+pub returns-in-None : goal.returns-in-None
+returns-in-None c =
     let a = c.args in
     let first = starts_same (in_calendars a.s.now a.root (bytes "Calendar")) c.child-first.ensures in
-    order_first _ _ (picks_of first c.which_from.ensures) (after_none _ _ c.in-Nothing.is (picks_of first c.which_from-in-Nothing.ensures))
+    order_first _ _ (picks_of first c.which_from.ensures) (after_none _ _ c.in-None.is (picks_of first c.which_from-in-None.ensures))

@@ -8,10 +8,10 @@ use Rattle.rows.proofs.built.or_derived.Goals as goal
 pub enum_told-1 : goal.enum_told-1
 enum_told-1 c = search rules
 
-pub returns-in-At : goal.returns-in-At
-returns-in-At c = after_plain _ c.in-At.is
+pub returns-in-Some : goal.returns-in-Some
+returns-in-Some c = after_plain _ c.in-Some.is
 
-pub returns-in-Nothing : goal.returns-in-Nothing
-returns-in-Nothing c =
+pub returns-in-None : goal.returns-in-None
+returns-in-None c =
     let a = c.args in
-    after_none _ _ c.in-Nothing.is (picks_same (in_calendars a.s.now a.root (bytes "Calendar")) c.first_which.ensures)
+    after_none _ _ c.in-None.is (picks_same (in_calendars a.s.now a.root (bytes "Calendar")) c.first_which.ensures)

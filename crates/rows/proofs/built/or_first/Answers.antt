@@ -6,9 +6,9 @@ use Rattle.rows.proofs.built.or_first.Goals as goal
 pub enum_told-1 : goal.enum_told-1
 enum_told-1 c = search rules
 
-pub returns-in-Is : goal.returns-in-Is
-returns-in-Is c = or_is _ _ c.in-Is.is
+pub returns-in-Some : goal.returns-in-Some
+returns-in-Some c = or_is _ _ c.in-Some.is
 
-pub returns-in-Absent : goal.returns-in-Absent
-returns-in-Absent c =
-    or_none _ c.in-Absent.is (ap (calendar_meaning _) c.row_0.ensures ∙ first_row _ c.first_calendar.ensures)
+pub returns-in-None : goal.returns-in-None
+returns-in-None c =
+    or_none _ c.in-None.is (ap (calendar_meaning _) c.row_0.ensures ∙ first_row _ c.first_calendar.ensures)

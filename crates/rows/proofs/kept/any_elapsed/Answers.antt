@@ -16,11 +16,11 @@ returns-in_default c =
 
 pub returns-then-is_elapsed : goal.returns-then-is_elapsed
 returns-then-is_elapsed c =
-    any_here c.loop-task.invariant (kept_at _ c.in-Is.is) (sym c.is_elapsed.ensures ∙ c.if-is_elapsed.true) ∙ ap (some? is_elapsed) (sym c.first_kept-task.ensures.is)
+    any_here c.loop-task.invariant (kept_at _ c.in-Some.is) (sym c.is_elapsed.ensures ∙ c.if-is_elapsed.true) ∙ ap (some? is_elapsed) (sym c.first_kept-task.ensures.is)
 
 pub loop-task-smaller : goal.loop-task-smaller
-loop-task-smaller c = kept_less c.in-Is.is c.next_kept-task.ensures (omega arith)
+loop-task-smaller c = kept_less c.in-Some.is c.next_kept-task.ensures (omega arith)
 
 pub loop-task-preserved : goal.loop-task-preserved
 loop-task-preserved c =
-    any_on c.loop-task.invariant (kept_at _ c.in-Is.is) (sym c.is_elapsed.ensures ∙ c.if-is_elapsed.false) c.next_kept-task.ensures.is
+    any_on c.loop-task.invariant (kept_at _ c.in-Some.is) (sym c.is_elapsed.ensures ∙ c.if-is_elapsed.false) c.next_kept-task.ensures.is

@@ -22,11 +22,11 @@ returns-in_default c =
 
 pub overflow_add-count : goal.overflow_add-count
 overflow_add-count c =
-    omega (arith, many_room c.loop-task.invariant (kept_at _ c.in-Is.is) (c.one_if-count.ensures ∙ ap one_if c.is_fractional.ensures), few _ c.first_kept-task.ensures.is)
+    omega (arith, many_room c.loop-task.invariant (kept_at _ c.in-Some.is) (c.one_if-count.ensures ∙ ap one_if c.is_fractional.ensures), few _ c.first_kept-task.ensures.is)
 
 pub loop-task-smaller : goal.loop-task-smaller
-loop-task-smaller c = kept_less c.in-Is.is c.next_kept-task.ensures (omega arith)
+loop-task-smaller c = kept_less c.in-Some.is c.next_kept-task.ensures (omega arith)
 
 pub loop-task-preserved : goal.loop-task-preserved
 loop-task-preserved c =
-    many_on c.loop-task.invariant (kept_at _ c.in-Is.is) (c.one_if-count.ensures ∙ ap one_if c.is_fractional.ensures) c.next_kept-task.ensures.is
+    many_on c.loop-task.invariant (kept_at _ c.in-Some.is) (c.one_if-count.ensures ∙ ap one_if c.is_fractional.ensures) c.next_kept-task.ensures.is

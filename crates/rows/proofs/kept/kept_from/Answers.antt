@@ -20,11 +20,11 @@ overflow_sub-left c = omega (arith, c.if-left-eq0.false)
 
 pub returns-then-is_kept : goal.returns-then-is_kept
 returns-then-is_kept c =
-    kept_here c.loop-task.invariant _ c.in-At.is (omega (arith, c.if-left-eq0.false)) (sym c.is_kept.ensures ∙ c.if-is_kept.true)
+    kept_here c.loop-task.invariant _ c.in-Some.is (omega (arith, c.if-left-eq0.false)) (sym c.is_kept.ensures ∙ c.if-is_kept.true)
 
 pub loop-task-smaller : goal.loop-task-smaller
-loop-task-smaller c = ahead_less _ c.in-At.is _ c.next_child-task.ensures.on
+loop-task-smaller c = ahead_less _ c.in-Some.is _ c.next_child-task.ensures.on
 
 pub loop-task-preserved : goal.loop-task-preserved
 loop-task-preserved c =
-    tasks_later c.loop-task.invariant _ c.in-At.is (omega (arith, c.if-left-eq0.false)) (sym c.is_kept.ensures ∙ c.if-is_kept.false) c.next_child-task.ensures
+    tasks_later c.loop-task.invariant _ c.in-Some.is (omega (arith, c.if-left-eq0.false)) (sym c.is_kept.ensures ∙ c.if-is_kept.false) c.next_child-task.ensures

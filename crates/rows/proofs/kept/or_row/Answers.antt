@@ -1,14 +1,13 @@
-use Rattle.definition.specs.Answer.{row_meaning}
 use Rattle.std.proofs.Common.{rules}
 use Rattle.rows.proofs.kept.or_row.Goals as goal
 
 pub enum_told-1 : goal.enum_told-1
 enum_told-1 c = search rules
 
-pub returns-in-Is : goal.returns-in-Is
+pub returns-in-Some : goal.returns-in-Some
 unfolding row_meaning
-returns-in-Is c = rw c.in-Is.is
+returns-in-Some c = rw c.in-Some.is
 
-pub returns-in-Absent : goal.returns-in-Absent
+pub returns-in-None : goal.returns-in-None
 unfolding row_meaning
-returns-in-Absent c = rw c.in-Absent.is
+returns-in-None c = rw c.in-None.is

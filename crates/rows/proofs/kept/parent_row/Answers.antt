@@ -22,12 +22,12 @@ pub overflow_add-n : goal.overflow_add-n
 overflow_add-n c = omega (arith, c.loop-n-test.true)
 
 pub loop-n-smaller : goal.loop-n-smaller
-loop-n-smaller c = kept_less c.in-Is.is c.next_kept-task.ensures (omega arith)
+loop-n-smaller c = kept_less c.in-Some.is c.next_kept-task.ensures (omega arith)
 
 pub loop-n-preserved : goal.loop-n-preserved
 loop-n-preserved c =
     let a = c.args in
-    row_turn c.loop-n.invariant (take_next a.row c.loop-n.n c.loop-n-test.true (kept_next c.in-Is.is c.next_kept-task.ensures)) (ap (λ n. ltb n a.level) c.level_of.ensures) c.row_when-lower.ensures c.or_row-found.ensures refl
+    row_turn c.loop-n.invariant (take_next a.row c.loop-n.n c.loop-n-test.true (kept_next c.in-Some.is c.next_kept-task.ensures)) (ap (λ n. ltb n a.level) c.level_of.ensures) c.row_when-lower.ensures c.or_row-found.ensures refl
 
 pub returns : goal.returns
 returns c =

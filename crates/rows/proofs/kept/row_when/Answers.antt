@@ -1,4 +1,3 @@
-use Rattle.definition.specs.Answer.{row_meaning}
 use Rattle.rows.proofs.kept.row_when.Goals as goal
 
 pub returns-then-test : goal.returns-then-test

@@ -20,8 +20,8 @@ returns-in_default c =
     ∙ ap (find_last (has_uid a.uid.now)) (sym (sym (cost_picked _) ∙ (picks_same (in_resources a.s.now a.root (bytes "Resource")) c.first_which-e.ensures).is))
 
 pub loop-e-smaller : goal.loop-e-smaller
-loop-e-smaller c = ahead_less _ c.in-At.is _ c.next_which-e.ensures.on
+loop-e-smaller c = ahead_less _ c.in-Some.is _ c.next_which-e.ensures.on
 
 pub loop-e-preserved : goal.loop-e-preserved
 loop-e-preserved c =
-    last_turn c.loop-e.invariant _ (picked_next c.in-At.is c.next_which-e.ensures) c.text_is.ensures c.found_if-found.ensures
+    last_turn c.loop-e.invariant _ (picked_next c.in-Some.is c.next_which-e.ensures) c.text_is.ensures c.found_if-found.ensures

@@ -7,12 +7,12 @@ use Rattle.rows.proofs.section.first_in.Goals as goal
 pub enum_told-1 : goal.enum_told-1
 enum_told-1 c = search rules
 
-pub returns-in-Nothing : goal.returns-in-Nothing
-returns-in-Nothing c =
+pub returns-in-None : goal.returns-in-None
+returns-in-None c =
     let a = c.args in
-    section_none (none_child (element_at a.s.now a.at) c.child.ensures c.in-Nothing.is)
+    section_none (none_child (element_at a.s.now a.at) c.child.ensures c.in-None.is)
 
-pub returns-in-At : goal.returns-in-At
-returns-in-At c =
+pub returns-in-Some : goal.returns-in-Some
+returns-in-Some c =
     let a = c.args in
-    section_found (found_child (element_at a.s.now a.at) c.child.ensures c.in-At.is) (omega (arith, found_on c.child.ensures c.in-At.is)) c.child-in-At.ensures
+    section_found (found_child (element_at a.s.now a.at) c.child.ensures c.in-Some.is) (omega (arith, found_on c.child.ensures c.in-Some.is)) c.child-in-Some.ensures

@@ -14,11 +14,11 @@ returns-in_default c = picks_none c.loop-e.invariant c.in_default.is
 
 pub returns-then-passes : goal.returns-then-passes
 returns-then-passes c =
-    picks_here c.loop-e.invariant c.in-At.is (sym c.passes.ensures ∙ c.if-passes.true)
+    picks_here c.loop-e.invariant c.in-Some.is (sym c.passes.ensures ∙ c.if-passes.true)
 
 pub loop-e-smaller : goal.loop-e-smaller
-loop-e-smaller c = ahead_less _ c.in-At.is _ c.next_child-e.ensures.on
+loop-e-smaller c = ahead_less _ c.in-Some.is _ c.next_child-e.ensures.on
 
 pub loop-e-preserved : goal.loop-e-preserved
 loop-e-preserved c =
-    left_later c.loop-e.invariant c.in-At.is (sym c.passes.ensures ∙ c.if-passes.false) c.next_child-e.ensures
+    left_later c.loop-e.invariant c.in-Some.is (sym c.passes.ensures ∙ c.if-passes.false) c.next_child-e.ensures

@@ -6,10 +6,10 @@ use Rattle.rows.proofs.table.cost_with.Goals as goal
 pub enum_told-1 : goal.enum_told-1
 enum_told-1 c = search rules
 
-pub returns-in-Ready : goal.returns-in-Ready
+pub returns-in-Some : goal.returns-in-Some
 unfolding cost_in
-returns-in-Ready c = rw c.in-Ready.is (found_sought _ _ _ c.place_of.ensures c.seek.ensures)
+returns-in-Some c = rw c.in-Some.is (found_sought _ _ _ c.place_of.ensures c.seek.ensures)
 
-pub returns-in-NoRoom : goal.returns-in-NoRoom
+pub returns-in-None : goal.returns-in-None
 unfolding cost_in
-returns-in-NoRoom c = rw c.in-NoRoom.is c.cost_resource.ensures
+returns-in-None c = rw c.in-None.is c.cost_resource.ensures

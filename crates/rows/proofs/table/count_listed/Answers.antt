@@ -13,10 +13,10 @@ returns-in_default c =
     counts_end c.loop-e.invariant c.in_default.is ∙ ap length (sym c.requires.1.is)
 
 pub overflow_add-n : goal.overflow_add-n
-overflow_add-n c = omega (arith, counts_room c.loop-e.invariant c.in-Is.is c.requires.0)
+overflow_add-n c = omega (arith, counts_room c.loop-e.invariant c.in-Some.is c.requires.0)
 
 pub loop-e-smaller : goal.loop-e-smaller
-loop-e-smaller c = lists_less c.in-Is.is c.next_listed-e.ensures refl
+loop-e-smaller c = lists_less c.in-Some.is c.next_listed-e.ensures refl
 
 pub loop-e-preserved : goal.loop-e-preserved
-loop-e-preserved c = counts_turn c.loop-e.invariant c.in-Is.is c.next_listed-e.ensures
+loop-e-preserved c = counts_turn c.loop-e.invariant c.in-Some.is c.next_listed-e.ensures

@@ -22,16 +22,16 @@ returns-in_default c =
 pub overflow_cast-at : goal.overflow_cast-at
 overflow_cast-at c =
     let p = c.requires in
-    omega (arith, fill_place p.0 (c.loop-e.invariant _ _ p.0 (fill_begin p.0 c.clear.ensures p.1)) c.in-Is.is)
+    omega (arith, fill_place p.0 (c.loop-e.invariant _ _ p.0 (fill_begin p.0 c.clear.ensures p.1)) c.in-Some.is)
 
 pub overflow_add-row : goal.overflow_add-row
 overflow_add-row c =
     let p = c.requires in
-    omega (arith, fill_row p.0 (c.loop-e.invariant _ _ p.0 (fill_begin p.0 c.clear.ensures p.1)) c.in-Is.is)
+    omega (arith, fill_row p.0 (c.loop-e.invariant _ _ p.0 (fill_begin p.0 c.clear.ensures p.1)) c.in-Some.is)
 
 pub loop-e-smaller : goal.loop-e-smaller
-loop-e-smaller c = lists_less c.in-Is.is c.next_listed-e.ensures refl
+loop-e-smaller c = lists_less c.in-Some.is c.next_listed-e.ensures refl
 
 pub loop-e-preserved : goal.loop-e-preserved
 loop-e-preserved c =
-    λ root w r i. fill_turn r (c.loop-e.invariant root w r i) c.in-Is.is c.next_listed-e.ensures c.text_of.ensures c.hash_of-hash.ensures c.put.ensures
+    λ root w r i. fill_turn r (c.loop-e.invariant root w r i) c.in-Some.is c.next_listed-e.ensures c.text_of.ensures c.hash_of-hash.ensures c.put.ensures

@@ -22,11 +22,11 @@ returns-in_default c =
 pub fill-requires : goal.fill-requires
 fill-requires c =
     let a = c.args in (
-      made_ripe a.s.now (root_at a.s.now a.root) a.list a.at a.words.now (omega (arith, c.if-s-gt4294967295.false)) c.count_listed.ensures c.rows_for-rows.ensures c.table_at-made.ensures c.in-Ready.is (omega arith),
+      made_ripe a.s.now (root_at a.s.now a.root) a.list a.at a.words.now (omega (arith, c.if-s-gt4294967295.false)) c.count_listed.ensures c.rows_for-rows.ensures c.table_at-made.ensures c.in-Some.is (omega arith),
       c.first_listed-first.ensures,
     )
 
 pub returns : goal.returns
 returns c =
     let a = c.args in
-    makes_filled a.s.now (root_at a.s.now a.root) a.list a.at a.words.now (omega (arith, c.if-s-gt4294967295.false)) c.count_listed.ensures c.rows_for-rows.ensures c.table_at-made.ensures c.in-Ready.is c.fill.ensures
+    makes_filled a.s.now (root_at a.s.now a.root) a.list a.at a.words.now (omega (arith, c.if-s-gt4294967295.false)) c.count_listed.ensures c.rows_for-rows.ensures c.table_at-made.ensures c.in-Some.is c.fill.ensures

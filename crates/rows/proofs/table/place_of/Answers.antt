@@ -5,8 +5,8 @@ use Rattle.rows.proofs.table.place_of.Goals as goal
 pub enum_told-1 : goal.enum_told-1
 enum_told-1 c = search rules
 
-pub returns-in-Is : goal.returns-in-Is
-returns-in-Is c = found_at _ _ c.in-Is.is c.place.ensures
+pub returns-in-Some : goal.returns-in-Some
+returns-in-Some c = found_at _ _ c.in-Some.is c.place.ensures
 
-pub returns-in-Absent : goal.returns-in-Absent
-returns-in-Absent c = found_none _ _ c.in-Absent.is
+pub returns-in-None : goal.returns-in-None
+returns-in-None c = found_none _ _ c.in-None.is

@@ -5,10 +5,10 @@ use Rattle.rows.proofs.table.row_with.Goals as goal
 pub enum_told-1 : goal.enum_told-1
 enum_told-1 c = search rules
 
-pub returns-in-Ready : goal.returns-in-Ready
+pub returns-in-Some : goal.returns-in-Some
 unfolding row_in
-returns-in-Ready c = rw c.in-Ready.is c.seek.ensures
+returns-in-Some c = rw c.in-Some.is c.seek.ensures
 
-pub returns-in-NoRoom : goal.returns-in-NoRoom
+pub returns-in-None : goal.returns-in-None
 unfolding row_in
-returns-in-NoRoom c = rw c.in-NoRoom.is c.scan.ensures
+returns-in-None c = rw c.in-None.is c.scan.ensures

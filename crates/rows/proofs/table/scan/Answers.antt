@@ -19,8 +19,8 @@ returns-in_default c =
     ∙ ap (λ (es : List Element). row_of es c.args.uid.now >>= λ n. Some (n % 2 ^ 32)) (sym c.first_listed-e.ensures.is)
 
 pub loop-e-smaller : goal.loop-e-smaller
-loop-e-smaller c = lists_less c.in-Is.is c.next_listed-e.ensures refl
+loop-e-smaller c = lists_less c.in-Some.is c.next_listed-e.ensures refl
 
 pub loop-e-preserved : goal.loop-e-preserved
 loop-e-preserved c =
-    row_turn c.loop-e.invariant (lists_next c.in-Is.is c.next_listed-e.ensures) c.text_is.ensures c.row_when-named.ensures c.or_row-found.ensures c.wrapping_add_u32-row.ensures.value
+    row_turn c.loop-e.invariant (lists_next c.in-Some.is c.next_listed-e.ensures) c.text_is.ensures c.row_when-named.ensures c.or_row-found.ensures c.wrapping_add_u32-row.ensures.value

@@ -2,5 +2,5 @@ use Rattle.rows.specs.Tables.{unbounded_of}
 use Rattle.std.proofs.Common.{sym, ap}
 use Rattle.rows.proofs.table.unbounded.Goals as goal
 
-pub returns-in-At : goal.returns-in-At
-returns-in-At c = ap unbounded_of (sym c.in-At.is)
+pub returns-in-Some : goal.returns-in-Some
+returns-in-Some c = ap unbounded_of (sym c.in-Some.is)

@@ -1,10 +1,10 @@
 use Rattle.definition.specs.Answer.{date_meaning}
 use Rattle.tasks.proofs.task.is_date.Goals as goal
 
-pub returns-in-Is : goal.returns-in-Is
+pub returns-in-Some : goal.returns-in-Some
 unfolding date_meaning
-returns-in-Is c = rw c.in-Is.is
+returns-in-Some c = rw c.in-Some.is
 
-pub returns-in-Absent : goal.returns-in-Absent
+pub returns-in-None : goal.returns-in-None
 unfolding date_meaning
-returns-in-Absent c = rw c.in-Absent.is
+returns-in-None c = rw c.in-None.is

@@ -1,6 +1,5 @@
 use mathlib.Core.Path.{sym, ap, ◌∙◌}
-use Rattle.text.specs.declared.U64Answer.{U64Answer}
-use Rattle.text.specs.Answers.{u64_of}
+use Rattle.std.specs.Prelude.{Option, ℕ}
 use Rattle.text.specs.Whole.{up_to}
 use Rattle.text.proofs.Digits.{kept, left_out}
 use borrow.Author.Rules.{rules}
@@ -9,9 +8,9 @@ use Rattle.text.proofs.whole.at_most.Goals as goal
 pub returns-then-n-most : goal.returns-then-n-most
 returns-then-n-most c =
     let most = c.args.most in
-    kept most _ c.if-n-most.true ∙ sym (ap (λ (a : U64Answer). up_to most (u64_of a)) c.in-Is.is)
+    kept most _ c.if-n-most.true ∙ sym (ap (λ (a : Option ℕ). up_to most a) c.in-Some.is)
 
 pub returns-else-n-most : goal.returns-else-n-most
 returns-else-n-most c =
     let most = c.args.most in
-    left_out most _ (search rules) ∙ sym (ap (λ (a : U64Answer). up_to most (u64_of a)) c.in-Is.is)
+    left_out most _ (search rules) ∙ sym (ap (λ (a : Option ℕ). up_to most a) c.in-Some.is)

@@ -4,10 +4,10 @@ use Rattle.text.proofs.Ranges.{is_fits, is, is_absent}
 use Rattle.text.proofs.whole.u32_of.Goals as goal
 
 pub overflow_cast-result : goal.overflow_cast-result
-overflow_cast-result c = is_fits w32 4294967295 refl _ _ c.unsigned_to.ensures c.in-Is.is
+overflow_cast-result c = is_fits w32 4294967295 refl _ _ c.unsigned_to.ensures c.in-Some.is
 
-pub returns-in-Is : goal.returns-in-Is
-returns-in-Is c = is w32 4294967295 refl _ _ c.unsigned_to.ensures c.in-Is.is
+pub returns-in-Some : goal.returns-in-Some
+returns-in-Some c = is w32 4294967295 refl _ _ c.unsigned_to.ensures c.in-Some.is
 
-pub returns-in-Absent : goal.returns-in-Absent
-returns-in-Absent c = is_absent w32 4294967295 refl _ _ c.unsigned_to.ensures c.in-Absent.is
+pub returns-in-None : goal.returns-in-None
+returns-in-None c = is_absent w32 4294967295 refl _ _ c.unsigned_to.ensures c.in-None.is

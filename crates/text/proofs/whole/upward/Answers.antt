@@ -1,9 +1,8 @@
 use mathlib.Core.Path.{sym, ap}
+use Rattle.std.specs.Prelude.{Option, ℕ}
 use lib.IntN.{pos}
-use Rattle.text.specs.declared.U64Answer.{U64Answer}
-use Rattle.text.specs.Answers.{u64_of}
 use Rattle.text.specs.Whole.{signed}
 use Rattle.text.proofs.whole.upward.Goals as goal
 
-pub returns-in-Is : goal.returns-in-Is
-returns-in-Is c = sym (ap (λ (a : U64Answer). signed pos (u64_of a)) c.in-Is.is)
+pub returns-in-Some : goal.returns-in-Some
+returns-in-Some c = sym (ap (λ (a : Option ℕ). signed pos a) c.in-Some.is)
