@@ -17,11 +17,9 @@ use Rattle.activities.specs.declared.parents.Columns.{Columns}
 -- ---- a row as a word
 
 pub word_none : (w : ℕ) → w ≡ 0 → {r : Option ℕ} → r ≡ None → word_of r ≡ w
-unfolding row_meaning
 word_none w e i = rw i (sym e)
 
 pub word_some : (w : ℕ) → (w ≡ 0 → ⊥) → word_of (Some (w - 1)) ≡ w
-unfolding row_meaning
 word_some w e = by w e
   where
     by : (w : ℕ) → (w ≡ 0 → ⊥) → suc (w - 1) ≡ w

@@ -49,11 +49,9 @@ Rowed task row a = task >>= λ t. row >>= λ n. Some (assignment_from t n a)
 
 module _ (task resource : Option ℕ) (a : Element) {d : List ℕ} {r : Done} where
   pub adds_no_task : task ≡ None → AddsAssignment (Rowed task resource a) d r d r
-  unfolding row_meaning
   adds_no_task e = adds_none (rw e)
 
   pub adds_no_row : resource ≡ None → AddsAssignment (Rowed task resource a) d r d r
-  unfolding row_meaning
   adds_no_row e = adds_none (rw e (by task))
     where
       by : (o : Option ℕ) → Rowed o None a ≡ None
@@ -64,7 +62,6 @@ module _ (task resource : Option ℕ) (a : Element) {d : List ℕ} {r : Done} wh
       → Means w (hours_in a "Work") (hours_in a "ActualWork") (hours_in a "RemainingWork") → rate ≡ rate_of a
       → Puts (whole assignment) (assignment_by t m w rate) d r.next d' q → (r'.count ≡ (r.count + 1) % 2 ^ 64) × (r'.next ≡ q)
       → AddsAssignment (Rowed task resource a) d r d' r'
-  unfolding row_meaning
   adds_rows {t} {m} w rate et er i j h n = rw (et, er) (adds_one (put_same (by_means t m rate a i j) h) n)
 
 -- ---- by the cost resource, which wins

@@ -28,11 +28,11 @@ use Rattle.bits.specs.declared.Field.{Field}
 use Rattle.bits.specs.declared.Span.{Span}
 use Rattle.bits.specs.declared.Flag.{Flag}
 use Rattle.bits.specs.declared.Int32.{Int32}
-use Rattle.laws.specs.Options.{bind_ext, never}
+use Rattle.laws.specs.Options.{Some-injective, bind_ext, never}
 use Rattle.laws.specs.Fields.{day_days}
 use Rattle.model.specs.Lax.{behind, left, like_named, like_optional}
 use Rattle.model.specs.Passes.{Passes, pass_like, pass_read, pass_refused, pass_some, pass_none, pass_both, pass_alone}
-use Rattle.model.specs.Answers.{read_at, counts_at, row_at, rows_at, date_at, name_meaning, spanned, name_at, read_there, read_nowhere, or_there, or_nowhere}
+use Rattle.model.specs.Answers.{read_at, counts_at, row_at, rows_at, date_at, spanned, name_at, read_there, read_nowhere, or_there, or_nowhere}
 use Rattle.model.specs.Splits.{stands_is, not_refused}
 use Rattle.model.specs.Sections.{start, counts_by}
 use Rattle.model.specs.Places.{NameTaken, between, span_ends, name_is}
@@ -357,7 +357,7 @@ module _ (s : List ℕ) (p : Place) {x : Flag} (e : x ≡ flag_at s p) where
   -- ---- names
 
   pub name_missing : x.value ≡ false → NameTaken s p (record { name = None; next = x.next })
-  unfolding name_at name_meaning
+  unfolding name_at
   name_missing h =
       record {
         is = let z : (flag_at s p).value ≡ false = ap (λ (y : Flag). y.value) (sym e) ∙ h in rw z (ap (λ (y : Flag). (None, y.next)) e);
@@ -365,8 +365,8 @@ module _ (s : List ℕ) (p : Place) {x : Flag} (e : x ≡ flag_at s p) where
         text = λ o k. sym (stands_is k (read_none text (flag_as h)));
       }
     where
-      no_name : {a b : ℕ} → None ≡ Some (a, b) → ⊥
-      no_name z = let y : ◌≡◌ {A = ℕ} 0 1 = cc in omega arith
+      no_name : {a b : ℕ} → ◌≡◌ {A = Option (ℕ × ℕ)} None (Some (a, b)) → ⊥
+      no_name = never
 
   module _ {t : Span} (h : x.value ≡ true) (k : Spans s x.next t) where
     name_by : name_at s p ≡ spanned t
@@ -383,7 +383,6 @@ module _ (s : List ℕ) (p : Place) {x : Flag} (e : x ≡ flag_at s p) where
         by_utf8 false z = k.refuses z
 
     pub name_cut : 7 < t.next.bit → NameTaken s p (record { name = None; next = past })
-    unfolding name_meaning
     name_cut b =
         record {
           is = sym (name_by ∙ rw (lt-ltb 7 t.next.bit b));
@@ -391,17 +390,17 @@ module _ (s : List ℕ) (p : Place) {x : Flag} (e : x ≡ flag_at s p) where
           text = λ o z. absurd (not_refused z (refuse_some (flag_as h) (no_text b)));
         }
       where
-        no_name : {a b : ℕ} → None ≡ Some (a, b) → ⊥
-        no_name z = let y : ◌≡◌ {A = ℕ} 0 1 = cc in omega arith
+        no_name : {a b : ℕ} → ◌≡◌ {A = Option (ℕ × ℕ)} None (Some (a, b)) → ⊥
+        no_name = never
 
     pub name_given : t.next.bit ≤ 7 → NameTaken s p (record { name = Some (t.start, t.len); next = t.next })
-    unfolding name_meaning
     name_given b =
         record {
           is = sym (name_by ∙ rw (le-ltb 7 t.next.bit b));
           within = λ start len z.
-              let u : t.start ≡ start = cc in
-              let v : t.len ≡ len = cc in
+              let q : ◌≡◌ {A = ℕ × ℕ} (t.start, t.len) (start, len) = Some-injective _ _ z in
+              let u : t.start ≡ start = ap (λ (x : ℕ × ℕ). x.0) q in
+              let v : t.len ≡ len = ap (λ (x : ℕ × ℕ). x.1) q in
               let w = span_ends s x.next k.is in
               omega arith;
           text = λ o z. name_is z (flag_as h) k;

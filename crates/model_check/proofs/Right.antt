@@ -16,7 +16,7 @@ use Rattle.laws.specs.FitNames.{same_turned}
 use Rattle.bits.specs.declared.Place.{Place}
 use Rattle.model.specs.Splits.{Stands, stands_or}
 use Rattle.model.specs.Sections.{Decoded}
-use Rattle.model.specs.Answers.{row_at, rows_at, name_meaning}
+use Rattle.model.specs.Answers.{row_at, rows_at}
 use Rattle.model.specs.Places.{NameTaken, text_in, link_rows, assignment_rows}
 use Rattle.model.specs.declared.Sections.{Sections}
 use Rattle.model.specs.declared.parts.NameField.{NameField}
@@ -47,11 +47,9 @@ module _ (m : Model) (n : Text) where
 
 module _ {s : List ℕ} {p : Place} {r : NameField} {o : Option Text} (m : Model) (h : Stands (optional text) s p o) (e : NameTaken s p r) where
   pub no_name : r.name ≡ None → true ≡ if_given (is_calendar m) o
-  unfolding name_meaning
   no_name g = rw (e.text o h, g)
 
   pub a_name : (start len : ℕ) → r.name ≡ Some (start, len) → is_calendar m (text_in s (start, len)) ≡ if_given (is_calendar m) o
-  unfolding name_meaning
   a_name start len g = rw (e.text o h, g)
 
 -- ---- rows

@@ -37,7 +37,6 @@ word_some (suc k) h text = let z : suc k - 1 ≡ k = omega arith in ap (λ (n : 
 module _ (s : Text) (w : List ℕ) (t : Table) {row : Option ℕ} where
   pub row_there : {r : ℕ} → row ≡ Some r → {p : ℕ} → p ≡ place_of w t r → {word : ℕ} → word ≡ get_or w (name_at t r) 0 → (a : Option ℕ) → ((text : Text) → name_meaning text a ≡ name_by text word)
       → name_meaning (wanted_name (element_at s p)) a ≡ name_of_row s w t row
-  unfolding row_meaning
   row_there {r} e {p} i {word} j a h =
       rw e (h (wanted_name (element_at s p)) ∙ ap (λ (p : ℕ). name_by (wanted_name (element_at s p)) word) i ∙ ap (name_by (wanted_name (element_at s (place_of w t r)))) j)
 

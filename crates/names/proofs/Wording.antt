@@ -341,11 +341,11 @@ in_order_lem s w t (Some r) = refl
 
 module _ (w : List ℕ) (t : Table) {a : Option ℕ} where
   pub row_absent : a ≡ None → None ≡ order_row w t a
-  unfolding order_row row_meaning
+  unfolding order_row
   row_absent e = rw e
 
   pub row_there : {r : ℕ} → a ≡ Some r → {row at : ℕ} → row ≡ t.rows - suc r → at ≡ place_of w t r → Some (row, at) ≡ order_row w t a
-  unfolding order_row row_meaning
+  unfolding order_row
   row_there e h i = rw e (λ j. Some ((h j), (i j)))
 
 module _ (s : Text) (root : Element) (w : List ℕ) {m : Option Table} (u : Text) where

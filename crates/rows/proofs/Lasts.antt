@@ -76,7 +76,6 @@ else_else (Some x) b c = refl
 
 module _ {A : Type 0} {next : ℕ → ℕ} {p : A → Bool} {t : Option ℕ} where
   row_all : {l : List A} → t ≡ row_by next p 0 l → RowIn next p t 0 l None
-  unfolding row_meaning
   row_all h = record { is = h ∙ sym (none_else _) }
 
   module _ {n : ℕ} {l : List A} {found : Option ℕ} (h : RowIn next p t n l found) where

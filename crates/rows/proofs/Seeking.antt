@@ -16,12 +16,10 @@ abbrev pub named : Text → List ℕ → Table → Text → ℕ → Bool
 named s w t u r = same (uid_of (element_at s (place_of w t r))) u
 
 row_is : (o : Option ℕ) {r : ℕ} → Some r ≡ as_row o → (Some r) ≡ o
-unfolding row_meaning
 row_is None {r} e = let y : ◌≡◌ {A = ℕ} 0 1 = cc in absurd (omega arith)
 row_is (Some k) {r} e = let y : r ≡ k = cc in ap Some y
 
 row_none : (o : Option ℕ) → None ≡ as_row o → None ≡ o
-unfolding row_meaning
 row_none None e = refl
 row_none (Some k) e = let y : ◌≡◌ {A = ℕ} 0 1 = cc in absurd (omega arith)
 
@@ -46,11 +44,9 @@ module _ (s : Text) {w : List ℕ} {t : Table} (u : Text) {at : Option ℕ} (h :
 
 module _ (w : List ℕ) (t : Table) {o : Option ℕ} where
   pub found_at : {r : ℕ} → o ≡ Some r → {p : ℕ} → p ≡ place_of w t r → Some p ≡ found_in w t o
-  unfolding row_meaning
   found_at e i = rw e (ap Some i)
 
   pub found_none : o ≡ None → None ≡ found_in w t o
-  unfolding row_meaning
   found_none e = rw e
 
 -- the element where a row was found

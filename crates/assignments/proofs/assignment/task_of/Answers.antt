@@ -7,7 +7,6 @@ use Rattle.assignments.proofs.Given.{look_not, look_up}
 use Rattle.assignments.proofs.assignment.task_of.Goals as goal
 
 pub returns-then-not-given : goal.returns-then-not-given
-unfolding row_meaning
 returns-then-not-given c =
     let a = c.args in
     look_not (text_in (element_at a.s.now a.at) "TaskUID") c.given.ensures _ c.if-not-given.true-raw

@@ -7,10 +7,8 @@ pub enum_told-1 : goal.enum_told-1
 enum_told-1 c = search rules
 
 pub returns-in-Some : goal.returns-in-Some
-unfolding weekday_meaning
 returns-in-Some c =
     c.flag_at.ensures ∙ ap (λ (w : Option ℕ). flag_on (flags_in c.args.week) w) (sym c.in-Some.is)
 
 pub returns-in-None : goal.returns-in-None
-unfolding weekday_meaning
 returns-in-None c = ap (λ (w : Option ℕ). flag_on (flags_in c.args.week) w) (sym c.in-None.is)

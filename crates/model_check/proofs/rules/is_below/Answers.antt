@@ -2,9 +2,7 @@
 use Rattle.model_check.proofs.rules.is_below.Goals as goal
 
 pub returns-in-Some : goal.returns-in-Some
-unfolding row_meaning
 returns-in-Some c = rw c.in-Some.is
 
 pub returns-in-None : goal.returns-in-None
-unfolding row_meaning
 returns-in-None c = rw c.in-None.is

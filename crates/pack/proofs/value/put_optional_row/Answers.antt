@@ -8,11 +8,9 @@ pub enum_told-1 : goal.enum_told-1
 enum_told-1 c = search rules
 
 pub returns-in-Some : goal.returns-in-Some
-unfolding row_meaning
 returns-in-Some c =
     put_given_lem (c.in-Some.is) c.put_flag-q.ensures c.put_count.ensures
 
 pub returns-in-None : goal.returns-in-None
-unfolding row_meaning
 returns-in-None c =
     put_missing row (c.in-None.is) c.put_flag.ensures

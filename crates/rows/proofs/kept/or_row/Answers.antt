@@ -5,9 +5,7 @@ pub enum_told-1 : goal.enum_told-1
 enum_told-1 c = search rules
 
 pub returns-in-Some : goal.returns-in-Some
-unfolding row_meaning
 returns-in-Some c = rw c.in-Some.is
 
 pub returns-in-None : goal.returns-in-None
-unfolding row_meaning
 returns-in-None c = rw c.in-None.is

@@ -1,9 +1,7 @@
 use Rattle.rows.proofs.kept.row_when.Goals as goal
 
 pub returns-then-test : goal.returns-then-test
-unfolding row_meaning
 returns-then-test c = rw c.if-test.true
 
 pub returns-else-test : goal.returns-else-test
-unfolding row_meaning
 returns-else-test c = rw c.if-test.false
