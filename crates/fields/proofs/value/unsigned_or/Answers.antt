@@ -9,6 +9,6 @@ pub returns-in-Down : goal.returns-in-Down
 unfolding unsigned_or
 returns-in-Down c = rw c.in-Down.is
 
-pub returns-in-None : goal.returns-in-None
+pub returns-in-Absent : goal.returns-in-Absent
 unfolding unsigned_or
-returns-in-None c = rw c.in-None.is
+returns-in-Absent c = rw c.in-Absent.is
