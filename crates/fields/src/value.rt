@@ -10,7 +10,7 @@ ghost use Rattle.number.specs.Whole.{whole_within};
 ghost use Rattle.fields.specs.Answers.{unsigned_or};
 
 use definition::{Duration, Unread};
-use text::{Signed};
+use text::Signed;
 
 // A tree with a number that is too long is refused as a whole, so that it is none here.
 pub(crate) fn float_of(a: Result<f64, Unread>) -> Option<f64>

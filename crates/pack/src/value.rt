@@ -105,7 +105,7 @@ fn put_undated(out: &mut [u8], p: Place) -> Place
 }
 
 fn put_given_constraint(out: &mut [u8], p: Place, c: Constraint) -> Place
-    ensures { Puts (optional constraint) (constraint_given (ConstraintAnswer.Is c)) out.old p out.new result }
+    ensures { Puts (optional constraint) (constraint_given (Some c)) out.old p out.new result }
 {
     match c {
         Constraint::AsLateAsPossible => put_undated(out, p),

@@ -79,7 +79,7 @@ struct Fields {
 }
 
 fn fields_by(r: Rule) -> Fields
-    ensures { result ≡ fields_of (RuleAnswer.Is r) }
+    ensures { result ≡ fields_of (Some r) }
 {
     let from = count(r.from);
     let month = r.month;

@@ -12,5 +12,5 @@ returns-in-Up c = mask_up _ _ c.in-Up.is
 pub returns-in-Down : goal.returns-in-Down
 returns-in-Down c = mask_down _ _ (omega arith) c.in-Down.is
 
-pub returns-in-None : goal.returns-in-None
-returns-in-None c = mask_absent _ c.in-None.is
+pub returns-in-Absent : goal.returns-in-Absent
+returns-in-Absent c = mask_absent _ c.in-Absent.is

@@ -14,5 +14,5 @@ returns-else-n-most c = pick_most _ _ _ _ _ c.in-Up.is c.if-n-most.false
 pub returns-in-Down : goal.returns-in-Down
 returns-in-Down c = pick_below _ _ _ _ _ c.in-Down.is
 
-pub returns-in-None : goal.returns-in-None
-returns-in-None c = pick_absent _ _ _ _ c.in-None.is
+pub returns-in-Absent : goal.returns-in-Absent
+returns-in-Absent c = pick_absent _ _ _ _ c.in-Absent.is

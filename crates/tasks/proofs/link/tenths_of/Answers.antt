@@ -20,5 +20,5 @@ returns-in-Down c =
     ∙ held_down c.in-Down.n
     ∙ sym (ap (λ (a : Signed). held_by 100000000000 (signed_means a or pos 0)) c.in-Down.is)
 
-pub returns-in-None : goal.returns-in-None
-returns-in-None c = sym (ap (λ (a : Signed). held_by 100000000000 (signed_means a or pos 0)) c.in-None.is)
+pub returns-in-Absent : goal.returns-in-Absent
+returns-in-Absent c = sym (ap (λ (a : Signed). held_by 100000000000 (signed_means a or pos 0)) c.in-Absent.is)
