@@ -1,7 +1,7 @@
 -- The figures of a duration text, piece by piece. Assumes nothing.
 use Rattle.std.specs.Prelude.{if◌then◌else◌}
 use Rattle.definition.specs.declared.Unread.{Unread}
-use Rattle.definition.specs.declared.Unread.TheVariants.{Absent}
+use Rattle.definition.specs.declared.Unread.TheVariants.{Absent, Long}
 use Rattle.std.specs.Prelude.{Err, Ok, Result}
 use Rattle.std.proofs.Common.{◌≡◌, ℕ, suc, ◌+◌, ◌-◌, ◌<◌, ◌≤◌, Bool, true, false, eqb, [], ◌∷◌, ◌++◌, length, get_or, take, drop, sym, refl, ap, ◌∙◌, append_assoc, append-nil, add-one, arith, length-append, length-drop, get_or-drop, drop-drop, eq-eqb, ne_eqb}
 use lib.Dec.{eqb-suc-suc, eqb_refl}
@@ -15,6 +15,11 @@ use Rattle.number.specs.Tests.{is_true}
 use Rattle.text.specs.Parts.{at_end_lem, all_of}
 use Rattle.text.specs.Cut.{place_within, before_take, after_drop}
 pub use Rattle.laws.specs.Durations.{Least, of_test, figures_least}
+
+-- an error is handed on
+pub err_then : {A B : Type 0} (e : Unread) (f : A → Reading B) → ◌≡◌ {A = Reading B} (Err e) (Err e then f)
+err_then Absent f = refl
+err_then Long f = refl
 
 -- ---- one piece
 onward : (s part : Text) (f : Figures) → length (before is_unit s) < length s

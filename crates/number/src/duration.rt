@@ -132,11 +132,7 @@ fn duration_read(f: Result<Figures, Unread>) -> Result<Duration, Unread>
     requires { T (none_below f) }
     ensures { result ≡ (f then duration_from) }
 {
-    match f {
-        Ok(g) => duration_from(g),
-        Err(Unread::Long) => Err(Unread::Long),
-        Err(Unread::Absent) => Err(Unread::Absent),
-    }
+    duration_from(f?)
 }
 
 // The duration of a text that is trimmed.

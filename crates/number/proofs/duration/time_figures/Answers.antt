@@ -1,7 +1,8 @@
 use Rattle.std.proofs.Common.{◌+◌, [], drop, sym, refl, ap, ◌∙◌, arith, rules}
 use Rattle.definition.specs.Duration.{time_figures}
 use Rattle.definition.specs.declared.Figures.{Figures}
-use Rattle.number.proofs.Figures.{read, unit_within, no_unit, all_read}
+use Rattle.number.proofs.Figures.{err_then, read, unit_within, no_unit, all_read}
+use Rattle.std.proofs.lemmas.Result.{err_from_is_err_and}
 use Rattle.number.proofs.duration.time_figures.Goals as goal
 
 pub loop-from-init : goal.loop-from-init
@@ -17,15 +18,12 @@ returns-then-k-s c =
     let s = c.args.s.now in
     sym (no_unit s c.loop-from.from c.first.result c.loop-from.f c.first.ensures (search rules) (search rules)) ∙ c.loop-from.invariant.1
 
-pub returns-in-Long : goal.returns-in-Long
-returns-in-Long c =
+pub returns-in_err-piece_of : goal.returns-in_err-piece_of
+returns-in_err-piece_of c =
     let s = c.args.s.now in
-    read s c.loop-from.from c.first.result c.loop-from.f c.first.ensures c.piece_of.result (search rules) c.piece_of.ensures c.in-Long.is ∙ c.loop-from.invariant.1
-
-pub returns-in-None : goal.returns-in-None
-returns-in-None c =
-    let s = c.args.s.now in
-    read s c.loop-from.from c.first.result c.loop-from.f c.first.ensures c.piece_of.result (search rules) c.piece_of.ensures c.in-None.is ∙ c.loop-from.invariant.1
+    let p = err_from_is_err_and c.from_residual.result c.from_residual.ensures.1 in
+    rw (p.1, p.2)
+    (err_then _ _ ∙ read s c.loop-from.from c.first.result c.loop-from.f c.first.ensures c.piece_of.result (search rules) c.piece_of.ensures c.in_err-piece_of.was ∙ c.loop-from.invariant.1)
 
 pub loop-from-preserved : goal.loop-from-preserved
 loop-from-preserved c =
@@ -33,7 +31,7 @@ loop-from-preserved c =
     let k = c.loop-from.from + c.first.result in (
       omega arith,
       ap (λ (g : Figures). time_figures (drop (k + 1) s) [] g) c.set_unit-f.ensures
-          ∙ read s c.loop-from.from c.first.result c.loop-from.f c.first.ensures c.piece_of.result (search rules) c.piece_of.ensures c.in-Value.is
+          ∙ read s c.loop-from.from c.first.result c.loop-from.f c.first.ensures c.piece_of.result (search rules) c.piece_of.ensures c.in_ok-piece_of.was
           ∙ c.loop-from.invariant.1,
     )
 
