@@ -12,8 +12,8 @@ ghost use Rattle.tree.specs.Root.{own_text};
 ghost use Rattle.fields.specs.Answers.{unsigned_or};
 ghost use Rattle.fields.specs.Said.{yes_said, whole_said, date_said, number_said, duration_said, minutes_said};
 
-use definition::Date;
 use crate::value::{float_of, minutes_of, not_whole, unsigned_or};
+use definition::Date;
 
 // Whether there is a text; an empty one counts as absent.
 pub fn given(s: &[u8], at: usize, name: &[u8]) -> bool

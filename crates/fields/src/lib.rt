@@ -9,4 +9,4 @@ pub use child::{
     date_at, date_in, fraction_in, given, int_in, minutes_in, number_at, number_in, own_uid,
     text_is, unsigned_in, yes_in,
 };
-pub use value::{hundredths_when};
+pub use value::hundredths_when;

@@ -14,29 +14,19 @@ use definition::{Duration, Unread};
 pub(crate) fn float_of(a: Result<f64, Unread>) -> Option<f64>
     ensures { result ≡ found a }
 {
-    match a {
-        Ok(x) => Some(x),
-        Err(Unread::Long) => None,
-        Err(Unread::Absent) => None,
-    }
+    a.ok()
 }
 
 pub(crate) fn minutes_of(a: Result<Duration, Unread>) -> Option<u32>
     ensures { result ≡ minutes_alone (found a) }
 {
-    match a {
-        Ok(d) => Some(d.minutes),
-        Err(_) => None,
-    }
+    Some(a.ok()?.minutes)
 }
 
 pub(crate) fn not_whole(a: Result<Duration, Unread>) -> bool
     ensures { result ≡ not_whole (found a) }
 {
-    match a {
-        Ok(d) => !d.whole,
-        Err(_) => false,
-    }
+    matches!(a, Ok(d) if !d.whole)
 }
 
 // With what stands for a number below 0 and for a missing one.

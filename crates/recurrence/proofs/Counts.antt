@@ -54,11 +54,9 @@ module _ (y m : ℕ) (h : IsYear y) (i : IsMonth m) (z : ℤ) (e : z ≡ pos y -
 
   module _ (a : Option ℕ) (said : a ≡ length_at z m) where
     pub length_is : (n : ℕ) → a ≡ Some n → n ≡ month_length y m
-    unfolding length_meaning
     length_is n q = let p : Some n ≡ Some (month_length y m) = sym (q) ∙ said ∙ length_by_lem in cc
 
     pub length_there : a ≡ None → ⊥
-    unfolding length_meaning
     length_there q =
         let p : None ≡ Some (month_length y m) = sym (q) ∙ said ∙ length_by_lem in
         let x : ◌≡◌ {A = ℕ} 0 1 = cc in
@@ -72,11 +70,9 @@ module _ (d : Date) (h : InDates d) (z : ℤ) (e : z ≡ day_number d) (a : Opti
   ymd_by = rw (e, days_back d h)
 
   pub ymd_is : (c : Ymd) → a ≡ Some c → c ≡ ymd_of d
-  unfolding ymd_meaning
   ymd_is c q = let p : Some c ≡ Some (ymd_of d) = sym (q) ∙ said ∙ ymd_by in cc
 
   pub ymd_there : a ≡ None → ⊥
-  unfolding ymd_meaning
   ymd_there q =
       let p : None ≡ Some (ymd_of d) = sym (q) ∙ said ∙ ymd_by in
       let x : ◌≡◌ {A = ℕ} 0 1 = cc in

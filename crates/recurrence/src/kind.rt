@@ -123,7 +123,7 @@ pub(crate) enum Kind {
 
 // A yearly rule, if its month is one.
 fn in_month(kind: Kind, month: u32) -> Option<Kind>
-    ensures { result ≡ (if within 1 12 month then KindAnswer.Is kind else KindAnswer.NoRule) }
+    ensures { result ≡ (if within 1 12 month then Some kind else None) }
 {
     if (1 <= month) & (month <= 12) {
         return Some(kind);

@@ -165,7 +165,7 @@ duration_long : (a : Result Duration Unread) → eqb (duration_refusal a) 5 ≡ 
 unfolding long?
 duration_long (Err Absent) = refl
 duration_long (Err Long) = refl
-duration_long (Ok (record { minutes = n; whole = w })) = refl
+duration_long (Ok d) = refl
 
 module _ (name text : Text) where
   pub as_number : (a : Result Float Unread) {u : Text} {r : ℕ} → some? (same name) number_names ≡ true → u ≡ trim text → a ≡ number_of u → r ≡ number_refusal a

@@ -15,13 +15,13 @@ given : (c : Else-y-eq0) → year_at c.args.year ≡ Some c.year_at-y.result
 given c = some_placed (year_at c.args.year) _ (told c.before) c.if-y-eq0.false
 
 pub returns-then-y-eq0 : goal.returns-then-y-eq0
-unfolding length_at length_meaning
+unfolding length_at
 returns-then-y-eq0 c = rw (no_year c.args.year _ (told (goal.at.returns-then-y-eq0 c).After-year_at-y) c.if-y-eq0.true)
 
 pub returns-then-month : goal.returns-then-month
-unfolding length_at length_meaning
+unfolding length_at
 returns-then-month c = rw (given (goal.at.returns-then-month c).Else-y-eq0, c.if-month.true) (ap Some c.month_length.ensures)
 
 pub returns : goal.returns
-unfolding length_at length_meaning
+unfolding length_at
 returns c = rw (given (goal.at.returns c).Else-y-eq0, c.if-month.false)

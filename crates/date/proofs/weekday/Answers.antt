@@ -14,10 +14,10 @@ told c =
     c.date_of_number-n.ensures ∙ ap (λ (z : ℤ). from_days z or 0) (back z (record { sfits = c.struct_told-1.given.0.1 }))
 
 pub returns-then-n-eq0 : goal.returns-then-n-eq0
-unfolding weekday_at weekday_meaning
+unfolding weekday_at
 returns-then-n-eq0 c = rw (no_day c.args.d.0 _ (told (goal.at.returns-then-n-eq0 c).After-date_of_number-n) c.if-n-eq0.true)
 
 pub returns : goal.returns
-unfolding weekday_at weekday_meaning
+unfolding weekday_at
 returns c =
     rw (some_placed (from_days c.args.d.0) _ (told (goal.at.returns c).After-date_of_number-n) c.if-n-eq0.false) (ap Some c.weekday_of.ensures)

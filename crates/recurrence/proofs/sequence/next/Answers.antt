@@ -13,12 +13,12 @@ use Rattle.recurrence.proofs.Types.{chosen_kind}
 use Rattle.recurrence.proofs.Going.{Right, is_one, is_one_lem, not_sound, no_kind, ready, no_rule, none_left, past_last, no_more, day_next}
 use borrow.Author.Rules.{rules}
 use Rattle.recurrence.proofs.sequence.next.Goals as goal
-use Rattle.recurrence.proofs.sequence.next.Goals.{After-later-at, Else-not-is_sound, Else-t-at, In-Is}
+use Rattle.recurrence.proofs.sequence.next.Goals.{After-later-at, Else-not-is_sound, Else-t-at, In-Some}
 
 sounds : (c : Else-not-is_sound) → sound c.to_scale-t.result ≡ true
 sounds c = sym c.is_sound.ensures ∙ not-false _ c.if-not-is_sound.false-raw
 
-yes : (c : In-Is) → is_one c.to_scale-t.result ≡ true
+yes : (c : In-Some) → is_one c.to_scale-t.result ≡ true
 yes c = is_one_lem c.to_scale-t.result (sounds c.before.before) c.kind_of.ensures c.in-Some.is
 
 at_is : (c : After-later-at) →
@@ -40,11 +40,11 @@ enum_told-1 c = search rules
 
 pub returns-then-c-eq0 : goal.returns-then-c-eq0
 returns-then-c-eq0 c =
-    none_left c.args.r c.args.c c.to_scale-t.result c.to_scale-t.ensures (yes (goal.at.returns-then-c-eq0 c).In-Is) c.if-c-eq0.true
+    none_left c.args.r c.args.c c.to_scale-t.result c.to_scale-t.ensures (yes (goal.at.returns-then-c-eq0 c).In-Some) c.if-c-eq0.true
 
 pub returns-then-t-at : goal.returns-then-t-at
 returns-then-t-at c =
-    past_last c.args.r c.args.c c.to_scale-t.result c.to_scale-t.ensures (yes (goal.at.returns-then-t-at c).In-Is) c.later-at.result (at_is (goal.at.returns-then-t-at c).After-later-at) c.if-t-at.true
+    past_last c.args.r c.args.c c.to_scale-t.result c.to_scale-t.ensures (yes (goal.at.returns-then-t-at c).In-Some) c.later-at.result (at_is (goal.at.returns-then-t-at c).After-later-at) c.if-t-at.true
 
 pub first_fit-x-requires : goal.first_fit-x-requires
 first_fit-x-requires c =
@@ -52,7 +52,7 @@ first_fit-x-requires c =
 
 pub returns-then-t-x : goal.returns-then-t-x
 returns-then-t-x c =
-    no_more c.args.r c.args.c c.to_scale-t.result c.to_scale-t.ensures (yes (goal.at.returns-then-t-x c).In-Is) c.later-at.result (at_is (goal.at.returns-then-t-x c).After-later-at) c.first_fit-x.result c.first_fit-x.ensures c.if-t-x.true
+    no_more c.args.r c.args.c c.to_scale-t.result c.to_scale-t.ensures (yes (goal.at.returns-then-t-x c).In-Some) c.later-at.result (at_is (goal.at.returns-then-t-x c).After-later-at) c.first_fit-x.result c.first_fit-x.ensures c.if-t-x.true
 
 pub date_at-day-requires : goal.date_at-day-requires
 date_at-day-requires c = omega (arith, c.if-t-x.false, (goes (goal.at.date_at-day-requires c).Else-t-at).last)
@@ -73,4 +73,4 @@ returns-else-t-x c =
     let n = c.args.c.left - 1 in
     subst⁻¹ (λ (d : Date). Right c.args.r c.args.c (Day d (record { at = c.date_at.result; left = n }))) c.date_at-day.ensures
     (subst⁻¹ (λ (d : Date). Right c.args.r c.args.c (Day (day_date x) (record { at = d; left = n }))) c.date_at.ensures
-    (day_next c.args.r c.args.c c.to_scale-t.result c.to_scale-t.ensures (yes (goal.at.returns-else-t-x c).In-Is) c.later-at.result (at_is (goal.at.returns-else-t-x c).After-later-at) x c.first_fit-x.ensures c.if-t-x.false c.if-c-eq0.false))
+    (day_next c.args.r c.args.c c.to_scale-t.result c.to_scale-t.ensures (yes (goal.at.returns-else-t-x c).In-Some) c.later-at.result (at_is (goal.at.returns-else-t-x c).After-later-at) x c.first_fit-x.ensures c.if-t-x.false c.if-c-eq0.false))

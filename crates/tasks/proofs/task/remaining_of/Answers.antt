@@ -8,7 +8,7 @@ use Rattle.fields.specs.Answers.{arm}
 use Rattle.tasks.proofs.Sign.{held}
 use borrow.Author.Rules.{rules}
 use Rattle.tasks.proofs.task.remaining_of.Goals as goal
-use Rattle.tasks.proofs.task.remaining_of.Goals.{In-Is}
+use Rattle.tasks.proofs.task.remaining_of.Goals.{In-Some}
 
 pub overflow_cast-result : goal.overflow_cast-result
 overflow_cast-result c = search rules
@@ -17,7 +17,7 @@ pub returns-in-Some : goal.returns-in-Some
 unfolding minutes_in
 returns-in-Some c =
     rw (sym c.under_way.ensures ∙ c.if-under_way.true)
-    (arm (λ (o : Option ℕ). o >>= λ m. Some (pos m)) c.minutes_in.ensures c.in-Some.is (ap Some (held c.in-Some.m (overflow_cast-result (goal.at.returns-in-Some c).In-Is).sfits)))
+    (arm (λ (o : Option ℕ). o >>= λ m. Some (pos m)) c.minutes_in.ensures c.in-Some.is (ap Some (held c.in-Some.m (overflow_cast-result (goal.at.returns-in-Some c).In-Some).sfits)))
 
 pub returns-in-None : goal.returns-in-None
 unfolding minutes_in
