@@ -1,5 +1,6 @@
 -- What the code puts together of a number's parts is the definition's number. Assumes nothing.
 use Rattle.std.proofs.Common.{◌≡◌, ℕ, zero, suc, ◌+◌, ◌-◌, ◌^◌, ◌<◌, ◌≤◌, min, Bool, true, false, leb, ◌⊎◌, [], ◌∷◌, ◌++◌, length, get_or, drop, sym, refl, ap, ◌∙◌, inl, inr, add-zero, add-suc, suc-add, zero-add, arith, length-drop, ne_eqb, leb-true}
+use Rattle.definition.specs.declared.Unread.{Unread}
 use Rattle.definition.specs.declared.Unread.TheVariants.{Absent}
 use Rattle.std.specs.Prelude.{Err}
 use Rattle.std.specs.Prelude.{Option, Some, None}
@@ -7,7 +8,7 @@ use lib.Ieee.{Float}
 use Rattle.definition.specs.Base.{◌>>=◌, ◌or◌}
 use Rattle.definition.specs.Text.{Text, Sign, plus, minus, bare, sign_of, before, after, is_digit, digits}
 use Rattle.definition.specs.Number.{Reading, is_dot, is_e, unsigned, scaled, powered, decimal_of, magnitude, negated, number_by, number_of}
-use Rattle.number.specs.Number.{limit, hold, Ran, power_by, power_of, power_at, scaled_by, ended}
+use Rattle.number.specs.Number.{limit, hold, Ran, power_by, power_of, power_at, scaled_at, ended}
 use Rattle.number.specs.declared.decimal.Power.{Power}
 use Rattle.number.specs.declared.decimal.Power.TheVariants as power
 use Rattle.laws.specs.Bools.{and_left, and_right}
@@ -36,18 +37,27 @@ number_other s e = go (sign_of s) e
     go minus e = let z : ◌≡◌ {A = ℕ} 0 1 = cc in absurd (omega arith)
     go bare e = refl
 
+pub number_error : (s : Text) (e : Unread) → magnitude (decimal_of (unsigned (sign_of s) s)) ≡ Err e → Err e ≡ number_of s
+unfolding number_of
+number_error s e h = go (sign_of s) h
+  where
+    go : (g : Sign) → magnitude (decimal_of (unsigned g s)) ≡ Err e → Err e ≡ number_by g s
+    go plus h = sym h
+    go minus h = sym (ap negated h)
+    go bare h = sym h
+
 -- ---- the power
 -- the digits held, none where they are none
-abbrev scaled_of : Option ℕ → ℕ → Power → Reading Float
+abbrev scaled_of : Option ℕ → ℕ → Option Power → Reading Float
 scaled_of None places p = Err Absent
-scaled_of (Some v) places p = scaled_by v places p
+scaled_of (Some v) places p = scaled_at v places p
 
-abbrev power_after : Option Text → Power
-power_after None = power.Up 0
+abbrev power_after : Option Text → Option Power
+power_after None = Some (power.Up 0)
 power_after (Some s) = power_of s
 
 by_sign : (v places : ℕ) → places < 2 ^ 63 → (g : Sign) (y : Option ℕ)
-    → scaled_by (min v limit) places (power_by g (hold y)) ≡ magnitude (y >>= λ n. Some (scaled g v places n))
+    → scaled_at (min v limit) places (power_by g (hold y)) ≡ magnitude (y >>= λ n. Some (scaled g v places n))
 by_sign v places b plus None = refl
 by_sign v places b plus (Some n) = digits_cap v (min n limit) places ∙ up_cap v n places b
 by_sign v places b minus None = refl
@@ -148,12 +158,12 @@ at_dot c v s = rw (add-zero c, zero-add (length (before is_e s)))
 -- ---- behind the digits
 behind : (c v places : ℕ) (s : Text) → v ≤ limit → scaled_of (hold (digits_from c v [])) places (power_at s) ≡ ended c v places s
 behind zero v places s h = refl
-behind (suc c) v places s h = ap (λ (n : ℕ). scaled_by n places (power_at s)) (omega arith)
+behind (suc c) v places s h = ap (λ (n : ℕ). scaled_at n places (power_at s)) (omega arith)
 
 behind_e : (c v places b : ℕ) (s : Text) → v ≤ limit → is_e b ≡ true → scaled_of (hold (digits_from c v [])) places (power_of s) ≡ ended c v places (b ∷ s)
 behind_e c v places b s h e =
     let q : power_of s ≡ power_at (b ∷ s) = rw e in
-    ap (λ (p : Power). scaled_of (hold (digits_from c v [])) places p) q ∙ behind c v places (b ∷ s) h
+    ap (λ (p : Option Power). scaled_of (hold (digits_from c v [])) places p) q ∙ behind c v places (b ∷ s) h
 
 behind_other : (c v places b : ℕ) (s : Text) → is_e b ≡ false → (Err Absent) ≡ ended c v places (b ∷ s)
 behind_other zero v places b s e = refl
@@ -192,7 +202,7 @@ pub ended_none : (c v places : ℕ) (s : Text) → c ≡ 0 → ended c v places 
 ended_none zero v places s h = refl
 ended_none (suc c) v places s h = absurd (omega arith)
 
-pub ended_some : (c v places : ℕ) (s : Text) → (c ≡ 0 → ⊥) → ended c v places s ≡ scaled_by v places (power_at s)
+pub ended_some : (c v places : ℕ) (s : Text) → (c ≡ 0 → ⊥) → ended c v places s ≡ scaled_at v places (power_at s)
 ended_some zero v places s h = absurd (h refl)
 ended_some (suc c) v places s h = refl
 
@@ -257,21 +267,21 @@ module _ (s t : Text) (at : t ≡ unsigned (sign_of s) s) where
   unfolding power_of
   power_with o e = sym (ap (λ (x : Text). power_by (sign_of s) (hold (digits x))) (sym at) ∙ ap (power_by (sign_of s)) e)
 
-  pub power_none : hold (digits t) ≡ None → power.Wrong ≡ power_of s
+  pub power_none : hold (digits t) ≡ None → None ≡ power_of s
   power_none e = power_with None e
 
-  pub power_down : (n : ℕ) → hold (digits t) ≡ Some n → minus? (sign_of s) ≡ true → power.Down n ≡ power_of s
+  pub power_down : (n : ℕ) → hold (digits t) ≡ Some n → minus? (sign_of s) ≡ true → Some (power.Down n) ≡ power_of s
   power_down n e m = go (sign_of s) m ∙ power_with (Some n) e
     where
-      go : (g : Sign) → minus? g ≡ true → power.Down n ≡ power_by g (Some n)
+      go : (g : Sign) → minus? g ≡ true → Some (power.Down n) ≡ power_by g (Some n)
       go plus m = let z : ◌≡◌ {A = ℕ} 0 1 = cc in absurd (omega arith)
       go minus m = refl
       go bare m = let z : ◌≡◌ {A = ℕ} 0 1 = cc in absurd (omega arith)
 
-  pub power_up : (n : ℕ) → hold (digits t) ≡ Some n → minus? (sign_of s) ≡ false → power.Up n ≡ power_of s
+  pub power_up : (n : ℕ) → hold (digits t) ≡ Some n → minus? (sign_of s) ≡ false → Some (power.Up n) ≡ power_of s
   power_up n e m = go (sign_of s) m ∙ power_with (Some n) e
     where
-      go : (g : Sign) → minus? g ≡ false → power.Up n ≡ power_by g (Some n)
+      go : (g : Sign) → minus? g ≡ false → Some (power.Up n) ≡ power_by g (Some n)
       go plus m = refl
       go minus m = let z : ◌≡◌ {A = ℕ} 0 1 = cc in absurd (omega arith)
       go bare m = refl
@@ -280,5 +290,5 @@ module _ (s : Text) (e : ℕ) (h : e < length s) where
   pub power_here : is_e (get_or s e 0) ≡ true → power_of (drop (e + 1) s) ≡ power_at (drop e s)
   power_here y = rw (at_cons s e h) (rw y)
 
-  pub power_other : is_e (get_or s e 0) ≡ false → power.Wrong ≡ power_at (drop e s)
+  pub power_other : is_e (get_or s e 0) ≡ false → None ≡ power_at (drop e s)
   power_other n = rw (at_cons s e h) (rw n)

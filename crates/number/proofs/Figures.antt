@@ -11,9 +11,12 @@ use Rattle.definition.specs.Text.{Text, before, after}
 use Rattle.definition.specs.Number.{Reading, zero_float}
 use Rattle.definition.specs.Duration.{is_unit, is_d, is_t, set_unit, piece_of, ◌then◌, time_figures, days_of, day_figures, figures_of}
 use Rattle.definition.specs.declared.Figures.{Figures}
+use Rattle.std.specs.Prelude.{Some, None, position}
+use Rattle.std.proofs.lemmas.List.Quantifiers.{position-Some}
 use Rattle.number.specs.Tests.{is_true}
+use Rattle.number.proofs.Parts.{place_found, place_missing}
 use Rattle.text.specs.Parts.{at_end_lem, all_of}
-use Rattle.text.specs.Cut.{place_within, before_take, after_drop}
+use Rattle.text.specs.Cut.{before_take, after_drop}
 pub use Rattle.laws.specs.Durations.{Least, of_test, figures_least}
 
 -- an error is handed on
@@ -49,14 +52,21 @@ stops (b ∷ s) part f h n = go (is_unit b) h (λ k. stops s (part ++ (b ∷ [])
     go false h e = e (omega arith)
 
 -- the loop's view: what is left of s from a place on, whose first unit stands u further
-module _ (s : Text) (from u : ℕ) (f : Figures) (at : u ≡ length (before is_unit (take (length s - from) (drop from s)))) where
-  at_unit : u ≡ length (before is_unit (drop from s))
-  at_unit = at ∙ ap (λ (l : Text). length (before is_unit l)) (all_of from s)
+module _ (s : Text) (from u : ℕ) (f : Figures) (found : Some u ≡ position is_unit (take (length s - from) (drop from s))) where
+  pub unit_within : from + u < length s
+  unit_within =
+      let part = take (length s - from) (drop from s) in
+      let l : length (drop from s) ≡ length s - from = length-drop from s in
+      let t : length part ≡ length (drop from s) = ap (λ (l : Text). length l) (all_of from s) in
+      let w : u < length part = (position-Some is_unit part u 0 (sym found)).0 in
+      omega (arith, w, l, t)
 
-  one_piece : from + u < length s
-      → time_figures (drop from s) [] f
+  at_unit : u ≡ length (before is_unit (drop from s))
+  at_unit = place_found is_unit _ u found ∙ ap (λ (l : Text). length (before is_unit l)) (all_of from s)
+
+  one_piece : time_figures (drop from s) [] f
       ≡ (piece_of (take (from + u - from) (drop from s)) then λ x. time_figures (drop (from + u + 1) s) [] (set_unit (get_or s (from + u) 0) x f))
-  one_piece h =
+  one_piece =
       let l : length (drop from s) ≡ length s - from = length-drop from s in
       let n : from + u - from ≡ length (before is_unit (drop from s)) = omega (arith, at_unit) in
       let o : from + suc (length (before is_unit (drop from s))) ≡ from + u + 1 = omega (arith, at_unit) in
@@ -64,26 +74,26 @@ module _ (s : Text) (from u : ℕ) (f : Figures) (at : u ≡ length (before is_u
       let p : take (from + u - from) (drop from s) ≡ before is_unit (drop from s) = ap (λ (i : ℕ). take i (drop from s)) n ∙ sym (before_take is_unit (drop from s)) in
       let d : drop (suc (length (before is_unit (drop from s)))) (drop from s) ≡ drop (from + u + 1) s = drop-drop _ from s ∙ ap (λ (i : ℕ). drop i s) o in
       let g : get_or (drop from s) (length (before is_unit (drop from s))) 0 ≡ get_or s (from + u) 0 = get_or-drop from s _ 0 ∙ ap (λ (i : ℕ). get_or s i 0) k in
-      onward (drop from s) [] f (omega (arith, at_unit, l))
+      onward (drop from s) [] f (omega (arith, at_unit, unit_within, l))
       ∙ ap (λ (q : Text). piece_of q then λ x. time_figures (drop (suc (length (before is_unit (drop from s)))) (drop from s)) [] (set_unit (get_or (drop from s) (length (before is_unit (drop from s))) 0) x f)) (sym p)
       ∙ ap (λ (q : Text). piece_of (take (from + u - from) (drop from s)) then λ x. time_figures q [] (set_unit (get_or (drop from s) (length (before is_unit (drop from s))) 0) x f)) d
       ∙ ap (λ (b : ℕ). piece_of (take (from + u - from) (drop from s)) then λ x. time_figures (drop (from + u + 1) s) [] (set_unit b x f)) g
 
   -- what reading the piece gives decides
-  pub read : (a : Result Float Unread) {b : Result Float Unread} → from + u < length s → a ≡ piece_of (take (from + u - from) (drop from s)) → a ≡ b
+  pub read : (a : Result Float Unread) {b : Result Float Unread} → a ≡ piece_of (take (from + u - from) (drop from s)) → a ≡ b
       → (b then λ x. time_figures (drop (from + u + 1) s) [] (set_unit (get_or s (from + u) 0) x f)) ≡ time_figures (drop from s) [] f
-  read a {b} h e g =
+  read a {b} e g =
       ap (λ (n : Result Float Unread). n then λ x. time_figures (drop (from + u + 1) s) [] (set_unit (get_or s (from + u) 0) x f)) (sym g)
       ∙ ap (λ (r : Reading Float). r then λ x. time_figures (drop (from + u + 1) s) [] (set_unit (get_or s (from + u) 0) x f)) e
-      ∙ sym (one_piece h)
+      ∙ sym one_piece
 
-  pub unit_within : u ≤ length s - from
-  unit_within = let l : length (drop from s) ≡ length s - from = length-drop from s in omega (arith, at_unit, place_within is_unit (drop from s), l)
-
-  pub no_unit : from < length s → length s ≤ from + u → time_figures (drop from s) [] f ≡ (Err Absent)
-  no_unit h k =
-      let l : length (drop from s) ≡ length s - from = length-drop from s in
-      stops (drop from s) [] f (omega (arith, at_unit, l)) (omega (arith, l))
+pub no_unit : (s : Text) (from : ℕ) (f : Figures) → from < length s → None ≡ position is_unit (take (length s - from) (drop from s))
+    → time_figures (drop from s) [] f ≡ (Err Absent)
+no_unit s from f h none =
+    let l : length (drop from s) ≡ length s - from = length-drop from s in
+    let n : length (drop from s) ≡ length (before is_unit (drop from s))
+    = ap (λ (l : Text). length l) (sym (all_of from s)) ∙ place_missing is_unit _ none ∙ ap (λ (l : Text). length (before is_unit l)) (all_of from s) in
+    stops (drop from s) [] f (omega (arith, n)) (omega (arith, l))
 
 -- ---- the unit
 pub set_h : (unit : ℕ) (x : Float) (f : Figures) → unit ≡ 72

@@ -1,34 +1,23 @@
 -- Digits read one after the other, one at least, and that a number past the limit may as well be the limit. Assumes nothing.
 use Rattle.std.specs.Prelude.{if◌then◌else◌}
-use Rattle.std.proofs.Common.{◌≡◌, ℕ, zero, suc, ◌+◌, ◌-◌, ◌*◌, ◌<◌, ◌≤◌, min, Bool, true, false, leb, [], ◌∷◌, length, get_or, drop, sym, refl, ap, ◌∙◌, subst, arith, le-leb}
-use mathlib.Core.Bool.{and-false}
+use Rattle.std.proofs.Common.{◌≡◌, ℕ, zero, suc, ◌+◌, ◌-◌, ◌*◌, ◌<◌, ◌≤◌, min, Bool, true, false, [], ◌∷◌, length, get_or, drop, sym, refl, ap, ◌∙◌, subst, arith}
 use Rattle.std.specs.Prelude.{Option, Some, None}
-use borrow.Author.Tests.{lt-leb}
 use Rattle.definition.specs.Text.{Text, is_digit, digits, digits_after}
 use Rattle.number.specs.Number.{limit, hold, Reads, start, digit}
 use Rattle.text.specs.Parts.{at_cons}
-
-pub low : (x : ℕ) → x < 48 → is_digit x ≡ false
-low x h = rw (lt-leb 48 x h)
-
-pub high : (x : ℕ) → 57 < x → is_digit x ≡ false
-high x h = rw (lt-leb x 57 h) (and-false (leb 48 x))
-
-is_digit_lem : (x : ℕ) → 48 ≤ x → x ≤ 57 → is_digit x ≡ true
-is_digit_lem x h k = rw (le-leb 48 x h, le-leb x 57 k)
 
 -- ---- no digit yet, and one digit further on
 pub read_none : (s : Text) (from v : ℕ) → Reads v (drop from s) (from - from) v (drop from s)
 read_none s from v = let c : 0 ≡ from - from = omega arith in subst (λ (x : ℕ). Reads v (drop from s) x v (drop from s)) c start
 
 module _ (s : Text) (from v i n k : ℕ) where
-  pub read_more : from ≤ i → i < length s → 48 ≤ get_or s i 0 → get_or s i 0 ≤ 57 → k ≡ min (n * 10 + (get_or s i 0 - 48)) limit
+  pub read_more : from ≤ i → i < length s → is_digit (get_or s i 0) ≡ true → k ≡ min (n * 10 + (get_or s i 0 - 48)) limit
       → Reads v (drop from s) (i - from) n (drop i s) → Reads v (drop from s) (i + 1 - from) k (drop (i + 1) s)
-  read_more f h l m e r =
+  read_more f h d e r =
       let c : i + 1 - from ≡ suc (i - from) = omega arith in
       subst (λ (x : ℕ). Reads v (drop from s) x k (drop (i + 1) s)) (sym c)
       (subst (λ (x : ℕ). Reads v (drop from s) (suc (i - from)) x (drop (i + 1) s)) (sym e)
-      (digit (subst (λ (t : Text). Reads v (drop from s) (i - from) n t) (at_cons s i h) r) (is_digit_lem (get_or s i 0) l m)))
+      (digit (subst (λ (t : Text). Reads v (drop from s) (i - from) n t) (at_cons s i h) r) d))
 
 -- ---- what is left gives the same as the whole
 pub record Steps {A : Type 0} (F : ℕ → ℕ → Text → A) : Type 0 where

@@ -1,6 +1,6 @@
 -- When a number is long, and that what the code holds of its parts is judged as the parts themselves. Assumes nothing.
 use Rattle.std.specs.Prelude.{if◌then◌else◌}
-use Rattle.definition.specs.declared.Unread.TheVariants.{Absent, Long}
+use Rattle.definition.specs.declared.Unread.TheVariants.{Long}
 use Rattle.std.specs.Prelude.{Err, Ok}
 use Rattle.std.proofs.Common.{◌≡◌, ℕ, zero, suc, ◌+◌, ◌*◌, ◌^◌, ◌<◌, ◌≤◌, min, Bool, true, false, ◌&&◌, ltb, leb, ◌⊎◌, sym, refl, ap, ◌∙◌, inl, inr, arith, ltb-true, lt-ltb, eq-eqb, ne_eqb, le-leb, leb-true}
 use Rattle.std.specs.Prelude.{Some}
@@ -8,9 +8,7 @@ use lib.Ieee.{round, binary64}
 use Rattle.definition.specs.Number.{short?, nearest, zero_float, magnitude}
 use Rattle.laws.specs.Bools.{and_left, and_right}
 use Rattle.text.specs.Parts.{le_or_lt}
-use Rattle.number.specs.Number.{limit, decimal, up_by, down_by, is_wrong, scaled_by}
-use Rattle.number.specs.declared.decimal.Power.{Power}
-use Rattle.number.specs.declared.decimal.Power.TheVariants as power
+use Rattle.number.specs.Number.{limit, decimal}
 
 pub record Short (v u d : ℕ) : Type 0 where
   pub few : v < 10 ^ 15
@@ -74,25 +72,9 @@ down_cap v p n = go (le_or_lt limit n)
     go (inr h) = ap (λ (k : ℕ). magnitude (Some (decimal v 0 (p + k)))) (omega arith)
 
 -- as many as matter of the powers below the dot
-few_same : (v p n : ℕ) → magnitude (Some (decimal v 0 (p + min n 23))) ≡ magnitude (Some (decimal v 0 (p + n)))
+pub few_same : (v p n : ℕ) → magnitude (Some (decimal v 0 (p + min n 23))) ≡ magnitude (Some (decimal v 0 (p + n)))
 few_same v p n = go (le_or_lt n 23)
   where
     go : (n ≤ 23) ⊎ (23 < n) → magnitude (Some (decimal v 0 (p + min n 23))) ≡ magnitude (Some (decimal v 0 (p + n)))
     go (inl h) = ap (λ (k : ℕ). magnitude (Some (decimal v 0 (p + k)))) (omega arith)
     go (inr h) = both_long v v 0 0 (p + min n 23) (p + n) (λ z. z) (λ z. z) (λ s. omega (arith, s.not_low)) (λ s. omega (arith, s.not_low))
-
--- ---- the power p
-pub wrong_is : (v places : ℕ) (p : Power) → is_wrong p ≡ true → (Err Absent) ≡ scaled_by v places p
-wrong_is v places (power.Up n) e = let z : ◌≡◌ {A = ℕ} 0 1 = cc in absurd (omega arith)
-wrong_is v places (power.Down n) e = let z : ◌≡◌ {A = ℕ} 0 1 = cc in absurd (omega arith)
-wrong_is v places power.Wrong e = refl
-
-pub power_is : (v places : ℕ) (p : Power) → is_wrong p ≡ false → magnitude (Some (decimal v (up_by p) (places + down_by p))) ≡ scaled_by v places p
-power_is v places (power.Up n) e = ap (λ (d : ℕ). magnitude (Some (decimal v n d))) (omega arith)
-power_is v places (power.Down n) e = few_same v places n
-power_is v places power.Wrong e = let z : ◌≡◌ {A = ℕ} 0 1 = cc in absurd (omega arith)
-
-pub down_few : (p : Power) → down_by p ≤ 23
-down_few (power.Up n) = omega arith
-down_few (power.Down n) = omega arith
-down_few power.Wrong = omega arith

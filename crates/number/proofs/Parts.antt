@@ -1,9 +1,12 @@
--- The first byte of a text that is one of three: one turn of the loop that looks for it. Assumes nothing.
-use Rattle.std.proofs.Common.{◌≡◌, ℕ, zero, suc, ◌+◌, ◌<◌, ◌≤◌, Bool, true, false, eqb, [], ◌∷◌, length, get_or, take, drop, sym, arith, length-take-le, eq-eqb, ne_eqb}
-use mathlib.Core.Bool.{or-true}
-use Rattle.definition.specs.Text.{Text}
-use Rattle.text.specs.Cut.{place_of, place_within, place_here, place_on, place_end}
-use Rattle.number.specs.Scan.{one_of}
+-- Places in a text: the first byte that passes a test, and what stands before it. Assumes nothing.
+use Rattle.std.proofs.Common.{◌≡◌, ℕ, zero, suc, ◌+◌, ◌<◌, ◌≤◌, Bool, true, false, [], ◌∷◌, length, get_or, take, sym, arith, length-take-le}
+use Rattle.std.specs.Prelude.{if◌then◌else◌, ◌⊎◌, Option, Some, None, ltb, unwrap_or, position}
+use Rattle.std.specs.List.{position_or_len}
+use Rattle.std.proofs.Common.{cond, refl, ap, ◌∙◌, inl, inr, le-ltb, lt-ltb}
+use Rattle.std.proofs.lemmas.List.Recursion.{is_position_or_len}
+use Rattle.text.specs.Parts.{le_or_lt}
+use Rattle.definition.specs.Text.{Text, before}
+use Rattle.text.specs.Cut.{place_of, place_within}
 
 -- what a part up to a place has for its length
 pub up_to_lem : (p : ℕ → Bool) (s : Text) (k : ℕ) → k ≡ place_of p s → k ≡ length (take k s)
@@ -15,27 +18,27 @@ byte_within [] k b e = absurd (omega arith)
 byte_within (x ∷ s) zero b e = omega arith
 byte_within (x ∷ s) (suc k) b e = let h = byte_within s k b e in omega arith
 
--- ---- one of three bytes
-pub is_a : (a b c x : ℕ) → x ≡ a → one_of a b c x ≡ true
-is_a a b c x e = rw (eq-eqb a x (sym e))
+-- ---- the library's search for a place
+place_or_len : (p : ℕ → Bool) (s : Text) → place_of p s ≡ position_or_len p s
+unfolding before
+place_or_len p = is_position_or_len (place_of p) p refl step
+  where
+    step : (b : ℕ) (s : Text) → place_of p (b ∷ s) ≡ cond (p b) 0 (1 + place_of p s)
+    step b s = go (p b)
+      where
+        go : (t : Bool) → length (if t then [] else b ∷ before p s) ≡ cond t 0 (1 + place_of p s)
+        go true = refl
+        go false = omega arith
 
-pub is_b : (a b c x : ℕ) → x ≡ b → one_of a b c x ≡ true
-is_b a b c x e = rw (eq-eqb b x (sym e)) (or-true (eqb a x))
+place_is : (p : ℕ → Bool) (s : Text) → unwrap_or (position p s) (length s) ≡ place_of p s
+place_is p s = rw (← place_or_len p s) (go (le_or_lt (length s) (place_of p s)))
+  where
+    go : (length s ≤ place_of p s) ⊎ (place_of p s < length s) → unwrap_or (cond (ltb (place_of p s) (length s)) (Some (place_of p s)) None) (length s) ≡ place_of p s
+    go (inl h) = rw (le-ltb (place_of p s) (length s) h) (omega (arith, place_within p s))
+    go (inr h) = rw (lt-ltb (place_of p s) (length s) h) refl
 
-pub is_c : (a b c x : ℕ) → x ≡ c → one_of a b c x ≡ true
-is_c a b c x e = rw (eq-eqb c x (sym e)) (rw (or-true (eqb b x)) (or-true (eqb a x)))
+pub place_found : (p : ℕ → Bool) (s : Text) (i : ℕ) → Some i ≡ position p s → i ≡ place_of p s
+place_found p s i e = ap (λ (o : Option ℕ). unwrap_or o (length s)) e ∙ place_is p s
 
-pub is_none : (a b c x : ℕ) → (x ≡ a → ⊥) → (x ≡ b → ⊥) → (x ≡ c → ⊥) → one_of a b c x ≡ false
-is_none a b c x na nb nc =
-    rw (ne_eqb a x (λ (e : a ≡ x). na (sym e)), ne_eqb b x (λ (e : b ≡ x). nb (sym e)), ne_eqb c x (λ (e : c ≡ x). nc (sym e)))
-
--- ---- one turn, from what is known of the place n that is looked for
-module _ (p : ℕ → Bool) (s : Text) (i n : ℕ) (known : n ≡ i + place_of p (drop i s)) where
-  pub stops : i < length s → p (get_or s i 0) ≡ true → i ≡ n
-  stops h e = omega (arith, place_here p s i h e)
-
-  pub goes_on : i < length s → p (get_or s i 0) ≡ false → n ≡ i + 1 + place_of p (drop (i + 1) s)
-  goes_on h e = omega (arith, place_on p s i h e)
-
-  pub ends : length s ≤ i → i ≡ n
-  ends h = omega (arith, place_end p s i h)
+pub place_missing : (p : ℕ → Bool) (s : Text) → None ≡ position p s → length s ≡ place_of p s
+place_missing p s e = ap (λ (o : Option ℕ). unwrap_or o (length s)) e ∙ place_is p s

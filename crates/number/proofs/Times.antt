@@ -2,7 +2,9 @@
 use Rattle.std.proofs.Common.{◌≡◌, ℕ, ◌+◌, ◌*◌, ◌<◌, ◌≤◌, length, take, drop, sym, ap, ◌∙◌, arith, le-ltb, lt-ltb, le-leb}
 use Rattle.std.specs.Prelude.{Option, Some, None}
 use borrow.Author.Tests.{lt-leb}
-use Rattle.definition.specs.Base.{◌or◌}
+use Rattle.std.specs.Bool.{then_some}
+use Rattle.std.proofs.Common.{Bool, true, false, leb, refl}
+use Rattle.definition.specs.Base.{◌or◌, when}
 use Rattle.definition.specs.Ascii.{bytes}
 use Rattle.definition.specs.Text.{Text, before, unsigned_of, digits, digits_after, sign_of}
 use Rattle.definition.specs.Time.{is_colon, time_parts}
@@ -17,13 +19,13 @@ pub too_many : (h m : ℕ) → h ≤ 24 → 60 ≤ m → time_at h m ≡ None
 unfolding time_at
 too_many h m a b = rw (le-leb h 24 a, le-ltb m 60 b)
 
-pub past_day : (h m : ℕ) → h ≤ 24 → m < 60 → 1440 < h * 60 + m → time_at h m ≡ None
+pub timed : (h m : ℕ) → h ≤ 24 → m < 60 → then_some (leb (h * 60 + m) 1440) (h * 60 + m) ≡ time_at h m
 unfolding time_at
-past_day h m a b c = rw (le-leb h 24 a, lt-ltb m 60 b, lt-leb (h * 60 + m) 1440 c)
-
-pub in_day : (h m : ℕ) → h ≤ 24 → m < 60 → h * 60 + m ≤ 1440 → time_at h m ≡ Some (h * 60 + m)
-unfolding time_at
-in_day h m a b c = rw (le-leb h 24 a, lt-ltb m 60 b, le-leb (h * 60 + m) 1440 c)
+timed h m a b = rw (le-leb h 24 a, lt-ltb m 60 b) (go (leb (h * 60 + m) 1440) (h * 60 + m))
+  where
+    go : (t : Bool) (n : ℕ) → then_some t n ≡ when t n
+    go true n = refl
+    go false n = refl
 
 module _ (s : Text) (k : ℕ) (at : k ≡ place_of is_colon s) where
   pub minutes_there : (rest : Text) → k < length s → rest ≡ drop (k + 1) s → before is_colon rest ≡ minutes_text s

@@ -3,9 +3,7 @@ use Rattle.std.specs.Prelude.{ℕ}
 use Rattle.definition.specs.declared.Unread.{Unread}
 use Rattle.definition.specs.declared.Unread.TheVariants.{Absent, Long}
 use Rattle.std.specs.Prelude.{Err, Ok, Result}
-use Rattle.definition.specs.Number.{Reading}
 use Rattle.definition.specs.declared.Duration.{Duration}
-use Rattle.definition.specs.declared.Figures.{Figures}
 pub use Rattle.laws.specs.Durations.{not_below, none_below}
 
 -- document 01's number for an answer: a number that is too long refuses the tree

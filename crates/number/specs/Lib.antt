@@ -1,5 +1,4 @@
 pub mod Tests
-pub mod Scan
 pub mod Number
 pub mod Whole
 pub mod Floats

@@ -1,5 +1,5 @@
 -- What the answer of a number text means, and what the code holds of its parts. Assumes nothing.
-use Rattle.std.specs.Prelude.{if◌then◌else◌, ◌≡◌, ℕ, zero, suc, ◌+◌, ◌-◌, ◌*◌, ◌^◌, ◌<◌, ◌≤◌, min, Bool, true, false, [], ◌∷◌, length, drop, slice_index, Float}
+use Rattle.std.specs.Prelude.{if◌then◌else◌, ◌≡◌, ℕ, zero, suc, ◌+◌, ◌-◌, ◌*◌, ◌^◌, ◌<◌, ◌≤◌, min, true, false, [], ◌∷◌, length, drop, slice_index, Float}
 use Rattle.definition.specs.declared.Unread.{Unread}
 use Rattle.definition.specs.declared.Unread.TheVariants.{Absent, Long}
 use Rattle.std.specs.Prelude.{Err, Ok, Result}
@@ -38,36 +38,20 @@ pub record Ran (s : Text) (from v w e : ℕ) : Type 0 where
   pub stops : e < length s → is_digit (slice_index s e) ≡ false
 
 -- ---- the power of ten
-abbrev pub power_by : Sign → Option ℕ → Power
-power_by g None = power.Wrong
-power_by plus (Some n) = power.Up n
-power_by minus (Some n) = power.Down n
-power_by bare (Some n) = power.Up n
+abbrev pub power_by : Sign → Option ℕ → Option Power
+power_by g None = None
+power_by plus (Some n) = Some (power.Up n)
+power_by minus (Some n) = Some (power.Down n)
+power_by bare (Some n) = Some (power.Up n)
 
 -- what follows an `e`
-unfoldable pub power_of : Text → Power
+unfoldable pub power_of : Text → Option Power
 power_of s = power_by (sign_of s) (hold (digits (unsigned (sign_of s) s)))
 
 -- what follows the digits
-abbrev pub power_at : Text → Power
-power_at [] = power.Up 0
-power_at (b ∷ s) = if is_e b then power_of s else power.Wrong
-
-abbrev pub up_by : Power → ℕ
-up_by (power.Up n) = n
-up_by (power.Down n) = 0
-up_by power.Wrong = 0
-
--- as much as matters
-abbrev pub down_by : Power → ℕ
-down_by (power.Up n) = 0
-down_by (power.Down n) = min n 23
-down_by power.Wrong = 0
-
-abbrev pub is_wrong : Power → Bool
-is_wrong (power.Up n) = false
-is_wrong (power.Down n) = false
-is_wrong power.Wrong = true
+abbrev pub power_at : Text → Option Power
+power_at [] = Some (power.Up 0)
+power_at (b ∷ s) = if is_e b then power_of s else None
 
 -- ---- the number
 abbrev pub decimal : ℕ → ℕ → ℕ → Decimal
@@ -75,14 +59,17 @@ decimal v u d = record { digits = v; up = u; down = d }
 
 -- digits, of which so many stand after the dot, and the power
 abbrev pub scaled_by : ℕ → ℕ → Power → Reading Float
-scaled_by v places power.Wrong = Err Absent
 scaled_by v places (power.Up n) = magnitude (Some (decimal v n places))
 scaled_by v places (power.Down n) = magnitude (Some (decimal v 0 (places + n)))
+
+abbrev pub scaled_at : ℕ → ℕ → Option Power → Reading Float
+scaled_at v places None = Err Absent
+scaled_at v places (Some p) = scaled_by v places p
 
 -- so many digits, and what follows them
 abbrev pub ended : ℕ → ℕ → ℕ → Text → Reading Float
 ended zero v places s = Err Absent
-ended (suc c) v places s = scaled_by v places (power_at s)
+ended (suc c) v places s = scaled_at v places (power_at s)
 
 -- what a number begins with
 pub record Begins (s : Text) (m : Mantissa) : Type 0 where

@@ -2,8 +2,7 @@
 use Rattle.definition.specs.Answer.{answer_length, answer_number}
 use Rattle.std.specs.Prelude.{if◌then◌else◌, ◌≡◌, ℕ, ◌++◌, length, take, nat_le}
 use Rattle.definition.specs.declared.Refusal.{Refusal}
-use Rattle.definition.specs.declared.Refusal.TheVariants.{NoRoom, Outside}
-use Rattle.std.specs.Prelude.{Err, Ok, Result}
+use Rattle.std.specs.Prelude.{Result}
 use Rattle.std.proofs.Common.{ap, ◌∙◌}
 use Rattle.definition.specs.Text.{Text}
 use Rattle.definition.specs.Duration.{most_minutes, duration_text}

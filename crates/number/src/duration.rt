@@ -1,6 +1,6 @@
 // Duration texts, as minutes, and whether the sum was whole before it was rounded.
-ghost use Rattle.std.specs.Prelude.{◌≡◌, T, []};
-ghost use Rattle.definition.specs.Duration.{set_unit, not_below_zero, piece_of, ◌then◌, time_figures, days_of, day_figures, figures_of, total_of, duration_from, duration_of};
+ghost use Rattle.std.specs.Prelude.{◌≡◌, T, [], position};
+ghost use Rattle.definition.specs.Duration.{is_unit, set_unit, not_below_zero, piece_of, ◌then◌, time_figures, days_of, day_figures, figures_of, total_of, duration_from, duration_of};
 ghost use Rattle.number.specs.Duration.{not_below, none_below};
 
 use definition::{Duration, Figures, Unread};
@@ -23,28 +23,18 @@ fn piece_of(s: &[u8]) -> Result<f64, Unread>
 fn set_unit(unit: u8, x: f64, f: Figures) -> Figures
     ensures { result ≡ set_unit unit x f }
 {
-    if unit == 72 {
-        return Figures {
-            days: f.days,
-            hours: x,
-            minutes: f.minutes,
-            seconds: f.seconds,
-        };
+    match unit {
+        b'H' => Figures { hours: x, ..f },
+        b'M' => Figures { minutes: x, ..f },
+        _ => Figures { seconds: x, ..f },
     }
-    if unit == 77 {
-        return Figures {
-            days: f.days,
-            hours: f.hours,
-            minutes: x,
-            seconds: f.seconds,
-        };
-    }
-    Figures {
-        days: f.days,
-        hours: f.hours,
-        minutes: f.minutes,
-        seconds: x,
-    }
+}
+
+// Where the first unit stands: `H`, `M` or `S`.
+fn first_unit(s: &[u8]) -> Option<usize>
+    ensures { result ≡ position is_unit s.now }
+{
+    s.iter().position(|b| matches!(*b, b'H' | b'M' | b'S'))
 }
 
 // The figures that a time part sets, one piece after the other.
@@ -53,11 +43,12 @@ fn time_figures(s: &[u8], start: Figures) -> Result<Figures, Unread>
 {
     let mut f = start;
     let mut from = 0;
+    // A `while`: each turn goes on behind the unit that it found.
     while from < s.len() {
-        let k = from + crate::scan::first(&s[from..], 72, 77, 83);
-        if k >= s.len() {
+        let Some(u) = first_unit(&s[from..]) else {
             return Err(Unread::Absent);
-        }
+        };
+        let k = from + u;
         f = set_unit(s[k], piece_of(&s[from..k])?, f);
         from = k + 1;
     }
@@ -68,10 +59,10 @@ fn time_figures(s: &[u8], start: Figures) -> Result<Figures, Unread>
 fn days_of(s: &[u8]) -> Result<f64, Unread>
     ensures { result ≡ days_of s.now }
 {
-    if s.len() == 0 {
+    if s.is_empty() {
         return Ok(0.0);
     }
-    let k = text::place(s, 68);
+    let k = text::place(s, b'D');
     if k + 1 == s.len() {
         return piece_of(&s[..k]);
     }
@@ -93,14 +84,10 @@ fn day_figures(days: f64) -> Figures
 fn figures_of(s: &[u8]) -> Result<Figures, Unread>
     ensures { result ≡ figures_of s.now }
 {
-    if s.len() == 0 {
+    let [b'P', rest @ ..] = s else {
         return Err(Unread::Absent);
-    }
-    if s[0] != 80 {
-        return Err(Unread::Absent);
-    }
-    let rest = &s[1..];
-    let k = text::place(rest, 84);
+    };
+    let k = text::place(rest, b'T');
     let days = days_of(&rest[..k])?;
     time_figures(crate::scan::behind(rest, k), day_figures(days))
 }
@@ -119,7 +106,7 @@ fn duration_from(f: Figures) -> Result<Duration, Unread>
     let total = total_of(f);
     if total <= 1e9 {
         let minutes = crate::whole::half_away(total) as u32;
-        let rounded = minutes as f64;
+        let rounded = f64::from(minutes);
         return Ok(Duration {
             minutes,
             whole: total == rounded,
@@ -128,23 +115,9 @@ fn duration_from(f: Figures) -> Result<Duration, Unread>
     Err(Unread::Absent)
 }
 
-fn duration_read(f: Result<Figures, Unread>) -> Result<Duration, Unread>
-    requires { T (none_below f) }
-    ensures { result ≡ (f then duration_from) }
-{
-    duration_from(f?)
-}
-
-// The duration of a text that is trimmed.
-fn duration_in(s: &[u8]) -> Result<Duration, Unread>
-    ensures { result ≡ (figures_of s.now then duration_from) }
-{
-    duration_read(figures_of(s))
-}
-
 // The minutes that s is as a duration, and whether the sum was whole.
 pub fn duration_of(s: &[u8]) -> Result<Duration, Unread>
     ensures { result ≡ duration_of s.now }
 {
-    duration_in(text::trim(s))
+    duration_from(figures_of(text::trim(s))?)
 }

@@ -8,8 +8,8 @@ mod time;
 mod whole;
 mod write;
 
-pub use decimal::{number_of};
-pub use duration::{duration_of};
-pub use time::{time_of};
+pub use decimal::number_of;
+pub use duration::duration_of;
+pub use time::time_of;
 pub use whole::{hundredths, nearest_whole};
 pub use write::{duration_text, time_text};

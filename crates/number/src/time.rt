@@ -5,33 +5,15 @@ ghost use Rattle.definition.specs.Time.{is_colon, time_parts, time_of};
 ghost use Rattle.text.specs.Cut.{place_of};
 ghost use Rattle.number.specs.Time.{time_at, joined, minutes_text};
 
-
 // h hours and m minutes.
 fn time_at(h: u16, m: u16) -> Option<u16>
     ensures { result ≡ time_at h m }
 {
-    if h > 24 {
+    if h > 24 || m >= 60 {
         return None;
     }
-    if m >= 60 {
-        return None;
-    }
-    if h * 60 + m > 1440 {
-        return None;
-    }
-    Some(h * 60 + m)
-}
-
-fn join(hours: Option<u16>, minutes: Option<u16>) -> Option<u16>
-    ensures { result ≡ joined hours minutes }
-{
-    match hours {
-        Some(h) => match minutes {
-            Some(m) => time_at(h, m),
-            None => None,
-        },
-        None => None,
-    }
+    let t = h * 60 + m;
+    (t <= 1440).then_some(t)
 }
 
 // The minutes after the colon at the place k, 0 where there is none.
@@ -40,7 +22,7 @@ fn minutes_after(s: &[u8], k: usize) -> Option<u16>
     ensures { result ≡ unsigned_of 16 (minutes_text s.now) }
 {
     if k < s.len() {
-        return text::whole_of(text::before(crate::scan::behind(s, k), 58));
+        return text::whole_of(text::before(crate::scan::behind(s, k), b':'));
     }
     Some(0)
 }
@@ -48,8 +30,8 @@ fn minutes_after(s: &[u8], k: usize) -> Option<u16>
 fn time_parts(s: &[u8]) -> Option<u16>
     ensures { result ≡ time_parts s.now }
 {
-    let k = text::place(s, 58);
-    join(text::whole_of(&s[..k]), minutes_after(s, k))
+    let k = text::place(s, b':');
+    time_at(text::whole_of(&s[..k])?, minutes_after(s, k)?)
 }
 
 // The time of day that s is.

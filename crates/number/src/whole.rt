@@ -9,10 +9,8 @@ ghost use Rattle.number.specs.Whole.{half_within, whole_within};
 pub(crate) fn half_away(x: f64) -> u64
     ensures { result ≡ half_within x }
 {
-    if 0.0 <= x {
-        if x <= 1e18 {
-            return (std::num::truncating_f64_to_u64(x * 2.0) + 1) / 2;
-        }
+    if 0.0 <= x && x <= 1e18 {
+        return (std::num::truncating_f64_to_u64(x * 2.0) + 1) / 2;
     }
     0
 }
@@ -22,7 +20,7 @@ pub fn nearest_whole(x: f64) -> i64
     ensures { result ≡ whole_within x }
 {
     if x < 0.0 {
-        return 0 - (half_away(-x) as i64);
+        return -(half_away(-x) as i64);
     }
     half_away(x) as i64
 }

@@ -4,22 +4,11 @@ ghost use Rattle.definition.specs.Duration.{decimal, duration_text};
 ghost use Rattle.definition.specs.Time.{two_digits, time_text};
 ghost use Rattle.number.specs.Written.{Put, Gives, view, answer_of, minutes_answer};
 ghost use Rattle.definition.specs.Refusal.{time_answer};
-use definition::Refusal;
 
+use definition::Refusal;
 
 // A place past the end of every buffer.
 const PAST: usize = 9_223_372_036_854_775_808;
-
-// All zeros.
-fn clear(out: &mut [u8])
-    ensures { out.new ≡ replicate (length out.old) 0 }
-{
-    let mut i = 0;
-    while i < out.len() {
-        out[i] = 0;
-        i += 1;
-    }
-}
 
 // The byte b at a place, and the next place.
 fn put(out: &mut [u8], at: usize, b: u8) -> usize
@@ -35,7 +24,7 @@ fn put(out: &mut [u8], at: usize, b: u8) -> usize
 fn digit(n: u64) -> u8
     ensures { result ≡ n % 10 + 48 }
 {
-    (n % 10) as u8 + 48
+    b'0' + (n % 10) as u8
 }
 
 // The number n in decimal.
@@ -54,24 +43,24 @@ fn finish(out: &mut [u8], at: usize) -> Result<usize, Refusal>
     ensures { Gives (answer_of (view out.old at)) (length out.old) result out.new }
 {
     if at <= out.len() {
-        clear(&mut out[at..]);
+        out[at..].fill(0);
         return Ok(at);
     }
-    clear(out);
+    out.fill(0);
     Err(Refusal::NoRoom)
 }
 
 fn put_duration(out: &mut [u8], n: u64) -> usize
     ensures { Put (duration_text n) out.old 0 out.new result }
 {
-    let a = put(out, 0, 80);
-    let b = put(out, a, 84);
+    let a = put(out, 0, b'P');
+    let b = put(out, a, b'T');
     let c = put_decimal(out, b, n / 60);
-    let d = put(out, c, 72);
+    let d = put(out, c, b'H');
     let e = put_decimal(out, d, n % 60);
-    let f = put(out, e, 77);
-    let g = put(out, f, 48);
-    put(out, g, 83)
+    let f = put(out, e, b'M');
+    let g = put(out, f, b'0');
+    put(out, g, b'S')
 }
 
 // The text of minutes up to 1,000,000,000.
@@ -79,7 +68,7 @@ pub fn duration_text(minutes: u64, out: &mut [u8]) -> Result<usize, Refusal>
     ensures { Gives (minutes_answer minutes (length out.old)) (length out.old) result out.new }
 {
     if minutes > 1_000_000_000 {
-        clear(out);
+        out.fill(0);
         return Err(Refusal::Outside);
     }
     let n = put_duration(out, minutes);
@@ -99,11 +88,11 @@ fn put_time(out: &mut [u8], t: u64) -> usize
     ensures { Put (time_text t) out.old 0 out.new result }
 {
     let a = put_two(out, 0, t / 60);
-    let b = put(out, a, 58);
+    let b = put(out, a, b':');
     let c = put_two(out, b, t % 60);
-    let d = put(out, c, 58);
-    let e = put(out, d, 48);
-    put(out, e, 48)
+    let d = put(out, c, b':');
+    let e = put(out, d, b'0');
+    put(out, e, b'0')
 }
 
 // The text of a time of day up to 1440 minutes.
@@ -111,7 +100,7 @@ pub fn time_text(minutes: u64, out: &mut [u8]) -> Result<usize, Refusal>
     ensures { Gives (time_answer minutes (length out.old)) (length out.old) result out.new }
 {
     if minutes > 1440 {
-        clear(out);
+        out.fill(0);
         return Err(Refusal::Outside);
     }
     let n = put_time(out, minutes);

@@ -9,12 +9,12 @@ returns-then-e-s c =
     let a = c.args in
     sym (ap power_at (at_end_lem a.s.now a.e (search rules)))
 
-pub returns-then-b : goal.returns-then-b
-returns-then-b c =
+pub returns-then-s-e : goal.returns-then-s-e
+returns-then-s-e c =
     let a = c.args in
-    c.power_of.ensures ∙ ap power_of (all_of _ a.s.now) ∙ power_here a.s.now a.e (search rules) c.if-b.true
+    c.power_of.ensures ∙ ap power_of (all_of _ a.s.now) ∙ power_here a.s.now a.e (search rules) c.if-s-e.true
 
 pub returns : goal.returns
 returns c =
     let a = c.args in
-    power_other a.s.now a.e (search rules) c.if-b.false
+    power_other a.s.now a.e (search rules) c.if-s-e.false

@@ -29,14 +29,14 @@ down_same m k u d e =
 
 pub int_to_float-x : goal.int_to_float-x
 unfolding in_float
-int_to_float-x c = le→leb c.args.v (2 ^ 53) (whole_le c.args.v c.requires.fact_1)
+int_to_float-x c = le→leb c.args.v (2 ^ 53) (whole_le c.args.v c.requires.few)
 
 pub returns-then-down-up : goal.returns-then-down-up
 returns-then-down-up c =
     let m = c.args.v in
     let u = c.args.up in
     let d = c.args.down in
-    mul_of binary64 (of_int binary64 (pos m)) c.ten.result false false m 1 (10 ^ (u - d)) 1 (zero-lt-suc 0) (zero-lt-suc 0) (cast m c.requires.fact_1) c.ten.ensures
+    mul_of binary64 (of_int binary64 (pos m)) c.ten.result false false m 1 (10 ^ (u - d)) 1 (zero-lt-suc 0) (zero-lt-suc 0) (cast m c.requires.few) c.ten.ensures
     ∙ up_same m (u - d) u d (omega arith)
 
 pub returns-else-down-up : goal.returns-else-down-up
@@ -44,5 +44,5 @@ returns-else-down-up c =
     let m = c.args.v in
     let u = c.args.up in
     let d = c.args.down in
-    div_of binary64 (of_int binary64 (pos m)) c.ten-else-down-up.result false false m 1 (10 ^ (d - u)) 1 (zero-lt-suc 0) (zero-lt-suc 0) (ten_pos (d - u)) (cast m c.requires.fact_1) c.ten-else-down-up.ensures
+    div_of binary64 (of_int binary64 (pos m)) c.ten-else-down-up.result false false m 1 (10 ^ (d - u)) 1 (zero-lt-suc 0) (zero-lt-suc 0) (ten_pos (d - u)) (cast m c.requires.few) c.ten-else-down-up.ensures
     ∙ down_same m (d - u) u d (omega arith)

@@ -17,9 +17,6 @@ overflow_cast-minutes c =
     let n = c.half_away-minutes.ensures ∙ ap half_within c.total_of-total.ensures in
     omega (arith, n, minutes_small f c.requires t)
 
-pub int_to_float-rounded : goal.int_to_float-rounded
-int_to_float-rounded c = tt
-
 pub returns-then-total : goal.returns-then-total
 unfolding of_bits of_int
 returns-then-total c =
@@ -27,7 +24,7 @@ returns-then-total c =
     let t = told _ _ true x.ensures c.if-total.true in
     duration_is c.args.f c.requires t
     (c.half_away-minutes.ensures ∙ ap half_within x.ensures)
-    (ap (λ (y : Float). eq y (float c.half_away-minutes.result)) x.ensures)
+    (ap (λ (y : Float). eq c.total_of-total.result y) c.from-rounded.ensures ∙ ap (λ (y : Float). eq y (float c.half_away-minutes.result)) x.ensures)
 
 pub returns : goal.returns
 unfolding of_bits

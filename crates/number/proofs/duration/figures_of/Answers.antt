@@ -6,13 +6,14 @@ use Rattle.text.specs.Parts.{all_of}
 use Rattle.number.proofs.Parts.{up_to_lem}
 use Rattle.number.proofs.Figures.{err_then, no_figures, not_p, some_figures}
 use Rattle.std.proofs.lemmas.Result.{err_from_is_err_and}
+use Rattle.std.proofs.Common.{arith, rules}
 use Rattle.number.proofs.duration.figures_of.Goals as goal
 
-pub returns-then-s-eq0 : goal.returns-then-s-eq0
-returns-then-s-eq0 c = sym (no_figures c.args.s.now c.if-s-eq0.true)
+pub returns-in_default : goal.returns-in_default
+returns-in_default c = sym (no_figures c.args.s.now (omega arith))
 
-pub returns-then-s-ne80 : goal.returns-then-s-ne80
-returns-then-s-ne80 c = sym (not_p c.args.s.now c.if-s-eq0.false c.if-s-ne80.true)
+pub returns-in_default-2 : goal.returns-in_default-2
+returns-in_default-2 c = sym (not_p c.args.s.now (λ z. omega arith) (search rules))
 
 pub slice_bounds-days_of-end : goal.slice_bounds-days_of-end
 slice_bounds-days_of-end c = up_to_lem is_t _ c.place-k.result c.place-k.ensures
@@ -25,7 +26,7 @@ returns c =
     c.time_figures.ensures
     ∙ ap (time_figures time []) c.day_figures.ensures
     ∙ ap (λ (r : Reading Float). r then λ x. time_figures time [] (day_figures x)) (sym c.in_ok-days.was ∙ c.days_of.ensures)
-    ∙ some_figures s _ _ time k c.if-s-eq0.false c.if-s-ne80.false (all_of 1 s) c.place-k.ensures refl c.behind.ensures
+    ∙ some_figures s _ _ time k (λ z. omega arith) (search rules) (all_of 1 s) c.place-k.ensures refl c.behind.ensures
 
 pub returns-in_err-days : goal.returns-in_err-days
 returns-in_err-days c =
@@ -37,4 +38,4 @@ returns-in_err-days c =
     rw (p.1, p.2)
     (err_then _ _
     ∙ ap (λ (r : Reading Float). r then λ x. time_figures time [] (day_figures x)) (sym c.in_err-days.was ∙ c.days_of.ensures)
-    ∙ some_figures s _ _ time k c.if-s-eq0.false c.if-s-ne80.false (all_of 1 s) c.place-k.ensures refl refl)
+    ∙ some_figures s _ _ time k (λ z. omega arith) (search rules) (all_of 1 s) c.place-k.ensures refl refl)

@@ -1,4 +1,4 @@
-use Rattle.std.proofs.Common.{◌+◌, length, sym, ◌∙◌, arith}
+use Rattle.std.proofs.Common.{◌+◌, sym, arith}
 use Rattle.text.specs.Parts.{at_end_lem, all_of}
 use Rattle.number.proofs.scan.behind.Goals as goal
 
@@ -12,4 +12,4 @@ pub returns-else-k-s : goal.returns-else-k-s
 returns-else-k-s c =
     let s = c.args.s.now in
     let k = c.args.k in
-    all_of (length s) s ∙ at_end_lem s (length s) (omega arith) ∙ sym (at_end_lem s (k + 1) (omega arith))
+    sym (at_end_lem s (k + 1) (omega arith))

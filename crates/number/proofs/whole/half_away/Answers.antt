@@ -6,6 +6,7 @@ use Rattle.definition.specs.Number.{half_away, zero_float}
 use Rattle.number.proofs.Doubled.{cap, halved, Halved}
 use Rattle.number.proofs.Rounded.{half_is}
 use Rattle.number.proofs.whole.half_away.Goals as goal
+use Rattle.number.proofs.whole.half_away.Goals.{else-x-via-then-x+else-x-2, else-x-via-else-x}
 
 abbrev pick : Float → Bool → Bool → ℕ
 pick x a b = if a && b then half_away x else 0
@@ -34,14 +35,11 @@ returns-then-x-2 c =
     ∙ h.is_half
     ∙ sym (half_is x ∙ ap (λ (t : Bool). pick x t (le x cap)) c.if-x.true ∙ ap (λ (t : Bool). pick x true t) c.if-x-2.true)
 
-pub returns-else-x-2 : goal.returns-else-x-2
+pub returns : goal.returns
 unfolding of_bits
-returns-else-x-2 c =
+returns c =
     let x = c.args.x in
-    sym (half_is x ∙ ap (λ (t : Bool). pick x t (le x cap)) c.if-x.true ∙ ap (λ (t : Bool). pick x true t) c.if-x-2.false)
-
-pub returns-else-x : goal.returns-else-x
-unfolding of_bits
-returns-else-x c =
-    let x = c.args.x in
-    sym (half_is x ∙ ap (λ (t : Bool). pick x t (le x cap)) c.if-x.false)
+    elim c.else-x.branch [
+      | else-x-via-then-x+else-x-2 w ↦ sym (half_is x ∙ ap (λ (t : Bool). pick x t (le x cap)) w.if-x.true ∙ ap (λ (t : Bool). pick x true t) w.if-x-2.false)
+      | else-x-via-else-x w ↦ sym (half_is x ∙ ap (λ (t : Bool). pick x t (le x cap)) w.if-x.false)
+    ]
