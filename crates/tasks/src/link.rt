@@ -10,7 +10,7 @@ ghost use Rattle.tasks.specs.Link.{lag_means};
 
 use crate::task::{elapsed_format, format_of, percent_format};
 use crate::value::{least, quotient, remainder, signed};
-use text::{Signed};
+use text::Signed;
 
 // Working time, elapsed time, or a share of the predecessor's duration in hundredths of a percent.
 #[derive(Clone, Copy)]
