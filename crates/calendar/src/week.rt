@@ -14,7 +14,7 @@ use definition::Date;
 fn day_type(s: &[u8], at: usize) -> Option<u64>
     ensures { result ≡ day_type (element_at s.now at) }
 {
-    text::u64_of(tree::text_of(s, at, b"DayType"))
+    text::whole_of(tree::text_of(s, at, b"DayType"))
 }
 
 // Sunday is 1, and the week begins on Monday.

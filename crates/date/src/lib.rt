@@ -277,7 +277,7 @@ fn first_ten(s: &[u8]) -> &[u8]
 fn day_part(year: i32, month: u32, s: &[u8]) -> Option<Date>
     ensures { date_meaning result ≡ day_number_of (day_part year month s.now) }
 {
-    match text::u32_of(s) {
+    match text::whole_of(s) {
         Some(day) => from_ymd(year, month, day),
         None => None,
     }
@@ -288,7 +288,7 @@ fn month_part(year: i32, s: &[u8]) -> Option<Date>
 {
     let k = text::place(s, 45);
     if k < s.len() {
-        return match text::u32_of(&s[..k]) {
+        return match text::whole_of(&s[..k]) {
             Some(month) => day_part(year, month, &s[k + 1..]),
             None => None,
         };
@@ -301,7 +301,7 @@ fn date_parts(s: &[u8]) -> Option<Date>
 {
     let k = text::place(s, 45);
     if k < s.len() {
-        return match text::i32_of(&s[..k]) {
+        return match text::whole_of(&s[..k]) {
             Some(year) => month_part(year, &s[k + 1..]),
             None => None,
         };

@@ -7,7 +7,6 @@ ghost use Rattle.definition.specs.Number.{number_of, found};
 ghost use Rattle.definition.specs.Answer.{date_meaning, day_number_of};
 ghost use Rattle.definition.specs.Task.{own_uid};
 ghost use Rattle.definition.specs.Field.{not_whole};
-ghost use Rattle.text.specs.Answers.{signed_means};
 ghost use Rattle.tree.specs.Place.{element_at};
 ghost use Rattle.tree.specs.Root.{own_text};
 ghost use Rattle.fields.specs.Answers.{unsigned_or};
@@ -15,7 +14,6 @@ ghost use Rattle.fields.specs.Said.{yes_said, whole_said, date_said, number_said
 
 use crate::value::{float_of, minutes_of, not_whole, unsigned_or};
 use definition::Date;
-use text::Signed;
 
 // Whether there is a text; an empty one counts as absent.
 pub fn given(s: &[u8], at: usize, name: &[u8]) -> bool
@@ -45,8 +43,8 @@ pub fn yes_in(s: &[u8], at: usize, name: &[u8]) -> bool
 }
 
 // A whole number of 64 bits.
-pub fn int_in(s: &[u8], at: usize, name: &[u8]) -> Signed
-    ensures { signed_means result ≡ whole_said (element_at s.now at) name.now }
+pub fn int_in(s: &[u8], at: usize, name: &[u8]) -> Option<i64>
+    ensures { result ≡ whole_said (element_at s.now at) name.now }
 {
     text::whole_of(tree::text_of(s, at, name))
 }

@@ -5,12 +5,10 @@ ghost use Rattle.std.specs.Float.Ieee.{mul};
 ghost use Rattle.definition.specs.Base.{when};
 ghost use Rattle.definition.specs.Number.{float, found};
 ghost use Rattle.definition.specs.Field.{minutes_alone, not_whole};
-ghost use Rattle.text.specs.Answers.{signed_means};
 ghost use Rattle.number.specs.Whole.{whole_within};
 ghost use Rattle.fields.specs.Answers.{unsigned_or};
 
 use definition::{Duration, Unread};
-use text::Signed;
 
 // A tree with a number that is too long is refused as a whole, so that it is none here.
 pub(crate) fn float_of(a: Result<f64, Unread>) -> Option<f64>
@@ -32,13 +30,12 @@ pub(crate) fn not_whole(a: Result<Duration, Unread>) -> bool
 }
 
 // With what stands for a number below 0 and for a missing one.
-pub(crate) fn unsigned_or(a: Signed, below: u64, absent: u64) -> u64
-    ensures { result ≡ unsigned_or below absent (signed_means a) }
+pub(crate) fn unsigned_or(a: Option<i64>, below: u64, absent: u64) -> u64
+    ensures { result ≡ unsigned_or below absent a }
 {
     match a {
-        Signed::Up(n) => n,
-        Signed::Down(_) => below,
-        Signed::Absent => absent,
+        Some(n) => u64::try_from(n).unwrap_or(below),
+        None => absent,
     }
 }
 

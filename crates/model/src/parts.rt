@@ -13,7 +13,7 @@ ghost use Rattle.model.specs.Places.{NameTaken, CalendarAt};
 use crate::fields::{skip, skip_code, skip_optional, skip_text};
 use crate::lists::{skip_days, skip_hours};
 use bits::{PAST, Place};
-use definition::{Date};
+use definition::Date;
 
 // ---- what stands at a place. Where nothing can be read, a value is missing or 0, and the next place is past every end
 

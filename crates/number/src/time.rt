@@ -40,7 +40,7 @@ fn minutes_after(s: &[u8], k: usize) -> Option<u16>
     ensures { result ≡ unsigned_of 16 (minutes_text s.now) }
 {
     if k < s.len() {
-        return text::u16_of(text::before(crate::scan::behind(s, k), 58));
+        return text::whole_of(text::before(crate::scan::behind(s, k), 58));
     }
     Some(0)
 }
@@ -49,7 +49,7 @@ fn time_parts(s: &[u8]) -> Option<u16>
     ensures { result ≡ time_parts s.now }
 {
     let k = text::place(s, 58);
-    join(text::u16_of(&s[..k]), minutes_after(s, k))
+    join(text::whole_of(&s[..k]), minutes_after(s, k))
 }
 
 // The time of day that s is.

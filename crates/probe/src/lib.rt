@@ -101,31 +101,31 @@ fn put_i32(a: Option<i32>, out: &mut i32) -> u32
 pub fn probe_u64(s: &[u8], out: &mut u64) -> u32
     ensures { Whole (unsigned_of 64 s.now) result out.new }
 {
-    put_u64(text::u64_of(s), out)
+    put_u64(text::whole_of(s), out)
 }
 
 pub fn probe_u32(s: &[u8], out: &mut u32) -> u32
     ensures { Whole (unsigned_of 32 s.now) result out.new }
 {
-    put_u32(text::u32_of(s), out)
+    put_u32(text::whole_of(s), out)
 }
 
 pub fn probe_u16(s: &[u8], out: &mut u16) -> u32
     ensures { Whole (unsigned_of 16 s.now) result out.new }
 {
-    put_u16(text::u16_of(s), out)
+    put_u16(text::whole_of(s), out)
 }
 
 pub fn probe_i64(s: &[u8], out: &mut i64) -> u32
     ensures { Signed (signed_of 64 s.now) result out.new }
 {
-    put_i64(text::i64_of(s), out)
+    put_i64(text::whole_of(s), out)
 }
 
 pub fn probe_i32(s: &[u8], out: &mut i32) -> u32
     ensures { Signed (signed_of 32 s.now) result out.new }
 {
-    put_i32(text::i32_of(s), out)
+    put_i32(text::whole_of(s), out)
 }
 
 // ---- texts

@@ -5,8 +5,8 @@ ghost use Rattle.assignments.specs.Finders.{Finds, finders_in};
 ghost use Rattle.read.specs.Sections.{AssignedPut};
 ghost use Rattle.read.specs.Tables.{Tasked};
 
-use index::Table;
 use bits::Place;
+use index::Table;
 use pack::Records;
 use rows::Listed;
 use tree::Root;

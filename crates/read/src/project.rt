@@ -14,9 +14,9 @@ ghost use Rattle.pack.specs.Value.{date_by};
 ghost use Rattle.read.specs.Project.{Skipped};
 ghost use Rattle.read.specs.Tables.{Tasked};
 
-use index::Table;
 use bits::Place;
-use definition::{Date};
+use definition::Date;
+use index::Table;
 use pack::Skips;
 use tree::Root;
 

@@ -3,10 +3,10 @@ ghost use Rattle.tree.specs.Root.{root_at};
 ghost use Rattle.read.specs.Sections.{SectionsPut, AllPut, Closes};
 ghost use Rattle.read.specs.Tables.{Tasked};
 
-use index::Table;
 use crate::assigned::put_assigned;
 use crate::project::put_project;
 use bits::Place;
+use index::Table;
 use pack::Counts;
 use rows::Listed;
 use tree::Root;

@@ -2,7 +2,6 @@
 ghost use Rattle.std.specs.Prelude.{if◌then◌else◌, ◌≡◌, ◌≤◌, eqb, pos};
 ghost use Rattle.definition.specs.Base.{◌or◌};
 ghost use Rattle.definition.specs.Recurrence.{month_from, rule_from};
-ghost use Rattle.text.specs.Answers.{signed_means};
 ghost use Rattle.fields.specs.Said.{whole_said, date_said};
 ghost use Rattle.tree.specs.Place.{element_at};
 ghost use Rattle.recurrence.specs.Element.{pick_of, mask_of, last_by, most_by, month_by, held_rule, judged, rule_in, RuleRead, period_of, range_in, RangeRead};
@@ -10,28 +9,23 @@ ghost use Rattle.recurrence.specs.Element.{pick_of, mask_of, last_by, most_by, m
 use crate::kind::{kind_of};
 use crate::scale::{LAST, count_or, date_at, later, least, month_number};
 use crate::{Range, Rule};
-use text::Signed;
 
 // A number held to `most`, with what stands for one below 0 and for a missing one.
-fn pick(a: Signed, most: u32, below: u32, absent: u32) -> u32
-    ensures { result ≡ pick_of most below absent (signed_means a) }
+fn pick(a: Option<i64>, most: u32, below: u32, absent: u32) -> u32
+    ensures { result ≡ pick_of most below absent a }
 {
     match a {
-        Signed::Up(n) => { if n < most as u64 { n as u32 } else { most } }
-        Signed::Down(_) => below,
-        Signed::Absent => absent,
+        Some(n) if n < 0 => below,
+        Some(n) => n.min(i64::from(most)) as u32,
+        None => absent,
     }
 }
 
 // The seven low bits.
-fn mask_of(a: Signed) -> u32
-    ensures { result ≡ mask_of (signed_means a) }
+fn mask_of(a: Option<i64>) -> u32
+    ensures { result ≡ mask_of a }
 {
-    match a {
-        Signed::Up(n) => (n % 128) as u32,
-        Signed::Down(n) => 127 - (n % 128) as u32,
-        Signed::Absent => 0,
-    }
+    (a.unwrap_or(0).cast_unsigned() % 128) as u32
 }
 
 fn number_in(s: &[u8], at: usize, name: &[u8], most: u32, below: u32, absent: u32) -> u32

@@ -33,35 +33,35 @@ fn is_u64(n: u64, tag: u8, value: u64) -> bool {
 // ---- whole numbers
 
 fn i64_agrees(s: &[u8], tag: u8, value: u64) -> bool {
-    match text::i64_of(s) {
+    match text::whole_of::<i64>(s) {
         Some(n) => is_i64(n, tag, value),
         None => tag == 0,
     }
 }
 
 fn i32_agrees(s: &[u8], tag: u8, value: u64) -> bool {
-    match text::i32_of(s) {
+    match text::whole_of::<i32>(s) {
         Some(n) => is_i32(n, tag, value),
         None => tag == 0,
     }
 }
 
 fn u64_agrees(s: &[u8], tag: u8, value: u64) -> bool {
-    match text::u64_of(s) {
+    match text::whole_of::<u64>(s) {
         Some(n) => is_u64(n, tag, value),
         None => tag == 0,
     }
 }
 
 fn u32_agrees(s: &[u8], tag: u8, value: u64) -> bool {
-    match text::u32_of(s) {
+    match text::whole_of::<u32>(s) {
         Some(n) => is_u64(n as u64, tag, value),
         None => tag == 0,
     }
 }
 
 fn u16_agrees(s: &[u8], tag: u8, value: u64) -> bool {
-    match text::u16_of(s) {
+    match text::whole_of::<u16>(s) {
         Some(n) => is_u64(n as u64, tag, value),
         None => tag == 0,
     }

@@ -4,13 +4,11 @@ ghost use Rattle.definition.specs.Base.{◌or◌};
 ghost use Rattle.definition.specs.Number.{with_sign};
 ghost use Rattle.definition.specs.Field.{yes_in};
 ghost use Rattle.definition.specs.Link.{working_lag, lag_of, link_lag, held_by, kind_from, link_kind};
-ghost use Rattle.text.specs.Answers.{signed_means};
 ghost use Rattle.tree.specs.Place.{element_at};
 ghost use Rattle.tasks.specs.Link.{lag_means};
 
 use crate::task::{elapsed_format, format_of, percent_format};
 use crate::value::{least, quotient, remainder, signed};
-use text::Signed;
 
 // Working time, elapsed time, or a share of the predecessor's duration in hundredths of a percent.
 #[derive(Clone, Copy)]
@@ -77,22 +75,13 @@ fn lag_of(per_day: u64, format: u64, negative: bool, tenths: u64) -> Lag
 }
 
 // Held to -100,000,000,000 to 100,000,000,000; 0 where there is none.
-fn tenths_of(a: Signed) -> Tenths
-    ensures { with_sign result.negative result.size ≡ held_by 100000000000 (signed_means a or pos 0) }
+fn tenths_of(a: Option<i64>) -> Tenths
+    ensures { with_sign result.negative result.size ≡ held_by 100000000000 (a or pos 0) }
 {
-    match a {
-        Signed::Up(n) => Tenths {
-            negative: false,
-            size: least(n, 100000000000),
-        },
-        Signed::Down(n) => Tenths {
-            negative: true,
-            size: least(n, 99999999999) + 1,
-        },
-        Signed::Absent => Tenths {
-            negative: false,
-            size: 0,
-        },
+    let n = a.unwrap_or(0).clamp(-100000000000, 100000000000);
+    Tenths {
+        negative: n < 0,
+        size: n.unsigned_abs(),
     }
 }
 

@@ -1,8 +1,5 @@
-pub mod Bounds
 pub mod Digits
-pub mod Edge
 pub mod Equal
-pub mod Ranges
 pub mod Reversed
 pub mod Signs
 pub mod Strip

@@ -1,5 +1,10 @@
 -- A text cut at the first byte that passes a test: its place, and what stands before and after as parts of the text. Assumes nothing.
-use Rattle.std.specs.Prelude.{if◌then◌else◌, ◌≡◌, ◌⊎◌, Bool, drop, get_or}
+use Rattle.std.specs.List.{position, position_or_len}
+use Rattle.std.specs.Option.{unwrap_or}
+use lib.Dec.{ltb}
+use borrow.Author.Tests.{ltb-false}
+use Rattle.std.proofs.lemmas.List.Recursion.{is_position_or_len}
+use Rattle.std.specs.Prelude.{cond, if◌then◌else◌, ◌≡◌, ◌⊎◌, Bool, drop, get_or}
 use Rattle.std.proofs.Math.Path.{refl, ap}
 use Rattle.std.proofs.Common.{sym, ◌∙◌, inl, inr, suc-add}
 use mathlib.Core.List.{[], ◌∷◌}
@@ -25,6 +30,22 @@ module _ (p : ℕ → Bool) where
       go : (x : Bool) → place_of p s ≤ length s → length (if x then [] else b ∷ before p s) ≤ suc (length s)
       go true h = omega arith
       go false h = omega arith
+
+  pub place_is : (s : Text) → place_of p s ≡ position_or_len p s
+  unfolding before
+  place_is s = is_position_or_len (place_of p) p refl (λ x xs. go x (p x) xs) s
+    where
+      go : (x : ℕ) (y : Bool) (xs : Text) → length (if y then [] else (x ∷ before p xs)) ≡ cond y 0 (1 + place_of p xs)
+      go x true xs = refl
+      go x false xs = omega arith
+
+  -- the first place as the library finds it
+  pub place_found : (s : Text) → unwrap_or (position p s) (length s) ≡ place_of p s
+  place_found s = go (ltb (position_or_len p s) (length s)) refl
+    where
+      go : (y : Bool) → ltb (position_or_len p s) (length s) ≡ y → unwrap_or (cond y (Some (position_or_len p s)) None) (length s) ≡ place_of p s
+      go true e = sym (place_is s)
+      go false e = let h = place_within s in let k = place_is s in let l = ltb-false (position_or_len p s) (length s) e in omega arith
 
   pub before_take : (s : Text) → before p s ≡ take (place_of p s) s
   unfolding before

@@ -1,7 +1,6 @@
 pub mod White
 pub mod Parts
 pub mod Cut
-pub mod Answers
 pub mod Signs
 pub mod Whole
 pub mod Utf8

@@ -1,106 +1,80 @@
--- Whole numbers up to a largest one, read digit by digit: what the ranges of the types come to. Assumes nothing.
-use Rattle.std.specs.Prelude.{◌≡◌, refl, Bool, true, false, ℕ, zero, suc, ◌+◌, ◌-◌, ◌^◌, ◌≤◌, leb, ltb, ℤ, pos, negsuc, neg_ℤ, drop}
-use Rattle.std.proofs.Common.{sym, ap, ◌∙◌, add-one, arith, leb-true}
+-- Whole numbers read digit by digit: a size of up to 64 bits behind a sign, and what it is in a type of w bits. Assumes nothing.
+use Rattle.std.specs.Prelude.{◌≡◌, refl, Bool, true, false, ℕ, suc, ◌-◌, ◌^◌, ◌<◌, leb, ltb, ℤ, pos, neg_ℤ, drop}
+use Rattle.std.proofs.Common.{ap, arith, leb-true, leb-false}
+use Rattle.std.proofs.lemmas.Bool.{lt-leb}
 use Rattle.std.specs.Prelude.{Option, Some, None}
-use Rattle.std.proofs.Math.Dec.{leb-suc-suc}
 use Rattle.definition.specs.Base.{◌>>=◌, when}
-use Rattle.definition.specs.Text.{Text, Sign, plus, minus, bare, sign_of, digits, digits_after, signed_by, signed_of}
+use Rattle.definition.specs.Text.{Text, Sign, plus, minus, bare, sign_of, digits, digits_after, unsigned_by, signed_by, unsigned_of, signed_of}
+use Rattle.definition.specs.Number.{unsigned}
+use Rattle.text.specs.Signs.{minus?}
+
+-- the largest number of 64 bits
+abbrev pub largest : ℕ
+largest = 18446744073709551615
 
 -- the number, where it is at most `most`
 abbrev pub up_to : ℕ → Option ℕ → Option ℕ
 up_to most o = o >>= λ n. when (leb n most) n
 
-abbrev pub signed : (ℕ → ℤ) → Option ℕ → Option ℤ
-signed f o = o >>= λ n. Some (f n)
-
-abbrev pub minus_of : ℕ → ℤ
-minus_of n = neg_ℤ (pos n)
-
-unfoldable pub number_to : ℕ → Text → Option ℕ
-number_to most s = up_to most (digits s)
-
 -- the digits s written after those of v
-unfoldable pub digits_to : ℕ → ℕ → Text → Option ℕ
-digits_to most v s = up_to most (digits_after v s)
+unfoldable pub digits_to : ℕ → Text → Option ℕ
+digits_to v s = up_to largest (digits_after v s)
 
-abbrev pub unsigned_under : Sign → ℕ → Text → Option ℕ
-unsigned_under plus most s = number_to most (drop 1 s)
-unsigned_under minus most s = None
-unsigned_under bare most s = number_to most s
+unfoldable pub size_of : Text → Option ℕ
+size_of s = up_to largest (digits s)
 
-unfoldable pub unsigned_to : ℕ → Text → Option ℕ
-unsigned_to most s = unsigned_under (sign_of s) most s
+-- what a size is behind a `-` or none, in an unsigned type of w bits, and in a signed one
+abbrev pub unsigned_sized : ℕ → Bool → ℕ → Option ℕ
+unsigned_sized w true n = None
+unsigned_sized w false n = when (ltb n (2 ^ w)) n
 
--- at most `most`, at least -(most + 1)
-abbrev pub signed_under : Sign → ℕ → Text → Option ℤ
-signed_under plus most s = signed pos (number_to most (drop 1 s))
-signed_under minus most s = signed minus_of (number_to (most + 1) (drop 1 s))
-signed_under bare most s = signed pos (number_to most s)
+abbrev pub signed_sized : ℕ → Bool → ℕ → Option ℤ
+signed_sized w true n = when (leb n (2 ^ (w - 1))) (neg_ℤ (pos n))
+signed_sized w false n = when (ltb n (2 ^ (w - 1))) (pos n)
 
--- the largest magnitude, by whether the sign is `-`
-abbrev pub most_by : Bool → ℕ → ℕ
-most_by true most = most + 1
-most_by false most = most
+abbrev pub whole_by : {A : Type 0} → (Bool → ℕ → Option A) → Text → Option A
+whole_by sized s = size_of (unsigned (sign_of s) s) >>= sized (minus? (sign_of s))
 
-unfoldable pub signed_to : ℕ → Text → Option ℤ
-signed_to most s = signed_under (sign_of s) most s
+-- ---- no type has a size of more than 64 bits
 
--- ---- the range of a type of w bits
-
-pub below : (w most : ℕ) → 2 ^ w ≡ suc most → (n : ℕ) → ltb n (2 ^ w) ≡ leb n most
-below w most full n = ap (leb (suc n)) full ∙ leb-suc-suc n most
-
-module _ (w most : ℕ) (half : 2 ^ (w - 1) ≡ suc most) where
-  up_range : (o : Option ℕ) → (o >>= λ n. when (ltb n (2 ^ (w - 1))) (pos n)) ≡ signed pos (up_to most o)
-  up_range None = refl
-  up_range (Some n) = ap (λ (b : Bool). when b (pos n)) (below (w - 1) most half n) ∙ go (leb n most)
+module _ {A : Type 0} (f : ℕ → Option A) (past : (n : ℕ) → largest < n → f n ≡ None) where
+  small : (o : Option ℕ) → (o >>= f) ≡ (up_to largest o >>= f)
+  small None = refl
+  small (Some n) = go (leb n largest) refl
     where
-      go : (b : Bool) → when b (pos n) ≡ signed pos (when b n)
-      go true = refl
-      go false = refl
+      go : (b : Bool) → leb n largest ≡ b → f n ≡ (when b n >>= f)
+      go true e = refl
+      go false e = past n (leb-false n largest e)
 
-  down_range : (o : Option ℕ) → (o >>= λ n. when (leb n (2 ^ (w - 1))) (neg_ℤ (pos n))) ≡ signed minus_of (up_to (most + 1) o)
-  down_range None = refl
-  down_range (Some n) =
-      ap (λ (k : ℕ). when (leb n k) (neg_ℤ (pos n))) (half ∙ sym (add-one most)) ∙ go (leb n (most + 1))
+never : {A : Type 0} (o : Option ℕ) → None ≡ (o >>= λ n. let z : Option A = None in z)
+never None = refl
+never (Some n) = refl
+
+module _ (w : ℕ) (fits : leb (2 ^ w) (suc largest) ≡ true) where
+  unsigned_past : (n : ℕ) → largest < n → unsigned_sized w false n ≡ None
+  unsigned_past n h = ap (λ (b : Bool). when b n) (lt-leb (suc n) (2 ^ w) (let k = leb-true (2 ^ w) (suc largest) fits in omega arith))
+
+  pub unsigned_reads : (s : Text) → unsigned_of w s ≡ whole_by (unsigned_sized w) s
+  unfolding unsigned_of size_of
+  unsigned_reads s = go (sign_of s)
     where
-      go : (b : Bool) → when b (neg_ℤ (pos n)) ≡ signed minus_of (when b n)
-      go true = refl
-      go false = refl
+      go : (x : Sign) → unsigned_by x w s ≡ (up_to largest (digits (unsigned x s)) >>= unsigned_sized w (minus? x))
+      go plus = small (unsigned_sized w false) unsigned_past (digits (drop 1 s))
+      go minus = never (up_to largest (digits (drop 1 s)))
+      go bare = small (unsigned_sized w false) unsigned_past (digits s)
 
-  pub signed_to_lem : (s : Text) → signed_of w s ≡ signed_to most s
-  unfolding signed_of signed_to number_to
-  signed_to_lem s = go (sign_of s)
+module _ (w : ℕ) (fits : leb (2 ^ (w - 1)) largest ≡ true) where
+  positive_past : (n : ℕ) → largest < n → signed_sized w false n ≡ None
+  positive_past n h = ap (λ (b : Bool). when b (pos n)) (lt-leb (suc n) (2 ^ (w - 1)) (let k = leb-true (2 ^ (w - 1)) largest fits in omega arith))
+
+  negative_past : (n : ℕ) → largest < n → signed_sized w true n ≡ None
+  negative_past n h = ap (λ (b : Bool). when b (neg_ℤ (pos n))) (lt-leb n (2 ^ (w - 1)) (let k = leb-true (2 ^ (w - 1)) largest fits in omega arith))
+
+  pub signed_reads : (s : Text) → signed_of w s ≡ whole_by (signed_sized w) s
+  unfolding signed_of size_of
+  signed_reads s = go (sign_of s)
     where
-      go : (x : Sign) → signed_by x w s ≡ signed_under x most s
-      go plus = up_range (digits (drop 1 s))
-      go minus = down_range (digits (drop 1 s))
-      go bare = up_range (digits s)
-
--- ---- an answer lies in its range
-
-pub at_most : (most n : ℕ) (o : Option ℕ) → Some n ≡ up_to most o → n ≤ most
-at_most most n None e = let z : ◌≡◌ {A = ℕ} 0 1 = cc in absurd (omega arith)
-at_most most n (Some m) e = go (leb m most) refl e
-  where
-    go : (b : Bool) → leb m most ≡ b → Some n ≡ when b m → n ≤ most
-    go true h k = let q : n ≡ m = cc in let l = leb-true m most h in omega arith
-    go false h k = let z : ◌≡◌ {A = ℕ} 0 1 = cc in absurd (omega arith)
-
-not_down : (n : ℕ) (o : Option ℕ) → Some (negsuc n) ≡ signed pos o → ⊥
-not_down n None e = let z : ◌≡◌ {A = ℕ} 0 1 = cc in omega arith
-not_down n (Some m) e = let z : ◌≡◌ {A = ℕ} 0 1 = cc in omega arith
-
-down_of : (n : ℕ) (o : Option ℕ) → Some (negsuc n) ≡ signed minus_of o → Some (suc n) ≡ o
-down_of n None e = let z : ◌≡◌ {A = ℕ} 0 1 = cc in absurd (omega arith)
-down_of n (Some zero) e = let z : ◌≡◌ {A = ℕ} 0 1 = cc in absurd (omega arith)
-down_of n (Some (suc m)) e = let z : n ≡ m = cc in ap (λ (k : ℕ). Some (suc k)) z
-
-pub signed_least : (most n : ℕ) (s : Text) → Some (negsuc n) ≡ signed_to most s → n ≤ most
-unfolding signed_to number_to
-signed_least most n s e = go (sign_of s) e
-  where
-    go : (x : Sign) → Some (negsuc n) ≡ signed_under x most s → n ≤ most
-    go plus h = absurd (not_down n (up_to most (digits (drop 1 s))) h)
-    go minus h = let z = at_most (most + 1) (suc n) (digits (drop 1 s)) (down_of n (up_to (most + 1) (digits (drop 1 s))) h) in omega arith
-    go bare h = absurd (not_down n (up_to most (digits s)) h)
+      go : (x : Sign) → signed_by x w s ≡ (up_to largest (digits (unsigned x s)) >>= signed_sized w (minus? x))
+      go plus = small (signed_sized w false) positive_past (digits (drop 1 s))
+      go minus = small (signed_sized w true) negative_past (digits (drop 1 s))
+      go bare = small (signed_sized w false) positive_past (digits s)

@@ -11,12 +11,4 @@ pub use compare::{is_yes, same};
 pub use parts::{before, byte_at, place};
 pub use utf8::is_utf8;
 pub use white::trim;
-pub use whole::{i32_of, i64_of, u16_of, u32_of, u64_of, whole_of, without_sign};
-
-// A number with a sign: n, or -(n + 1).
-#[derive(Clone, Copy)]
-pub enum Signed {
-    Up(u64),
-    Down(u64),
-    Absent,
-}
+pub use whole::{Whole, whole_of, without_sign};

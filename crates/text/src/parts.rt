@@ -7,24 +7,14 @@ ghost use Rattle.text.specs.Cut.{place_of};
 pub fn byte_at(s: &[u8], i: usize) -> u8
     ensures { result ≡ get_or s.now i 0 }
 {
-    if i < s.len() {
-        return s[i];
-    }
-    0
+    s.get(i).copied().unwrap_or(0)
 }
 
 // Where the first byte b stands; the length where there is none.
 pub fn place(s: &[u8], b: u8) -> usize
     ensures { result ≡ place_of (eqb b) s.now }
 {
-    let mut i = 0;
-    while i < s.len() {
-        if b == s[i] {
-            return i;
-        }
-        i += 1;
-    }
-    i
+    s.iter().position(|x| b == *x).unwrap_or(s.len())
 }
 
 // What stands before the first byte b, the whole text where there is none.

@@ -55,8 +55,8 @@ fn fits(f: First, b: u8, c: u8, d: u8) -> bool
 
 // How many bytes the character takes that begins at i with a byte from 128 on; 0 where it is not well-formed.
 fn char_at(s: &[u8], i: usize) -> usize
-    requires fact_1 { i < length s.now }
-    requires fact_2 { 128 ≤ get_or s.now i 0 }
+    requires inside { i < length s.now }
+    requires not_ascii { 128 ≤ get_or s.now i 0 }
     ensures { Character (drop i s.now) result }
 {
     let f = first_of(s[i]);

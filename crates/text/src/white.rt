@@ -98,6 +98,7 @@ fn trim_front(s: &[u8]) -> &[u8]
     ensures { result.now ≡ trim_front s.now }
 {
     let mut i = 0;
+    // The cursor moves by the width of what it takes away.
     while i < s.len() {
         let w = front_at(s, i);
         if w == 0 {
@@ -112,6 +113,7 @@ fn trim_back(s: &[u8]) -> &[u8]
     ensures { result.now ≡ trim_back s.now }
 {
     let mut e = s.len();
+    // The cursor moves by the width of what it takes away.
     while 0 < e {
         let w = back_at(s, e);
         if w == 0 {

@@ -1,213 +1,154 @@
 // Whole numbers, as Rust's `parse` reads them.
-ghost use Rattle.std.specs.Prelude.{◌≡◌, ◌^◌, ◌≤◌, ◌<◌, pos, length};
-ghost use Rattle.definition.specs.Text.{sign_of, digits_after, unsigned_of, signed_of};
-ghost use Rattle.definition.specs.Number.{unsigned, with_sign};
-ghost use Rattle.text.specs.Answers.{signed_means};
-ghost use Rattle.text.specs.Whole.{up_to, number_to, digits_to, unsigned_to, most_by, signed_to, signed, minus_of};
+ghost use Rattle.std.specs.Prelude.{◌≡◌, refl, ◌-◌, ◌≤◌, ℕ, Bool, Option, length};
+ghost use Rattle.definition.specs.Base.{when};
+ghost use Rattle.definition.specs.Text.{Text, is_digit, sign_of, unsigned_of, signed_of};
+ghost use Rattle.definition.specs.Number.{unsigned};
+ghost use Rattle.text.specs.Whole.{digits_to, size_of, unsigned_sized, signed_sized, whole_by, unsigned_reads, signed_reads};
 
 use crate::parts::byte_at;
-use crate::{Signed};
-
-fn wide(x: u8) -> u64
-    ensures { result ≡ x }
-{
-    x as u64
-}
 
 // What follows the sign, the whole text where there is none.
 pub fn without_sign(s: &[u8]) -> &[u8]
     ensures { result.now ≡ unsigned (sign_of s.now) s.now }
 {
     let b = byte_at(s, 0);
-    if (b == 43) | (b == 45) {
+    if (b == b'+') | (b == b'-') {
         return &s[1..];
     }
     s
 }
 
+fn digit(b: u8) -> Option<u64>
+    ensures { result ≡ when (is_digit b) (b - 48) }
+{
+    if (b'0' <= b) & (b <= b'9') {
+        return Some(u64::from(b - b'0'));
+    }
+    None
+}
+
 // The digits s, so few that their number fits.
 fn few_digits(s: &[u8]) -> Option<u64>
     requires { length s.now ≤ 18 }
-    ensures { result ≡ digits_after 0 s.now }
+    ensures { result ≡ digits_to 0 s.now }
 {
-    let mut n: u64 = 0;
-    let mut i = 0;
-    while i < s.len() {
-        let b = s[i];
-        let digit = (48 <= b) & (b <= 57);
-        if !digit {
-            return None;
-        }
-        n = n * 10 + wide(b - 48);
-        i += 1;
+    let mut n = 0;
+    for b in s {
+        n = n * 10 + digit(*b)?;
     }
     Some(n)
 }
 
-// The digits s of a number that is at most `most`.
-fn many_digits(s: &[u8], most: u64) -> Option<u64>
-    ensures { result ≡ digits_to most 0 s.now }
+fn many_digits(s: &[u8]) -> Option<u64>
+    ensures { result ≡ digits_to 0 s.now }
 {
     let mut n: u64 = 0;
-    let mut i = 0;
-    while i < s.len() {
-        let b = s[i];
-        let digit = (48 <= b) & (b <= 57);
-        if !digit {
-            return None;
-        }
-        let d = wide(b - 48);
-        if n > most / 10 {
-            return None;
-        }
-        if d > most - n * 10 {
-            return None;
-        }
-        n = n * 10 + d;
-        i += 1;
+    for b in s {
+        n = n.checked_mul(10)?.checked_add(digit(*b)?)?;
     }
     Some(n)
 }
 
-fn at_most(a: Option<u64>, most: u64) -> Option<u64>
-    ensures { result ≡ up_to most a }
+// Digits, one at least, of a number that fits 64 bits.
+fn size_of(s: &[u8]) -> Option<u64>
+    ensures { result ≡ size_of s.now }
 {
-    match a {
-        Some(n) => {
-            if n <= most {
-                Some(n)
-            } else {
-                None
-            }
+    match s.len() {
+        0 => None,
+        1..=18 => few_digits(s),
+        _ => many_digits(s),
+    }
+}
+
+// A type of whole numbers: what a text is in it, and what a size is behind a `-` or none.
+pub trait Whole: Sized {
+    ghost means: { Text → Option Self };
+
+    ghost sized: { Bool → ℕ → Option Self };
+
+    fn sized(minus: bool, size: u64) -> Option<Self>
+        ensures { result ≡ sized minus size };
+
+    ghost reads: { (s : Text) → means s ≡ whole_by sized s };
+}
+
+impl Whole for u64 {
+    ghost means = { unsigned_of 64 };
+
+    ghost sized = { unsigned_sized 64 };
+
+    ghost reads = { unsigned_reads 64 refl };
+
+    fn sized(minus: bool, size: u64) -> Option<u64> {
+        if minus { None } else { Some(size) }
+    }
+}
+
+impl Whole for u32 {
+    ghost means = { unsigned_of 32 };
+
+    ghost sized = { unsigned_sized 32 };
+
+    ghost reads = { unsigned_reads 32 refl };
+
+    fn sized(minus: bool, size: u64) -> Option<u32> {
+        if minus {
+            None
+        } else {
+            u32::try_from(size).ok()
         }
-        None => None,
     }
 }
 
-// Digits, one at least, of a number that is at most `most`.
-fn number_to(s: &[u8], most: u64) -> Option<u64>
-    ensures { result ≡ number_to most s.now }
-{
-    if s.len() == 0 {
-        return None;
-    }
-    if s.len() <= 18 {
-        return at_most(few_digits(s), most);
-    }
-    many_digits(s, most)
-}
+impl Whole for u16 {
+    ghost means = { unsigned_of 16 };
 
-// The same with a `+` or none in front.
-fn unsigned_to(s: &[u8], most: u64) -> Option<u64>
-    ensures { result ≡ unsigned_to most s.now }
-{
-    if byte_at(s, 0) == 45 {
-        return None;
-    }
-    number_to(without_sign(s), most)
-}
+    ghost sized = { unsigned_sized 16 };
 
-// n; and -n.
-fn upward(a: Option<u64>) -> Signed
-    ensures { signed_means result ≡ signed pos a }
-{
-    match a {
-        Some(n) => Signed::Up(n),
-        None => Signed::Absent,
-    }
-}
+    ghost reads = { unsigned_reads 16 refl };
 
-fn downward(a: Option<u64>) -> Signed
-    ensures { signed_means result ≡ signed minus_of a }
-{
-    match a {
-        Some(n) => {
-            if n == 0 {
-                Signed::Up(0)
-            } else {
-                Signed::Down(n - 1)
-            }
+    fn sized(minus: bool, size: u64) -> Option<u16> {
+        if minus {
+            None
+        } else {
+            u16::try_from(size).ok()
         }
-        None => Signed::Absent,
     }
 }
 
-fn with_sign(minus: bool, a: Option<u64>) -> Signed
-    ensures { signed_means result ≡ signed (with_sign minus) a }
-{
-    if minus {
-        return downward(a);
+impl Whole for i64 {
+    ghost means = { signed_of 64 };
+
+    ghost sized = { signed_sized 64 };
+
+    ghost reads = { signed_reads 64 refl };
+
+    fn sized(minus: bool, size: u64) -> Option<i64> {
+        if minus {
+            0i64.checked_sub_unsigned(size)
+        } else {
+            i64::try_from(size).ok()
+        }
     }
-    upward(a)
 }
 
-// The largest magnitude, by the sign.
-fn largest(minus: bool, most: u64) -> u64
-    requires { most < 2 ^ 63 }
-    ensures { result ≡ most_by minus most }
-{
-    if minus {
-        return most + 1;
-    }
-    most
-}
+impl Whole for i32 {
+    ghost means = { signed_of 32 };
 
-// With `+`, `-` or none in front: at most `most`, at least -(most + 1).
-fn signed_to(s: &[u8], most: u64) -> Signed
-    requires { most < 2 ^ 63 }
-    ensures { signed_means result ≡ signed_to most s.now }
-{
-    let minus = byte_at(s, 0) == 45;
-    with_sign(minus, number_to(without_sign(s), largest(minus, most)))
+    ghost sized = { signed_sized 32 };
+
+    ghost reads = { signed_reads 32 refl };
+
+    fn sized(minus: bool, size: u64) -> Option<i32> {
+        let n = i64::sized(minus, size)?;
+        i32::try_from(n).ok()
+    }
 }
 
 // The whole number that a text is, as Rust's `parse` reads it for the type.
-pub fn u64_of(s: &[u8]) -> Option<u64>
-    ensures { result ≡ unsigned_of 64 s.now }
+pub fn whole_of<W: Whole>(s: &[u8]) -> Option<W>
+    ensures { result ≡ W.means s.now }
 {
-    unsigned_to(s, 18446744073709551615)
-}
-
-pub fn u32_of(s: &[u8]) -> Option<u32>
-    ensures { result ≡ unsigned_of 32 s.now }
-{
-    match unsigned_to(s, 4294967295) {
-        Some(n) => Some(n as u32),
-        None => None,
-    }
-}
-
-pub fn u16_of(s: &[u8]) -> Option<u16>
-    ensures { result ≡ unsigned_of 16 s.now }
-{
-    match unsigned_to(s, 65535) {
-        Some(n) => Some(n as u16),
-        None => None,
-    }
-}
-
-pub fn whole_of(s: &[u8]) -> Signed
-    ensures { signed_means result ≡ signed_of 64 s.now }
-{
-    signed_to(s, 9223372036854775807)
-}
-
-pub fn i64_of(s: &[u8]) -> Option<i64>
-    ensures { result ≡ signed_of 64 s.now }
-{
-    match signed_to(s, 9223372036854775807) {
-        Signed::Up(n) => Some(n as i64),
-        Signed::Down(n) => Some(-1 - (n as i64)),
-        Signed::Absent => None,
-    }
-}
-
-pub fn i32_of(s: &[u8]) -> Option<i32>
-    ensures { result ≡ signed_of 32 s.now }
-{
-    match signed_to(s, 2147483647) {
-        Signed::Up(n) => Some(n as i32),
-        Signed::Down(n) => Some(-1 - (n as i32)),
-        Signed::Absent => None,
-    }
+    let minus = byte_at(s, 0) == b'-';
+    W::sized(minus, size_of(without_sign(s))?)
 }

@@ -9,13 +9,13 @@ use Rattle.definition.specs.Text.{unsigned_of}
 use native.Mathlib.Omega.{arith}
 use Rattle.date.proofs.month_part.Goals as goal
 
-pub slice_bounds-u32_of-end : goal.slice_bounds-u32_of-end
-slice_bounds-u32_of-end c = sym (length-take-le c.place-k.result c.args.s.now (omega arith))
+pub slice_bounds-whole_of-end : goal.slice_bounds-whole_of-end
+slice_bounds-whole_of-end c = sym (length-take-le c.place-k.result c.args.s.now (omega arith))
 
 pub returns-in-Some : goal.returns-in-Some
 unfolding month_part date_meaning day_number_of
 returns-in-Some c =
-    let e = sym c.u32_of.ensures ∙ c.in-Some.is in
+    let e = sym c.whole_of.ensures ∙ c.in-Some.is in
     c.day_part.ensures
     ∙ ap (λ (z : ℤ). day_number_of (day_part z c.in-Some.month (rest_of c.place-k.result c.args.s.now))) (back c.args.year c.ranges.year)
     ∙ ap day_number_of (sym (cut_on (unsigned_of 32) (day_part c.args.year) c.args.s.now c.place-k.result c.place-k.ensures c.in-Some.month c.if-k-s.true e))
@@ -23,7 +23,7 @@ returns-in-Some c =
 pub returns-in-None : goal.returns-in-None
 unfolding month_part date_meaning day_number_of
 returns-in-None c =
-    let e = sym c.u32_of.ensures ∙ c.in-None.is in
+    let e = sym c.whole_of.ensures ∙ c.in-None.is in
     ap day_number_of (sym (cut_absent (unsigned_of 32) (day_part c.args.year) c.args.s.now c.place-k.result c.place-k.ensures e))
 
 pub returns : goal.returns

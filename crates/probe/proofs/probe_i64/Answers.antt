@@ -1,4 +1,4 @@
 use Rattle.probe.proofs.probe_i64.Goals as goal
 
 pub returns : goal.returns
-returns c = rw c.i64_of.ensures at c.put_i64.ensures
+returns c = rw c.whole_of.ensures at c.put_i64.ensures

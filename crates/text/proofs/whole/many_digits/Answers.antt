@@ -1,74 +1,28 @@
-use mathlib.Core.Path.{refl, sym, ap, ◌∙◌}
-use Prim.Native.Nat.{ℕ, ◌<◌, ◌+◌, ◌-◌, ◌*◌}
-use lib.ListN.{drop, get_or}
-use borrow.Author.Tests.{not-true, not-false}
-use Rattle.definition.specs.Text.{is_digit}
+use Rattle.std.proofs.Common.{◌≡◌, ◌+◌, ◌*◌, ℕ, sym, ap, ◌∙◌, arith}
+use lib.ListN.{drop}
 use Rattle.text.specs.Whole.{digits_to}
-use Rattle.text.proofs.Digits.{digit_low, no_digit, one_more, too_large, all_read}
-use borrow.Author.Rules.{rules}
-use native.Mathlib.Omega.{arith}
+use Rattle.text.proofs.Digits.{next, too_large, past_next, all_read}
 use Rattle.text.proofs.whole.many_digits.Goals as goal
 
-pub loop-i-init : goal.loop-i-init
-loop-i-init c =
-    (search rules, search rules, refl)
+pub returns-in_err-checked_mul : goal.returns-in_err-checked_mul
+returns-in_err-checked_mul c = c.from_residual.ensures ∙ sym (c.loop-b.invariant.1 ∙ too_large c.args.s.now c.loop-b.b-index c.loop-b.n c.loop-b-test.true (omega (arith, c.in_err-checked_mul.ensures)))
 
-pub returns-then-not-digit : goal.returns-then-not-digit
-returns-then-not-digit c =
-    let a = c.args in
-    let b = get_or a.s.now c.loop-i.i 0 in
-    sym (c.loop-i.invariant.2 ∙ no_digit a.most a.s.now c.loop-i.i c.loop-i.n (search rules) (not-true (is_digit b) c.if-not-digit.true-raw))
+pub returns-in_err-digit : goal.returns-in_err-digit
+returns-in_err-digit c = c.from_residual-in_err-digit.ensures ∙ sym (c.loop-b.invariant.1 ∙ next c.args.s.now c.loop-b.b-index c.loop-b.n c.loop-b-test.true c.in_err-digit.ensures)
 
-pub overflow_sub-b : goal.overflow_sub-b
-overflow_sub-b c =
-    let a = c.args in
-    let b = get_or a.s.now c.loop-i.i 0 in
-    digit_low b (not-false (is_digit b) c.if-not-digit.false-raw)
+pub returns-in_err-n : goal.returns-in_err-n
+returns-in_err-n c =
+    let s = c.args.s.now in
+    let i = c.loop-b.b-index in
+    c.from_residual-in_err-n.ensures
+    ∙ sym (c.loop-b.invariant.1 ∙ next s i c.loop-b.n c.loop-b-test.true c.in_ok-digit.ensures ∙ past_next s i c.loop-b.n _ (omega (arith, c.in_ok-checked_mul.ensures, c.in_err-n.ensures)))
 
-pub returns-then-n-most : goal.returns-then-n-most
-returns-then-n-most c =
-    let a = c.args in
-    let s = a.s.now in
-    let i = c.loop-i.i in
-    let n = c.loop-i.n in
-    let l : a.most < n * 10 + (get_or s i 0 - 48) = omega (arith, c.if-n-most.true) in
-    sym (c.loop-i.invariant.2 ∙ too_large a.most s i n (search rules) (not-false (is_digit (get_or s i 0)) c.if-not-digit.false-raw) l)
-
-pub overflow_mul-n : goal.overflow_mul-n
-overflow_mul-n c = omega (arith, c.if-n-most.false)
-
-pub overflow_sub-most : goal.overflow_sub-most
-overflow_sub-most c = omega (arith, c.if-n-most.false)
-
-pub returns-then-d-most : goal.returns-then-d-most
-returns-then-d-most c =
-    let a = c.args in
-    let s = a.s.now in
-    let i = c.loop-i.i in
-    let n = c.loop-i.n in
-    let l : a.most < n * 10 + (get_or s i 0 - 48) = omega (arith, c.if-d-most.true, c.wide-d.ensures) in
-    sym (c.loop-i.invariant.2 ∙ too_large a.most s i n (search rules) (not-false (is_digit (get_or s i 0)) c.if-not-digit.false-raw) l)
-
-pub overflow_mul-n-in-loop-i : goal.overflow_mul-n-in-loop-i
-overflow_mul-n-in-loop-i c = omega (arith, c.if-n-most.false)
-
-pub overflow_add-n : goal.overflow_add-n
-overflow_add-n c = omega (arith, c.if-n-most.false, c.if-d-most.false)
-
-pub loop-i-preserved : goal.loop-i-preserved
-loop-i-preserved c =
-    let a = c.args in
-    let s = a.s.now in
-    let i = c.loop-i.i in
-    let n = c.loop-i.n in
-    let d = c.wide-d in (
-      search rules,
-      omega (arith, c.if-n-most.false, c.if-d-most.false),
-      c.loop-i.invariant.2 ∙ one_more a.most s i n (search rules) (not-false (is_digit (get_or s i 0)) c.if-not-digit.false-raw)
-          ∙ ap (λ (k : ℕ). digits_to a.most (n * 10 + k) (drop (i + 1) s)) (sym d.ensures),
-    )
+pub loop-b-preserved : goal.loop-b-preserved
+loop-b-preserved c =
+    let s = c.args.s.now in
+    let i = c.loop-b.b-index in
+    let e : c.loop-b.n * 10 + c.in_ok-digit.field-0 ≡ c.in_ok-n.n = omega (arith, c.in_ok-checked_mul.ensures, c.in_ok-n.ensures) in
+    (omega (arith, c.in_ok-n.ensures), c.loop-b.invariant.1 ∙ next s i c.loop-b.n c.loop-b-test.true c.in_ok-digit.ensures ∙ ap (λ (n : ℕ). digits_to n (drop (i + 1) s)) e)
 
 pub returns : goal.returns
-returns c =
-    let a = c.args in
-    sym (c.loop-i.invariant.2 ∙ all_read a.most a.s.now c.loop-i.i c.loop-i.n (search rules) (search rules))
+returns c = sym (c.loop-b.invariant.1 ∙ all_read c.args.s.now c.loop-b.b-index c.loop-b.n (omega arith) (omega arith))

@@ -1,12 +1,9 @@
--- `many_digits` meets its contract. n, which is at most `most`, with what is left from i on after it, is the number. Assumes nothing.
+-- `many_digits` meets its contract. Assumes nothing.
 use mathlib.Core.Path.{◌≡◌}
-use Prim.Native.Nat.{◌≤◌, ◌-◌}
-use lib.ListN.{length, drop}
-use Rattle.text.specs.Whole.{digits_to}
+use Prim.Native.Nat.{◌≤◌}
+use lib.ListN.{drop}
+use Rattle.text.specs.Whole.{largest, digits_to}
 use Rattle.text.proofs.whole.many_digits.Given as goal
 
-abbrev pub invariant-loop-i : goal.invariant-loop-i
-invariant-loop-i l = (l.i ≤ length l.s) × (l.n ≤ l.most) × (digits_to l.most 0 l.s ≡ digits_to l.most l.n (drop l.i l.s))
-
-abbrev pub decreases-loop-i : goal.decreases-loop-i
-decreases-loop-i l = length l.s - l.i
+abbrev pub invariant-loop-b : goal.invariant-loop-b
+invariant-loop-b l = (l.n ≤ largest) × (digits_to 0 l.s ≡ digits_to l.n (drop l.b-index l.s))
