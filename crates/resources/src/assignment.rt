@@ -6,7 +6,7 @@ ghost use Rattle.tree.specs.Place.{element_at};
 ghost use Rattle.fields.specs.Said.{number_said, minutes_said};
 ghost use Rattle.resources.specs.Assignment.{Small, Means};
 
-use crate::value::{number_or, other_than, units};
+use crate::value::{other_than, units};
 
 // Hundredths: of an hour for an assignment, of the currency for an expense.
 #[derive(Clone, Copy)]
@@ -24,8 +24,7 @@ fn left(planned: i64, actual: i64) -> i64
     requires fact_2 { nat_abs actual ≤ 10 ^ 18 }
     ensures { result ≡ left_of planned actual }
 {
-    let z = planned - actual;
-    if z < 0 { 0 } else { z }
+    (planned - actual).max(0)
 }
 
 // 0 for a missing one; a remaining that is what is left is dropped.
@@ -34,8 +33,8 @@ fn amounts_of(planned: Option<i64>, actual: Option<i64>, remaining: Option<i64>)
     requires fact_2 { Small actual }
     ensures { Means result planned actual remaining }
 {
-    let planned = number_or(planned, 0);
-    let actual = number_or(actual, 0);
+    let planned = planned.unwrap_or(0);
+    let actual = actual.unwrap_or(0);
     let remaining = other_than(left(planned, actual), remaining);
     Amounts {
         planned,
@@ -51,10 +50,7 @@ fn hours(s: &[u8], at: usize, name: &[u8]) -> Option<i64>
     ensures is { result ≡ bind (minutes_said (element_at s.now at) name.now) hours_from }
     ensures small { Small result }
 {
-    match fields::minutes_in(s, at, name) {
-        Some(m) => Some((m as u64 * 100 / 60) as i64),
-        None => None,
-    }
+    Some(i64::from(fields::minutes_in(s, at, name)?) * 100 / 60)
 }
 
 pub fn work(s: &[u8], at: usize) -> Amounts
@@ -79,10 +75,8 @@ fn money(s: &[u8], at: usize, name: &[u8]) -> Option<i64>
     ensures is { result ≡ bind (number_said (element_at s.now at) name.now) money_from }
     ensures small { Small result }
 {
-    match fields::number_in(s, at, name) {
-        Some(m) => fields::hundredths_when((-1e13 < m) & (m < 1e13), m),
-        None => None,
-    }
+    let m = fields::number_in(s, at, name)?;
+    fields::hundredths_when((-1e13 < m) & (m < 1e13), m)
 }
 
 pub fn cost(s: &[u8], at: usize) -> Amounts

@@ -3,7 +3,7 @@ ghost use Rattle.std.specs.Prelude.{◌≡◌};
 ghost use Rattle.definition.specs.Resource.{is_resource, is_cost, resource_kind, max_units, price_of, accrual_of};
 ghost use Rattle.tree.specs.Place.{element_at};
 
-use crate::value::{number_or, units};
+use crate::value::units;
 
 // A UID other than `0`, and a name.
 pub fn is_resource(s: &[u8], at: usize) -> bool
@@ -32,17 +32,15 @@ pub fn resource_kind(s: &[u8], at: usize) -> u32
 pub fn max_units(s: &[u8], at: usize) -> i64
     ensures { result ≡ max_units (element_at s.now at) }
 {
-    number_or(units(s, at, b"MaxUnits"), 100)
+    units(s, at, b"MaxUnits").unwrap_or(100)
 }
 
 // Hundredths of StandardRate, of one above 0 and below 10,000,000,000,000.
 pub fn price(s: &[u8], at: usize) -> Option<i64>
     ensures { result ≡ price_of (element_at s.now at) }
 {
-    match fields::number_in(s, at, b"StandardRate") {
-        Some(p) => fields::hundredths_when((0.0 < p) & (p < 1e13), p),
-        None => None,
-    }
+    let p = fields::number_in(s, at, b"StandardRate")?;
+    fields::hundredths_when((0.0 < p) & (p < 1e13), p)
 }
 
 // 0 at the start, 1 at the end, 2 evenly.

@@ -5,39 +5,17 @@ ghost use Rattle.definition.specs.Resource.{other_than, units_from};
 ghost use Rattle.tree.specs.Place.{element_at};
 ghost use Rattle.fields.specs.Said.{number_said};
 
-
-// The number, or what stands for a missing one.
-pub(crate) fn number_or(a: Option<i64>, absent: i64) -> i64
-    ensures { result ≡ a or absent }
-{
-    match a {
-        Some(z) => z,
-        None => absent,
-    }
-}
-
 // The number, unless it is z.
 pub(crate) fn other_than(z: i64, a: Option<i64>) -> Option<i64>
     ensures { result ≡ other_than z a }
 {
-    match a {
-        Some(y) => {
-            if y == z {
-                None
-            } else {
-                Some(y)
-            }
-        }
-        None => None,
-    }
+    a.filter(|y| *y != z)
 }
 
 // Hundredths of a number from 0 to 1,000,000.
 pub(crate) fn units(s: &[u8], at: usize, name: &[u8]) -> Option<i64>
     ensures { result ≡ bind (number_said (element_at s.now at) name.now) units_from }
 {
-    match fields::number_in(s, at, name) {
-        Some(u) => fields::hundredths_when((0.0 <= u) & (u <= 1000000.0), u),
-        None => None,
-    }
+    let u = fields::number_in(s, at, name)?;
+    fields::hundredths_when((0.0 <= u) & (u <= 1000000.0), u)
 }

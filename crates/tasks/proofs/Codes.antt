@@ -2,7 +2,7 @@
 use Rattle.std.specs.Prelude.{if◌then◌else◌}
 use Prim.Native.Nat.{ℕ, suc, ◌≤◌}
 use native.Mathlib.Omega.{arith}
-use mathlib.Core.Path.{◌≡◌, refl, sym, ap, ◌∙◌, subst}
+use mathlib.Core.Path.{◌≡◌, refl, sym, subst}
 use mathlib.Core.Bool.{Bool, true, false, ◌&&◌}
 use Rattle.std.specs.Prelude.{Option, Some, None}
 use lib.Dec.{T, leb, eqb, leb→le}
@@ -13,7 +13,10 @@ use Rattle.definition.specs.Base.{◌or◌, when, given, within}
 use Rattle.definition.specs.Date.{Date, day_number}
 use Rattle.definition.specs.Task.{constraint_from, duration_type_from}
 use Rattle.definition.specs.Link.{kind_from}
-use Rattle.definition.specs.Answer.{day_number_of}
+use Rattle.definition.specs.Answer.{date_meaning, day_number_of}
+use Rattle.definition.specs.declared.Date.{Date as DayNumber}
+use Rattle.std.specs.Option.{is_some}
+use Rattle.std.proofs.Common.{rules}
 use Rattle.fields.specs.Answers.{unsigned_or}
 use Rattle.tasks.specs.Task.{day_numbered}
 
@@ -24,10 +27,12 @@ marked_least code e = omega (arith, leb→le 35 code (and_l (leb 35 code) (leb c
 
 -- ---- dates
 
-pub given_date : (d : Option Date) (o : Option ℤ) (b : Bool) → b ≡ given o → o ≡ day_number_of d → b ≡ given d
-unfolding day_number_of
-given_date None o b e f = e ∙ ap (λ (o : Option ℤ). given o) f
-given_date (Some d) o b e f = e ∙ ap (λ (o : Option ℤ). given o) f
+pub given_date : (d : Option Date) (a : Option DayNumber) {b : Bool} → b ≡ is_some a → date_meaning a ≡ day_number_of d → b ≡ given d
+unfolding day_number_of date_meaning
+given_date None None e f = e
+given_date None (Some n) e f = search rules
+given_date (Some d) None e f = search rules
+given_date (Some d) (Some n) e f = e
 
 -- ---- types and kinds
 

@@ -7,6 +7,6 @@ mod value;
 
 pub use link::{Lag, LagKind, is_across, link_kind, link_lag};
 pub use task::{
-    Constraint, Parts, constraint_of, duration_parts, duration_type, is_elapsed,
-    is_fractional, is_kept, level_of, milestone, per_day, percent_of, remaining_of,
+    Constraint, Parts, constraint_of, duration_parts, duration_type, is_elapsed, is_fractional,
+    is_kept, level_of, milestone, per_day, percent_of, remaining_of,
 };

@@ -12,7 +12,7 @@ ghost use Rattle.fields.specs.Said.{whole_said};
 ghost use Rattle.tasks.specs.Task.{constraint_means, day_numbered};
 
 use crate::value::{quotient, remainder};
-use definition::{Date};
+use definition::Date;
 use tree::Root;
 
 // MSPDI's codes 1 to 7.
@@ -109,41 +109,24 @@ fn day_from(m: f64) -> u64
 pub fn per_day(s: &[u8], root: Root) -> u64
     ensures { result ≡ per_day_of (root_at s.now root) }
 {
-    match fields::number_at(s, root.minutes) {
-        Some(m) => day_from(m),
-        None => 480,
-    }
+    fields::number_at(s, root.minutes).map_or(480, day_from)
 }
 
 // ---- a constraint
 
-fn constraint_on(kind: u64, d: Date) -> Option<Constraint>
-    ensures { constraint_means result ≡ constraint_from kind (Some d.0) }
-{
-    match kind {
-        1 => Some(Constraint::AsLateAsPossible),
-        2 => Some(Constraint::StartOn(d)),
-        3 => Some(Constraint::FinishOn(d)),
-        4 => Some(Constraint::StartOnOrAfter(d)),
-        5 => Some(Constraint::StartOnOrBefore(d)),
-        6 => Some(Constraint::FinishOnOrAfter(d)),
-        7 => Some(Constraint::FinishOnOrBefore(d)),
-        _ => None,
-    }
-}
-
+#[tactic(auto, unfolding(crate::specs::Task::constraint_means, definition::specs::Answer::date_meaning))]
 fn constraint_by(kind: u64, a: Option<Date>) -> Option<Constraint>
     ensures { constraint_means result ≡ constraint_from kind (date_meaning a) }
 {
-    match a {
-        Some(d) => constraint_on(kind, d),
-        None => {
-            if kind == 1 {
-                Some(Constraint::AsLateAsPossible)
-            } else {
-                None
-            }
-        }
+    match kind {
+        1 => Some(Constraint::AsLateAsPossible),
+        2 => a.map(Constraint::StartOn),
+        3 => a.map(Constraint::FinishOn),
+        4 => a.map(Constraint::StartOnOrAfter),
+        5 => a.map(Constraint::StartOnOrBefore),
+        6 => a.map(Constraint::FinishOnOrAfter),
+        7 => a.map(Constraint::FinishOnOrBefore),
+        _ => None,
     }
 }
 
@@ -192,21 +175,12 @@ pub fn duration_parts(minutes: u32, day: u64) -> Parts
 
 // ---- progress
 
-fn is_date(a: Option<Date>) -> bool
-    ensures { result ≡ given (date_meaning a) }
-{
-    match a {
-        Some(_) => true,
-        None => false,
-    }
-}
-
 // Begun and not ended.
 fn under_way(s: &[u8], at: usize) -> bool
     ensures { result ≡ under_way (element_at s.now at) }
 {
-    let begun = is_date(fields::date_in(s, at, b"ActualStart"));
-    let ended = is_date(fields::date_in(s, at, b"ActualFinish"));
+    let begun = fields::date_in(s, at, b"ActualStart").is_some();
+    let ended = fields::date_in(s, at, b"ActualFinish").is_some();
     begun & !ended
 }
 
@@ -214,24 +188,18 @@ fn under_way(s: &[u8], at: usize) -> bool
 pub fn remaining_of(s: &[u8], at: usize) -> Option<i64>
     ensures { result ≡ remaining_of (element_at s.now at) }
 {
-    if under_way(s, at) {
-        match fields::minutes_in(s, at, b"RemainingDuration") {
-            Some(m) => Some(m as i64),
-            None => None,
-        }
-    } else {
-        None
+    if !under_way(s, at) {
+        return None;
     }
+    fields::minutes_in(s, at, b"RemainingDuration").map(i64::from)
 }
 
 // Hundredths of PhysicalPercentComplete, of one above 0 and up to 100.
 pub fn percent_of(s: &[u8], at: usize) -> Option<i64>
     ensures { result ≡ percent_of (element_at s.now at) }
 {
-    match fields::number_in(s, at, b"PhysicalPercentComplete") {
-        Some(p) => fields::hundredths_when((0.0 < p) & (p <= 100.0), p),
-        None => None,
-    }
+    let p = fields::number_in(s, at, b"PhysicalPercentComplete")?;
+    fields::hundredths_when((0.0 < p) & (p <= 100.0), p)
 }
 
 pub fn milestone(s: &[u8], at: usize) -> bool

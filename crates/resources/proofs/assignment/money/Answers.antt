@@ -1,19 +1,12 @@
-use mathlib.Core.Path.{refl, ◌∙◌}
-use Rattle.std.specs.Prelude.{Option}
-use native.Mathlib.Omega.{arith}
-use lib.Ieee.{Float, of_bits}
-use Rattle.definition.specs.Base.{◌>>=◌}
-use Rattle.definition.specs.Resource.{money_from}
-use Rattle.fields.specs.Answers.{arm}
+use mathlib.Core.Path.{sym, ◌∙◌}
+use lib.Ieee.{of_bits}
 use Rattle.resources.proofs.HeldAmounts.{money_is, small_money}
 use Rattle.resources.proofs.assignment.money.Goals as goal
 
-pub returns-in-Some : goal.returns-in-Some
+pub returns-clause-is : goal.returns-clause-is
 unfolding of_bits
-returns-in-Some c =
-    let x = c.in-Some.m in
-    let e = c.hundredths_when.ensures ∙ money_is x in
-    record { is = arm (λ (o : Option Float). o >>= money_from) c.number_in.ensures c.in-Some.is e; small = small_money x e }
+returns-clause-is c = rw (sym c.number_in.ensures, c.in_ok-m.was) (c.hundredths_when.ensures ∙ money_is _)
 
-pub returns-in-None : goal.returns-in-None
-returns-in-None c = record { is = arm (λ (o : Option Float). o >>= money_from) c.number_in.ensures c.in-None.is refl; small = omega arith }
+pub returns-clause-small : goal.returns-clause-small
+unfolding of_bits
+returns-clause-small c = small_money _ (c.hundredths_when.ensures ∙ money_is _)

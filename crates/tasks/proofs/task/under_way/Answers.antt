@@ -10,6 +10,6 @@ pub returns : goal.returns
 unfolding date_in
 returns c =
     let e = element_at c.args.s.now c.args.at in
-    let begun = given_date (date_said e (bytes "ActualStart")) _ _ c.is_date-begun.ensures c.date_in.ensures in
-    let ended = given_date (date_said e (bytes "ActualFinish")) _ _ c.is_date-ended.ensures c.date_in-2.ensures in
+    let begun = given_date (date_said e (bytes "ActualStart")) _ c.is_some-begun.ensures c.date_in.ensures in
+    let ended = given_date (date_said e (bytes "ActualFinish")) _ c.is_some-ended.ensures c.date_in-2.ensures in
     λ i. begun i && not (ended i)
