@@ -74,7 +74,7 @@ pub fn put_activities(
 {
     let end = index::end_of(tasks, words.len());
     if !names::calendars_before(out, c, s, root, p) {
-        bits::clear_words_from(words, end);
+        bits::fill_from(words, end, 0);
         return Records {
             count: 0,
             next: PAST,
@@ -82,6 +82,6 @@ pub fn put_activities(
     }
     let own = own_for(out, p, s, root, c, words, tasks);
     let r = put_tasks(out, p, s, root, c, words, tasks, own);
-    bits::clear_words_from(words, end);
+    bits::fill_from(words, end, 0);
     r
 }

@@ -36,7 +36,7 @@ use Rattle.assignments.specs.InUse.{is_of}
 
 -- ---- the expense at a place
 
-pub expense_at : (d : List ℕ) (p : Place) (activity : ℕ) (name : Text) {x : Field} {t : Text} {b : Bool} → x ≡ taken_at d p 32 → t ≡ ((read_at raw d x.next).0 or []) → b ≡ same name t
+pub expense_at : (d : List ℕ) (p : Place) (activity : ℕ) (name : Text) {x : Field ℕ Place} {t : Text} {b : Bool} → x ≡ taken_at d p 32 → t ≡ ((read_at raw d x.next).0 or []) → b ≡ same name t
     → (eqb activity x.value && b) ≡ is_expense_at d p activity name
 unfolding is_expense_at
 expense_at d p activity name e h i = rw (i, h, e)

@@ -68,16 +68,16 @@ fn key_of(activity: u32, name: &[u8]) -> u32
 fn seek(out: &[u8], words: &[u32], t: Table, activity: u32, name: &[u8]) -> bool
     ensures { result ≡ is_used out.now words.now t activity name.now }
 {
-    let mut row = index::first(words, t, key_of(activity, name));
+    let mut row = t.first(words, key_of(activity, name));
     loop {
         let Some(r) = row else {
             return false;
         };
-        let byte = index::place(words, t, r) as usize;
+        let byte = t.place(words, r) as usize;
         if is_expense(out, Place { byte, bit: 0 }, activity, name) {
             return true;
         }
-        row = index::next(words, t, r);
+        row = t.next(words, r);
     }
 }
 
@@ -106,7 +106,7 @@ fn note(words: &mut [u32], made: Option<Table>, row: usize, p: Place, key: u32) 
     if (p.bit != 0) | (4294967295 < p.byte) | (t.rows as usize <= row) {
         return None;
     }
-    index::put(words, t, row as u32, key, p.byte as u32);
+    t.put(words, row as u32, key, p.byte as u32);
     made
 }
 
@@ -138,7 +138,7 @@ fn table_behind(words: &mut [u32], end: usize, rows: u32) -> Option<Table>
     let Some(t) = made else {
         return None;
     };
-    index::clear(words, t);
+    t.clear(words);
     Some(t)
 }
 
@@ -265,6 +265,6 @@ pub fn put_expenses(
     let t = Tables { tasks, work, cost };
     let done = put_all(out, p, s, root, words, t);
     let end = ends_of(t, words.len());
-    bits::clear_words_from(words, end);
+    bits::fill_from(words, end, 0);
     records_of(done)
 }

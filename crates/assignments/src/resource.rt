@@ -225,6 +225,6 @@ pub fn put_resources(
     ensures { WritesIf (nat_le (length (work_resources (root_at s.now root))) most_elements && calendars_before out.old c (root_at s.now root) p) (whole resource) (resources_of (context_at out.old c (root_at s.now root)) (root_at s.now root)) out.old p out.new result × (words.new ≡ cleared at words.old) }
 {
     let r = put_all(out, p, s, root, c, words, at);
-    bits::clear_words_from(words, at);
+    bits::fill_from(words, at, 0);
     r
 }

@@ -22,12 +22,9 @@ copy_short d s p h =
     let ls = length_bits s in
     laid_short d p (bits_of s) (room_short (length d) p (length (bits_of s)) (λ k. omega (arith, h k)))
 
-pub copy_turn : (d d' s : List ℕ) (k i : ℕ) → k + i < length d → i < length s → d' ≡ paste d k s i → set d' (k + i) (get_or s i 0) ≡ paste d k s (i + 1)
-copy_turn d d' s k i hd hs e = rw (e, add-one) (paste-suc d k s i 0 hd hs)
-
-pub copy_done : (d s d' : List ℕ) (p : Place) (n : ℕ) → p.bit ≡ 0 → p.byte + length s ≤ length d → n ≡ length s → d' ≡ paste d p.byte s n
+pub copy_done : (d s d' : List ℕ) (p : Place) → p.bit ≡ 0 → p.byte + length s ≤ length d → d' ≡ paste d p.byte s (length s)
     → Laid d p (bits_of s) d' record { byte = p.byte + length s; bit = 0 }
-copy_done d s d' p n b h en e =
+copy_done d s d' p b h e =
     let k = p.byte in
     let ls = length_bits s in
     let f : Fits (length d) p (length (bits_of s)) = record { bit = omega arith; ends = omega arith } in
@@ -37,8 +34,8 @@ copy_done d s d' p n b h en e =
     let bs : bits_of (paste d k s (length s)) ≡ over (8 * k) (bits_of s) (bits_of d) =
     ap bits_of all ∙ rw (bits_append, bits_append, ← bits_take k d (omega arith), ← bits_drop (k + length s) d h, ← pk) (sym (over_is (8 * k) (bits_of s) (bits_of d))) in
     record {
-      same = rw (e, en) (length-paste d k s (length s) h (omega arith));
-      bits = rw (fits_room f, e, en, ap0) bs;
+      same = rw e (length-paste d k s (length s) h (omega arith));
+      bits = rw (fits_room f, e, ap0) bs;
       next = rw (fits_room f) (place_at_lem record { byte = k + length s; bit = 0 } (omega arith) (omega arith));
     }
 

@@ -21,7 +21,7 @@ copy_none d p q =
     let z : at q - at q ≡ 0 = omega arith in
     stays _ (rw z (view_none d p))
 
-pub copy_more : (d0 d : List ℕ) (a : ℕ) (p q : Place) {r : Place} (n : ℕ) {f : Field} {d' : List ℕ} {r' : Place} (q' : Place) → Step d0 p (λ b. b ▷ bits_from a (at q) d0) d r → a ≤ at q → at q + n ≤ at p → at p ≤ 8 * length d0
+pub copy_more : (d0 d : List ℕ) (a : ℕ) (p q : Place) {r : Place} (n : ℕ) {f : Field ℕ Place} {d' : List ℕ} {r' : Place} (q' : Place) → Step d0 p (λ b. b ▷ bits_from a (at q) d0) d r → a ≤ at q → at q + n ≤ at p → at p ≤ 8 * length d0
     → p.bit < 8 → q.bit < 8 → f ≡ taken_at d q n → Laid d r (enc n f.value) d' r' → at q' ≡ at q + n → Step d0 p (λ b. b ▷ bits_from a (at q') d0) d' r'
 copy_more d0 d a p q {r} n {f} {d'} {r'} q' x ha hq hp bp bq ef h eq =
     let l = bits_of d0 in
@@ -29,7 +29,7 @@ copy_more d0 d a p q {r} n {f} {d'} {r'} q' x ha hq hp bp bq ef h eq =
     let fp : Fits (length d0) p 0 = record { bit = bp; ends = omega arith } in
     let kept : take (at p) (bits_of d) ≡ take (at p) l = rw (before_in (length d0) p fp) at x.kept in
     let fq : Fits (length d) q n = record { bit = bq; ends = omega arith } in
-    let ev : f.value ≡ dec (take n (drop (at q) (bits_of d))) = ap (λ (y : Field). y.value) (ef ∙ take_whole d q n fq) in
+    let ev : f.value ≡ dec (take n (drop (at q) (bits_of d))) = ap (λ (y : Field ℕ Place). y.value) (ef ∙ take_whole d q n fq) in
     let rd : enc n f.value ≡ take n (drop (at q) l) =
     ap (enc n) ev ∙ enc_read d (at q) n (omega arith) ∙ part_before (at q) n (at p) (bits_of d) hq ∙ ap (λ (b : List ℕ). take n (drop (at q) b)) kept ∙ sym (part_before (at q) n (at p) l hq) in
     let aq : a + (at q - a) ≡ at q = omega arith in

@@ -6,6 +6,8 @@ use native.Mathlib.Nat.{one-mul, mod-eq_of_lt, mod-lt}
 use native.Mathlib.Omega.{arith}
 use lib.Pow.{pow-lt, pow_pos}
 use lib.Bits.{bit_and, and_mask}
+use mir.Val.{bool_byte}
+use Rattle.definition.specs.Format.{bit}
 use lib.Dec.{leb, ltb}
 use borrow.Author.Tests.{leb-true, leb-false, ltb-true, lt-leb}
 use Rattle.bits.specs.declared.Place.{Place}
@@ -24,6 +26,11 @@ room_bytes n p w h b = told (leb x y) refl
     told : (t : Bool) → leb x y ≡ t → t ≡ room n p w
     told true e = sym (fits_room (record { bit = omega arith; ends = omega (arith, leb-true x y e) }))
     told false e = sym (room_short n p w (λ k. omega (arith, leb-false x y e)))
+
+-- a flag as a number
+pub bit_is : (b : Bool) → bool_byte b ≡ bit b
+bit_is true = refl
+bit_is false = refl
 
 pub one_shl : (k : ℕ) → k < 64 → (1 * 2 ^ k) % 2 ^ 64 ≡ 2 ^ k
 one_shl k h = rw one-mul (mod-eq_of_lt (pow-lt h))

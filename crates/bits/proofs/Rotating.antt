@@ -1,122 +1,34 @@
--- Bytes in reverse order, a run of bits that moves up, and rotations in parts. Assumes nothing.
+-- Bytes that change places, a run of bits that moves up, and rotations in parts. Assumes nothing.
 use mathlib.Core.Path.{◌≡◌, refl, sym, ap, ◌∙◌}
 use mathlib.Core.List.{List, [], ◌++◌, append_assoc, ◌∷◌, append-nil, reverse, reverse-cons, reverse-append, reverse-reverse}
 use mathlib.Core.Bool.{true, false}
 use Prim.Native.Nat.{ℕ, ◌+◌, ◌-◌, ◌*◌, ◌≤◌, ◌<◌, suc}
 use native.Mathlib.Omega.{arith}
 use lib.ListN.{length, take, drop, get_or, set, length-append, length-reverse, length-drop, take-append-drop}
-use lib.Seq.{take-add, drop-drop, take-length, take-suc, get_or_at, set_at, length-take-le}
+use lib.Seq.{take-add, drop-drop, take-take, length-take-le}
 use Rattle.bits.specs.declared.Place.{Place}
 use Rattle.bits.specs.declared.Field.{Field}
-use Rattle.bits.specs.Over.{over}
+use borrow.Rule.Slice.PartMut.{put_mid, mid_of}
+use Rattle.bits.specs.Over.{over, take_drop}
 use Rattle.bits.proofs.Overwriting.{over_none, over_kept, over_prev, parts, rotated_over}
-use Rattle.bits.specs.Moves.{moved, rotated, ordered, Rotates, Reverses, rotate_parts, order}
+use Rattle.bits.specs.Moves.{moved, rotated, ordered, Rotates, rotate_parts, order}
 use Rattle.bits.specs.Steps.{Laid, laid_in}
 use Rattle.bits.specs.Reads.{taken_at, take_whole}
 use Rattle.bits.specs.Places.{at, Fits}
 use Rattle.definition.specs.Bits.{enc, dec, bits_of, Bits}
 use Rattle.laws.specs.Bits.{enc_read, bits_append, bits_take, bits_drop, length_enc, length_bits, length_part}
 
--- on the way: u and v are in place, m is left
-pub record Reversal (p x z s : List ℕ) (i j : ℕ) : Type 0 where
-  pub u : List ℕ
-  pub m : List ℕ
-  pub v : List ℕ
-  pub is : s ≡ (p ++ u) ++ (m ++ (v ++ z))
-  pub rev : reverse x ≡ u ++ (reverse m ++ v)
-  pub from : length (p ++ u) ≡ i
-  pub to : i + length m ≡ j
-
-abbrev pub Reversing : ℕ → ℕ → List ℕ → List ℕ → ℕ → ℕ → Type 0
-Reversing a e s s' i j = (p x z : List ℕ) → s ≡ p ++ (x ++ z) → length p ≡ a → a + length x ≡ e → Reversal p x z s' i j
-
-pub reverse_none : (a e : ℕ) (s : List ℕ) → Reversing a e s s a e
-reverse_none a e s p x z es ep ex =
-    record { u = []; m = x; v = []; is = rw append-nil es; rev = sym (append-nil (reverse x)); from = rw append-nil ep; to = ex }
-
-short : (m : List ℕ) → length m ≤ 1 → reverse m ≡ m
-short [] h = refl
-short (c ∷ []) h = refl
-short (c ∷ (d ∷ m)) h = absurd (omega arith)
-
-pub reverse_done : (a e : ℕ) (s s' : List ℕ) (i j : ℕ) → j - i ≤ 1 → Reversing a e s s' i j → Reverses a e s s'
-reverse_done a e s s' i j le h p x z es ep ex =
-    let f = h p x z es ep ex in
-    let sh : reverse f.m ≡ f.m = short f.m (omega (arith, f.to)) in
-    f.is ∙ rw (f.rev, sh) (simp append_assoc)
-
--- a list of two or more: its ends
-record Ends (m : List ℕ) : Type 0 where
-  c : ℕ
-  mid : List ℕ
-  d : ℕ
-  are : m ≡ c ∷ (mid ++ (d ∷ []))
-
-ends : (m : List ℕ) → 2 ≤ length m → Ends m
-ends [] h = absurd (omega arith)
-ends (c ∷ m) h =
-    let k = length m - 1 in
-    let e : suc k ≡ length m = omega arith in
-    let w : m ≡ take k m ++ (get_or m k 0 ∷ []) = sym (take-length m) ∙ ap (λ (t : ℕ). take t m) (sym e) ∙ take-suc m k 0 (omega arith) in
-    record { c = c; mid = take k m; d = get_or m k 0; are = ap (λ (t : List ℕ). c ∷ t) w }
-
-reverse_step : (p x z s u v mid : List ℕ) (c0 d0 i j' : ℕ) {b c : ℕ} → s ≡ (p ++ u) ++ ((c0 ∷ (mid ++ (d0 ∷ []))) ++ (v ++ z)) → reverse x ≡ u ++ (reverse (c0 ∷ (mid ++ (d0 ∷ []))) ++ v)
-    → length (p ++ u) ≡ i → j' ≡ i + 1 + length mid → b ≡ get_or s i 0 → c ≡ get_or s j' 0 → Reversal p x z (set (set s i c) j' b) (i + 1) j'
-reverse_step p x z s u v mid c0 d0 i j' {b} {c} is rev from to eb ec =
-    let q = p ++ u in
-    let r = v ++ z in
-    let s0 : s ≡ q ++ (c0 ∷ (mid ++ (d0 ∷ r))) = is ∙ simp append_assoc in
-    let l1 : length (q ++ (c0 ∷ mid)) ≡ j' = length-append q (c0 ∷ mid) ∙ omega arith in
-    let l2 : length (q ++ (d0 ∷ mid)) ≡ j' = length-append q (d0 ∷ mid) ∙ omega arith in
-    let s1 : s ≡ (q ++ (c0 ∷ mid)) ++ (d0 ∷ r) = s0 ∙ simp append_assoc in
-    let b0 : b ≡ c0 = eb ∙ ap (λ (t : List ℕ). get_or t i 0) s0 ∙ get_or_at q c0 _ 0 i from in
-    let c1 : c ≡ d0 = ec ∙ ap (λ (t : List ℕ). get_or t j' 0) s1 ∙ get_or_at (q ++ (c0 ∷ mid)) d0 r 0 j' l1 in
-    let t0 : set s i c ≡ q ++ (d0 ∷ (mid ++ (d0 ∷ r))) = rw (s0, c1) (set_at q c0 _ d0 i from) in
-    let t1 : set s i c ≡ (q ++ (d0 ∷ mid)) ++ (d0 ∷ r) = t0 ∙ simp append_assoc in
-    let t2 : set (set s i c) j' b ≡ (q ++ (d0 ∷ mid)) ++ (c0 ∷ r) = rw (t1, b0) (set_at (q ++ (d0 ∷ mid)) d0 r c0 j' l2) in
-    let rm : reverse (c0 ∷ (mid ++ (d0 ∷ []))) ≡ d0 ∷ (reverse mid ++ (c0 ∷ [])) = reverse-cons c0 (mid ++ (d0 ∷ [])) ∙ rw (reverse-append mid (d0 ∷ [])) in
-    record {
-      u = u ++ (d0 ∷ []);
-      m = mid;
-      v = c0 ∷ v;
-      is = t2 ∙ simp append_assoc;
-      rev = rev ∙ ap (λ (t : List ℕ). u ++ (t ++ v)) rm ∙ simp append_assoc;
-      from = length-append p (u ++ (d0 ∷ [])) ∙ omega (arith, length-append u (d0 ∷ []), length-append p u);
-      to = omega arith;
-    }
-
-pub reverse_more : (a e : ℕ) (s s' : List ℕ) (i j : ℕ) {j' b c : ℕ} → 1 < j - i → j' ≡ j - 1 → b ≡ get_or s' i 0 → c ≡ get_or s' j' 0
-    → Reversing a e s s' i j → Reversing a e s (set (set s' i c) j' b) (i + 1) j'
-reverse_more a e s s' i j {j'} lt ej eb ec h p x z es ep ex =
-    let f = h p x z es ep ex in
-    let n = ends f.m (omega (arith, f.to)) in
-    let lm : length f.m ≡ suc (length n.mid + 1) = ap length n.are ∙ ap suc (length-append n.mid (n.d ∷ [])) in
-    reverse_step p x z s' f.u f.v n.mid n.c n.d i j' (f.is ∙ ap (λ (t : List ℕ). (p ++ f.u) ++ (t ++ (f.v ++ z))) n.are)
-    (f.rev ∙ ap (λ (t : List ℕ). f.u ++ (reverse t ++ f.v)) n.are) f.from (omega (arith, f.to)) eb ec
-
--- each part reversed, then both: they change places
-pub reversed_thrice : (r a b : ℕ) (s s1 s2 s3 : List ℕ) → r ≤ a → a ≤ b → b ≤ length s → Reverses r a s s1 → Reverses a b s1 s2 → Reverses r b s2 s3
-    → s3 ≡ rotated r a b s
-reversed_thrice r a b s s1 s2 s3 h1 h2 h3 f g k =
-    let p = take r s in
-    let x = take (a - r) (drop r s) in
-    let y = take (b - a) (drop a s) in
-    let z = drop b s in
-    let lp : length p ≡ r = length-take-le r s (omega arith) in
-    let lx : length x ≡ a - r = length-take-le (a - r) (drop r s) (omega (arith, length-drop r s)) in
-    let ly : length y ≡ b - a = length-take-le (b - a) (drop a s) (omega (arith, length-drop a s)) in
-    let ra : r + (a - r) ≡ a = omega arith in
-    let ab : a + (b - a) ≡ b = omega arith in
-    let d1 : drop a s ≡ y ++ z = sym (take-append-drop (b - a) (drop a s)) ∙ rw (drop-drop (b - a) a s, ab) in
-    let d2 : drop r s ≡ x ++ drop a s = sym (take-append-drop (a - r) (drop r s)) ∙ rw (drop-drop (a - r) r s, ra) in
-    let w0 : s ≡ p ++ (x ++ (y ++ z)) = sym (take-append-drop r s) ∙ ap (λ (t : List ℕ). p ++ t) (d2 ∙ ap (λ (t : List ℕ). x ++ t) d1) in
-    let w1 : s1 ≡ (p ++ reverse x) ++ (y ++ z) = f p x (y ++ z) w0 lp (omega arith) ∙ sym (append_assoc p (reverse x) (y ++ z)) in
-    let lr = length-reverse x in
-    let w2 : s2 ≡ (p ++ reverse x) ++ (reverse y ++ z) = g (p ++ reverse x) y z w1 (length-append p (reverse x) ∙ omega arith) (omega arith) in
-    let w2' : s2 ≡ p ++ ((reverse x ++ reverse y) ++ z) = w2 ∙ simp append_assoc in
-    let w3 = k p (reverse x ++ reverse y) z w2' lp (omega (arith, length-append (reverse x) (reverse y), length-reverse y)) in
-    let rr : reverse (reverse x ++ reverse y) ≡ y ++ x = reverse-append (reverse x) (reverse y) ∙ rw (reverse-reverse y, reverse-reverse x) in
-    w3 ∙ ap (λ (t : List ℕ). p ++ (t ++ z)) rr ∙ ap (λ (t : List ℕ). p ++ t) (append_assoc y x z)
+-- the bytes from a to e, the last of them first
+pub turned : (a m e : ℕ) (s t : List ℕ) → a ≤ m → m ≤ e → t ≡ drop (m - a) (mid_of a (e - a) s) ++ take (m - a) (mid_of a (e - a) s) → put_mid a (e - a) s t ≡ rotated a m e s
+turned a m e s t h k w =
+    let l = drop a s in
+    let x : a + (m - a) ≡ m = omega arith in
+    let y : m - a + (e - m) ≡ e - a = omega arith in
+    let z : a + (e - a) ≡ e = omega arith in
+    let front : take (m - a) (take (e - a) l) ≡ take (m - a) l = take-take (m - a) (e - a) l (omega arith) in
+    let back : drop (m - a) (take (e - a) l) ≡ take (e - m) (drop m s) = ap (λ (n : ℕ). drop (m - a) (take n l)) (sym y) ∙ sym (take_drop (m - a) (e - m) l) ∙ rw (drop-drop (m - a) a s, x) in
+    let last : drop (e - a) l ≡ drop e s = rw (drop-drop (e - a) a s, z) in
+    rw (w, front, back, last) (ap (λ (x : List ℕ). take a s ++ x) (append_assoc (take (e - m) (drop m s)) _ _))
 
 -- of whole bytes: their bits
 pub bytes_rotated : (a m e : ℕ) (s : List ℕ) → a ≤ m → m ≤ e → e ≤ length s → bits_of (rotated a m e s) ≡ rotated (8 * a) (8 * m) (8 * e) (bits_of s)
@@ -243,22 +155,22 @@ pub rotates_not : {a m e : Place} {d : List ℕ} → ordered (length d) a m e �
 rotates_not h = record { same = refl; bits = rw h }
 
 -- one turn of the loop of `shift_up`
-pub shift_turn : (d0 d d' : List ℕ) (e k : ℕ) (p q : Place) {t r : Place} (n : ℕ) {f : Field} → length d ≡ length d0 → bits_of d ≡ moved (at p) (at p + k) (e - at p) (bits_of d0)
+pub shift_turn : (d0 d d' : List ℕ) (e k : ℕ) (p q : Place) {t r : Place} (n : ℕ) {f : Field ℕ Place} → length d ≡ length d0 → bits_of d ≡ moved (at p) (at p + k) (e - at p) (bits_of d0)
     → e + k ≤ 8 * length d0 → at p ≤ e → q.bit < 8 → at q + n ≡ at p → f ≡ taken_at d q n → t.bit < 8 → at t ≡ at q + k
     → Laid d t (enc n f.value) d' r → bits_of d' ≡ moved (at q) (at q + k) (e - at q) (bits_of d0)
 shift_turn d0 d d' e k p q {t} {r} n {f} ln g cap le bq eq ef bt et h =
     let fq : Fits (length d) q n = record { bit = bq; ends = omega arith } in
     let ft : Fits (length d) t (length (enc n f.value)) = record { bit = bt; ends = omega (arith, length_enc n f.value) } in
-    let ev : f.value ≡ dec (take n (drop (at q) (bits_of d))) = ap (λ (x : Field). x.value) (ef ∙ take_whole d q n fq) in
+    let ev : f.value ≡ dec (take n (drop (at q) (bits_of d))) = ap (λ (x : Field ℕ Place). x.value) (ef ∙ take_whole d q n fq) in
     let eb : bits_of d' ≡ over (at q + k) (enc n f.value) (bits_of d) = laid_in h ft ∙ ap (λ (m : ℕ). over m (enc n f.value) (bits_of d)) et in
     move_more d0 d e k (at p) n (at q) ln g cap le eq ev eb
 
 -- what `rotate_last` does
-pub rotate_last_done : (d d1 d2 : List ℕ) (a e m : Place) (k : ℕ) {f : Field} {r : Place} → a.bit < 8 → at a + k ≤ at e → at e ≤ 8 * length d → m.bit < 8 → at m + k ≡ at e → f ≡ taken_at d m k
+pub rotate_last_done : (d d1 d2 : List ℕ) (a e m : Place) (k : ℕ) {f : Field ℕ Place} {r : Place} → a.bit < 8 → at a + k ≤ at e → at e ≤ 8 * length d → m.bit < 8 → at m + k ≡ at e → f ≡ taken_at d m k
     → length d1 ≡ length d → bits_of d1 ≡ moved (at a) (at a + k) (at m - at a) (bits_of d) → Laid d1 a (enc k f.value) d2 r → bits_of d2 ≡ rotated (at a) (at e - k) (at e) (bits_of d)
 rotate_last_done d d1 d2 a e m k {f} {r} ba h cap bm em ef l1 e1 p =
     let mk : at m ≡ at e - k = omega arith in
     let fm : Fits (length d) m k = record { bit = bm; ends = omega arith } in
     let fa : Fits (length d1) a (length (enc k f.value)) = record { bit = ba; ends = omega (arith, length_enc k f.value) } in
-    let ev : f.value ≡ dec (take k (drop (at e - k) (bits_of d))) = ap (λ (x : Field). x.value) (ef ∙ take_whole d m k fm) ∙ ap (λ (n : ℕ). dec (take k (drop n (bits_of d)))) mk in
+    let ev : f.value ≡ dec (take k (drop (at e - k) (bits_of d))) = ap (λ (x : Field ℕ Place). x.value) (ef ∙ take_whole d m k fm) ∙ ap (λ (n : ℕ). dec (take k (drop n (bits_of d)))) mk in
     rotate_front d (at a) (at e) k h cap ev (e1 ∙ ap (λ (n : ℕ). moved (at a) (at a + k) (n - at a) (bits_of d)) mk) (laid_in p fa)

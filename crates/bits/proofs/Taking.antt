@@ -59,6 +59,17 @@ read_byte s q h b =
     let o : get_or s q 0 / 2 ^ 0 ≡ get_or s q 0 = omega arith in
     record { are = rw (z, o) at (bits_within s q 0 8 h (omega arith)); small = b }
 
+-- five bytes
+pub read_five : (s : List ℕ) (q : ℕ) → q + 5 ≤ length s → ((i : ℕ) → get_or s i 0 < 256)
+    → Read s (8 * q) 40 ((((get_or s q 0 * 2 ^ 8 + get_or s (q + 1) 0) * 2 ^ 8 + get_or s (q + 2) 0) * 2 ^ 8 + get_or s (q + 3) 0) * 2 ^ 8 + get_or s (q + 4) 0)
+read_five s q h b =
+    let one : (k : ℕ) → k < 5 → Read s (8 * q + 8 * k) 8 (get_or s (q + k) 0) =
+    λ k l. let e : 8 * (q + k) ≡ 8 * q + 8 * k = omega arith in rw (← e) (read_byte s (q + k) (omega arith) (b (q + k))) in
+    let z : q + 0 ≡ q = omega arith in
+    let y : 8 * q + 8 * 0 ≡ 8 * q = omega arith in
+    let first : Read s (8 * q) 8 (get_or s q 0) = rw (z, y) at (one 0 (omega arith)) in
+    read_join s (8 * q) 32 8 (read_join s (8 * q) 24 8 (read_join s (8 * q) 16 8 (read_join s (8 * q) 8 8 first (one 1 (omega arith))) (one 2 (omega arith))) (one 3 (omega arith))) (one 4 (omega arith))
+
 -- the w bits behind the first r, above the m last
 pub read_part : (s : List ℕ) (at r w m v : ℕ) → Read s at (r + (w + m)) v → Read s (at + r) w (v / 2 ^ m % 2 ^ w)
 read_part s at r w m v g =
@@ -78,14 +89,14 @@ join_fits n k {a} {b} ha hb h = omega (arith, join_lt n k a b ha hb, pow_mono {i
 
 -- the whole field has been read
 pub take_done : (s : List ℕ) (p : Place) (w : ℕ) {q r acc : ℕ} → room (length s) p w ≡ true → r < 8 → 8 * q + r ≡ at p + w → Read s (at p) w acc
-    → ◌≡◌ {A = Field} record { value = acc; next = record { byte = q; bit = r } } (taken_at s p w)
+    → ◌≡◌ {A = Field ℕ Place} record { value = acc; next = record { byte = q; bit = r } } (taken_at s p w)
 take_done s p w {q} {r} {acc} h hr e g =
     let n : record { byte = q; bit = r } ≡ place (at p + w) = place_at_lem record { byte = q; bit = r } hr e in
     rw (take_whole s p w (room_fits (length s) p w h), read_all s (at p) w acc g, n)
 
 -- the bits up to a whole byte: zeros, and others
-pub pad_yes : (s : List ℕ) (p : Place) (w : ℕ) {x : Field} → w ≡ (8 - p.bit) % 8 → x ≡ taken_at s p w → x.value ≡ 0 → x.next ≡ pad_at s p
+pub pad_yes : (s : List ℕ) (p : Place) (w : ℕ) {x : Field ℕ Place} → w ≡ (8 - p.bit) % 8 → x ≡ taken_at s p w → x.value ≡ 0 → x.next ≡ pad_at s p
 pad_yes s p w {x} ew ex e = sym (pad_told s p (ex ∙ ap (taken_at s p) ew) ∙ rw (eq-eqb x.value 0 e))
 
-pub pad_no : (s : List ℕ) (p : Place) (w : ℕ) {x : Field} → w ≡ (8 - p.bit) % 8 → x ≡ taken_at s p w → (x.value ≡ 0 → ⊥) → past ≡ pad_at s p
+pub pad_no : (s : List ℕ) (p : Place) (w : ℕ) {x : Field ℕ Place} → w ≡ (8 - p.bit) % 8 → x ≡ taken_at s p w → (x.value ≡ 0 → ⊥) → past ≡ pad_at s p
 pad_no s p w {x} ew ex e = sym (pad_told s p (ex ∙ ap (taken_at s p) ew) ∙ rw (ne_eqb x.value 0 e))

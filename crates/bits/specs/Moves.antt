@@ -1,5 +1,5 @@
 -- Moving: runs of bits or bytes that change places, and bits that are written again. Assumes nothing.
-use Rattle.std.specs.Prelude.{if◌then◌else◌, ◌≡◌, refl, Bool, true, false, ◌&&◌, List, ◌++◌, reverse, ℕ, ◌+◌, ◌-◌, ◌*◌, ◌≤◌, ◌<◌, length, take, drop}
+use Rattle.std.specs.Prelude.{if◌then◌else◌, ◌≡◌, refl, Bool, true, false, ◌&&◌, List, ◌++◌, ℕ, ◌+◌, ◌-◌, ◌*◌, ◌≤◌, ◌<◌, length, take, drop}
 use Rattle.std.proofs.Common.{sym, arith, take-take, length-take-le, drop-drop, take_at, drop_at}
 use Rattle.definition.specs.Bits.{Bits, bits_of}
 use Rattle.bits.specs.Places.{at, past, inside, up_to, room_fits, fits_room, up_before}
@@ -24,10 +24,6 @@ ordered n a m e = inside n e && (up_to m e && up_to a m)
 pub record Rotates (a m e : Place) (d d' : List ℕ) : Type 0 where
   pub same : length d' ≡ length d
   pub bits : bits_of d' ≡ if ordered (length d) a m e then rotated (at a) (at m) (at e) (bits_of d) else bits_of d
-
--- the bytes from a to e in reverse order
-abbrev pub Reverses : ℕ → ℕ → List ℕ → List ℕ → Type 0
-Reverses a e s s' = (p x z : List ℕ) → s ≡ p ++ (x ++ z) → length p ≡ a → a + length x ≡ e → s' ≡ p ++ (reverse x ++ z)
 
 -- the parts by name
 pub rotate_parts : {A : Type 0} (a m e : ℕ) (p x y z : List A) → length p ≡ a → a + length x ≡ m → m + length y ≡ e → rotated a m e (p ++ (x ++ (y ++ z))) ≡ p ++ (y ++ (x ++ z))

@@ -1,6 +1,6 @@
 -- Reading: the bits from a place on, what a field's reader answers, and how readers of parts make the reader of a whole, format by format.
 -- Assumes nothing.
-use Rattle.std.specs.Prelude.{if◌then◌else◌, ◌≡◌, ◌&&◌, take, replicate, leb, ltb, eqb}
+use Rattle.std.specs.Prelude.{if◌then◌else◌, ◌≡◌, ◌&&◌, ℤ, take, replicate, leb, ltb, eqb}
 use Rattle.std.proofs.Math.Path.{refl, sym, ap}
 use Rattle.std.proofs.Common.{◌∙◌, arith, zero-add, suc-add, zero-mul, length-drop, drop-drop, pow_pos}
 use Rattle.std.proofs.Math.Bool.{Bool, true, false}
@@ -23,8 +23,6 @@ use Rattle.bits.specs.Places.{at, place, past, room, inside, Fits, room_fits, fi
 use Rattle.bits.specs.declared.Place.{Place}
 use Rattle.bits.specs.declared.Field.{Field}
 use Rattle.bits.specs.declared.Span.{Span}
-use Rattle.bits.specs.declared.Flag.{Flag}
-use Rattle.bits.specs.declared.Int32.{Int32}
 
 -- the bits from a place on, if it is inside
 unfoldable pub rest : List ℕ → Place → Option Bits
@@ -35,20 +33,20 @@ abbrev pub spot : List ℕ → Bits → Place
 spot s l = place (8 * length s - length l)
 
 -- a value and the next place; where nothing can be read, 0 and a place past every end
-abbrev pub field_of : List ℕ → Option (ℕ × Bits) → Field
+abbrev pub field_of : List ℕ → Option (ℕ × Bits) → Field ℕ Place
 field_of s None = record { value = 0; next = past }
 field_of s (Some x) = record { value = x.0; next = spot s x.1 }
 
 -- the field of w bits at a place
-unfoldable pub taken_at : List ℕ → Place → ℕ → Field
+unfoldable pub taken_at : List ℕ → Place → ℕ → Field ℕ Place
 taken_at s p w = field_of s (rest s p >>= (field w).get)
 
 -- the flag at a place
-unfoldable pub flag_at : List ℕ → Place → Flag
+unfoldable pub flag_at : List ℕ → Place → Field Bool Place
 flag_at s p = record { value = eqb (taken_at s p 1).value 1; next = (taken_at s p 1).next }
 
 -- the signed field of 32 bits
-unfoldable pub int32_at : List ℕ → Place → Int32
+unfoldable pub int32_at : List ℕ → Place → Field ℤ Place
 int32_at s p = record { value = signed 32 (taken_at s p 32).value; next = (taken_at s p 32).next }
 
 -- the place behind the zero bits up to a whole byte
@@ -148,7 +146,7 @@ pub record Refuses {A : Type 0} (f : Format A) (s : List ℕ) (p : Place) : Type
 pub record Skips (s : List ℕ) (p : Place) (q : Place) : Type 0 where
   pub skips : (rest s p >>= get_pad) ≡ rest s q
 
-pub read_field : (s : List ℕ) (p : Place) (w : ℕ) {x : Field} → x ≡ taken_at s p w → Reads (field w) s p x.value x.next
+pub read_field : (s : List ℕ) (p : Place) (w : ℕ) {x : Field ℕ Place} → x ≡ taken_at s p w → Reads (field w) s p x.value x.next
 read_field s p w {x} ex = record { reads = read_if (room (length s) p w) refl }
   where
     read_if : (t : Bool) → room (length s) p w ≡ t → (rest s p >>= (field w).get) ≡ (rest s x.next >>= λ l. Some (x.value, l))
@@ -469,7 +467,7 @@ module _ (s : List ℕ) (p : Place) where
       let t : length (take gap_of l) ≡ gap_of = length-take-le gap_of l (omega (arith, (gap_fits f).ends)) in
       rw (rest_in s p f, g, ← zeros_dec (take gap_of l), t, drop-drop)
 
-  module _ {x : Field} (ex : x ≡ taken_at s p gap_of) where
+  module _ {x : Field ℕ Place} (ex : x ≡ taken_at s p gap_of) where
     skip_if : (rest s p >>= get_pad) ≡ rest s (if eqb x.value 0 then x.next else past)
     skip_if = skip_case (inside (length s) p) refl
       where
@@ -553,11 +551,11 @@ between s a n = let e : a + n - a ≡ n = omega arith in rw e
 
 -- ---- flags and signed fields
 
-pub read_bit : (s : List ℕ) (p : Place) {x : Flag} → x ≡ flag_at s p → Reads flag s p x.value x.next
+pub read_bit : (s : List ℕ) (p : Place) {x : Field Bool Place} → x ≡ flag_at s p → Reads flag s p x.value x.next
 unfolding flag_at
 read_bit s p e = rw e (read_flag (read_field s p 1 refl))
 
-module _ (s : List ℕ) (p : Place) {x : Int32} (e : x ≡ int32_at s p) where
+module _ (s : List ℕ) (p : Place) {x : Field ℤ Place} (e : x ≡ int32_at s p) where
   pub read_int32 : {t : Date} → from_days x.value ≡ Some t → Reads date s p t x.next
   unfolding int32_at
   read_int32 h = rw e (read_date (read_field s p 32 refl) (rw e at h))
@@ -567,7 +565,7 @@ module _ (s : List ℕ) (p : Place) {x : Int32} (e : x ≡ int32_at s p) where
   refuse_int32 h = refuse_date (read_field s p 32 refl) (rw e at h)
 
 -- a field is below its power of two
-pub field_lt : (s : List ℕ) (p : Place) (w : ℕ) {x : Field} → x ≡ taken_at s p w → x.value < 2 ^ w
+pub field_lt : (s : List ℕ) (p : Place) (w : ℕ) {x : Field ℕ Place} → x ≡ taken_at s p w → x.value < 2 ^ w
 field_lt s p w {x} ex = rw ex (lt_if (room (length s) p w) refl)
   where
     lt_if : (t : Bool) → room (length s) p w ≡ t → (taken_at s p w).value < 2 ^ w

@@ -3,7 +3,7 @@ ghost use Rattle.std.specs.Prelude.{◌*◌, ◌<◌, ◌≤◌, length};
 ghost use Rattle.bits.specs.Places.{at};
 ghost use Rattle.bits.specs.Steps.{Step};
 ghost use Rattle.laws.specs.Buf.{◌▷◌};
-ghost use Rattle.bits.specs.Moves.{bits_from, Copies};
+ghost use Rattle.bits.specs.Moves.{Order, bits_from, Copies};
 
 use crate::places::{in_order, place_after, run_length};
 use crate::reading::take;
@@ -12,7 +12,7 @@ use crate::{PAST, Place};
 
 // Writes the bits from one place to another again at p, 64 at a time.
 fn copy_all(out: &mut [u8], from: Place, to: Place, p: Place) -> Place
-    requires { (from.bit < 8) × (to.bit < 8) × (p.bit < 8) × (at from ≤ at to) × (at to ≤ at p) × (at p ≤ 8 * length out.old) }
+    requires { Order (length out.old) from to p }
     ensures { Step out.old p (λ b. b ▷ bits_from (at from) (at to) out.old) out.new result }
 {
     let mut q = from;

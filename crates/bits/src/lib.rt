@@ -10,7 +10,7 @@ mod shifts; // some bits of a number
 mod signs; // signed fields
 mod texts; // bytes and texts
 mod writing; // fields written
-mod zeros; // clearing
+mod zeros; // what is written over up to the end
 
 pub use copying::copy_bits;
 pub use places::inside;
@@ -19,7 +19,7 @@ pub use rotation::rotate;
 pub use signs::{put_i32, put_i64, take_i32};
 pub use texts::{put_bytes, put_text, take_text};
 pub use writing::{overwrite, pad, put, put_flag};
-pub use zeros::{clear, clear_from, clear_words_from};
+pub use zeros::fill_from;
 
 // A place in a buffer: so many whole bytes and so many bits stand before it. A bit of 8 or more is past every end.
 #[derive(Clone, Copy)]
@@ -31,25 +31,11 @@ pub struct Place {
 // The place of what does not fit. Each later field does not fit there either.
 pub const PAST: Place = Place { byte: 0, bit: 8 };
 
-// A field that was read, and where the next one stands.
+// A field that was read, and where the next one is read: from a place, or by a reader.
 #[derive(Clone, Copy)]
-pub struct Field {
-    pub value: u64,
-    pub next: Place,
-}
-
-// A flag that was read, and where the next field stands.
-#[derive(Clone, Copy)]
-pub struct Flag {
-    pub value: bool,
-    pub next: Place,
-}
-
-// A signed field that was read, and where the next one stands.
-#[derive(Clone, Copy)]
-pub struct Int32 {
-    pub value: i32,
-    pub next: Place,
+pub struct Field<T, P = Place> {
+    pub value: T,
+    pub next: P,
 }
 
 // Where the bytes of a text stand, and the place behind them.

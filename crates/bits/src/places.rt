@@ -4,7 +4,7 @@ ghost use Rattle.bits.specs.Places.{at, room, inside, up_to};
 ghost use Rattle.bits.specs.Moves.{ordered};
 
 use crate::Place;
-use crate::shifts::{offset, smaller};
+use crate::shifts::offset;
 
 // Whether n bytes have `width` bits from a place on.
 pub(crate) fn room(n: usize, p: Place, width: usize) -> bool
@@ -94,5 +94,5 @@ pub(crate) fn run_length(a: Place, e: Place) -> usize
     if 8 < n {
         return 64;
     }
-    smaller(64, (n << 3) + e.bit - a.bit)
+    ((n << 3) + e.bit - a.bit).min(64)
 }

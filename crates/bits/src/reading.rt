@@ -4,11 +4,11 @@ ghost use Rattle.bits.specs.Reads.{taken_at, flag_at, pad_at};
 ghost use Rattle.bits.specs.Window.{Read};
 
 use crate::places::room;
-use crate::shifts::{joined, offset, part, smaller, to_byte, wide};
-use crate::{Field, Flag, PAST, Place};
+use crate::shifts::{joined, offset, part, to_byte};
+use crate::{Field, PAST, Place};
 
 // The field of `width` bits at a place of s.
-pub fn take(s: &[u8], p: Place, width: usize) -> Field
+pub fn take(s: &[u8], p: Place, width: usize) -> Field<u64>
     requires { width ≤ 64 }
     ensures { result ≡ taken_at s.now p width }
 {
@@ -23,8 +23,8 @@ pub fn take(s: &[u8], p: Place, width: usize) -> Field
     let mut left = width;
     let mut acc: u64 = 0;
     while 0 < left {
-        let k = smaller(left, 8 - r);
-        acc = joined(acc, k, part(wide(s[q]), 8 - r - k, k));
+        let k = left.min(8 - r);
+        acc = joined(acc, k, part(u64::from(s[q]), 8 - r - k, k));
         q += (r + k) >> 3;
         r = offset(r + k);
         left -= k;
@@ -36,13 +36,12 @@ pub fn take(s: &[u8], p: Place, width: usize) -> Field
 }
 
 // The flag at a place.
-pub fn take_flag(s: &[u8], p: Place) -> Flag
+pub fn take_flag(s: &[u8], p: Place) -> Field<bool>
     ensures { result ≡ flag_at s.now p }
 {
-    let f = take(s, p, 1);
-    let next = f.next;
-    Flag {
-        value: f.value == 1,
+    let Field { value, next } = take(s, p, 1);
+    Field {
+        value: value == 1,
         next,
     }
 }
@@ -55,30 +54,16 @@ pub fn take_pad(s: &[u8], p: Place) -> Place
     if f.value == 0 { f.next } else { PAST }
 }
 
-// Two bytes as one number, four, and five.
-fn two_at(s: &[u8], q: usize) -> u64
-    requires { q + 2 ≤ length s.now }
-    ensures { Read s.now (8 * q) 16 result }
-{
-    joined(wide(s[q]), 8, wide(s[q + 1]))
-}
-
-fn four_at(s: &[u8], q: usize) -> u64
-    requires { q + 4 ≤ length s.now }
-    ensures { Read s.now (8 * q) 32 result }
-{
-    joined(two_at(s, q), 16, two_at(s, q + 2))
-}
-
+// Five bytes as one number.
 fn five_at(s: &[u8], q: usize) -> u64
     requires { q + 5 ≤ length s.now }
     ensures { Read s.now (8 * q) 40 result }
 {
-    joined(four_at(s, q), 8, wide(s[q + 4]))
+    u64::from_be_bytes([0, 0, 0, s[q], s[q + 1], s[q + 2], s[q + 3], s[q + 4]])
 }
 
 // The field of 32 bits that stands in the five bytes at a place.
-fn take_five(s: &[u8], p: Place) -> Field
+fn take_five(s: &[u8], p: Place) -> Field<u64>
     requires { (p.bit < 8) × (p.byte + 5 ≤ length s.now) }
     ensures { result ≡ taken_at s.now p 32 }
 {
@@ -93,7 +78,7 @@ fn take_five(s: &[u8], p: Place) -> Field
 }
 
 // A count: the field of 32 bits at a place, at once where five bytes are there.
-pub(crate) fn take_count(s: &[u8], p: Place) -> Field
+pub(crate) fn take_count(s: &[u8], p: Place) -> Field<u64>
     ensures { result ≡ taken_at s.now p 32 }
 {
     if s.len() < 5 {

@@ -2,38 +2,19 @@
 ghost use Rattle.std.specs.Prelude.{◌≡◌, ◌+◌, ◌-◌, ◌*◌, ◌<◌, ◌≤◌, length};
 ghost use Rattle.definition.specs.Bits.{bits_of};
 ghost use Rattle.bits.specs.Places.{at};
-ghost use Rattle.bits.specs.Moves.{Reverses, moved, rotated, Rotates};
+ghost use Rattle.bits.specs.Moves.{Order, moved, rotated, Rotates};
 
 use crate::Place;
 use crate::places::{in_order, place_after, place_before, run_length};
 use crate::reading::take;
 use crate::writing::overwrite;
 
-// The bytes from a to e in reverse order.
-fn reverse(out: &mut [u8], a: usize, e: usize)
-    requires { (a ≤ e) × (e ≤ length out.old) }
-    ensures { (length out.new ≡ length out.old) × Reverses a e out.old out.new }
-{
-    let mut i = a;
-    let mut j = e;
-    while 1 < j - i {
-        j -= 1;
-        let x = out[i];
-        let y = out[j];
-        out[i] = y;
-        out[j] = x;
-        i += 1;
-    }
-}
-
-// The bytes from m to e go before those from a to m: each part reversed, then both.
+// The bytes from m to e go before those from a to m.
 fn rotate_bytes(out: &mut [u8], a: usize, m: usize, e: usize)
     requires { (a ≤ m) × (m ≤ e) × (e ≤ length out.old) }
     ensures { (length out.new ≡ length out.old) × (out.new ≡ rotated a m e out.old) }
 {
-    reverse(out, a, m);
-    reverse(out, m, e);
-    reverse(out, a, e);
+    out[a..e].rotate_left(m - a);
 }
 
 // Moves the bits from a to e up by k, over what stands there.
@@ -64,7 +45,7 @@ fn rotate_last(out: &mut [u8], a: Place, e: Place, k: usize)
 
 // The bits from m to e go before those from a to m, 64 at a time.
 fn rotate_bits(out: &mut [u8], a: Place, m: Place, e: Place)
-    requires { (a.bit < 8) × (m.bit < 8) × (e.bit < 8) × (at a ≤ at m) × (at m ≤ at e) × (at e ≤ 8 * length out.old) }
+    requires { Order (length out.old) a m e }
     ensures { (length out.new ≡ length out.old) × (bits_of out.new ≡ rotated (at a) (at m) (at e) (bits_of out.old)) }
 {
     let mut t = e;
@@ -84,7 +65,7 @@ pub fn rotate(out: &mut [u8], a: Place, m: Place, e: Place)
     if !in_order(out.len(), a, m, e) {
         return;
     }
-    if a.bit + m.bit + e.bit == 0 {
+    if a.bit == 0 && m.bit == 0 && e.bit == 0 {
         rotate_bytes(out, a.byte, m.byte, e.byte);
         return;
     }

@@ -7,7 +7,6 @@ ghost use Rattle.bits.specs.Steps.{Laid, Step, Puts};
 ghost use Rattle.laws.specs.Buf.{◌▷◌};
 
 use crate::reading::{take_count, take_pad};
-use crate::shifts::wide;
 use crate::writing::{pad, put};
 use crate::{PAST, Place, Span};
 
@@ -30,15 +29,9 @@ fn copy_bytes(out: &mut [u8], p: Place, s: &[u8]) -> Place
     if out.len() - at < s.len() {
         return PAST;
     }
-    let mut i = 0;
-    while i < s.len() {
-        out[at + i] = s[i];
-        i += 1;
-    }
-    Place {
-        byte: at + s.len(),
-        bit: 0,
-    }
+    let end = at + s.len();
+    out[at..end].copy_from_slice(s);
+    Place { byte: end, bit: 0 }
 }
 
 // Puts bytes one after another, as fields of 8 bits.
@@ -46,10 +39,8 @@ fn put_each(out: &mut [u8], p: Place, s: &[u8]) -> Place
     ensures { Step out.old p (λ b. b ▷ bits_of s.now) out.new result }
 {
     let mut q = p;
-    let mut i = 0;
-    while i < s.len() {
-        q = put(out, q, 8, wide(s[i]));
-        i += 1;
+    for b in s {
+        q = put(out, q, 8, u64::from(*b));
     }
     q
 }

@@ -1,11 +1,11 @@
 // Fields written at a place: over what stands there.
 ghost use Rattle.std.specs.Prelude.{◌≡◌, ◌+◌, ◌-◌, ◌*◌, ◌/◌, ◌%◌, ◌^◌, ◌<◌, ◌≤◌};
 ghost use Rattle.definition.specs.Bits.{enc};
-ghost use Rattle.definition.specs.Format.{field, bit, flag};
+ghost use Rattle.definition.specs.Format.{field, flag};
 ghost use Rattle.bits.specs.Steps.{Laid, Puts, Pads};
 
 use crate::places::room;
-use crate::shifts::{joined, offset, part, smaller, to_byte, wide};
+use crate::shifts::{joined, offset, part, to_byte};
 use crate::{PAST, Place};
 
 // The byte whose r first bits are those of old, the next k those of x, the rest those of old.
@@ -30,8 +30,8 @@ pub fn overwrite(out: &mut [u8], p: Place, width: usize, v: u64) -> Place
     let mut r = p.bit;
     let mut left = width;
     while 0 < left {
-        let k = smaller(left, 8 - r);
-        let b = mix(wide(out[q]), r, k, part(v, left - k, k));
+        let k = left.min(8 - r);
+        let b = mix(u64::from(out[q]), r, k, part(v, left - k, k));
         out[q] = b;
         q += (r + k) >> 3;
         r = offset(r + k);
@@ -48,18 +48,11 @@ pub fn put(out: &mut [u8], p: Place, width: usize, v: u64) -> Place
     overwrite(out, p, width, v)
 }
 
-// A flag's bit.
-fn bit(b: bool) -> u64
-    ensures { result ≡ bit b }
-{
-    if b { 1 } else { 0 }
-}
-
 // A flag of 1 bit.
 pub fn put_flag(out: &mut [u8], p: Place, b: bool) -> Place
     ensures { Puts flag b out.old p out.new result }
 {
-    put(out, p, 1, bit(b))
+    put(out, p, 1, u64::from(b))
 }
 
 // Zero bits up to a whole byte.

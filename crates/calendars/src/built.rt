@@ -238,14 +238,14 @@ pub fn put_calendars(
 {
     let n = names::count_calendars(s, root);
     if !((n <= 5_000_000) & (p.bit % 8 == 0)) {
-        bits::clear_words_from(words, at);
+        bits::fill_from(words, at, 0);
         return Records {
             count: 0,
             next: PAST,
         };
     }
     let done = put_built(out, p, s, root, words, at, n as u32);
-    bits::clear_words_from(words, at);
+    bits::fill_from(words, at, 0);
     turn_main(out, p, rows::main_calendar(s, root));
     put_elapsed(out, done, s, root)
 }

@@ -152,7 +152,7 @@ date_passed s q e = pass_read (next_reads tails_date 0 s q (ap (λ (x : Option �
 
 -- ---- dates
 
-pub dates_ahead : (s : List ℕ) (p : Place) {l : List Date} {x : Field} → x ≡ taken_at s p 32 → Stands dates s p l → Ahead date s x.next x.value 0 l
+pub dates_ahead : (s : List ℕ) (p : Place) {l : List Date} {x : Field ℕ Place} → x ≡ taken_at s p 32 → Stands dates s p l → Ahead date s x.next x.value 0 l
 unfolding dates
 dates_ahead s p e h = ahead_list _ s p e h
 
@@ -176,7 +176,7 @@ date_missing d l e = sym (some_find d l ∙ rw e)
 
 -- ---- exceptions
 
-pub exceptions_ahead : (s : List ℕ) (p : Place) {l : List (Date × List Period)} {x : Field} → x ≡ taken_at s p 32 → Stands exceptions s p l → Ahead (date ⊗ periods) s x.next x.value 0 l
+pub exceptions_ahead : (s : List ℕ) (p : Place) {l : List (Date × List Period)} {x : Field ℕ Place} → x ≡ taken_at s p 32 → Stands exceptions s p l → Ahead (date ⊗ periods) s x.next x.value 0 l
 exceptions_ahead s p e h = ahead_list by_date s p e h
 
 pub listed : (s : List ℕ) (p : Place) {l : List Period} → Stands periods s p l → Listed s p l
@@ -191,17 +191,17 @@ hours_missing s d l e = rw e (ahead_none period s refl)
 
 -- ---- the list that counts
 
-module _ (s : List ℕ) (p q : Place) {x : Field} (e : x ≡ taken_at s p 32) {a : List Period} (b : List Period) (h : Listed s p a) where
+module _ (s : List ℕ) (p q : Place) {x : Field ℕ Place} (e : x ≡ taken_at s p 32) {a : List Period} (b : List Period) (h : Listed s p a) where
   pub first_empty : x.value ≡ 0 → Listed s q b → Listed s q (or_hours a b)
   first_empty z k = by_list a h.count
     where
       by_list : (a : List Period) → length a ≡ (taken_at s p 32).value → Listed s q (or_hours a b)
       by_list [] c = k
-      by_list (t ∷ a) c = absurd (omega (arith, ap (λ (y : Field). y.value) e))
+      by_list (t ∷ a) c = absurd (omega (arith, ap (λ (y : Field ℕ Place). y.value) e))
 
   pub first_counts : (x.value ≡ 0 → ⊥) → Listed s p (or_hours a b)
   first_counts n = by_list a h
     where
       by_list : (a : List Period) → Listed s p a → Listed s p (or_hours a b)
-      by_list [] k = absurd (n (ap (λ (y : Field). y.value) e ∙ sym k.count))
+      by_list [] k = absurd (n (ap (λ (y : Field ℕ Place). y.value) e ∙ sym k.count))
       by_list (t ∷ a) k = k

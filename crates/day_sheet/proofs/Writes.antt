@@ -49,15 +49,15 @@ module _ {s : List ℕ} {q₀ : Place} {n : ℕ} {d : List ℕ} {p q : Place} {i
 
 -- ---- a list or the default one
 
-pub default_counts : (s : List ℕ) (q : Place) {x : Field} {l : List Period} {d d' : List ℕ} {p p' : Place} → x ≡ taken_at s q 32 → x.value ≡ 0 → Listed s q l
+pub default_counts : (s : List ℕ) (q : Place) {x : Field ℕ Place} {l : List Period} {d d' : List ℕ} {p p' : Place} → x ≡ taken_at s q 32 → x.value ≡ 0 → Listed s q l
     → Puts periods default_periods d p d' p' → Puts periods (or_hours l default_periods) d p d' p'
 default_counts s q {x} {l} {d} {d'} {p} {p'} e z h w = by_list l h.count
   where
     by_list : (l : List Period) → length l ≡ (taken_at s q 32).value → Puts periods (or_hours l default_periods) d p d' p'
     by_list [] c = w
-    by_list (t ∷ l) c = absurd (omega (arith, ap (λ (y : Field). y.value) e))
+    by_list (t ∷ l) c = absurd (omega (arith, ap (λ (y : Field ℕ Place). y.value) e))
 
-pub list_counts : (s : List ℕ) (q : Place) {x : Field} {l : List Period} {d d1 d2 : List ℕ} {p p1 p2 : Place} → x ≡ taken_at s q 32 → (x.value ≡ 0 → ⊥) → Listed s q l
+pub list_counts : (s : List ℕ) (q : Place) {x : Field ℕ Place} {l : List Period} {d d1 d2 : List ℕ} {p p1 p2 : Place} → x ≡ taken_at s q 32 → (x.value ≡ 0 → ⊥) → Listed s q l
     → Puts (field 32) x.value d p d1 p1 → ((l : List Period) → Ahead period s x.next x.value 0 l → Puts (times x.value period) l d1 p1 d2 p2)
     → Puts periods (or_hours l default_periods) d p d2 p2
 unfolding periods

@@ -197,11 +197,11 @@ fn finish(out: &mut [u8], end: Place) -> Result<usize, Refusal>
     ensures { Finished out.old end result out.new }
 {
     if !bits::inside(out.len(), end) {
-        bits::clear(out);
+        out.fill(0);
         return Err(Refusal::NoRoom);
     }
     let n = end.byte;
-    bits::clear_from(out, n);
+    bits::fill_from(out, n, 0);
     Ok(n)
 }
 
@@ -211,14 +211,14 @@ pub fn day_sheet(s: &[u8], calendar: u32, date: Date, sheet: &mut [u8]) -> Resul
 {
     let opened = model::open(s);
     let Some(m) = opened else {
-        bits::clear(sheet);
+        sheet.fill(0);
         return Err(Refusal::NoModel);
     };
     let weekday = weekday_of(date);
     let calendars = m.calendars;
     let there = (calendar < calendars.count) & (weekday < 7);
     if !there {
-        bits::clear(sheet);
+        sheet.fill(0);
         return Err(Refusal::Outside);
     }
     let first = Place {

@@ -19,17 +19,11 @@ pub struct Table {
 const LOW: u64 = 0x1_0000_0000;
 
 // Four bytes as a number, the first the least.
-fn joined(a: u8, b: u8, c: u8, d: u8) -> u32
-    ensures { result ≡ a + 256 * b + 65536 * c + 16777216 * d }
-{
-    (a as u32) + 256 * (b as u32) + 65536 * (c as u32) + 16777216 * (d as u32)
-}
-
 fn quad(s: &[u8], i: usize) -> u32
     requires { i + 4 ≤ length s.now }
     ensures { result ≡ quad_at s.now i }
 {
-    joined(s[i], s[i + 1], s[i + 2], s[i + 3])
+    u32::from_le_bytes([s[i], s[i + 1], s[i + 2], s[i + 3]])
 }
 
 // A byte of a text with so many `*` behind it; past its end 0.
@@ -56,15 +50,15 @@ fn starred_quad(s: &[u8], stars: u32, i: usize) -> u32
     let a = starred(s, stars, i);
     let b = starred(s, stars, i + 1);
     let c = starred(s, stars, i + 2);
-    joined(a, b, c, starred(s, stars, i + 3))
+    u32::from_le_bytes([a, b, c, starred(s, stars, i + 3)])
 }
 
 // Eight bytes more. Each half of the state is multiplied by a number of 32 bits, so that nothing is lost.
 fn mix(h: u64, a: u32, b: u32) -> u64
     ensures { result ≡ mixed h a b }
 {
-    let x = (h % LOW) ^ (a as u64);
-    let y = (h / LOW) ^ (b as u64);
+    let x = (h % LOW) ^ u64::from(a);
+    let y = (h / LOW) ^ u64::from(b);
     let z = (x * 2654435761) ^ (y * 2246822519);
     z ^ (z / LOW)
 }
@@ -75,25 +69,14 @@ fn mix_all(s: &[u8], stars: u32, rounds: usize) -> u64
     ensures { result ≡ hash_after (starred_by s.now stars) rounds }
 {
     let mut h = (s.len() + stars as usize) as u64;
-    let mut k: usize = 0;
-    while k < rounds {
+    for k in 0..rounds {
         h = mix(
             h,
             starred_quad(s, stars, 8 * k),
             starred_quad(s, stars, 8 * k + 4),
         );
-        k += 1;
     }
     h
-}
-
-fn less(n: usize, k: usize) -> usize
-    ensures { result ≡ n - k }
-{
-    if n < k {
-        return 0;
-    }
-    n - k
 }
 
 // The hash of a text with so many `*` behind it.
@@ -101,9 +84,9 @@ pub fn hash_starred(s: &[u8], stars: u32) -> u32
     ensures { result ≡ hash_of (s.now ++ replicate stars 42) }
 {
     let n = s.len() + (stars as usize);
-    let h = mix_all(s, stars, less(n, 1) / 8);
-    let a = starred_quad(s, stars, less(n, 8));
-    let b = starred_quad(s, stars, less(n, 4));
+    let h = mix_all(s, stars, n.saturating_sub(1) / 8);
+    let a = starred_quad(s, stars, n.saturating_sub(8));
+    let b = starred_quad(s, stars, n.saturating_sub(4));
     (mix(h, a, b) % LOW) as u32
 }
 
@@ -182,13 +165,7 @@ pub fn table_at(len: usize, at: usize, rows: u32) -> Option<Table>
 pub fn reach(len: usize, from: usize, n: usize) -> usize
     ensures { result ≡ min n (len - from) }
 {
-    if len <= from {
-        return 0;
-    }
-    if len - from < n {
-        return len - from;
-    }
-    n
+    len.saturating_sub(from).min(n)
 }
 
 // Zeros in n words from a place on.
@@ -196,58 +173,58 @@ pub fn clear_words(words: &mut [u32], from: usize, n: usize)
     ensures { words.new ≡ zeros words.old from n }
 {
     let m = reach(words.len(), from, n);
-    let mut k: usize = 0;
-    while k < m {
-        words[from + k] = 0;
-        k += 1;
+    if 0 < m {
+        words[from..from + m].fill(0);
     }
 }
 
-// Empties all chains.
-pub fn clear(words: &mut [u32], t: Table)
-    ensures { words.new ≡ zeros words.old t.at t.rows }
-{
-    clear_words(words, t.at, t.rows as usize);
-}
-
-// Puts a row in front of the chain of its bucket, with its place; nothing where the table has no such row.
-pub fn put(words: &mut [u32], t: Table, row: u32, hash: u32, place: u32)
-    ensures { words.new ≡ added words.old t row hash place }
-{
-    if t.rows <= row {
-        return;
+impl Table {
+    // Empties all chains.
+    pub fn clear(self, words: &mut [u32])
+        ensures { words.new ≡ zeros words.old self.at self.rows }
+    {
+        clear_words(words, self.at, self.rows as usize);
     }
-    let n = t.rows as usize;
-    let r = row as usize;
-    let b = bucket(hash, t.rows);
-    let head = word(words, t.at, b);
-    set_word(words, t.at, n + r, head);
-    set_word(words, t.at, b, row + 1);
-    set_word(words, t.at, 2 * n + r, place);
-}
 
-// The last row of a hash's bucket.
-pub fn first(words: &[u32], t: Table, hash: u32) -> Option<u32>
-    ensures { result ≡ first_of words.now t hash }
-{
-    let b = bucket(hash, t.rows);
-    let head = word(words, t.at, b);
-    row_below(t.rows, head)
-}
+    // Puts a row in front of the chain of its bucket, with its place; nothing where the table has no such row.
+    pub fn put(self, words: &mut [u32], row: u32, hash: u32, place: u32)
+        ensures { words.new ≡ added words.old self row hash place }
+    {
+        if self.rows <= row {
+            return;
+        }
+        let n = self.rows as usize;
+        let r = row as usize;
+        let b = bucket(hash, self.rows);
+        let head = word(words, self.at, b);
+        set_word(words, self.at, n + r, head);
+        set_word(words, self.at, b, row + 1);
+        set_word(words, self.at, 2 * n + r, place);
+    }
 
-// The row before a row in its chain. It is smaller, whatever the words hold, so that every walk ends.
-pub fn next(words: &[u32], t: Table, row: u32) -> Option<u32>
-    ensures { result ≡ next_of words.now t row }
-{
-    let w = word(words, t.at, t.rows as usize + row as usize);
-    row_below(row, w)
-}
+    // The last row of a hash's bucket.
+    pub fn first(self, words: &[u32], hash: u32) -> Option<u32>
+        ensures { result ≡ first_of words.now self hash }
+    {
+        let b = bucket(hash, self.rows);
+        let head = word(words, self.at, b);
+        row_below(self.rows, head)
+    }
 
-// The place of a row.
-pub fn place(words: &[u32], t: Table, row: u32) -> u32
-    ensures { result ≡ place_of words.now t row }
-{
-    word(words, t.at, 2 * (t.rows as usize) + row as usize)
+    // The row before a row in its chain. It is smaller, whatever the words hold, so that every walk ends.
+    pub fn next(self, words: &[u32], row: u32) -> Option<u32>
+        ensures { result ≡ next_of words.now self row }
+    {
+        let w = word(words, self.at, self.rows as usize + row as usize);
+        row_below(row, w)
+    }
+
+    // The place of a row.
+    pub fn place(self, words: &[u32], row: u32) -> u32
+        ensures { result ≡ place_of words.now self row }
+    {
+        word(words, self.at, 2 * (self.rows as usize) + row as usize)
+    }
 }
 
 // Where a table ends, 0 where there is none; no more than the length of the words.

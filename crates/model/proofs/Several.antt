@@ -52,7 +52,7 @@ pass_flags n h = pass_like (like_flags n) h
 
 -- ---- days
 
-pub day_alone : {s : List ℕ} {p : Place} {x : Field} (hours : Bool) → hours ≡ false → Finds date (DayKey false) s p x → Finds (day_of hours) (DayKey hours) s p x
+pub day_alone : {s : List ℕ} {p : Place} {x : Field ℕ Place} (hours : Bool) → hours ≡ false → Finds date (DayKey false) s p x → Finds (day_of hours) (DayKey hours) s p x
 unfolding day_of
 day_alone true e h = let z : true ≡ false = e in absurd (elim_bool z)
   where
@@ -60,7 +60,7 @@ day_alone true e h = let z : true ≡ false = e in absurd (elim_bool z)
     elim_bool z = let n : ◌≡◌ {A = ℕ} 0 1 = cc in omega arith
 day_alone false e h = h
 
-module _ {s : List ℕ} {p q : Place} {x : Field} (h : Finds date (DayKey false) s p x) (i : Passes periods s x.next q) where
+module _ {s : List ℕ} {p q : Place} {x : Field ℕ Place} (h : Finds date (DayKey false) s p x) (i : Passes periods s x.next q) where
   dated : {d : Date} → Reads date s p d x.next → d ≡ x.value → 0 < x.value → Told periods s x.next q → Found (date ⊗ periods) (DayKey true) s p x.value q
   dated {d} r e l (refusing n z) = record { item = (d, []); key = (e, l); reads = read_nothing (d, []) (refuse_second r n) z }
   dated {d} r e l (reading ps m z t) = record { item = (d, ps); key = (e, l); reads = read-⊗ r t }

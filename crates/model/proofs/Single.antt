@@ -26,8 +26,6 @@ use Rattle.bits.specs.Reads.{rest, Reads, Refuses, refused, taken_at, flag_at, i
 use Rattle.bits.specs.declared.Place.{Place}
 use Rattle.bits.specs.declared.Field.{Field}
 use Rattle.bits.specs.declared.Span.{Span}
-use Rattle.bits.specs.declared.Flag.{Flag}
-use Rattle.bits.specs.declared.Int32.{Int32}
 use Rattle.laws.specs.Options.{bind_ext, never}
 use Rattle.laws.specs.Fields.{day_days}
 use Rattle.model.specs.Lax.{behind, left, like_named, like_optional}
@@ -68,7 +66,7 @@ module _ (s : List ℕ) (p : Place) (w : ℕ) where
 
 -- ---- codes
 
-module _ (s : List ℕ) (p : Place) (lo hi : ℕ) {x : Field} (e : x ≡ taken_at s p 4) where
+module _ (s : List ℕ) (p : Place) (lo hi : ℕ) {x : Field ℕ Place} (e : x ≡ taken_at s p 4) where
   pub code_in : lo ≤ x.value → x.value ≤ hi → Reads (code lo hi) s p x.value x.next
   code_in l h = read_code lo hi (read_field s p 4 e) (rw (le-leb lo x.value l, le-leb x.value hi h))
 
@@ -80,7 +78,7 @@ module _ (s : List ℕ) (p : Place) (lo hi : ℕ) {x : Field} (e : x ≡ taken_a
 
 -- ---- what may be missing
 
-module _ (s : List ℕ) (p : Place) {A : Type 0} (f : Format A) {x : Field} (e : x ≡ taken_at s p 1) where
+module _ (s : List ℕ) (p : Place) {A : Type 0} (f : Format A) {x : Field ℕ Place} (e : x ≡ taken_at s p 1) where
   pub flag_set : {r : Place} → x.value ≡ 1 → Passes f s x.next r → Passes (optional f) s p r
   flag_set h i = pass_some (rw (eq-eqb x.value 1 h) at (read_flag (read_field s p 1 e))) i
 
@@ -206,7 +204,7 @@ given_some : (o : Option ℕ) {d : ℕ} → d ≡ (o or 0) → (d ≡ 0 → ⊥)
 given_some None e h = absurd (h e)
 given_some (Some a) e h = ap Some (sym e)
 
-module _ (s : List ℕ) (p : Place) {x : Field} (e : x ≡ taken_at s p 32) {d : ℕ} (ed : d ≡ (from_days (signed 32 x.value) or 0)) where
+module _ (s : List ℕ) (p : Place) {x : Field ℕ Place} (e : x ≡ taken_at s p 32) {d : ℕ} (ed : d ≡ (from_days (signed 32 x.value) or 0)) where
   pub date_refused : d ≡ 0 → Finds date (DayKey false) s p (record { value = 0; next = past })
   date_refused z =
       record {
@@ -225,7 +223,7 @@ module _ (s : List ℕ) (p : Place) {x : Field} (e : x ≡ taken_at s p 32) {d :
 
 -- ---- periods
 
-module _ (s : List ℕ) (p : Place) {a b : Field} (ea : a ≡ taken_at s p 11) (eb : b ≡ taken_at s a.next 11) where
+module _ (s : List ℕ) (p : Place) {a b : Field ℕ Place} (ea : a ≡ taken_at s p 11) (eb : b ≡ taken_at s a.next 11) where
   from_late : leb a.value most_time ≡ false → Refuses period s p
   unfolding period
   from_late h = refuse_value _ _ (refuse_first time (refuse_time (read_field s p 11 ea) h))
@@ -267,7 +265,7 @@ module _ (s : List ℕ) (p : Place) {a b : Field} (ea : a ≡ taken_at s p 11) (
 
 -- ---- codes that a value follows
 
-module _ (s : List ℕ) (p : Place) {x : Field} (e : x ≡ taken_at s p 4) where
+module _ (s : List ℕ) (p : Place) {x : Field ℕ Place} (e : x ≡ taken_at s p 4) where
   pub constraint_low : x.value ≡ 0 → Passes constraint s p past
   unfolding constraint
   constraint_low h = pass_past (refuse_test _ date (code_below s p 1 7 e (omega arith)))
@@ -296,11 +294,11 @@ module _ (s : List ℕ) (p : Place) {x : Field} (e : x ≡ taken_at s p 4) where
 -- ---- what a reader of parts answers
 
 -- the place behind a field: past, or inside
-module _ (s : List ℕ) (p : Place) (w : ℕ) {x : Field} (e : x ≡ taken_at s p w) where
+module _ (s : List ℕ) (p : Place) (w : ℕ) {x : Field ℕ Place} (e : x ≡ taken_at s p w) where
   take_cases : (room (length s) p w ≡ false → x.next ≡ past) × (room (length s) p w ≡ true → rest s x.next ≡ Some (drop (at p + w) (bits_of s)))
   take_cases = (
-    λ h. ap (λ (y : Field). y.next) (e ∙ take_cut s p w h),
-    λ h. let f = room_fits (length s) p w h in ap (λ (y : Field). rest s y.next) (e ∙ take_whole s p w f) ∙ rest_place s (at p + w) f.ends,
+    λ h. ap (λ (y : Field ℕ Place). y.next) (e ∙ take_cut s p w h),
+    λ h. let f = room_fits (length s) p w h in ap (λ (y : Field ℕ Place). rest s y.next) (e ∙ take_whole s p w f) ∙ rest_place s (at p + w) f.ends,
   )
 
   pub take_there : x.next.bit ≤ 7 → (l : Bits) × (rest s x.next ≡ Some l)
@@ -322,18 +320,18 @@ module _ (s : List ℕ) (p : Place) (w : ℕ) {x : Field} (e : x ≡ taken_at s 
   take_above h = by_room (room (length s) p w) refl
     where
       by_room : (t : Bool) → room (length s) p w ≡ t → x.next.bit ≤ 7
-      by_room true r = let f = room_fits (length s) p w r in let z = ap (λ (y : Field). y.next.bit) (e ∙ take_whole s p w f) in omega arith
-      by_room false r = let z = ap (λ (y : Field). y.value) (e ∙ take_cut s p w r) in absurd (omega arith)
+      by_room true r = let f = room_fits (length s) p w r in let z = ap (λ (y : Field ℕ Place). y.next.bit) (e ∙ take_whole s p w f) in omega arith
+      by_room false r = let z = ap (λ (y : Field ℕ Place). y.value) (e ∙ take_cut s p w r) in absurd (omega arith)
 
 -- ---- flags
 
-module _ (s : List ℕ) (p : Place) {x : Flag} (e : x ≡ flag_at s p) where
+module _ (s : List ℕ) (p : Place) {x : Field Bool Place} (e : x ≡ flag_at s p) where
   pub flag_as : {b : Bool} → x.value ≡ b → Reads flag s p b x.next
   flag_as h = rw (← h) (read_bit s p e)
 
   flag_past : rest s x.next ≡ None → x.next ≡ past
   unfolding flag_at
-  flag_past h = let z : x.next ≡ (taken_at s p 1).next = ap (λ (y : Flag). y.next) e in z ∙ take_past s p 1 refl (ap (rest s) (sym z) ∙ h)
+  flag_past h = let z : x.next ≡ (taken_at s p 1).next = ap (λ (y : Field Bool Place). y.next) e in z ∙ take_past s p 1 refl (ap (rest s) (sym z) ∙ h)
 
   -- ---- rows
 
@@ -347,7 +345,7 @@ module _ (s : List ℕ) (p : Place) {x : Flag} (e : x ≡ flag_at s p) where
       by_rest None z = ap (λ (q : Place). (None, q)) (flag_past z) ∙ sym (or_nowhere None (refused r z))
       by_rest (Some l) z = sym (or_there None z r)
 
-  module _ {v : Field} (h : x.value ≡ true) (ev : v ≡ taken_at s x.next 32) where
+  module _ {v : Field ℕ Place} (h : x.value ≡ true) (ev : v ≡ taken_at s x.next 32) where
     pub row_cut : 7 < v.next.bit → (None, past) ≡ row_at s p
     row_cut b = sym (or_nowhere None (refuse_some (flag_as h) (refused (read_field s x.next 32 ev) (far s v.next b))))
 
@@ -360,7 +358,7 @@ module _ (s : List ℕ) (p : Place) {x : Flag} (e : x ≡ flag_at s p) where
   unfolding name_at name_meaning
   name_missing h =
       record {
-        is = let z : (flag_at s p).value ≡ false = ap (λ (y : Flag). y.value) (sym e) ∙ h in rw z (ap (λ (y : Flag). (None, y.next)) e);
+        is = let z : (flag_at s p).value ≡ false = ap (λ (y : Field Bool Place). y.value) (sym e) ∙ h in rw z (ap (λ (y : Field Bool Place). (None, y.next)) e);
         within = λ start len z. absurd (no_name z);
         text = λ o k. sym (stands_is k (read_none text (flag_as h)));
       }
@@ -372,8 +370,8 @@ module _ (s : List ℕ) (p : Place) {x : Flag} (e : x ≡ flag_at s p) where
     name_by : name_at s p ≡ spanned t
     unfolding name_at
     name_by =
-        let z : (flag_at s p).value ≡ true = ap (λ (y : Flag). y.value) (sym e) ∙ h in
-        rw z (ap (λ (y : Flag). spanned (span_at s y.next)) (sym e) ∙ ap spanned (sym k.is))
+        let z : (flag_at s p).value ≡ true = ap (λ (y : Field Bool Place). y.value) (sym e) ∙ h in
+        rw z (ap (λ (y : Field Bool Place). spanned (span_at s y.next)) (sym e) ∙ ap spanned (sym k.is))
 
     no_text : 7 < t.next.bit → Refuses text s x.next
     no_text b = by_utf8 (is_utf8 (take t.len (drop t.start s))) refl
@@ -409,7 +407,7 @@ module _ (s : List ℕ) (p : Place) {x : Flag} (e : x ≡ flag_at s p) where
 
 -- ---- two rows
 
-module _ (s : List ℕ) (p : Place) {a b : Field} (ea : a ≡ taken_at s p 32) (eb : b ≡ taken_at s a.next 32) where
+module _ (s : List ℕ) (p : Place) {a b : Field ℕ Place} (ea : a ≡ taken_at s p 32) (eb : b ≡ taken_at s a.next 32) where
   rows_read : Reads (row ⊗ row) s p (a.value, b.value) b.next
   rows_read = read-⊗ (read_field s p 32 ea) (read_field s a.next 32 eb)
 
@@ -421,7 +419,7 @@ module _ (s : List ℕ) (p : Place) {a b : Field} (ea : a ≡ taken_at s p 32) (
 
 -- ---- the counts
 
-module _ (s : List ℕ) {a b c d e f : Field} (ea : a ≡ taken_at s start 32) (eb : b ≡ taken_at s a.next 32) (ec : c ≡ taken_at s b.next 32) (ed : d ≡ taken_at s c.next 32)
+module _ (s : List ℕ) {a b c d e f : Field ℕ Place} (ea : a ≡ taken_at s start 32) (eb : b ≡ taken_at s a.next 32) (ec : c ≡ taken_at s b.next 32) (ed : d ≡ taken_at s c.next 32)
     (ee : e ≡ taken_at s d.next 32) (ef : f ≡ taken_at s e.next 32) where
   counts_read : Reads counts s start (a.value, (b.value, (c.value, (d.value, (e.value, f.value))))) f.next
   counts_read =
@@ -441,7 +439,7 @@ pub date_missing : {s : List ℕ} {p : Place} → Refuses date s p → (None, pa
 unfolding day_number_of
 date_missing h = rw (read_nowhere h)
 
-module _ (s : List ℕ) (p : Place) {x : Int32} (e : x ≡ int32_at s p) where
+module _ (s : List ℕ) (p : Place) {x : Field ℤ Place} (e : x ≡ int32_at s p) where
   pub date_cut : 7 < x.next.bit → (None, past) ≡ date_at s p
   date_cut h = date_missing (by_date_lem (from_days x.value) refl)
     where
@@ -462,7 +460,7 @@ module _ (s : List ℕ) (p : Place) {x : Int32} (e : x ≡ int32_at s p) where
     where
       there : (l : Bits) × (rest s x.next ≡ Some l)
       there =
-          let z : x.next ≡ (taken_at s p 32).next = ap (λ (y : Int32). y.next) e in
+          let z : x.next ≡ (taken_at s p 32).next = ap (λ (y : Field ℤ Place). y.next) e in
           rw z (take_there s p 32 refl (rw z at b))
 
       by_date_lem : (o : Option Date) → from_days x.value ≡ o → given o ≡ true → (Some x.value, x.next) ≡ date_at s p
@@ -496,7 +494,7 @@ years_by (negsuc n) = by_early (leb n 4371586) refl
 pub period_missing : {s : List ℕ} {p : Place} → Refuses period s p → (None, past) ≡ read_at period s p
 period_missing h = sym (read_nowhere h)
 
-module _ (s : List ℕ) (p : Place) {a b : Field} (ea : a ≡ taken_at s p 11) (eb : b ≡ taken_at s a.next 11) where
+module _ (s : List ℕ) (p : Place) {a b : Field ℕ Place} (ea : a ≡ taken_at s p 11) (eb : b ≡ taken_at s a.next 11) where
   pub no_level : b.value ≤ a.value → (None, past) ≡ read_at period s p
   no_level h = period_missing (level s p ea eb h (leb a.value most_time) refl)
 

@@ -5,7 +5,6 @@ use Rattle.bits.specs.declared.Field.{Field}
 use Rattle.bits.specs.declared.Place.{Place}
 use Rattle.bits.specs.Reads.{field_lt, taken_at}
 use Rattle.reader.specs.declared.Reader.{Reader}
-use Rattle.reader.specs.declared.Taken.{Taken}
 use Rattle.reader.specs.Read.{took, moved_by}
 use Rattle.model.specs.Lax.{like_times}
 use Rattle.model.specs.Passes.{pass_like}
@@ -29,64 +28,64 @@ module _ (φ : List ℕ → Place → Place → Type 0) (s : List ℕ) (r q : Re
 
 -- ---- a field that a reader takes
 
-abbrev pub field_in : Taken → Field
-field_in t = record { value = t.value; next = t.rest.place }
+abbrev pub field_in : Field ℕ Reader → Field ℕ Place
+field_in t = record { value = t.value; next = t.next.place }
 
-module _ (s : List ℕ) (w : ℕ) (r : Reader) (t : Taken) (h : t ≡ took r w) (e : r.model.now ≡ s) where
-  pub taken_bytes : t.rest.model.now ≡ s
-  taken_bytes = ap (λ (x : Taken). x.rest.model.now) h ∙ e
+module _ (s : List ℕ) (w : ℕ) (r : Reader) (t : Field ℕ Reader) (h : t ≡ took r w) (e : r.model.now ≡ s) where
+  pub taken_bytes : t.next.model.now ≡ s
+  taken_bytes = ap (λ (x : Field ℕ Reader). x.next.model.now) h ∙ e
 
   pub taken_field : field_in t ≡ taken_at s r.place w
   taken_field = ap field_in h ∙ ap (λ (x : List ℕ). taken_at x r.place w) e
 
 -- ---- six of them in a row, from the first bit on
 
-module _ (s : List ℕ) (r : Reader) (e : r.model.now ≡ s) (p : r.place ≡ start) (a b c d f g : Taken)
-    (ha : a ≡ took r 32) (hb : b ≡ took a.rest 32) (hc : c ≡ took b.rest 32) (hd : d ≡ took c.rest 32) (hf : f ≡ took d.rest 32) (hg : g ≡ took f.rest 32) where
-  a_same : a.rest.model.now ≡ s
+module _ (s : List ℕ) (r : Reader) (e : r.model.now ≡ s) (p : r.place ≡ start) (a b c d f g : Field ℕ Reader)
+    (ha : a ≡ took r 32) (hb : b ≡ took a.next 32) (hc : c ≡ took b.next 32) (hd : d ≡ took c.next 32) (hf : f ≡ took d.next 32) (hg : g ≡ took f.next 32) where
+  a_same : a.next.model.now ≡ s
   a_same = taken_bytes s 32 r a ha e
 
-  b_same : b.rest.model.now ≡ s
-  b_same = taken_bytes s 32 a.rest b hb a_same
+  b_same : b.next.model.now ≡ s
+  b_same = taken_bytes s 32 a.next b hb a_same
 
-  c_same : c.rest.model.now ≡ s
-  c_same = taken_bytes s 32 b.rest c hc b_same
+  c_same : c.next.model.now ≡ s
+  c_same = taken_bytes s 32 b.next c hc b_same
 
-  d_same : d.rest.model.now ≡ s
-  d_same = taken_bytes s 32 c.rest d hd c_same
+  d_same : d.next.model.now ≡ s
+  d_same = taken_bytes s 32 c.next d hd c_same
 
-  f_same : f.rest.model.now ≡ s
-  f_same = taken_bytes s 32 d.rest f hf d_same
+  f_same : f.next.model.now ≡ s
+  f_same = taken_bytes s 32 d.next f hf d_same
 
   a_is : field_in a ≡ taken_at s start 32
   a_is = taken_field s 32 r a ha e ∙ ap (λ (q : Place). taken_at s q 32) p
 
-  b_is : field_in b ≡ taken_at s a.rest.place 32
-  b_is = taken_field s 32 a.rest b hb a_same
+  b_is : field_in b ≡ taken_at s a.next.place 32
+  b_is = taken_field s 32 a.next b hb a_same
 
-  c_is : field_in c ≡ taken_at s b.rest.place 32
-  c_is = taken_field s 32 b.rest c hc b_same
+  c_is : field_in c ≡ taken_at s b.next.place 32
+  c_is = taken_field s 32 b.next c hc b_same
 
-  d_is : field_in d ≡ taken_at s c.rest.place 32
-  d_is = taken_field s 32 c.rest d hd c_same
+  d_is : field_in d ≡ taken_at s c.next.place 32
+  d_is = taken_field s 32 c.next d hd c_same
 
-  f_is : field_in f ≡ taken_at s d.rest.place 32
-  f_is = taken_field s 32 d.rest f hf d_same
+  f_is : field_in f ≡ taken_at s d.next.place 32
+  f_is = taken_field s 32 d.next f hf d_same
 
-  g_is : field_in g ≡ taken_at s f.rest.place 32
-  g_is = taken_field s 32 f.rest g hg f_same
+  g_is : field_in g ≡ taken_at s f.next.place 32
+  g_is = taken_field s 32 f.next g hg f_same
 
   pub six_fit : (a.value < 2 ^ 32) × (b.value < 2 ^ 32) × (c.value < 2 ^ 32) × (d.value < 2 ^ 32) × (f.value < 2 ^ 32) × (g.value < 2 ^ 32)
   six_fit = (
     field_lt s start 32 a_is,
-    field_lt s a.rest.place 32 b_is,
-    field_lt s b.rest.place 32 c_is,
-    field_lt s c.rest.place 32 d_is,
-    field_lt s d.rest.place 32 f_is,
-    field_lt s f.rest.place 32 g_is,
+    field_lt s a.next.place 32 b_is,
+    field_lt s b.next.place 32 c_is,
+    field_lt s c.next.place 32 d_is,
+    field_lt s d.next.place 32 f_is,
+    field_lt s f.next.place 32 g_is,
   )
 
-  pub six_are : counts_by (a.value, (b.value, (c.value, (d.value, (f.value, g.value))))) g.rest.place ≡ counts_at s start
+  pub six_are : counts_by (a.value, (b.value, (c.value, (d.value, (f.value, g.value))))) g.next.place ≡ counts_at s start
   six_are = counts_are s a_is b_is c_is d_is f_is g_is
 
 -- ---- what the places make

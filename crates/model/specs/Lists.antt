@@ -28,7 +28,7 @@ stands_rest {A} {f} {s} {p} {a} h = from (rest s p) refl
     from (Some l) z = (l, z)
 
 -- what a reader of items found is the item that stands there
-pub found_is : {A : Type 0} {f : Format A} {K : A → ℕ → Type 0} {s : List ℕ} {p : Place} {a : A} {x : Field} → Stands f s p a → Finds f K s p x → K a x.value
+pub found_is : {A : Type 0} {f : Format A} {K : A → ℕ → Type 0} {s : List ℕ} {p : Place} {a : A} {x : Field ℕ Place} → Stands f s p a → Finds f K s p x → K a x.value
 found_is {f = f} {K} {s} {p} {a} {x} h i = by_value x.value refl
   where
     by_value : (v : ℕ) → x.value ≡ v → K a x.value
@@ -103,14 +103,14 @@ pub record Ahead {A : Type 0} (f : Format A) (s : List ℕ) (q : Place) (n i : �
   pub items : i < n → Stands (times (n - i) f) s q (drop i xs)
 
 -- a count was taken, and the list stands behind it
-pub ahead_list : {A : Type 0} {f : Format A} (lt : A → A → Bool) (s : List ℕ) (p : Place) {xs : List A} {x : Field} → x ≡ taken_at s p 32 → Stands (list_of lt f) s p xs
+pub ahead_list : {A : Type 0} {f : Format A} (lt : A → A → Bool) (s : List ℕ) (p : Place) {xs : List A} {x : Field ℕ Place} → x ≡ taken_at s p 32 → Stands (list_of lt f) s p xs
     → Ahead f s x.next x.value 0 xs
 ahead_list {f = f} lt s p {x = x} e h = let t = stands_list f lt h (read_field s p 32 e) in record { count = stands_length f x.value t; items = λ l. rw sub-zero t }
 
 -- past every end it is empty
-pub ahead_none : {A : Type 0} (f : Format A) (s : List ℕ) {x : Field} → x ≡ taken_at s past 32 → Ahead f s x.next x.value 0 []
+pub ahead_none : {A : Type 0} (f : Format A) (s : List ℕ) {x : Field ℕ Place} → x ≡ taken_at s past 32 → Ahead f s x.next x.value 0 []
 ahead_none f s {x} e =
-    let z : x.value ≡ 0 = ap (λ (y : Field). y.value) (e ∙ take_cut s past 32 (room_short _ past 32 (λ b. absurd (omega arith)))) in
+    let z : x.value ≡ 0 = ap (λ (y : Field ℕ Place). y.value) (e ∙ take_cut s past 32 (room_short _ past 32 (λ b. absurd (omega arith)))) in
     record { count = sym z; items = λ l. absurd (omega arith) }
 
 -- the item at i

@@ -26,7 +26,7 @@ pub record Found {A : Type 0} (f : Format A) (K : A → ℕ → Type 0) (s : Lis
   pub reads : Reads f s p item q
 
 -- a reader of items answered an item's number and the place behind it; or 0 and a place past every end, as nothing can be read
-pub record Finds {A : Type 0} (f : Format A) (K : A → ℕ → Type 0) (s : List ℕ) (p : Place) (x : Field) : Type 0 where
+pub record Finds {A : Type 0} (f : Format A) (K : A → ℕ → Type 0) (s : List ℕ) (p : Place) (x : Field ℕ Place) : Type 0 where
   pub found : 0 < x.value → Found f K s p x.value x.next
   pub refuses : x.value ≡ 0 → Refuses f s p
   pub past : x.value ≡ 0 → rest s x.next ≡ None
@@ -57,7 +57,7 @@ days_of hours = list_of (day_before hours) (day_of hours)
 
 -- ---- laws
 
-pub find_pass : {A : Type 0} {f : Format A} {K : A → ℕ → Type 0} {s : List ℕ} {p : Place} {x : Field} → Finds f K s p x → Passes f s p x.next
+pub find_pass : {A : Type 0} {f : Format A} {K : A → ℕ → Type 0} {s : List ℕ} {p : Place} {x : Field ℕ Place} → Finds f K s p x → Passes f s p x.next
 find_pass {f = f} {s = s} {p} {x} h = by_value x.value refl
   where
     by_value : (v : ℕ) → x.value ≡ v → Passes f s p x.next
@@ -126,7 +126,7 @@ module _ {A : Type 0} {lt : A → A → Bool} {K : A → ℕ → Type 0} (keys :
   pub rose_none : (s : List ℕ) (q : Place) → Rose lt f K s q 0 0 q
   rose_none s q = record { items = []; reads = read_no f s q; rise = rises_none lt; more = λ x v k. rises_one lt x ∙ sym (lt-ltb 0 v (keys.above x v k)) }
 
-  module _ {s : List ℕ} {q₀ q : Place} {k last : ℕ} {x : Field} (h : Rose lt f K s q₀ k last q) (i : Finds f K s q x) where
+  module _ {s : List ℕ} {q₀ q : Place} {k last : ℕ} {x : Field ℕ Place} (h : Rose lt f K s q₀ k last q) (i : Finds f K s q x) where
     pub rose_more : last < x.value → Rose lt f K s q₀ (k + 1) x.value x.next
     rose_more l =
         let t = i.found (omega arith) in

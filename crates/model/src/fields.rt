@@ -13,7 +13,7 @@ ghost use Rattle.model.specs.Parts.{text_by};
 use bits::{Field, PAST, Place};
 
 // Nothing can be read.
-const NOTHING: Field = Field {
+const NOTHING: Field<u64> = Field {
     value: 0,
     next: PAST,
 };
@@ -95,7 +95,7 @@ fn date_of(v: u64) -> u64
 }
 
 // A date by its number, counted from the year -10000; 0, and a place past every end, where it is outside the years.
-pub(crate) fn take_date_key(s: &[u8], p: Place) -> Field
+pub(crate) fn take_date_key(s: &[u8], p: Place) -> Field<u64>
     ensures { Finds date (DayKey false) s.now p result }
 {
     let f = bits::take(s, p, 32);
@@ -114,7 +114,7 @@ pub(crate) fn skip_date(s: &[u8], p: Place) -> Place
 }
 
 // A period by one number: 2048 times from, and to; 0, and a place past every end, where none is.
-pub(crate) fn take_period_key(s: &[u8], p: Place) -> Field
+pub(crate) fn take_period_key(s: &[u8], p: Place) -> Field<u64>
     ensures { Finds period PeriodKey s.now p result }
 {
     let from = bits::take(s, p, 11);

@@ -13,7 +13,7 @@ ghost use Rattle.model.specs.Sections.{start, counts_in, counts_by, sections_by,
 
 use crate::records::{Kind, skip_project, skip_records};
 use bits::{PAST, Place};
-use reader::{Reader, reader_of, take};
+use reader::Reader;
 
 // A section: how many records it has, and the byte at which the first stands.
 #[derive(Clone, Copy)]
@@ -86,12 +86,12 @@ fn counts_of(
 pub fn take_counts(s: &[u8]) -> Counts
     ensures { (counts_in result, result.next) ≡ counts_at s.now start }
 {
-    let calendars = take(reader_of(s), 32);
-    let activities = take(calendars.rest, 32);
-    let links = take(activities.rest, 32);
-    let resources = take(links.rest, 32);
-    let assignments = take(resources.rest, 32);
-    let expenses = take(assignments.rest, 32);
+    let calendars = Reader::new(s).take(32);
+    let activities = calendars.next.take(32);
+    let links = activities.next.take(32);
+    let resources = links.next.take(32);
+    let assignments = resources.next.take(32);
+    let expenses = assignments.next.take(32);
     counts_of(
         calendars.value,
         activities.value,
@@ -99,7 +99,7 @@ pub fn take_counts(s: &[u8]) -> Counts
         resources.value,
         assignments.value,
         expenses.value,
-        expenses.rest.place,
+        expenses.next.place,
     )
 }
 

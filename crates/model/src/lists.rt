@@ -27,7 +27,7 @@ pub(crate) fn skip_periods(s: &[u8], p: Place) -> Place
 }
 
 // A date, with its periods or alone.
-fn take_day(s: &[u8], p: Place, hours: bool) -> Field
+fn take_day(s: &[u8], p: Place, hours: bool) -> Field<u64>
     ensures { Finds (day_of hours) (DayKey hours) s.now p result }
 {
     let d = take_date_key(s, p);

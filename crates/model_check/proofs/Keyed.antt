@@ -56,7 +56,7 @@ module _ {s : List ℕ} where
   expense_key = record { first = λ h. record { row = expense_activity h; name = expense_name h } }
 
 -- what a reader of a key answers
-module _ {w : ℕ} {s : List ℕ} {p : Place} {k : Key} {v : Field} (h : KeyAt w s p k) (e : v ≡ taken_at s p w) where
+module _ {w : ℕ} {s : List ℕ} {p : Place} {k : Key} {v : Field ℕ Place} (h : KeyAt w s p k) (e : v ≡ taken_at s p w) where
   pub key_row : v.value ≡ k.0
   key_row = stands_is h.row (read_field s p w e)
 

@@ -36,7 +36,7 @@ fn fill(s: &[u8], kind: Kind, x: Section, words: &mut [u32], t: Table)
     let mut i: u32 = 0;
     while i < t.rows {
         let hash = hash_at(s, q, kind);
-        index::put(words, t, i, hash, (q.byte % 4294967296) as u32);
+        t.put(words, i, hash, (q.byte % 4294967296) as u32);
         q = skip_record(s, q, kind, false);
         i += 1;
     }
@@ -53,7 +53,7 @@ pub(crate) fn empty_table(s: &[u8], words: &mut [u32], at: usize, rows: u32) -> 
     let Some(t) = made else {
         return None;
     };
-    index::clear(words, t);
+    t.clear(words);
     Some(t)
 }
 
@@ -86,11 +86,11 @@ fn chain_has_key(
         let Some(r) = at else {
             return false;
         };
-        let byte = index::place(words, t, r) as usize;
+        let byte = t.place(words, r) as usize;
         if has_key(s, Place { byte, bit: 0 }, kind, row, name) {
             return true;
         }
-        at = index::next(words, t, r);
+        at = t.next(words, r);
     }
 }
 
@@ -105,7 +105,7 @@ pub(crate) fn table_has_key(
 ) -> bool
     ensures { (ks : List Key) → KeyTable (lead_of kind) s.now ks t words.now → result ≡ some? (same_key (row, name.now)) ks }
 {
-    let from = index::first(words, t, hash_key(row, name));
+    let from = t.first(words, hash_key(row, name));
     chain_has_key(s, kind, words, t, from, row, name)
 }
 
@@ -113,11 +113,11 @@ pub(crate) fn table_has_key(
 fn has_twin(s: &[u8], kind: Kind, words: &[u32], t: Table, own: u32) -> bool
     ensures { (ks : List Key) → KeyTable (lead_of kind) s.now ks t words.now → own < length ks → result ≡ some? (same_key (get_or ks own no_key)) (take own ks) }
 {
-    let from = index::next(words, t, own);
+    let from = t.next(words, own);
     let Some(_) = from else {
         return false;
     };
-    let byte = index::place(words, t, own) as usize;
+    let byte = t.place(words, own) as usize;
     let v = bits::take(s, Place { byte, bit: 0 }, lead(kind));
     chain_has_key(s, kind, words, t, from, v.value, text_at(s, v.next))
 }

@@ -36,7 +36,7 @@ fn judge_activities(
     let mut i: u32 = 0;
     while i < count {
         let hash = hash_at(s, q, Kind::Activities);
-        index::put(words, t, i, hash, (q.byte % 4294967296) as u32);
+        t.put(words, i, hash, (q.byte % 4294967296) as u32);
         let a = judge_activity(s, q, i, calendars, words, names);
         right = right & a.right;
         let next = a.next;

@@ -43,8 +43,8 @@ fn ids_at(len: usize, at: usize, rows: u32) -> Option<Ids>
 fn clear_ids(words: &mut [u32], ids: Ids)
     ensures { words.new ≡ no_ids words.old ids }
 {
-    index::clear(words, ids.ids);
-    index::clear(words, ids.wanted);
+    ids.ids.clear(words);
+    ids.wanted.clear(words);
 }
 
 // Puts a row into both: its id is the wanted text with so many `*`, and stands at a byte.
@@ -52,16 +52,16 @@ fn note_id(words: &mut [u32], ids: Ids, row: u32, wanted: &[u8], stars: u32, pla
     ensures { words.new ≡ noted words.old ids row wanted.now stars place }
 {
     let id = index::hash_starred(wanted, stars);
-    index::put(words, ids.ids, row, id, place);
+    ids.ids.put(words, row, id, place);
     let hash = index::hash_of(wanted);
-    index::put(words, ids.wanted, row, hash, stars);
+    ids.wanted.put(words, row, hash, stars);
 }
 
 // The id of a row, as it stands in the buffer.
 fn id_of<'a>(out: &'a [u8], words: &[u32], ids: Ids, row: u32) -> &'a [u8]
     ensures { result.now ≡ id_at out.now words.now ids row }
 {
-    let byte = index::place(words, ids.ids, row) as usize;
+    let byte = ids.ids.place(words, row) as usize;
     raw_text(out, Place { byte, bit: 0 })
 }
 
@@ -69,7 +69,7 @@ fn id_of<'a>(out: &'a [u8], words: &[u32], ids: Ids, row: u32) -> &'a [u8]
 fn taken_in(out: &[u8], words: &[u32], ids: Ids, wanted: &[u8], stars: u32) -> bool
     ensures { result ≡ taken_in out.now words.now ids wanted.now stars }
 {
-    let mut row = index::first(words, ids.ids, index::hash_starred(wanted, stars));
+    let mut row = ids.ids.first(words, index::hash_starred(wanted, stars));
     loop {
         let Some(r) = row else {
             return false;
@@ -77,7 +77,7 @@ fn taken_in(out: &[u8], words: &[u32], ids: Ids, wanted: &[u8], stars: u32) -> b
         if same_starred(wanted, stars, id_of(out, words, ids, r), 0) {
             return true;
         }
-        row = index::next(words, ids.ids, r);
+        row = ids.ids.next(words, r);
     }
 }
 
@@ -92,16 +92,16 @@ fn behind(stars: u32, count: u32) -> u32
 fn stars_from(out: &[u8], words: &[u32], ids: Ids, count: u32, wanted: &[u8]) -> u32
     ensures { result ≡ stars_from out.now words.now ids count wanted.now }
 {
-    let mut row = index::first(words, ids.wanted, index::hash_of(wanted));
+    let mut row = ids.wanted.first(words, index::hash_of(wanted));
     loop {
         let Some(r) = row else {
             return 0;
         };
-        let stars = index::place(words, ids.wanted, r);
+        let stars = ids.wanted.place(words, r);
         if same_starred(wanted, stars, id_of(out, words, ids, r), 0) {
             return behind(stars, count);
         }
-        row = index::next(words, ids.wanted, r);
+        row = ids.wanted.next(words, r);
     }
 }
 
@@ -194,7 +194,7 @@ pub fn place_in(
         return place_of_row(out, start, kind, row as usize);
     }
     Place {
-        byte: index::place(words, t.ids, row) as usize,
+        byte: t.ids.place(words, row) as usize,
         bit: 0,
     }
 }

@@ -60,7 +60,7 @@ fn note_name(
     ensures { NotesName out.now c q s.now t row main words.old words.new result }
 {
     let r = t.rows - 1 - row;
-    let at = index::place(words, t, r) as usize;
+    let at = t.place(words, r) as usize;
     let first = row as usize == main.row;
     let stars = stars_at(out, either(first, c, q), s, at);
     let word = word_of(s, wanted_name(s, at, b"Calendar"), stars, main);
@@ -143,7 +143,7 @@ fn name_of(s: &[u8], words: &[u32], t: Table, row: Option<u32>) -> CalendarName
 {
     match row {
         Some(r) => CalendarName {
-            at: index::place(words, t, r) as usize,
+            at: t.place(words, r) as usize,
             name: by_word(index::word(words, t.at, 3 * (t.rows as usize) + r as usize)),
         },
         None => CalendarName {

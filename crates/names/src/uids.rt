@@ -65,12 +65,12 @@ fn chain_rows(s: &[u8], words: &mut [u32], t: Table, count: u32)
     requires { Fits t (length words.old) × (count ≤ t.rows) }
     ensures { Chained s.now t count words.old words.new }
 {
-    index::clear(words, t);
+    t.clear(words);
     let mut row: u32 = 0;
     while row < count {
-        let at = index::place(words, t, row);
+        let at = t.place(words, row);
         let hash = index::hash_of(tree::text_of(s, at as usize, b"UID"));
-        index::put(words, t, row, hash, at);
+        t.put(words, row, hash, at);
         row += 1;
     }
 }
@@ -119,7 +119,7 @@ fn in_order(words: &[u32], t: Table, row: Option<u32>) -> Option<(usize, usize)>
     match row {
         Some(r) => Some((
             order_row(t.rows, r),
-            index::place(words, t, r) as usize,
+            t.place(words, r) as usize,
         )),
         None => None,
     }

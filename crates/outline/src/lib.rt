@@ -11,7 +11,7 @@ ghost use Rattle.outline.specs.Steps.{Empty, Linked, Stepped, Climbed, Walked, W
 
 use definition::Refusal;
 use crate::parents::walk_model;
-use bits::clear_words_from;
+use bits::fill_from;
 use model::{sections_of, take_counts};
 
 // A word that names no row.
@@ -198,8 +198,8 @@ fn outline_rows(n: u32, rows: &mut [u32], work: &mut [u32]) -> u32
     ensures { Outlined n rows.old work.old rows.new work.new result }
 {
     let count = write_rows(n, rows, work);
-    clear_words_from(rows, 2 * (count as usize));
-    clear_words_from(work, 0);
+    fill_from(rows, 2 * (count as usize), 0);
+    fill_from(work, 0, 0);
     count
 }
 
@@ -218,15 +218,15 @@ pub fn outline(s: &[u8], rows: &mut [u32], work: &mut [u32]) -> Result<u32, Refu
     let places = walk_model(s, counts, work);
     let opened = sections_of(s.len(), counts, places);
     let Some(m) = opened else {
-        clear_words_from(rows, 0);
-        clear_words_from(work, 0);
+        fill_from(rows, 0, 0);
+        fill_from(work, 0, 0);
         return Err(Refusal::NoModel);
     };
     let activities = m.activities;
     let n = activities.count;
     if is_short(n, rows.len(), work.len()) {
-        clear_words_from(rows, 0);
-        clear_words_from(work, 0);
+        fill_from(rows, 0, 0);
+        fill_from(work, 0, 0);
         return Err(Refusal::NoRoom);
     }
     Ok(outline_rows(n, rows, work))

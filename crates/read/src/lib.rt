@@ -23,12 +23,12 @@ fn put_model(tree: &[u8], model: &mut [u8], work: &mut [u32]) -> Result<usize, R
     let end = n.next;
     let room = model.len();
     if !bits::inside(room, end) {
-        bits::clear(model);
+        model.fill(0);
         return Err(Refusal::NoRoom);
     }
     let counts = n.counts;
     close_counts(model, counts);
-    bits::clear_from(model, end.byte);
+    bits::fill_from(model, end.byte, 0);
     Ok(end.byte)
 }
 
@@ -37,7 +37,7 @@ fn answer(tree: &[u8], model: &mut [u8], work: &mut [u32]) -> Result<usize, Refu
     ensures { Leaves (length model.old) (read_answer tree.now (length model.old)) result model.new }
 {
     if let Err(refusal) = tree::judge(tree) {
-        bits::clear(model);
+        model.fill(0);
         return Err(refusal);
     }
     put_model(tree, model, work)
@@ -48,6 +48,6 @@ pub fn read(tree: &[u8], model: &mut [u8], work: &mut [u32]) -> Result<usize, Re
     ensures { Gives tree.now model.old work.old model.new work.new result }
 {
     let r = answer(tree, model, work);
-    bits::clear_words_from(work, 0);
+    bits::fill_from(work, 0, 0);
     r
 }

@@ -5,7 +5,6 @@ use Rattle.bits.specs.declared.Field.{Field}
 use Rattle.bits.specs.declared.Place.{Place}
 use Rattle.bits.specs.Reads.{taken_at}
 use Rattle.reader.specs.declared.Reader.{Reader}
-use Rattle.reader.specs.declared.Taken.{Taken}
 
 -- the reader at the first bit
 abbrev pub first : Bor (List ℕ) → Reader
@@ -20,9 +19,9 @@ abbrev pub moved_by : (List ℕ → Place → Place → Type 0) → Reader → R
 moved_by φ r q = (q ≡ moved r q.place) × φ r.model.now r.place q.place
 
 -- a field, and the reader behind it
-abbrev pub taken : Reader → Field → Taken
-taken r f = record { value = f.value; rest = moved r f.next }
+abbrev pub taken : Reader → Field ℕ Place → Field ℕ Reader
+taken r f = record { value = f.value; next = moved r f.next }
 
 -- that of w bits
-abbrev pub took : Reader → ℕ → Taken
+abbrev pub took : Reader → ℕ → Field ℕ Reader
 took r w = taken r (taken_at r.model.now r.place w)

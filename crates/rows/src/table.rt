@@ -72,7 +72,7 @@ fn fill(s: &[u8], root: Root, list: Listed, first: Option<(usize, u32)>, words: 
     requires { Ripe s.now (root_at s.now root) list t words.old × Lists s.now list (listed list (root_at s.now root)) (suc (most_in s.now list)) first }
     ensures { Tabled s.now (root_at s.now root) list t words.old words.new }
 {
-    index::clear(words, t);
+    t.clear(words);
     let mut row: u32 = 0;
     let mut e = first;
     loop {
@@ -80,7 +80,7 @@ fn fill(s: &[u8], root: Root, list: Listed, first: Option<(usize, u32)>, words: 
             return;
         };
         let hash = index::hash_of(tree::text_of(s, at, b"UID"));
-        index::put(words, t, row, hash, at as u32);
+        t.put(words, row, hash, at as u32);
         row += 1;
         e = next_listed(s, list, at, left);
     }
@@ -116,16 +116,16 @@ pub fn index_rows(s: &[u8], root: Root, list: Listed, words: &mut [u32], at: usi
 pub fn seek(s: &[u8], words: &[u32], t: Table, uid: &[u8]) -> Option<u32>
     ensures { result ≡ sought_in s.now words.now t uid.now }
 {
-    let mut row = index::first(words, t, index::hash_of(uid));
+    let mut row = t.first(words, index::hash_of(uid));
     loop {
         let Some(r) = row else {
             return None;
         };
-        let at = index::place(words, t, r) as usize;
+        let at = t.place(words, r) as usize;
         if fields::text_is(s, at, b"UID", uid) {
             return Some(r);
         }
-        row = index::next(words, t, r);
+        row = t.next(words, r);
     }
 }
 
@@ -169,7 +169,7 @@ fn place_of(words: &[u32], t: Table, row: Option<u32>) -> Option<usize>
     ensures { result ≡ found_in words.now t row }
 {
     match row {
-        Some(r) => Some(index::place(words, t, r) as usize),
+        Some(r) => Some(t.place(words, r) as usize),
         None => None,
     }
 }

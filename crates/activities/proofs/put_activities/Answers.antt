@@ -11,7 +11,7 @@ use Rattle.activities.proofs.put_activities.Goals as goal
 
 pub returns-then-not-calendars_before : goal.returns-then-not-calendars_before
 returns-then-not-calendars_before c =
-    (writes_not (whole activity) (sym c.calendars_before.ensures ∙ not-true _ c.if-not-calendars_before.true-raw) refl, cleared_behind (below_refl _ _) c.end_of-end.ensures c.clear_words_from.ensures)
+    (writes_not (whole activity) (sym c.calendars_before.ensures ∙ not-true _ c.if-not-calendars_before.true-raw) refl, cleared_behind (below_refl _ _) c.end_of-end.ensures c.fill_from.ensures)
 
 pub put_tasks-r-requires : goal.put_tasks-r-requires
 put_tasks-r-requires c =
@@ -22,5 +22,5 @@ returns c =
     let a = c.args in
     let same = c.own_for-own.ensures.1 in (
       writes_if (whole activity) (sym c.calendars_before.ensures ∙ not-false _ c.if-not-calendars_before.false-raw) (writes_found (root_at a.s.now a.root) (found_same a.s.now a.root a.tasks same) _ c.put_tasks-r.ensures.0),
-      cleared_behind (below_then same c.put_tasks-r.ensures.1) c.end_of-end.ensures c.clear_words_from-2.ensures,
+      cleared_behind (below_then same c.put_tasks-r.ensures.1) c.end_of-end.ensures c.fill_from-2.ensures,
     )

@@ -12,13 +12,13 @@ pub returns-in_default : goal.returns-in_default
 returns-in_default c =
     let a = c.args in
     let room = length a.sheet.now in
-    ap (λ (l : Text). leaves (Err NoModel) l) c.clear.ensures ∙ ap (λ (x : Answer). left_by room x) (sym (no_model a.calendar a.date.0 room c.open-opened.ensures c.in_default.is))
+    ap (λ (l : Text). leaves (Err NoModel) l) (c.fill.ensures.after (λ y e. e)) ∙ ap (λ (x : Answer). left_by room x) (sym (no_model a.calendar a.date.0 room c.open-opened.ensures c.in_default.is))
 
 pub returns-then-not-there : goal.returns-then-not-there
 returns-then-not-there c =
     let a = c.args in
     let room = length a.sheet.now in
-    ap (λ (l : Text). leaves (Err Outside) l) c.clear-then-not-there.ensures ∙ ap (λ (x : Answer). left_by room x) (sym (outside a.calendar a.date.0 room c.open-opened.ensures c.in-Some.is c.weekday_of-weekday.ensures c.if-not-there.true))
+    ap (λ (l : Text). leaves (Err Outside) l) (c.fill-then-not-there.ensures.after (λ y e. e)) ∙ ap (λ (x : Answer). left_by room x) (sym (outside a.calendar a.date.0 room c.open-opened.ensures c.in-Some.is c.weekday_of-weekday.ensures c.if-not-there.true))
 
 pub returns : goal.returns
 returns c =

@@ -1,24 +1,17 @@
-use mathlib.Core.Path.{refl, ap, ◌∙◌}
-use mathlib.Core.List.{List}
-use Prim.Native.Nat.{ℕ, ◌+◌}
-use lib.ListN.{set, length-set}
-use Rattle.index.specs.Steps.{zeros_more, zeros_out, zeros_none}
+-- `index::clear_words` meets its contract. Past the end nothing is stored. Assumes nothing.
+use mathlib.Core.Path.{sym, ◌∙◌}
 use native.Mathlib.Omega.{arith}
+use Rattle.index.specs.Steps.{zeros_none, zeros_out}
+use Rattle.index.proofs.Calls.{zeros_filled}
 use Rattle.index.proofs.clear_words.Goals as goal
 
-pub loop-k-init : goal.loop-k-init
-loop-k-init c = (omega arith, refl, zeros_none c.args.words.now c.args.from)
-
-pub loop-k-preserved : goal.loop-k-preserved
-loop-k-preserved c =
-    let w = c.args.words.now in
-    let from = c.args.from in
-    (omega arith, length-set c.loop-k.words (from + c.loop-k.k) 0 ∙ c.loop-k.invariant.1, ap (λ (v : List ℕ). set v (from + c.loop-k.k) 0) c.loop-k.invariant.2 ∙ zeros_more w from c.loop-k.k)
-
-pub shape_of-words : goal.shape_of-words
-shape_of-words c = c.loop-k.invariant.1
-
-pub returns : goal.returns
-returns c =
+pub returns-then-m-gt0 : goal.returns-then-m-gt0
+returns-then-m-gt0 c =
     let a = c.args in
-    c.loop-k.invariant.2 ∙ zeros_out a.words.now a.from c.loop-k.k a.n (omega arith) (omega arith)
+    let m = c.reach-m.result in
+    zeros_filled a.words.now a.from m (omega arith) (c.fill.ensures.after (λ y e. e)) ∙ zeros_out a.words.now a.from m a.n (omega arith) c.reach-m.ensures
+
+pub returns-else-m-gt0 : goal.returns-else-m-gt0
+returns-else-m-gt0 c =
+    let a = c.args in
+    zeros_none a.words.now a.from ∙ zeros_out a.words.now a.from 0 a.n (omega arith) (omega (arith, c.reach-m.ensures))

@@ -9,9 +9,9 @@ returns c =
     hash_done
     (starred_by x.s.now x.stars)
     (star_length x.s.now x.stars)
-    c.less.ensures
-    c.less-2.ensures
-    c.less-3.ensures
+    c.saturating_sub.ensures
+    c.saturating_sub-2.ensures
+    c.saturating_sub-3.ensures
     c.mix_all-h.ensures
     c.starred_quad-a.ensures
     c.starred_quad-b.ensures

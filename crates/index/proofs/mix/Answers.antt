@@ -8,14 +8,14 @@ use Rattle.index.proofs.mix.Goals as goal
 
 pub overflow_mul-z : goal.overflow_mul-z
 overflow_mul-z c =
-    let h : bit_xor (c.args.h % 2 ^ 32) c.args.a < 2 ^ 32 = xor_lt 32 (c.args.h % 2 ^ 32) c.args.a (omega arith) (omega arith) in
+    let h : bit_xor (c.args.h % 2 ^ 32) c.from.result < 2 ^ 32 = xor_lt 32 (c.args.h % 2 ^ 32) c.from.result (omega arith) (omega arith) in
     omega arith
 
 pub overflow_mul-z-2 : goal.overflow_mul-z-2
 overflow_mul-z-2 c =
-    let h : bit_xor (c.args.h / 2 ^ 32) c.args.b < 2 ^ 32 = xor_lt 32 (c.args.h / 2 ^ 32) c.args.b (omega arith) (omega arith) in
+    let h : bit_xor (c.args.h / 2 ^ 32) c.from-2.result < 2 ^ 32 = xor_lt 32 (c.args.h / 2 ^ 32) c.from-2.result (omega arith) (omega arith) in
     omega arith
 
 pub returns : goal.returns
 unfolding mixed
-returns c = refl
+returns c = rw (c.from.ensures, c.from-2.ensures) refl

@@ -2,6 +2,7 @@
 use mathlib.Core.Path.{◌∙◌}
 use Rattle.laws.specs.Stars.{starred_by}
 use Rattle.index.specs.Steps.{quad_by, quad_before}
+use native.Mathlib.Omega.{arith}
 use Rattle.index.proofs.starred_quad.Goals as goal
 
 pub returns-then-i-s : goal.returns-then-i-s
@@ -12,4 +13,4 @@ returns-then-i-s c =
 pub returns : goal.returns
 returns c =
     let a = c.args in
-    quad_by (starred_by a.s.now a.stars) a.i c.joined.ensures c.starred-a.ensures c.starred-b.ensures c.starred-c.ensures c.starred.ensures
+    quad_by (starred_by a.s.now a.stars) a.i (omega (arith, c.from_le_bytes.ensures)) c.starred-a.ensures c.starred-b.ensures c.starred-c.ensures c.starred.ensures

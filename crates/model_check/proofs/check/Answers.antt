@@ -3,4 +3,4 @@ use Rattle.bits.specs.Clear.{cleared_all}
 use Rattle.model_check.proofs.check.Goals as goal
 
 pub returns : goal.returns
-returns c = rw (c.answer-r.ensures, c.clear_words_from.ensures, cleared_all, c.answer-r.auto.words)
+returns c = rw (c.answer-r.ensures, c.fill_from.ensures, cleared_all, c.answer-r.auto.words)

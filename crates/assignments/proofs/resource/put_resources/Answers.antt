@@ -3,4 +3,4 @@ use Rattle.assignments.proofs.resource.put_resources.Goals as goal
 
 pub returns : goal.returns
 returns c =
-    (c.put_all-r.ensures.0, c.clear_words_from.ensures ∙ c.put_all-r.ensures.1)
+    (c.put_all-r.ensures.0, c.fill_from.ensures ∙ c.put_all-r.ensures.1)

@@ -10,8 +10,7 @@ returns-then-not-in_order c = copies_not (sym c.in_order.ensures ∙ not-true _ 
 pub copy_all-requires : goal.copy_all-requires
 copy_all-requires c =
     let a = c.args in
-    let o = order (length a.out.now) a.from a.to a.p (sym c.in_order.ensures ∙ not-false _ c.if-not-in_order.false-raw) in
-    (o.first, o.middle, o.last, o.from, o.to, o.ends)
+    order (length a.out.now) a.from a.to a.p (sym c.in_order.ensures ∙ not-false _ c.if-not-in_order.false-raw)
 
 pub returns : goal.returns
 returns c =

@@ -36,8 +36,8 @@ loop-left-preserved c =
       omega arith,
       omega arith,
       omega arith,
-      read_turn _ _ l.q l.r l.left l.invariant.5 l.invariant.0 l.invariant.1 l.invariant.2 (omega arith) c.loop-left-test.true c.smaller-k.ensures
-          c.wide.ensures c.part.ensures c.joined-acc.ensures,
+      read_turn _ _ l.q l.r l.left l.invariant.5 l.invariant.0 l.invariant.1 l.invariant.2 (omega arith) c.loop-left-test.true c.min-k.ensures
+          c.from.ensures c.part.ensures c.joined-acc.ensures,
     )
 
 pub returns : goal.returns

@@ -3,4 +3,4 @@ use Rattle.bits.proofs.reading.take_flag.Goals as goal
 
 pub returns : goal.returns
 unfolding flag_at
-returns c = rw c.take-f.ensures
+returns c = rw c.take-value.ensures

@@ -9,33 +9,20 @@ use Rattle.bits.proofs.rotation.rotate.Goals as goal
 pub returns-then-not-in_order : goal.returns-then-not-in_order
 returns-then-not-in_order c = rotates_not (sym c.in_order.ensures ∙ not-true _ c.if-not-in_order.true-raw)
 
-pub overflow_add-a : goal.overflow_add-a
-overflow_add-a c =
-    let a = c.args in
-    let o = order (length a.out.now) a.a a.m a.e (sym c.in_order.ensures ∙ not-false _ c.if-not-in_order.false-raw) in
-    record { fits = omega (arith, o.first, o.middle) }
-
-pub overflow_add-a-2 : goal.overflow_add-a-2
-overflow_add-a-2 c =
-    let a = c.args in
-    let o = order (length a.out.now) a.a a.m a.e (sym c.in_order.ensures ∙ not-false _ c.if-not-in_order.false-raw) in
-    record { fits = omega (arith, o.first, o.middle, o.last) }
-
 pub rotate_bytes-requires : goal.rotate_bytes-requires
 rotate_bytes-requires c =
     let a = c.args in
     let o = order (length a.out.now) a.a a.m a.e (sym c.in_order.ensures ∙ not-false _ c.if-not-in_order.false-raw) in
     (omega (arith, o.from), omega (arith, o.to), omega (arith, o.ends))
 
-pub returns-then-a-m-eq0 : goal.returns-then-a-m-eq0
-returns-then-a-m-eq0 c =
-    rotates_bytes (sym c.in_order.ensures ∙ not-false _ c.if-not-in_order.false-raw) (omega (arith, c.if-a-m-eq0.true)) c.rotate_bytes.ensures.0 c.rotate_bytes.ensures.1
+pub returns-then-e-eq0 : goal.returns-then-e-eq0
+returns-then-e-eq0 c =
+    rotates_bytes (sym c.in_order.ensures ∙ not-false _ c.if-not-in_order.false-raw) (omega arith) c.rotate_bytes.ensures.0 c.rotate_bytes.ensures.1
 
 pub rotate_bits-requires : goal.rotate_bits-requires
 rotate_bits-requires c =
     let a = c.args in
-    let o = order (length a.out.now) a.a a.m a.e (sym c.in_order.ensures ∙ not-false _ c.if-not-in_order.false-raw) in
-    (o.first, o.middle, o.last, o.from, o.to, o.ends)
+    order (length a.out.now) a.a a.m a.e (sym c.in_order.ensures ∙ not-false _ c.if-not-in_order.false-raw)
 
 pub returns : goal.returns
 returns c =

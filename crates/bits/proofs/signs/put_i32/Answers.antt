@@ -1,9 +1,8 @@
-use mathlib.Core.Path.{ap, ◌∙◌}
-use mir.Facts.{to_z-of_z}
-use Rattle.definition.specs.Bits.{twos}
+use mathlib.Core.Path.{◌∙◌}
+use mir.Syntax.{w32}
 use Rattle.bits.specs.Steps.{put_same}
+use Rattle.bits.proofs.Twos.{twos_cast}
 use Rattle.bits.proofs.signs.put_i32.Goals as goal
 
 pub returns : goal.returns
-returns c =
-    put_same (c.twos32.ensures ∙ ap (twos 32) (to_z-of_z c.ranges.v)) c.put.ensures
+returns c = put_same (c.from.ensures ∙ twos_cast w32 c.args.v c.ranges.v c.cast_unsigned.ensures) c.put.ensures

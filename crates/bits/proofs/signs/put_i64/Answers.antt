@@ -1,9 +1,8 @@
-use mathlib.Core.Path.{ap, ◌∙◌}
-use mir.Facts.{to_z-of_z}
-use Rattle.definition.specs.Bits.{twos}
+use mathlib.Core.Path.{◌∙◌}
+use mir.Syntax.{w64}
 use Rattle.bits.specs.Steps.{put_same}
+use Rattle.bits.proofs.Twos.{twos_cast}
 use Rattle.bits.proofs.signs.put_i64.Goals as goal
 
 pub returns : goal.returns
-returns c =
-    put_same (c.twos64.ensures ∙ ap (twos 64) (to_z-of_z c.ranges.v)) c.put.ensures
+returns c = put_same (twos_cast w64 c.args.v c.ranges.v c.cast_unsigned.ensures) c.put.ensures

@@ -1,7 +1,7 @@
 use mathlib.Core.Path.{refl}
-use lib.ListN.{length-set}
-use lib.Seq.{paste-zero}
-use Rattle.bits.proofs.Bytes.{copy_short, copy_turn, copy_done}
+use lib.ListN.{length}
+use Rattle.std.proofs.lemmas.Slice.{put_mid-paste}
+use Rattle.bits.proofs.Bytes.{copy_short, copy_done}
 use native.Mathlib.Omega.{arith}
 use Rattle.bits.proofs.texts.copy_bytes.Goals as goal
 
@@ -15,19 +15,7 @@ returns-then-out-at-2 c =
     let a = c.args in
     copy_short a.out.now a.s.now a.p (λ k. omega arith)
 
-pub loop-i-init : goal.loop-i-init
-loop-i-init c =
-    let a = c.args in
-    (omega arith, omega arith, refl, paste-zero a.out.now a.p.byte a.s.now)
-
-pub loop-i-preserved : goal.loop-i-preserved
-loop-i-preserved c =
-    let l = c.loop-i in
-    let a = c.args in
-    (omega arith, omega arith, simp length-set l.invariant.2, copy_turn a.out.now l.out a.s.now a.p.byte l.i (omega arith) (omega arith) l.invariant.3)
-
 pub returns : goal.returns
 returns c =
-    let l = c.loop-i in
     let a = c.args in
-    copy_done a.out.now a.s.now l.out a.p l.i (omega (arith, c.requires)) (omega arith) (omega arith) l.invariant.3
+    copy_done a.out.now a.s.now _ a.p c.requires (omega arith) (put_mid-paste _ _ _ _ a.s.now (length a.s.now) c.copy_from_slice.ensures.after (omega arith) refl)

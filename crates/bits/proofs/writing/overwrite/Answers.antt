@@ -36,7 +36,7 @@ loop-left-preserved c =
       omega arith,
       simp length-set l.invariant.5,
       overwrite_more a.out.now l.out _ _ l.q l.r l.left a.v l.invariant.5 l.invariant.6 l.invariant.2 l.invariant.0 l.invariant.1 l.invariant.3 c.loop-left-test.true
-          c.smaller-k.ensures c.part.ensures c.wide.ensures c.mix-b.ensures,
+          c.min-k.ensures c.part.ensures c.from.ensures c.mix-b.ensures,
     )
 
 pub returns : goal.returns
