@@ -6,13 +6,13 @@ use Rattle.model.proofs.take_counts.Goals as goal
 
 pub counts_of-requires : goal.counts_of-requires
 counts_of-requires c =
-    six_fit c.args.s.now c.reader_of.result (ap (λ (r : Reader). r.model.now) c.reader_of.ensures) (ap (λ (r : Reader). r.place) c.reader_of.ensures)
+    six_fit c.args.s.now c.new.result (ap (λ (r : Reader). r.model.now) c.new.ensures) (ap (λ (r : Reader). r.place) c.new.ensures)
     _ _ _ _ _ _
     c.take-calendars.ensures c.take-activities.ensures c.take-links.ensures c.take-resources.ensures c.take-assignments.ensures c.take-expenses.ensures
 
 pub returns : goal.returns
 returns c =
     c.counts_of.ensures
-    ∙ six_are c.args.s.now c.reader_of.result (ap (λ (r : Reader). r.model.now) c.reader_of.ensures) (ap (λ (r : Reader). r.place) c.reader_of.ensures)
+    ∙ six_are c.args.s.now c.new.result (ap (λ (r : Reader). r.model.now) c.new.ensures) (ap (λ (r : Reader). r.place) c.new.ensures)
     _ _ _ _ _ _
     c.take-calendars.ensures c.take-activities.ensures c.take-links.ensures c.take-resources.ensures c.take-assignments.ensures c.take-expenses.ensures
