@@ -14,8 +14,8 @@ use borrow.Author.Tests.{leb-true, leb-false, le-leb, lt-leb, le-ltb, lt-ltb}
 use Rattle.definition.specs.Bits.{enc, dec, bits_of}
 use Rattle.definition.specs.Text.{Text}
 use Rattle.definition.specs.Tree.{Rec, depth_width, name_width, head_bytes, body_of, record_of, and_then, records_up_to, records}
-use Rattle.tree.specs.Place.{IsWord, head_by, head_at}
-use Rattle.tree.specs.declared.Head.TheVariants.{Whole, Cut}
+use Rattle.tree.specs.declared.Head.{Head}
+use Rattle.tree.specs.Place.{IsWord, head_by, whole, head_at}
 use Rattle.tree.proofs.Bits.{front_lt, four, first_field, second_field, third_field}
 
 -- ---- the numbers of the head at the front
@@ -87,14 +87,14 @@ module _ (s : Text) (at : ℕ) where
   at_cut h = record_cut (drop at s) (omega (arith, length-drop at s))
 
   pub head_whole : at + head_bytes + name_at + text_at ≤ length s
-      → head_at s at ≡ Whole depth_at (at + head_bytes) (at + head_bytes + name_at) (at + head_bytes + name_at + text_at)
+      → head_at s at ≡ whole depth_at (at + head_bytes) (at + head_bytes + name_at) (at + head_bytes + name_at + text_at)
   unfolding head_at head_by
   head_whole h =
       let n : length (take name_at (drop head_bytes (drop at s))) ≡ name_at = simp (length-take, length-drop) (omega arith) in
       let k : length (take text_at (drop name_at (drop head_bytes (drop at s)))) ≡ text_at = simp (length-take, length-drop) (omega arith) in
       rw (at_whole h, n, k)
 
-  pub head_cut : length s < at + head_bytes + name_at + text_at → head_at s at ≡ Cut
+  pub head_cut : length s < at + head_bytes + name_at + text_at → head_at s at ≡ None
   unfolding head_at head_by
   head_cut h = rw (at_cut h)
 
@@ -150,17 +150,20 @@ parts s at d n k a b e p q r =
     let z : at + head_bytes + (n + k) ≡ e = omega arith in
     rw (x, y, drop-drop, drop-drop, drop-drop, p, q, z)
 
+some_is : {x y : Head} → Some x ≡ Some y → x ≡ y
+some_is h = cc
+
 module _ (s : Text) (at : ℕ) where
-  pub bounds : {d a b e : ℕ} → head_at s at ≡ Whole d a b e → Bounds s at d a b e
+  pub bounds : {d a b e : ℕ} → head_at s at ≡ whole d a b e → Bounds s at d a b e
   bounds {d} {a} {b} {e} h = go (le_or_lt (at + head_bytes + name_at s at + text_at s at) (length s))
     where
       go : (at + head_bytes + name_at s at + text_at s at ≤ length s) ⊎ (length s < at + head_bytes + name_at s at + text_at s at) → Bounds s at d a b e
       go (inl p) =
-          let o = head_whole s at p in
-          let hd : d ≡ depth_at s at = cc in
-          let ha : a ≡ at + head_bytes = cc in
-          let hb : b ≡ at + head_bytes + name_at s at = cc in
-          let he : e ≡ at + head_bytes + name_at s at + text_at s at = cc in
+          let o = some_is (sym h ∙ head_whole s at p) in
+          let hd : d ≡ depth_at s at = ap (λ (k : Head). k.depth) o in
+          let ha : a ≡ at + head_bytes = ap (λ (k : Head). k.name_at) o in
+          let hb : b ≡ at + head_bytes + name_at s at = ap (λ (k : Head). k.text_at) o in
+          let he : e ≡ at + head_bytes + name_at s at + text_at s at = ap (λ (k : Head). k.next) o in
           record {
             deep = rw hd (front_lt (take head_bytes (drop at s)));
             start = ha;
@@ -171,7 +174,7 @@ module _ (s : Text) (at : ℕ) where
           }
       go (inr p) = let o = head_cut s at p in let z : ◌≡◌ {A = ℕ} 0 1 = cc in absurd (omega arith)
 
-  pub records_cut : head_at s at ≡ Cut → records (drop at s) ≡ []
+  pub records_cut : head_at s at ≡ None → records (drop at s) ≡ []
   records_cut h = go (le_or_lt (at + head_bytes + name_at s at + text_at s at) (length s))
     where
       go : (at + head_bytes + name_at s at + text_at s at ≤ length s) ⊎ (length s < at + head_bytes + name_at s at + text_at s at) → records (drop at s) ≡ []
@@ -207,15 +210,15 @@ module _ (s : Text) (at w t : ℕ) (h : at + head_bytes ≤ length s) (hw : IsWo
   text_read = rw (bits_at, third_field w t) (omega (arith, ht.is, ht.first, ht.second))
 
   pub read_whole : at + head_bytes + bit_and w 511 + t ≤ length s
-      → Whole (w / 512) (at + head_bytes) (at + head_bytes + bit_and w 511) (at + head_bytes + bit_and w 511 + t) ≡ head_at s at
+      → whole (w / 512) (at + head_bytes) (at + head_bytes + bit_and w 511) (at + head_bytes + bit_and w 511 + t) ≡ head_at s at
   read_whole q =
       let p : at + head_bytes + name_at s at + text_at s at ≤ length s = rw (name_read, text_read) q in
       sym (head_whole s at p ∙ rw (depth_read, name_read, text_read))
 
-  pub read_cut : length s < at + head_bytes + bit_and w 511 + t → Cut ≡ head_at s at
+  pub read_cut : length s < at + head_bytes + bit_and w 511 + t → None ≡ head_at s at
   read_cut q = let p : length s < at + head_bytes + name_at s at + text_at s at = rw (name_read, text_read) q in sym (head_cut s at p)
 
-pub read_past : (s : Text) (at : ℕ) → length s < at + head_bytes → Cut ≡ head_at s at
+pub read_past : (s : Text) (at : ℕ) → length s < at + head_bytes → None ≡ head_at s at
 read_past s at h = sym (head_cut s at (omega arith))
 
 -- the word of two bytes

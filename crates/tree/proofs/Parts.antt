@@ -13,9 +13,8 @@ use borrow.Author.Tests.{le-ltb, lt-ltb}
 use Rattle.definition.specs.Base.{first, same}
 use Rattle.definition.specs.Text.{Text}
 use Rattle.definition.specs.Tree.{Element, size, child}
-use Rattle.tree.specs.Place.{head_at, records_at, under, element_at, list_of}
+use Rattle.tree.specs.Place.{whole, head_at, records_at, under, element_at, list_of}
 use Rattle.tree.specs.Root.{note_at, Notes, Parts, Stands}
-use Rattle.tree.specs.declared.Head.TheVariants.{Whole, Cut}
 use Rattle.tree.specs.declared.root.Root.{Root}
 use Rattle.tree.proofs.Heads.{part, bounds}
 use Rattle.tree.proofs.Rows.{row, row_cut, row_end, row_hit, row_miss, row_under, name_whole, all_cut, all_row}
@@ -78,7 +77,7 @@ module _ (s : Text) (w from : ℕ) where
   left_same : (p q : ℕ) (n : Text) (x : ℕ) → row s n w p ≡ row s n w q → Left s w from p n x → Left s w from q n x
   left_same p q n x e h = h ∙ ap (λ (o : Option Element). if ltb x (length s) then Some (element_at s x) else o) (ap (λ l. first l) e)
 
-  module _ (p : ℕ) {d a b e : ℕ} (g : head_at s p ≡ Whole d a b e) (k : d ≡ w) where
+  module _ (p : ℕ) {d a b e : ℕ} (g : head_at s p ≡ whole d a b e) (k : d ≡ w) where
     left_noted : (n : Text) (x : ℕ) → Left s w from p n x → Left s w from e n (note_at s p n x)
     left_noted n x h = go (ltb x (length s)) (same (element_at s p).name n) refl refl
       where
@@ -105,10 +104,10 @@ module _ (s : Text) (w from : ℕ) {r : Root} where
   parts_begin h = record { each = parts_all (λ n x. x ≡ length s) (Left s w from from) (left_all s w from) h }
 
 module _ {s : Text} {w from p : ℕ} {r : Root} (g : Walked s w from p r) where
-  pub parts_cut : head_at s p ≡ Cut → Parts (λ n x. Stands s x (first (row s n w from))) r
+  pub parts_cut : head_at s p ≡ None → Parts (λ n x. Stands s x (first (row s n w from))) r
   parts_cut h = parts_all (Left s w from p) (λ n x. Stands s x (first (row s n w from))) (λ n x. left_end s w from p n x (row_cut s n w p h)) g.each
 
-  module _ {d a b e : ℕ} (h : head_at s p ≡ Whole d a b e) where
+  module _ {d a b e : ℕ} (h : head_at s p ≡ whole d a b e) where
     pub parts_end : d < w → Parts (λ n x. Stands s x (first (row s n w from))) r
     parts_end k = parts_all (Left s w from p) (λ n x. Stands s x (first (row s n w from))) (λ n x. left_end s w from p n x (row_end s n w p h k)) g.each
 
@@ -121,13 +120,13 @@ module _ {s : Text} {w from p : ℕ} {r : Root} (g : Walked s w from p r) where
 -- ---- the parts of an element
 
 module _ (s : Text) (at : ℕ) where
-  stands_cut : head_at s at ≡ Cut → (n : Text) (x : ℕ) → x ≡ length s → Stands s x (child (element_at s at) n)
+  stands_cut : head_at s at ≡ None → (n : Text) (x : ℕ) → x ≡ length s → Stands s x (child (element_at s at) n)
   stands_cut h n x e = record { is = none_child (element_at s at) (all_cut s n at h) refl ∙ rw (e, le-ltb (length s) (length s) (omega arith)) }
 
-  pub root_cut : head_at s at ≡ Cut → {r : Root} → Parts (λ n x. x ≡ length s) r → Parts (λ n x. Stands s x (child (element_at s at) n)) r
+  pub root_cut : head_at s at ≡ None → {r : Root} → Parts (λ n x. x ≡ length s) r → Parts (λ n x. Stands s x (child (element_at s at) n)) r
   root_cut h = parts_all (λ n x. x ≡ length s) (λ n x. Stands s x (child (element_at s at) n)) (stands_cut h)
 
-  module _ {d a b e : ℕ} (h : head_at s at ≡ Whole d a b e) where
+  module _ {d a b e : ℕ} (h : head_at s at ≡ whole d a b e) where
     stands_whole : (n : Text) (x : ℕ) → Stands s x (first (row s n (d + 1) e)) → Stands s x (child (element_at s at) n)
     unfolding child
     stands_whole n x k = record { is = ap (λ l. first l) (all_row s n at h) ∙ k.is }

@@ -3,7 +3,9 @@ use mathlib.Core.Path.{◌≡◌, refl, sym, ◌∙◌}
 use Rattle.definition.specs.declared.Duration.{Duration}
 use Rattle.definition.specs.declared.Unread.{Unread}
 use Rattle.definition.specs.declared.Unread.TheVariants.{Absent, Long}
-use Rattle.std.specs.Prelude.{Err, Float, None, Ok, Result, Some}
+use Rattle.definition.specs.declared.Refusal.{Refusal}
+use Rattle.std.specs.Option.{ok_or}
+use Rattle.std.specs.Prelude.{Err, Float, None, Ok, Option, Result, Some}
 use mathlib.Core.List.{List, [], ◌∷◌}
 use mathlib.Core.Bool.{Bool, true, false, ◌||◌, or-false}
 use Prim.Native.Nat.{ℕ, ◌≤◌, ◌<◌}
@@ -19,9 +21,8 @@ use Rattle.definition.specs.Tree.{Rec, records, layout, element, deeper, below_r
 use Rattle.definition.specs.Duration.{duration_of}
 use Rattle.number.specs.Number.{number_refusal}
 use Rattle.number.specs.Duration.{duration_refusal}
-use Rattle.tree.specs.Place.{head_at, verdict, verdict_refusal, records_at, element_at}
+use Rattle.tree.specs.Place.{whole, head_at, verdict, verdict_refusal, records_at, element_at}
 use Rattle.definition.specs.Refusal.{utf8?, project?, long?, number_names, duration_names, long_in, too_long, tree_refusal, most_elements}
-use Rattle.tree.specs.declared.Head.TheVariants.{Whole, Cut}
 use Rattle.tree.proofs.Heads.{part, bounds, records_cut}
 
 -- ---- UTF-8
@@ -31,11 +32,11 @@ abbrev pub utf8_from : Text → ℕ → Bool
 utf8_from s at = every? utf8? (records_at s at)
 
 module _ (s : Text) (at : ℕ) where
-  pub utf8_cut : head_at s at ≡ Cut → utf8_from s at ≡ true
+  pub utf8_cut : head_at s at ≡ None → utf8_from s at ≡ true
   unfolding every?
   utf8_cut h = rw (records_cut s at h)
 
-  module _ {d a b e : ℕ} (h : head_at s at ≡ Whole d a b e) where
+  module _ {d a b e : ℕ} (h : head_at s at ≡ whole d a b e) where
     pub utf8_name : is_utf8 (part s a b) ≡ false → utf8_from s at ≡ false
     unfolding every? utf8?
     utf8_name n = rw ((bounds s at h).here, n)
@@ -55,15 +56,15 @@ abbrev pub long_from : Text → ℕ → Bool
 long_from s at = some? too_long (deeper (records_at s at))
 
 module _ (s : Text) (at : ℕ) where
-  pub long_cut : head_at s at ≡ Cut → long_from s at ≡ false
+  pub long_cut : head_at s at ≡ None → long_from s at ≡ false
   unfolding some? deeper
   long_cut h = rw (records_cut s at h)
 
-  pub long_none : head_at s at ≡ Cut → false ≡ some? too_long (below_root (records_at s at))
+  pub long_none : head_at s at ≡ None → false ≡ some? too_long (below_root (records_at s at))
   unfolding some? below_root
   long_none h = rw (records_cut s at h)
 
-  module _ {d a b e : ℕ} (h : head_at s at ≡ Whole d a b e) where
+  module _ {d a b e : ℕ} (h : head_at s at ≡ whole d a b e) where
     pub long_end : d ≤ 1 → long_from s at ≡ false
     unfolding some? deeper
     long_end q = rw (bounds s at h).here (simp (le-leb _ _ q))
@@ -110,6 +111,15 @@ fine_is s {n} h = go (layout s) refl
     go true e = let f = verdict_fine s e in (e, cc)
     go false e = let f = verdict_broken s e in let z : ◌≡◌ {A = ℕ} 0 1 = cc in absurd (omega arith)
 
+-- a count that is asked for by `?`
+pub ok_is : (o : Option ℕ) (e : Refusal) {n : ℕ} → ok_or o e ≡ Ok n → o ≡ Some n
+ok_is (Some m) e h = cc
+ok_is None e h = let z : ◌≡◌ {A = ℕ} 0 1 = cc in absurd (omega arith)
+
+pub err_is : (o : Option ℕ) (e : Refusal) {x : Refusal} → ok_or o e ≡ Err x → (o ≡ None) × (x ≡ e)
+err_is (Some m) e h = let z : ◌≡◌ {A = ℕ} 0 1 = cc in absurd (omega arith)
+err_is None e h = (refl, cc)
+
 module _ (s : Text) where
   pub refused_1 : verdict s ≡ None → verdict_refusal None ≡ tree_refusal s
   unfolding tree_refusal
@@ -154,29 +164,16 @@ module _ (p : Text → Bool) where
   unfolding some?
   some_last n h = rw h (sym (or-false (p n)))
 
--- a reading refuses where the number is too long
-number_long : (a : Result Float Unread) → eqb (number_refusal a) 5 ≡ long? a
-unfolding long?
-number_long (Err Absent) = refl
-number_long (Err Long) = refl
-number_long (Ok x) = refl
-
-duration_long : (a : Result Duration Unread) → eqb (duration_refusal a) 5 ≡ long? a
-unfolding long?
-duration_long (Err Absent) = refl
-duration_long (Err Long) = refl
-duration_long (Ok d) = refl
-
 module _ (name text : Text) where
-  pub as_number : (a : Result Float Unread) {u : Text} {r : ℕ} → some? (same name) number_names ≡ true → u ≡ trim text → a ≡ number_of u → r ≡ number_refusal a
-      → eqb r 5 ≡ long_in name text
+  pub as_number : {u : Text} {a : Result Float Unread} {r : Bool} → some? (same name) number_names ≡ true → u ≡ trim text → a ≡ number_of u → r ≡ long? a
+      → r ≡ long_in name text
   unfolding long_in
-  as_number a h e m k = rw (k, h, ← e, ← m) (number_long a)
+  as_number h e m k = rw (k, h, ← e, ← m)
 
-  pub as_duration : (a : Result Duration Unread) {r : ℕ} → some? (same name) number_names ≡ false → some? (same name) duration_names ≡ true → a ≡ duration_of text
-      → r ≡ duration_refusal a → eqb r 5 ≡ long_in name text
+  pub as_duration : {a : Result Duration Unread} {r : Bool} → some? (same name) number_names ≡ false → some? (same name) duration_names ≡ true → a ≡ duration_of text
+      → r ≡ long? a → r ≡ long_in name text
   unfolding long_in
-  as_duration a h i m k = rw (k, h, i, ← m) (duration_long a)
+  as_duration h i m k = rw (k, h, i, ← m)
 
   pub as_other : some? (same name) number_names ≡ false → some? (same name) duration_names ≡ false → false ≡ long_in name text
   unfolding long_in

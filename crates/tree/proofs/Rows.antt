@@ -12,10 +12,9 @@ use borrow.Author.Tests.{le-leb, lt-leb, le-ltb, lt-ltb, eq-eqb, ne_eqb}
 use Rattle.definition.specs.Base.{◌or◌, keep, same}
 use Rattle.definition.specs.Text.{Text, trim}
 use Rattle.definition.specs.Tree.{Rec, size, Element, elements, level, element, all, non_empty, text_of}
-use Rattle.tree.specs.Place.{head_at, records_at, under, after, element_at, named, siblings, later_at, list_of, Past, Starts}
+use Rattle.tree.specs.Place.{whole, head_at, records_at, under, after, element_at, named, siblings, later_at, list_of, Past, Starts}
 use Rattle.tree.specs.Answer.{found_child, none_child}
 use Rattle.tree.specs.Root.{own_text}
-use Rattle.tree.specs.declared.Head.TheVariants.{Whole, Cut}
 use Rattle.tree.proofs.Heads.{le_or_lt, part, bounds, records_cut}
 use Rattle.tree.proofs.Walk.{records_after}
 
@@ -36,11 +35,11 @@ abbrev pub row : Text → Text → ℕ → ℕ → List Element
 row s n w at = named n (level w (records_at s at))
 
 module _ (s n : Text) (w at : ℕ) where
-  pub row_cut : head_at s at ≡ Cut → row s n w at ≡ list_of s n None
+  pub row_cut : head_at s at ≡ None → row s n w at ≡ list_of s n None
   unfolding level elements keep list_of
   row_cut h = rw (records_cut s at h)
 
-  module _ {d a b e : ℕ} (h : head_at s at ≡ Whole d a b e) where
+  module _ {d a b e : ℕ} (h : head_at s at ≡ whole d a b e) where
     pub row_end : d < w → row s n w at ≡ list_of s n None
     unfolding level elements keep list_of
     row_end q = rw (bounds s at h).here (simp (lt-ltb _ _ q))
@@ -64,15 +63,15 @@ module _ (s n : Text) (w at : ℕ) where
 -- ---- the element at a position, by its head
 
 module _ (s : Text) (at : ℕ) where
-  pub name_cut : head_at s at ≡ Cut → [] ≡ (element_at s at).name
+  pub name_cut : head_at s at ≡ None → [] ≡ (element_at s at).name
   unfolding element
   name_cut h = rw (records_cut s at h)
 
-  pub text_cut : head_at s at ≡ Cut → [] ≡ (element_at s at).text
+  pub text_cut : head_at s at ≡ None → [] ≡ (element_at s at).text
   unfolding element
   text_cut h = rw (records_cut s at h)
 
-  module _ {d a b e : ℕ} (h : head_at s at ≡ Whole d a b e) where
+  module _ {d a b e : ℕ} (h : head_at s at ≡ whole d a b e) where
     pub name_whole : part s a b ≡ (element_at s at).name
     unfolding element
     name_whole = rw (bounds s at h).here
@@ -81,7 +80,7 @@ module _ (s : Text) (at : ℕ) where
     unfolding element
     text_whole = rw (bounds s at h).here
 
-pub empty_is : (s n : Text) (at : ℕ) → head_at s at ≡ Cut → eqb (length n) 0 ≡ same (element_at s at).name n
+pub empty_is : (s n : Text) (at : ℕ) → head_at s at ≡ None → eqb (length n) 0 ≡ same (element_at s at).name n
 unfolding same
 empty_is s [] at h = rw (← name_cut s at h)
 empty_is s (x ∷ n) at h = rw (← name_cut s at h) (ne_eqb (suc (length n)) 0 (λ q. omega arith))
@@ -96,15 +95,15 @@ starts_also : {s n : Text} {l k : List Element} {from m : ℕ} {r : Option ℕ} 
 starts_also e q h = record { is = e ∙ h.is; on = past_more _ _ q h.on }
 
 module _ (s n : Text) (at : ℕ) where
-  pub all_cut : head_at s at ≡ Cut → Starts s n (all (element_at s at) n) (at + 1) None
+  pub all_cut : head_at s at ≡ None → Starts s n (all (element_at s at) n) (at + 1) None
   unfolding all element elements keep list_of Past
   all_cut h = record { is = rw (records_cut s at h); on = tt }
 
-  pub later_cut : head_at s at ≡ Cut → Starts s n (later_at s n at) (at + 1) None
+  pub later_cut : head_at s at ≡ None → Starts s n (later_at s n at) (at + 1) None
   unfolding siblings elements keep list_of Past
   later_cut h = record { is = rw (records_cut s at h); on = tt }
 
-  module _ {d a b e : ℕ} (h : head_at s at ≡ Whole d a b e) where
+  module _ {d a b e : ℕ} (h : head_at s at ≡ whole d a b e) where
     pub all_row : all (element_at s at) n ≡ row s n (d + 1) e
     unfolding all element
     all_row = rw (bounds s at h).here
@@ -122,7 +121,7 @@ module _ (s n : Text) (at : ℕ) where
     pub later_whole : {r : Option ℕ} → Starts s n (row s n d e) e r → Starts s n (later_at s n at) (at + 1) r
     later_whole = starts_also later_row beyond
 
-pub name_is : (s n : Text) (at : ℕ) {d a b e : ℕ} {r : Bool} → head_at s at ≡ Whole d a b e → r ≡ same (part s a b) n → r ≡ same (element_at s at).name n
+pub name_is : (s n : Text) (at : ℕ) {d a b e : ℕ} {r : Bool} → head_at s at ≡ whole d a b e → r ≡ same (part s a b) n → r ≡ same (element_at s at).name n
 name_is s n at h q = rw (← name_whole s at h) q
 
 -- ---- the trimmed text of an element, and of a child

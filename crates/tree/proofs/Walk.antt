@@ -4,7 +4,8 @@ use Rattle.std.specs.Prelude.{None, Option, Some}
 use mathlib.Core.Path.{◌≡◌, refl, ap, sym, ◌∙◌}
 use mathlib.Core.Logic.{◌⊎◌, inl, inr}
 use mathlib.Core.List.{List, [], ◌∷◌, ◌++◌}
-use mathlib.Core.Bool.{true, false, ◌&&◌}
+use Rattle.std.specs.Bool.{then_some}
+use mathlib.Core.Bool.{Bool, true, false, ◌&&◌}
 use Prim.Native.Nat.{ℕ, suc, ◌+◌, ◌-◌, ◌≤◌, ◌<◌}
 use native.Mathlib.Nat.{zero-add, add-zero}
 use native.Mathlib.Omega.{arith}
@@ -13,16 +14,15 @@ use lib.Dec.{eqb}
 use borrow.Author.Tests.{le-leb, lt-leb, eq-eqb, ne_eqb}
 use Rattle.definition.specs.Text.{Text}
 use Rattle.definition.specs.Tree.{Rec, right_at, right, size, layout}
-use Rattle.tree.specs.Place.{head_at, verdict, records_at, under, after}
 use Rattle.tree.specs.declared.Head.{Head}
-use Rattle.tree.specs.declared.Head.TheVariants.{Whole, Cut}
+use Rattle.tree.specs.Place.{whole, head_at, verdict, records_at, under, after}
 use Rattle.tree.proofs.Heads.{le_or_lt, part, rec_of, bounds, records_cut}
 
 -- a part of the bytes is as long as it says
 part_length : (s : Text) (a b : ℕ) → a ≤ b → b ≤ length s → length (part s a b) ≡ b - a
 part_length s a b p q = simp (length-take, length-drop) (omega arith)
 
-module _ (s : Text) (at : ℕ) {d a b e : ℕ} (h : head_at s at ≡ Whole d a b e) where
+module _ (s : Text) (at : ℕ) {d a b e : ℕ} (h : head_at s at ≡ whole d a b e) where
   name_length : length (part s a b) ≡ b - a
   name_length = let w = bounds s at h in part_length s a b w.name (omega arith)
 
@@ -44,19 +44,19 @@ pub verdict_all : (s : Text) → verdict s ≡ verdict_from 0 0 0 (records_at s 
 unfolding verdict verdict_from layout
 verdict_all s = simp zero-add
 
+branch : (n : ℕ) (b : Bool) → (if b then Some n else None) ≡ then_some b n
+branch n true = refl
+branch n false = refl
+
 module _ (p n : ℕ) (s : Text) (at : ℕ) where
   abbrev pub left : Option ℕ
   left = verdict_from p n at (records_at s at) (length s)
 
-  pub left_fine : head_at s at ≡ Cut → at ≡ length s → left ≡ Some n
+  pub left_whole : head_at s at ≡ None → left ≡ then_some (eqb at (length s)) n
   unfolding verdict_from right size
-  left_fine h q = rw (records_cut s at h) (simp (add-zero, eq-eqb _ _ q))
+  left_whole h = rw (records_cut s at h) (simp add-zero (branch n (eqb at (length s))))
 
-  pub left_cut : head_at s at ≡ Cut → (at ≡ length s → ⊥) → left ≡ None
-  unfolding verdict_from right size
-  left_cut h q = rw (records_cut s at h) (simp (add-zero, ne_eqb _ _ q))
-
-  module _ {d a b e : ℕ} (h : head_at s at ≡ Whole d a b e) where
+  module _ {d a b e : ℕ} (h : head_at s at ≡ whole d a b e) where
     pub left_wrong : right_at p d (e - b) ≡ false → left ≡ None
     unfolding verdict_from right
     left_wrong q = rw (bounds s at h).here (simp (text_length s at h, q))
@@ -93,12 +93,12 @@ pub records_past : (l m : List Rec) (s : Text) (at : ℕ) → records_at s at �
 records_past [] m s at h = rw (size_none, add-zero) h
 records_past (r ∷ l) m s at h = go (head_at s at) refl (λ e g. records_past l m s e g)
   where
-    go : (x : Head) → head_at s at ≡ x → ((e : ℕ) → records_at s e ≡ l ++ m → records_at s (e + size l) ≡ m) → records_at s (at + size (r ∷ l)) ≡ m
-    go Cut q again = let c = records_cut s at q in let n : ◌≡◌ {A = ℕ} 0 (suc (length (l ++ m))) = ap length (sym c ∙ h) in absurd (omega arith)
-    go (Whole d a b e) q again =
+    go : (x : Option Head) → head_at s at ≡ x → ((e : ℕ) → records_at s e ≡ l ++ m → records_at s (e + size l) ≡ m) → records_at s (at + size (r ∷ l)) ≡ m
+    go None q again = let c = records_cut s at q in let n : ◌≡◌ {A = ℕ} 0 (suc (length (l ++ m))) = ap length (sym c ∙ h) in absurd (omega arith)
+    go (Some k) q again =
         let i = sym (bounds s at q).here ∙ h in
-        let k : rec_of s d a b e ≡ r = cons_first i in
-        rw (← k, size_whole s at q) (again e (cons_rest i))
+        let j : rec_of s k.depth k.name_at k.text_at k.next ≡ r = cons_first i in
+        rw (← j, size_whole s at q) (again k.next (cons_rest i))
 
 -- the first record that is not deeper than d, and those after it
 pub records_after : (s : Text) (d at : ℕ) {p : ℕ} → p ≡ at + size (under d (records_at s at)) → records_at s p ≡ after d (records_at s at)
@@ -134,11 +134,11 @@ module _ (s : Text) (from d : ℕ) where
   passed_first = record { same = refl; fewer = omega arith }
 
   module _ (p : ℕ) (g : Passed s from d p) where
-    pub passed_cut : head_at s p ≡ Cut → p ≡ from + size (under d (records_at s from))
+    pub passed_cut : head_at s p ≡ None → p ≡ from + size (under d (records_at s from))
     unfolding under size
     passed_cut h = let z : size (under d (records_at s p)) ≡ 0 = rw (records_cut s p h) in omega (arith, g.same)
 
-    module _ {c a b e : ℕ} (h : head_at s p ≡ Whole c a b e) where
+    module _ {c a b e : ℕ} (h : head_at s p ≡ whole c a b e) where
       pub passed_end : c ≤ d → p ≡ from + size (under d (records_at s from))
       unfolding under size
       passed_end q = let z : size (under d (records_at s p)) ≡ 0 = rw (bounds s p h).here (simp (le-leb _ _ q)) in omega (arith, g.same)

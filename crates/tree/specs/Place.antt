@@ -5,7 +5,6 @@ use Rattle.definition.specs.Base.{keep, same}
 use Rattle.definition.specs.Text.{Text}
 use Rattle.definition.specs.Tree.{Rec, head_bytes, record_of, records, layout, Forest, nothing, Element, elements, level, element}
 use Rattle.tree.specs.declared.Head.{Head}
-use Rattle.tree.specs.declared.Head.TheVariants.{Whole, Cut}
 
 -- ---- heads
 
@@ -15,13 +14,17 @@ pub record IsWord (s : Text) (i r : ℕ) : Type 0 where
   pub first : get_or s i 0 < 256
   pub second : get_or s (i + 1) 0 < 256
 
--- where the name, the text and the next record of the record at a position begin; Cut where none is whole
-unfoldable pub head_by : ℕ → Option (Rec × Text) → Head
-head_by at None = Cut
-head_by at (Some (r, rest)) =
-    Whole r.depth (at + head_bytes) (at + head_bytes + length r.name) (at + head_bytes + length r.name + length r.text)
+-- a head by its depth and where the name, the text and the next record begin
+abbrev pub whole : ℕ → ℕ → ℕ → ℕ → Option Head
+whole d a b e = Some (record { depth = d; name_at = a; text_at = b; next = e })
 
-unfoldable pub head_at : Text → ℕ → Head
+-- the head of the record at a position, none where none is whole
+unfoldable pub head_by : ℕ → Option (Rec × Text) → Option Head
+head_by at None = None
+head_by at (Some (r, rest)) =
+    whole r.depth (at + head_bytes) (at + head_bytes + length r.name) (at + head_bytes + length r.name + length r.text)
+
+unfoldable pub head_at : Text → ℕ → Option Head
 head_at s at = head_by at (record_of (drop at s))
 
 -- the layout, and how many records there are

@@ -5,8 +5,6 @@ ghost use Rattle.definition.specs.Tree.{level, child as child_of};
 ghost use Rattle.tree.specs.Place.{records_at, element_at, named};
 ghost use Rattle.tree.specs.Root.{note_at, Notes, Parts, Stands};
 
-use crate::Head;
-
 // The children of a project that are read; a position past the end stands for one that is missing.
 #[derive(Clone, Copy)]
 pub struct Root {
@@ -78,40 +76,26 @@ fn parts_from(s: &[u8], from: usize, w: usize) -> Root
 {
     let mut r = nowhere(s.len());
     let mut p = from;
-    loop {
-        match crate::read_head(s, p) {
-            Head::Cut => return r,
-            Head::Whole {
-                depth,
-                name_at: _,
-                text_at: _,
-                next,
-            } => {
-                if depth < w {
-                    return r;
-                }
-                if depth == w {
-                    r = note_all(s, r, p);
-                    p = next;
-                } else {
-                    p = crate::skip(s, next, w);
-                }
-            }
+    while let Some(h) = crate::read_head(s, p) {
+        if h.depth < w {
+            return r;
+        }
+        if h.depth == w {
+            r = note_all(s, r, p);
+            p = h.next;
+        } else {
+            p = crate::skip(s, h.next, w);
         }
     }
+    r
 }
 
 // The parts of the element at `at`.
 pub fn root_of(s: &[u8], at: usize) -> Root
     ensures { Parts (λ n p. Stands s.now p (child_of (element_at s.now at) n)) result }
 {
-    match crate::read_head(s, at) {
-        Head::Cut => nowhere(s.len()),
-        Head::Whole {
-            depth,
-            name_at: _,
-            text_at: _,
-            next,
-        } => parts_from(s, next, depth + 1),
-    }
+    let Some(h) = crate::read_head(s, at) else {
+        return nowhere(s.len());
+    };
+    parts_from(s, h.next, h.depth + 1)
 }

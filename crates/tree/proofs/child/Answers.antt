@@ -5,14 +5,11 @@ use native.Mathlib.Omega.{arith}
 use borrow.Author.Rules.{rules}
 use Rattle.tree.proofs.child.Goals as goal
 
-pub enum_told-1 : goal.enum_told-1
-enum_told-1 c = search rules
+pub overflow_add-h : goal.overflow_add-h
+overflow_add-h c = omega (arith, bounds _ _ (sym c.read_head.ensures ∙ c.in_ok-h.was))
 
-pub overflow_add-depth : goal.overflow_add-depth
-overflow_add-depth c = omega (arith, bounds _ _ (sym c.read_head.ensures ∙ c.in-Whole.is))
+pub returns-in_err-h : goal.returns-in_err-h
+returns-in_err-h c = rw c.from_residual.ensures (all_cut _ _ _ (sym c.read_head.ensures ∙ c.in_err-h.was))
 
-pub returns-in-Cut : goal.returns-in-Cut
-returns-in-Cut c = all_cut _ _ _ (sym c.read_head.ensures ∙ c.in-Cut.is)
-
-pub returns-in-Whole : goal.returns-in-Whole
-returns-in-Whole c = all_whole _ _ _ (sym c.read_head.ensures ∙ c.in-Whole.is) c.find.ensures
+pub returns : goal.returns
+returns c = all_whole _ _ _ (sym c.read_head.ensures ∙ c.in_ok-h.was) c.find.ensures

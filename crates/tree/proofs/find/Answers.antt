@@ -7,55 +7,52 @@ use borrow.Author.Rules.{rules}
 use native.Mathlib.Omega.{arith}
 use Rattle.tree.proofs.find.Goals as goal
 
-pub loop-depth-init : goal.loop-depth-init
-loop-depth-init c = (refl, omega arith)
+pub loop-h-init : goal.loop-h-init
+loop-h-init c = (refl, omega arith)
 
-pub enum_told-1 : goal.enum_told-1
-enum_told-1 c = search rules
-
-pub returns-in-Cut : goal.returns-in-Cut
+pub returns : goal.returns
 unfolding Past
-returns-in-Cut c = record { is = c.loop-depth.invariant.0 ∙ row_cut _ _ _ _ (sym c.read_head.ensures ∙ c.in-Cut.is); on = tt }
+returns c = record { is = c.loop-h.invariant.0 ∙ row_cut _ _ _ _ (sym c.read_head.ensures ∙ c.in_default.is); on = tt }
 
-pub returns-then-depth-w : goal.returns-then-depth-w
+pub returns-then-h-w : goal.returns-then-h-w
 unfolding Past
-returns-then-depth-w c = record { is = c.loop-depth.invariant.0 ∙ row_end _ _ _ _ (sym c.read_head.ensures ∙ c.in-Whole.is) c.if-depth-w.true; on = tt }
+returns-then-h-w c = record { is = c.loop-h.invariant.0 ∙ row_end _ _ _ _ (sym c.read_head.ensures ∙ c.in-Some.is) c.if-h-w.true; on = tt }
 
 pub slice_bounds-same-count : goal.slice_bounds-same-count
-slice_bounds-same-count c = (bounds _ _ (sym c.read_head.ensures ∙ c.in-Whole.is)).name
+slice_bounds-same-count c = (bounds _ _ (sym c.read_head.ensures ∙ c.in-Some.is)).name
 
 pub slice_bounds-same-start : goal.slice_bounds-same-start
-slice_bounds-same-start c = (bounds _ _ (sym c.read_head.ensures ∙ c.in-Whole.is)).name
+slice_bounds-same-start c = (bounds _ _ (sym c.read_head.ensures ∙ c.in-Some.is)).name
 
 pub slice_bounds-same-end : goal.slice_bounds-same-end
-slice_bounds-same-end c = omega (arith, bounds _ _ (sym c.read_head.ensures ∙ c.in-Whole.is))
+slice_bounds-same-end c = omega (arith, bounds _ _ (sym c.read_head.ensures ∙ c.in-Some.is))
 
 pub returns-then-same : goal.returns-then-same
 unfolding Past
 returns-then-same c =
-    let h = sym c.read_head.ensures ∙ c.in-Whole.is in
-    let i = c.loop-depth.invariant in
+    let h = sym c.read_head.ensures ∙ c.in-Some.is in
+    let i = c.loop-h.invariant in
     record {
-      is = i.0 ∙ row_hit _ _ _ _ h c.if-depth-w-2.true (sym c.same.ensures ∙ c.if-same.true);
+      is = i.0 ∙ row_hit _ _ _ _ h c.if-h-w-2.true (sym c.same.ensures ∙ c.if-same.true);
       on = (i.1, omega (arith, bounds _ _ h));
     }
 
-pub loop-depth-smaller-then-depth-w-2 : goal.loop-depth-smaller-then-depth-w-2
-loop-depth-smaller-then-depth-w-2 c = omega (arith, bounds _ _ (sym c.read_head.ensures ∙ c.in-Whole.is))
+pub loop-h-smaller-then-h-w-2 : goal.loop-h-smaller-then-h-w-2
+loop-h-smaller-then-h-w-2 c = omega (arith, bounds _ _ (sym c.read_head.ensures ∙ c.in-Some.is))
 
-pub loop-depth-preserved-then-depth-w-2 : goal.loop-depth-preserved-then-depth-w-2
-loop-depth-preserved-then-depth-w-2 c =
-    let h = sym c.read_head.ensures ∙ c.in-Whole.is in
-    let i = c.loop-depth.invariant in
-    (i.0 ∙ row_miss _ _ _ _ h c.if-depth-w-2.true (sym c.same.ensures ∙ c.if-same.false), omega (arith, i.1, bounds _ _ h))
+pub loop-h-preserved-then-h-w-2 : goal.loop-h-preserved-then-h-w-2
+loop-h-preserved-then-h-w-2 c =
+    let h = sym c.read_head.ensures ∙ c.in-Some.is in
+    let i = c.loop-h.invariant in
+    (i.0 ∙ row_miss _ _ _ _ h c.if-h-w-2.true (sym c.same.ensures ∙ c.if-same.false), omega (arith, i.1, bounds _ _ h))
 
-pub loop-depth-smaller : goal.loop-depth-smaller
-loop-depth-smaller c = omega (arith, c.skip-p.ensures, bounds _ _ (sym c.read_head.ensures ∙ c.in-Whole.is))
+pub loop-h-smaller : goal.loop-h-smaller
+loop-h-smaller c = omega (arith, c.skip-p.ensures, bounds _ _ (sym c.read_head.ensures ∙ c.in-Some.is))
 
-pub loop-depth-preserved : goal.loop-depth-preserved
-loop-depth-preserved c =
-    let h = sym c.read_head.ensures ∙ c.in-Whole.is in
-    let i = c.loop-depth.invariant in (
-      i.0 ∙ row_under _ _ _ _ h (lt_of_le-ne c.if-depth-w.false (λ e. c.if-depth-w-2.false (sym e))) c.skip-p.ensures,
+pub loop-h-preserved : goal.loop-h-preserved
+loop-h-preserved c =
+    let h = sym c.read_head.ensures ∙ c.in-Some.is in
+    let i = c.loop-h.invariant in (
+      i.0 ∙ row_under _ _ _ _ h (lt_of_le-ne c.if-h-w.false (λ e. c.if-h-w-2.false (sym e))) c.skip-p.ensures,
       omega (arith, i.1, c.skip-p.ensures, bounds _ _ h),
     )

@@ -4,8 +4,8 @@ use lib.ListN.{length}
 use Rattle.tree.proofs.Rows.{row}
 use Rattle.tree.proofs.find.Given as goal
 
-abbrev pub invariant-loop-depth : goal.invariant-loop-depth
-invariant-loop-depth l = (row l.s l.name l.w l.from ≡ row l.s l.name l.w l.p) × (l.from ≤ l.p)
+abbrev pub invariant-loop-h : goal.invariant-loop-h
+invariant-loop-h l = (row l.s l.name l.w l.from ≡ row l.s l.name l.w l.p) × (l.from ≤ l.p)
 
-abbrev pub decreases-loop-depth : goal.decreases-loop-depth
-decreases-loop-depth l = length l.s - l.p
+abbrev pub decreases-loop-h : goal.decreases-loop-h
+decreases-loop-h l = length l.s - l.p

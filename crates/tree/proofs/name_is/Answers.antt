@@ -5,20 +5,17 @@ use native.Mathlib.Omega.{arith}
 use borrow.Author.Rules.{rules}
 use Rattle.tree.proofs.name_is.Goals as goal
 
-pub enum_told-1 : goal.enum_told-1
-enum_told-1 c = search rules
-
 pub slice_bounds-same-count : goal.slice_bounds-same-count
-slice_bounds-same-count c = (bounds _ _ (sym c.read_head.ensures ∙ c.in-Whole.is)).name
+slice_bounds-same-count c = (bounds _ _ (sym c.read_head.ensures ∙ c.in-Some.is)).name
 
 pub slice_bounds-same-start : goal.slice_bounds-same-start
-slice_bounds-same-start c = (bounds _ _ (sym c.read_head.ensures ∙ c.in-Whole.is)).name
+slice_bounds-same-start c = (bounds _ _ (sym c.read_head.ensures ∙ c.in-Some.is)).name
 
 pub slice_bounds-same-end : goal.slice_bounds-same-end
-slice_bounds-same-end c = omega (arith, bounds _ _ (sym c.read_head.ensures ∙ c.in-Whole.is))
+slice_bounds-same-end c = omega (arith, bounds _ _ (sym c.read_head.ensures ∙ c.in-Some.is))
 
-pub returns-in-Cut : goal.returns-in-Cut
-returns-in-Cut c = empty_is _ _ _ (sym c.read_head.ensures ∙ c.in-Cut.is)
+pub returns-in_default : goal.returns-in_default
+returns-in_default c = c.is_empty.ensures ∙ empty_is _ _ _ (sym c.read_head.ensures ∙ c.in_default.is)
 
-pub returns-in-Whole : goal.returns-in-Whole
-returns-in-Whole c = name_is _ _ _ (sym c.read_head.ensures ∙ c.in-Whole.is) c.same.ensures
+pub returns : goal.returns
+returns c = name_is _ _ _ (sym c.read_head.ensures ∙ c.in-Some.is) c.same.ensures

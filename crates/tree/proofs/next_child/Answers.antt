@@ -3,11 +3,8 @@ use Rattle.tree.proofs.Rows.{later_cut, later_whole}
 use borrow.Author.Rules.{rules}
 use Rattle.tree.proofs.next_child.Goals as goal
 
-pub enum_told-1 : goal.enum_told-1
-enum_told-1 c = search rules
+pub returns-in_err-h : goal.returns-in_err-h
+returns-in_err-h c = rw c.from_residual.ensures (later_cut _ _ _ (sym c.read_head.ensures ∙ c.in_err-h.was))
 
-pub returns-in-Cut : goal.returns-in-Cut
-returns-in-Cut c = later_cut _ _ _ (sym c.read_head.ensures ∙ c.in-Cut.is)
-
-pub returns-in-Whole : goal.returns-in-Whole
-returns-in-Whole c = later_whole _ _ _ (sym c.read_head.ensures ∙ c.in-Whole.is) c.find.ensures
+pub returns : goal.returns
+returns c = later_whole _ _ _ (sym c.read_head.ensures ∙ c.in_ok-h.was) c.find.ensures

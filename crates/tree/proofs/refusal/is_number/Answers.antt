@@ -1,13 +1,11 @@
-use Rattle.tree.proofs.Passes.{some_first, some_last}
+use Rattle.std.proofs.Common.{rules, Bor, List, ℕ, ◌∙◌, refl}
+use Rattle.std.proofs.lemmas.Iterator.{YieldsList-from_slice}
+use Rattle.std.proofs.lemmas.Iterator.Search.{any_from_yields_List}
+use Rattle.std.specs.List.{list_any}
+use Rattle.definition.specs.Base.{some?, same}
 use Rattle.tree.proofs.refusal.is_number.Goals as goal
 
 pub returns : goal.returns
+unfolding some?
 returns c =
-    some_first _ _ _ c.same.ensures
-    (some_first _ _ _ c.same-2.ensures
-    (some_first _ _ _ c.same-3.ensures
-    (some_first _ _ _ c.same-4.ensures
-    (some_first _ _ _ c.same-5.ensures
-    (some_first _ _ _ c.same-6.ensures
-    (some_first _ _ _ c.same-7.ensures
-    (some_last _ _ c.same-8.ensures)))))))
+    any_from_yields_List (λ (n : Bor (List ℕ)). same c.args.name.now n.now) _ _ _ c.any.ensures.ran (YieldsList-from_slice _ c.iter.ensures.rest) (λ x b q k. search rules) ∙ refl

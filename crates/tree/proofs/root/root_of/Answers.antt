@@ -5,14 +5,11 @@ use Rattle.tree.proofs.Heads.{bounds}
 use Rattle.tree.proofs.Parts.{root_cut, root_whole}
 use Rattle.tree.proofs.root.root_of.Goals as goal
 
-pub enum_told-1 : goal.enum_told-1
-enum_told-1 c = search rules
+pub overflow_add-h : goal.overflow_add-h
+overflow_add-h c = omega (arith, bounds _ _ (sym c.read_head.ensures ∙ c.in-Some.is))
 
-pub overflow_add-depth : goal.overflow_add-depth
-overflow_add-depth c = omega (arith, bounds _ _ (sym c.read_head.ensures ∙ c.in-Whole.is))
+pub returns-in_default : goal.returns-in_default
+returns-in_default c = root_cut _ _ (sym c.read_head.ensures ∙ c.in_default.is) c.nowhere.ensures
 
-pub returns-in-Cut : goal.returns-in-Cut
-returns-in-Cut c = root_cut _ _ (sym c.read_head.ensures ∙ c.in-Cut.is) c.nowhere.ensures
-
-pub returns-in-Whole : goal.returns-in-Whole
-returns-in-Whole c = root_whole _ _ (sym c.read_head.ensures ∙ c.in-Whole.is) c.parts_from.ensures
+pub returns : goal.returns
+returns c = root_whole _ _ (sym c.read_head.ensures ∙ c.in-Some.is) c.parts_from.ensures
