@@ -7,7 +7,7 @@ use mathlib.Core.Bool.{Bool, true, false, ◌||◌}
 use lib.Dec.{eqb}
 use Rattle.recurrence.specs.Scale.{day_in}
 use borrow.Author.Tests.{le-leb}
-use Rattle.definition.specs.Base.{◌or◌}
+use Rattle.std.specs.Prelude.{Some}
 use Rattle.definition.specs.Date.{year_of, month_of, day_of, date_at, leap, month_length, first_date, last_date}
 use Rattle.laws.specs.Calendar.{new_year_next, year_length_lem, year_found, first_new_year, last_new_year, IsDay, is_day_lem}
 use Rattle.recurrence.specs.Scale.{month_at}
@@ -52,6 +52,6 @@ length_least y m = by (eqb m 2) (leap y) (eqb m 4 || (eqb m 6 || (eqb m 9 || eqb
     by false b true = omega arith
     by false b false = omega arith
 
-pub first_day : (y m : ℕ) → (day_in y m 1 or 0) ≡ date_at y m 1
+pub first_day : (y m : ℕ) → day_in y m 1 ≡ Some (date_at y m 1)
 unfolding day_in
 first_day y m = rw (le-leb 1 (month_length y m) (length_least y m))

@@ -7,7 +7,6 @@ use mathlib.Core.Path.{◌≡◌, refl, sym, ap, ◌∙◌}
 use Rattle.std.specs.Prelude.{Option, Some, None}
 use lib.IntN.{ℤ, pos, nat_abs, ◌+ℤ◌, ◌-ℤ◌, -ℤ-+ℤ_cancel}
 use borrow.Author.Tests.{lt-ltb, le-ltb, le-leb}
-use Rattle.definition.specs.Base.{◌or◌}
 use Rattle.definition.specs.Date.{Date, month_length, year_at, from_ymd, day_number, ymd_of}
 use Rattle.definition.specs.Answer.{date_meaning, day_number_of}
 use Rattle.definition.specs.declared.Ymd.{Ymd}
@@ -18,10 +17,10 @@ use Rattle.recurrence.proofs.Dates.{days_back}
 
 -- ---- answers
 
-pub count_said : (a : Option DayNumber) (o : Option Date) → date_meaning a ≡ day_number_of o → count_by a ≡ (o or 0)
-unfolding date_meaning day_number_of count_by
+pub count_said : (a : Option DayNumber) (o : Option Date) → date_meaning a ≡ day_number_of o → count_by a ≡ o
+unfolding date_meaning day_number_of
 count_said (Some d) None e = let z : ◌≡◌ {A = ℕ} 0 1 = cc in absurd (omega arith)
-count_said (Some d) (Some n) e = let q : d.0 ≡ day_number n = cc in ap day_count q ∙ count_of_number n
+count_said (Some d) (Some n) e = let q : d.0 ≡ day_number n = cc in ap Some (ap day_count q ∙ count_of_number n)
 count_said None None e = refl
 count_said None (Some n) e = let z : ◌≡◌ {A = ℕ} 0 1 = cc in absurd (omega arith)
 
@@ -48,19 +47,9 @@ module _ (y m : ℕ) (h : IsYear y) (i : IsMonth m) (z : ℤ) (e : z ≡ pos y -
   unfolding from_ymd day_in
   day_by_lem day = rw (e, year_of_number y h, le-leb 1 m i.0, le-leb m 12 i.1)
 
-  length_by_lem : length_at z m ≡ Some (month_length y m)
+  pub length_by_lem : length_at z m ≡ Some (month_length y m)
   unfolding length_at
   length_by_lem = rw (e, year_of_number y h, le-leb 1 m i.0, le-leb m 12 i.1)
-
-  module _ (a : Option ℕ) (said : a ≡ length_at z m) where
-    pub length_is : (n : ℕ) → a ≡ Some n → n ≡ month_length y m
-    length_is n q = let p : Some n ≡ Some (month_length y m) = sym (q) ∙ said ∙ length_by_lem in cc
-
-    pub length_there : a ≡ None → ⊥
-    length_there q =
-        let p : None ≡ Some (month_length y m) = sym (q) ∙ said ∙ length_by_lem in
-        let x : ◌≡◌ {A = ℕ} 0 1 = cc in
-        omega arith
 
 -- ---- the day of the calendar
 

@@ -5,10 +5,10 @@ use native.Mathlib.Decide.{dec_lt}
 use native.Mathlib.Nat.{mul-le-mul_right, mul-mod_left}
 use mathlib.Core.Path.{◌≡◌, refl}
 use mathlib.Core.Bool.{Bool, true, false, ◌&&◌, and-false}
-use Rattle.std.specs.Prelude.{Some}
+use Rattle.std.specs.Prelude.{Option, Some}
 use lib.Dec.{eqb}
 use borrow.Author.Tests.{eq-eqb, ne_eqb, le-leb, lt-leb}
-use Rattle.definition.specs.Base.{◌or◌, when, within}
+use Rattle.definition.specs.Base.{when, within}
 use Rattle.definition.specs.Bits.{twos}
 use Rattle.definition.specs.Date.{Date, year_of, month_of, day_of, sunday_first}
 use Rattle.definition.specs.Recurrence.{most_days, century, every_nth, on_weekday, in_nth_week, month_count, fits}
@@ -19,7 +19,7 @@ use Rattle.recurrence.specs.Scale.{month_at, IsMonth}
 use Rattle.recurrence.specs.Sequence.{FirstFit}
 use Rattle.recurrence.proofs.Every.{on_step, off_step, past_steps, one_up}
 use Rattle.recurrence.proofs.Months.{on, year_rises, month_rises, Lies, candidate_lies, candidate_is}
-use Rattle.recurrence.proofs.Units.{Units, Passed, pass_none, pass_over, pass_unit, fit_unit, no_unit}
+use Rattle.recurrence.proofs.Units.{Units, Passed, pass_none, pass_over, fit_unit, no_unit}
 use Rattle.recurrence.specs.declared.scale.Scaled.{Scaled}
 
 -- ---- they are the definition's
@@ -133,15 +133,13 @@ module _ (b : Bool) (r : Scaled) (at : ℕ) (step : 0 < r.period) where
       over (month_at at - month_at r.from) q (month_at at) u (omega (arith, month_rises r.from at h))
       (pass_none (monthly_fits b r) month_at (counts_month r) (candidate_at b r) (monthly_units b r) at)
 
-  pub monthly_next : (q x : ℕ) → x ≡ (candidate_at b r (step_month r q) or 0) → x < at → Passed (monthly_fits b r) month_at at (step_month r q) → Passed (monthly_fits b r) month_at at (step_month r (suc q))
-  monthly_next q x e l p =
-      over (suc (q * r.period)) (suc q) (suc (step_month r q)) (one_up q r.period step) (omega arith)
-      (pass_unit (monthly_fits b r) month_at (counts_month r) (candidate_at b r) (monthly_units b r) at (step_month r q) x p e l)
+  pub monthly_next : (q : ℕ) → Passed (monthly_fits b r) month_at at (suc (step_month r q)) → Passed (monthly_fits b r) month_at at (step_month r (suc q))
+  monthly_next q = over (suc (q * r.period)) (suc q) (suc (step_month r q)) (one_up q r.period step) (omega arith)
 
-  pub monthly_fit : (q x : ℕ) → x ≡ (candidate_at b r (step_month r q) or 0) → 0 < at → at ≤ x → q < 2400 → Passed (monthly_fits b r) month_at at (step_month r q) → FirstFit (monthly_fits b r) r.last at x
-  monthly_fit q x e pos l h p =
-      let o : step_month r q - month_at r.from ≡ q * r.period = omega arith in
-      fit_unit (monthly_fits b r) month_at (counts_month r) (candidate_at b r) (monthly_units b r) at (step_month r q) x p e r.last pos l (rw o (on_step q r.period 2400 step h))
+  pub monthly_fit : (q x : ℕ) (o : Option ℕ) → o ≡ candidate_at b r (step_month r q) → o ≡ Some x → at ≤ x → q < 2400 → Passed (monthly_fits b r) month_at at (step_month r q) → FirstFit (monthly_fits b r) r.last at x
+  monthly_fit q x o e f l h p =
+      let g : step_month r q - month_at r.from ≡ q * r.period = omega arith in
+      fit_unit (monthly_fits b r) month_at (counts_month r) (candidate_at b r) (monthly_units b r) at (step_month r q) o p e x r.last f l (rw g (on_step q r.period 2400 step h))
 
   none_from : (q : ℕ) → Passed (monthly_fits b r) month_at at (step_month r q) → ((i : ℕ) → step_month r q ≤ i → i ≤ month_at r.last → counts_month r i ≡ false) → FirstFit (monthly_fits b r) r.last at (suc r.last)
   none_from q p h = no_unit (monthly_fits b r) month_at (counts_month r) (candidate_at b r) (monthly_units b r) at (step_month r q) r.last p h

@@ -6,12 +6,12 @@ use native.Mathlib.Numerals.{add-one}
 use mathlib.Core.Path.{◌≡◌, refl, ap, ◌∙◌}
 use mathlib.Core.Bool.{Bool, true, false, ◌&&◌, not}
 use mathlib.Core.List.{List, [], ◌∷◌}
-use Rattle.std.specs.Prelude.{Option, Some}
+use Rattle.std.specs.Prelude.{Option, Some, None}
 use Rattle.std.specs.Prelude.{slice_get}
 use lib.Dec.{eqb}
 use lib.IntN.{pos}
 use borrow.Author.Tests.{ne_eqb, lt-ltb, le-ltb}
-use Rattle.definition.specs.Base.{◌or◌, ◌or_else◌, within, keep, count}
+use Rattle.definition.specs.Base.{◌or_else◌, within, keep, count}
 use Rattle.definition.specs.Date.{weekday, sunday_first, date_at, month_length}
 use Rattle.definition.specs.Recurrence.{item_fits, nth_in_month}
 use Rattle.recurrence.specs.Kind.{last_of}
@@ -62,7 +62,7 @@ module _ (p : ℕ → Bool) where
     pub run_end : end ≤ d → run d end ≡ []
     run_end h = let e : end - d ≡ 0 = omega arith in rw e (keep_none p d)
 
-    pub nth_hit : (k : ℕ) → d < end → p d ≡ true → k ≡ 0 → d ≡ (slice_get (run d end) k or 0)
+    pub nth_hit : (k : ℕ) → d < end → p d ≡ true → k ≡ 0 → Some d ≡ slice_get (run d end) k
     nth_hit k h y e = rw (e, run_yes h y)
 
     pub nth_yes : (k : ℕ) → d < end → p d ≡ true → (k ≡ 0 → ⊥) → slice_get (run d end) k ≡ slice_get (run (d + 1) end) (k - 1)
@@ -72,7 +72,7 @@ module _ (p : ℕ → Bool) where
     pub nth_no : (k : ℕ) → d < end → p d ≡ false → slice_get (run d end) k ≡ slice_get (run (d + 1) end) k
     nth_no k h y = rw (run_no h y)
 
-    pub nth_end : (k : ℕ) → end ≤ d → 0 ≡ (slice_get (run d end) k or 0)
+    pub nth_end : (k : ℕ) → end ≤ d → None ≡ slice_get (run d end) k
     nth_end k h = rw (run_end h)
 
   -- backwards
@@ -98,7 +98,7 @@ module _ (p : ℕ → Bool) where
       last_front a (suc n) ∙ rw (last_snoc (suc a) n, e, last_front a n) (swap (p a) (p (suc a + n)) a (suc a + n) (last_of (keep p (count (suc a) n))))
 
   module _ (first d : ℕ) where
-    pub last_yes : first < d → p (d - 1) ≡ true → d - 1 ≡ (last_of (run first d) or 0)
+    pub last_yes : first < d → p (d - 1) ≡ true → Some (d - 1) ≡ last_of (run first d)
     last_yes h y =
         let e : d - first ≡ suc (d - 1 - first) = omega arith in
         let f : first + (d - 1 - first) ≡ d - 1 = omega arith in
@@ -110,13 +110,13 @@ module _ (p : ℕ → Bool) where
         let f : first + (d - 1 - first) ≡ d - 1 = omega arith in
         rw (e, last_snoc first (d - 1 - first), f, y)
 
-    pub last_end : d ≤ first → 0 ≡ (last_of (run first d) or 0)
+    pub last_end : d ≤ first → None ≡ last_of (run first d)
     last_end h = let e : d - first ≡ 0 = omega arith in rw (e, keep_none p first, last_none)
 
 -- ---- the item at a position
 
 module _ (y m item position : ℕ) where
-  pub of_december : (eqb y 19999 && eqb m 12) ≡ true → 0 ≡ (nth_in_month y m (pos item) (pos position) or 0)
+  pub of_december : (eqb y 19999 && eqb m 12) ≡ true → None ≡ nth_in_month y m (pos item) (pos position)
   unfolding nth_in_month
   of_december e = rw e
 
@@ -124,14 +124,14 @@ module _ (y m item position : ℕ) where
     month_run : keep (item_fits (pos item)) (count first (end - first)) ≡ keep (item_fits (pos item)) (count (date_at y m 1) (month_length y m))
     month_run = let l : end - first ≡ month_length y m = omega arith in rw (l, f)
 
-    pub of_last : position ≡ 4 → (last_of (keep (item_fits (pos item)) (count first (end - first))) or 0) ≡ (nth_in_month y m (pos item) (pos position) or 0)
+    pub of_last : position ≡ 4 → last_of (keep (item_fits (pos item)) (count first (end - first))) ≡ nth_in_month y m (pos item) (pos position)
     unfolding nth_in_month
     of_last q = rw (other, q, month_run)
 
-    pub of_nth : (position ≡ 4 → ⊥) → position < 4 → (slice_get (keep (item_fits (pos item)) (count first (end - first))) position or 0) ≡ (nth_in_month y m (pos item) (pos position) or 0)
+    pub of_nth : (position ≡ 4 → ⊥) → position < 4 → slice_get (keep (item_fits (pos item)) (count first (end - first))) position ≡ nth_in_month y m (pos item) (pos position)
     unfolding nth_in_month
     of_nth n l = rw (other, ne_eqb position 4 n, lt-ltb position 4 l, month_run)
 
-    pub of_none : (position ≡ 4 → ⊥) → 4 ≤ position → 0 ≡ (nth_in_month y m (pos item) (pos position) or 0)
+    pub of_none : (position ≡ 4 → ⊥) → 4 ≤ position → None ≡ nth_in_month y m (pos item) (pos position)
     unfolding nth_in_month
     of_none n l = rw (other, ne_eqb position 4 n, le-ltb position 4 l)

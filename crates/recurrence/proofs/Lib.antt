@@ -1,3 +1,4 @@
+pub mod Options
 pub mod Runs
 pub mod Every
 pub mod Units

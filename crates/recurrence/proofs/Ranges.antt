@@ -43,32 +43,22 @@ run_days : (a n : ℕ) → range_days (Some (record { first = day_date a; count 
 unfolding range_days
 run_days a n = rw (count_of_number a, add-one)
 
-apart : (from to end : ℕ) → end ≡ max to from → end - from ≡ to - from
-apart from to end e = omega arith
-
-pub range_made : (from to end n : ℕ) {first : Declared.Date} → first ≡ day_date from → (from ≡ 0 → ⊥) → (to ≡ 0 → ⊥) → end ≡ max to from → n ≡ min (end - from) 3660 → Some (record { first = first; count = n + 1 }) ≡ range_in from to
-unfolding range_in
-range_made from to end n d a b e f =
-    let m : n ≡ min (to - from) most_exception_days = f ∙ ap (λ (k : ℕ). min k most_exception_days) (apart from to end e) in
-    rw (ne_eqb from 0 a, ne_eqb to 0 b) (λ i. Some (record { first = d i; count = m i + 1 }))
-
 module _ (x : Element) where
   module _ (p : Element) (c : child x (bytes "TimePeriod") ≡ Some p) where
-    range_read : (f : Option Date) → date_in p "FromDate" ≡ f → (t : Option Date) → date_in p "ToDate" ≡ t → RangeRead x (range_in (f or 0) (t or 0))
+    range_read : (f : Option Date) → date_in p "FromDate" ≡ f → (t : Option Date) → date_in p "ToDate" ≡ t → RangeRead x (range_in f t)
     unfolding range_in days_of range_days
     range_read None f t g = record { is = rw (c, f); days = rw (c, f) }
     range_read (Some d) f None g =
-        let i = field_in p "FromDate" d f in
-        record { is = rw (c, f, g, ne_eqb d 0 (λ z. omega (arith, i.low))); days = rw (c, f, g, ne_eqb d 0 (λ z. omega (arith, i.low))) }
+        record { is = rw (c, f, g); days = rw (c, f, g) }
     range_read (Some d) f (Some k) g =
         let i = field_in p "FromDate" d f in
         let j = field_in p "ToDate" k g in
         let n = min (k - d) most_exception_days in
-        let r : range_in d k ≡ Some (record { first = day_date d; count = n + 1 }) = rw (ne_eqb d 0 (λ z. omega (arith, i.low)), ne_eqb k 0 (λ z. omega (arith, j.low))) in
+        let r : range_in (Some d) (Some k) ≡ Some (record { first = day_date d; count = n + 1 }) = refl in
         let l : days_of x ≡ count d (suc n) = rw (c, f, g) (keep_all (suc n) d (omega (arith, i.high, j.high))) in
         record { is = r ∙ run_range d n ∙ ap range_by (sym l); days = ap range_days r ∙ run_days d n ∙ sym l }
 
-  none_read : child x (bytes "TimePeriod") ≡ None → RangeRead x (range_in 0 0)
+  none_read : child x (bytes "TimePeriod") ≡ None → RangeRead x (range_in None None)
   unfolding range_in days_of range_days
   none_read e = record { is = rw e; days = rw e }
 
@@ -76,6 +66,6 @@ module _ (x : Element) where
   unfolding period_of
   range_is = by (child x (bytes "TimePeriod")) refl
     where
-      by : (o : Option Element) → child x (bytes "TimePeriod") ≡ o → RangeRead x (range_in ((o >>= λ p. date_in p "FromDate") or 0) ((o >>= λ p. date_in p "ToDate") or 0))
+      by : (o : Option Element) → child x (bytes "TimePeriod") ≡ o → RangeRead x (range_in (o >>= λ p. date_in p "FromDate") (o >>= λ p. date_in p "ToDate"))
       by None e = none_read e
       by (Some p) e = range_read p e (date_in p "FromDate") refl (date_in p "ToDate") refl

@@ -23,9 +23,9 @@ use Rattle.definition.specs.Recurrence.{most_days, century, month_from, type_fro
 use Rattle.definition.specs.declared.Date as Declared
 use Rattle.laws.specs.Calendar.{is_day_lem}
 use Rattle.date.specs.Scale.{count_of_number}
-use Rattle.recurrence.specs.Scale.{InDates, scaled_by, day_date, month_meaning}
+use Rattle.recurrence.specs.Scale.{InDates, scaled_by, day_date}
 use Rattle.recurrence.specs.Meaning.{as_rule, sound, meaning, days_by}
-use Rattle.recurrence.specs.Element.{capped, month_by, held_rule, rule_by, rule_days, RuleRead, pick_of, mask_of, last_by, most_by, judged, rule_in, period_of}
+use Rattle.recurrence.specs.Element.{capped, held_rule, rule_by, rule_days, RuleRead, pick_of, mask_of, last_by, most_by, judged, UpToLast, rule_in, period_of}
 use Rattle.recurrence.specs.declared.scale.Scaled.{Scaled}
 use Rattle.laws.specs.Bools.{within_is}
 use Rattle.recurrence.proofs.Months.{month_length_lem, sunday_less}
@@ -65,17 +65,14 @@ months (Some (pos n)) = by (dec_lt n 12)
     by (no g) = let m : min n 12 ≡ 12 = omega arith in rw (m, le-ltb n 12 (omega arith))
 months (Some (negsuc n)) = refl
 
--- and its number back
-month_back : (o : Option ℕ) → (month_meaning (month_by o) or 13) ≡ (o or 13)
-unfolding month_meaning
-month_back (Some m) = refl
-month_back None = refl
-
 caps : (most k : ℕ) → k ≤ most → (o : Option ℤ) → pick_of most most k o ≡ capped most (o or pos k)
 unfolding pick_of
 caps most k h None = omega arith
 caps most k h (Some (pos n)) = refl
 caps most k h (Some (negsuc n)) = refl
+
+most_comm : (a b : ℕ) → max a b ≡ max b a
+most_comm a b = omega arith
 
 -- made of its fields
 module _ (x : Element) (from to : Date) where
@@ -88,23 +85,23 @@ module _ (x : Element) (from to : Date) where
       → occurrences ≡ pick_of most_days 0 1 (int_in x "Occurrences")
       → most ≡ most_by b occurrences
       → step ≡ pick_of 1000 1 1 (int_in x "Period")
-      → period ≡ max 1 step
+      → period ≡ max step 1
       → number ≡ pick_of 12 12 0 (int_in x "Month")
-      → month ≡ month_by (month_from (pos number))
+      → month ≡ month_from (pos number)
       → day ≡ pick_of 32 32 1 (int_in x "MonthDay")
       → item ≡ pick_of 10 10 0 (int_in x "MonthItem")
       → position ≡ pick_of 5 5 0 (int_in x "MonthPosition")
       → weekdays ≡ mask_of (int_in x "DaysOfWeek")
       → record { kind = kind % 7; from = first; last = until; most = most; period = period; month = month; day = day; item = item; position = position; weekdays = weekdays } ≡ held_rule (rule_from x from to)
   unfolding rule_from last_by most_by mask_of
-  made b f k l u o m s p n t d i q w = λ j.
+  made {step = step} b f k l u o m s p n t d i q w = λ j.
       record {
         kind = (ap (λ (v : ℕ). v % 7) k ∙ types (int_in x "Type")) j;
         from = f j;
         last = (u ∙ ap day_date (l ∙ ap (λ (t : Bool). last_by t from to) b)) j;
         most = (m ∙ (λ i. most_by (b i) ((o ∙ mosts (int_in x "Occurrences")) i))) j;
-        period = (p ∙ ap (max 1) s ∙ periods (int_in x "Period")) j;
-        month = (t ∙ ap (λ (v : ℕ). month_by (month_from (pos v))) n ∙ ap month_by (months (int_in x "Month"))) j;
+        period = (p ∙ most_comm step 1 ∙ ap (max 1) s ∙ periods (int_in x "Period")) j;
+        month = (t ∙ ap (λ (v : ℕ). month_from (pos v)) n ∙ months (int_in x "Month")) j;
         day = (d ∙ caps 32 1 (omega arith) (int_in x "MonthDay")) j;
         item = (i ∙ caps 10 0 (omega arith) (int_in x "MonthItem")) j;
         position = (q ∙ caps 5 0 (omega arith) (int_in x "MonthPosition")) j;
@@ -245,7 +242,7 @@ scaled_is m = λ i.
       last = count_of_number m.last i;
       most = m.most;
       period = m.period;
-      month = month_back m.month i;
+      month = m.month or 13;
       day = capped 32 m.day;
       item = capped 10 m.item;
       position = capped 5 m.position;
@@ -273,7 +270,7 @@ module _ (x : Element) (from to : Date) where
 
   pub judged_is : judged (held_rule (rule_from x from to)) ≡ rule_by (when (is_rule (rule_from x from to)) (rule_from x from to))
   unfolding judged rule_from
-  judged_is = rw (month_back (month_from (int_in x "Month" or pos 0)), given_month (int_in x "Month" or pos 0)) (by (is_rule (rule_from x from to)))
+  judged_is = rw (given_month (int_in x "Month" or pos 0)) (by (is_rule (rule_from x from to)))
     where
       by : (t : Bool) → (if t then Some (held_rule (rule_from x from to)) else None) ≡ rule_by (when t (rule_from x from to))
       by true = refl
@@ -313,9 +310,9 @@ module _ (x : Element) (from to : Date) where
         by true e = same e
         by false e = refl
 
-pub or_most : (b : Bool) (from to : ℕ) → from ≤ last_date → to ≤ last_date → (if b then from else to) ≤ last_date
-or_most true from to h l = h
-or_most false from to h l = l
+pub or_most : (from : Date) (to : Option Date) → from ≤ last_date → UpToLast to → (to or from) ≤ last_date
+or_most from None h l = h
+or_most from (Some d) h l = l
 
 -- ---- an Exception
 
@@ -327,35 +324,35 @@ field_in p name d e = by (text_in p name) e
     by None e = let z : ◌≡◌ {A = ℕ} 0 1 = cc in absurd (omega arith)
     by (Some t) e = date_in_lem t d e
 
-said_most : (p : Element) (name : String) (o : Option Date) → date_in p name ≡ o → (o or 0) ≤ last_date
-said_most p name None e = omega arith
+said_most : (p : Element) (name : String) (o : Option Date) → date_in p name ≡ o → UpToLast o
+said_most p name None e = tt
 said_most p name (Some d) e = (field_in p name d e).high
 
 module _ (x : Element) where
-  pub period_most : ((period_of x).from ≤ last_date) × ((period_of x).to ≤ last_date)
+  pub period_most : UpToLast (period_of x).from × UpToLast (period_of x).to
   unfolding period_of
   period_most = by (child x (bytes "TimePeriod"))
     where
-      by : (o : Option Element) → (((o >>= λ p. date_in p "FromDate") or 0) ≤ last_date) × (((o >>= λ p. date_in p "ToDate") or 0) ≤ last_date)
-      by None = (omega arith, omega arith)
+      by : (o : Option Element) → UpToLast (o >>= λ p. date_in p "FromDate") × UpToLast (o >>= λ p. date_in p "ToDate")
+      by None = (tt, tt)
       by (Some p) = (said_most p "FromDate" (date_in p "FromDate") refl, said_most p "ToDate" (date_in p "ToDate") refl)
 
-  -- the code's dates, 0 for a missing one
+  -- the code's dates
   module _ (p : Element) (c : child x (bytes "TimePeriod") ≡ Some p) where
-    rule_read : (f : Option Date) → date_in p "FromDate" ≡ f → (t : Option Date) → date_in p "ToDate" ≡ t → RuleRead x (rule_in x (f or 0) (t or 0))
+    rule_read : (f : Option Date) → date_in p "FromDate" ≡ f → (t : Option Date) → date_in p "ToDate" ≡ t → RuleRead x (rule_in x f t)
     unfolding rule_in rule_of recurrence_days rule_days
     rule_read None f t g = record { is = rw (c, f); days = rw (c, f) }
     rule_read (Some d) f None g =
         let i = field_in p "FromDate" d f in
-        let r : rule_in x d 0 ≡ rule_by (when (is_rule (rule_from x d d)) (rule_from x d d)) = rw (ne_eqb d 0 (λ z. omega (arith, i.low))) (judged_is x d d) in
+        let r : rule_in x (Some d) None ≡ rule_by (when (is_rule (rule_from x d d)) (rule_from x d d)) = judged_is x d d in
         record { is = r ∙ rw (c, f, g); days = ap rule_days r ∙ read_days x d d i i.high ∙ rw (c, f, g) }
     rule_read (Some d) f (Some k) g =
         let i = field_in p "FromDate" d f in
         let j = field_in p "ToDate" k g in
-        let r : rule_in x d k ≡ rule_by (when (is_rule (rule_from x d k)) (rule_from x d k)) = rw (ne_eqb d 0 (λ z. omega (arith, i.low)), ne_eqb k 0 (λ z. omega (arith, j.low))) (judged_is x d k) in
+        let r : rule_in x (Some d) (Some k) ≡ rule_by (when (is_rule (rule_from x d k)) (rule_from x d k)) = judged_is x d k in
         record { is = r ∙ rw (c, f, g); days = ap rule_days r ∙ read_days x d k i j.high ∙ rw (c, f, g) }
 
-  none_read : child x (bytes "TimePeriod") ≡ None → RuleRead x (rule_in x 0 0)
+  none_read : child x (bytes "TimePeriod") ≡ None → RuleRead x (rule_in x None None)
   unfolding rule_in rule_of recurrence_days rule_days
   none_read e = record { is = rw e; days = rw e }
 
@@ -363,6 +360,6 @@ module _ (x : Element) where
   unfolding period_of
   rule_is = by (child x (bytes "TimePeriod")) refl
     where
-      by : (o : Option Element) → child x (bytes "TimePeriod") ≡ o → RuleRead x (rule_in x ((o >>= λ p. date_in p "FromDate") or 0) ((o >>= λ p. date_in p "ToDate") or 0))
+      by : (o : Option Element) → child x (bytes "TimePeriod") ≡ o → RuleRead x (rule_in x (o >>= λ p. date_in p "FromDate") (o >>= λ p. date_in p "ToDate"))
       by None e = none_read e
       by (Some p) e = rule_read p e (date_in p "FromDate") refl (date_in p "ToDate") refl

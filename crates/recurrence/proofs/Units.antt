@@ -2,11 +2,11 @@
 use Prim.Native.Nat.{ℕ, suc, ◌≤◌, ◌<◌}
 use native.Mathlib.Omega.{arith}
 use native.Mathlib.Decide.{dec_lt}
-use mathlib.Core.Path.{◌≡◌, refl, sym, ap, ◌∙◌}
+use mathlib.Core.Path.{◌≡◌, refl, sym, ◌∙◌}
 use mathlib.Core.Bool.{Bool, true, false, ◌&&◌, and-false}
 use Rattle.std.specs.Prelude.{Option, Some, None}
 use borrow.Author.Tests.{eq-eqb, ne_eqb}
-use Rattle.definition.specs.Base.{◌or◌}
+use Rattle.laws.specs.Options.{Some-injective, never}
 use Rattle.definition.specs.Recurrence.{is_date}
 use Rattle.recurrence.specs.Sequence.{FirstFit}
 
@@ -33,37 +33,35 @@ module _ (p : ℕ → Bool) (unit : ℕ → ℕ) (counts : ℕ → Bool) (candid
       by (no g) = u.fitting d ∙ rw (none-counts (unit d) (omega arith) h)
 
   -- a unit with no candidate from `at` on, and one whose candidate is the answer
-  module _ (k x : ℕ) (before : Passed p unit at k) (is : x ≡ (candidate k or 0)) where
-    other : (d : ℕ) (c : Option ℕ) → c ≡ candidate k → unit d ≡ k → (x ≡ d → ⊥) → is_date c d ≡ false
-    other d None e w n = refl
-    other d (Some y) e w n = ne_eqb y d (λ q. n (is ∙ ap (◌or 0) (sym e) ∙ q))
+  module _ (k : ℕ) (o : Option ℕ) (before : Passed p unit at k) (is : o ≡ candidate k) where
+    other : (d : ℕ) (c : Option ℕ) → ((x : ℕ) → c ≡ Some x → x ≡ d → ⊥) → is_date c d ≡ false
+    other d None n = refl
+    other d (Some x) n = ne_eqb x d (n x refl)
 
-    here : (d : ℕ) → unit d ≡ k → (x ≡ d → ⊥) → p d ≡ false
-    here d w n = u.fitting d ∙ rw (w, other d (candidate k) refl w n) (and-false (counts k))
+    here : (d : ℕ) → unit d ≡ k → ((x : ℕ) → o ≡ Some x → x ≡ d → ⊥) → p d ≡ false
+    here d w n = u.fitting d ∙ rw (w, ← is, other d o n) (and-false (counts k))
 
-    until : (d : ℕ) → at ≤ d → unit d < suc k → (x ≡ d → ⊥) → p d ≡ false
+    until : (d : ℕ) → at ≤ d → unit d < suc k → ((x : ℕ) → o ≡ Some x → x ≡ d → ⊥) → p d ≡ false
     until d a h n = by (dec_lt (unit d) k)
       where
         by : Dec (unit d < k) → p d ≡ false
         by (yes l) = before d a l
         by (no g) = here d (omega arith) n
 
-    pub pass_unit : x < at → Passed p unit at (suc k)
-    pass_unit l d a h = until d a h (λ e. omega arith)
+    pub pass_none_there : o ≡ None → Passed p unit at (suc k)
+    pass_none_there e d a h = until d a h (λ x f q. never (sym e ∙ f))
 
-    pub fit_unit : (last : ℕ) → 0 < at → at ≤ x → counts k ≡ true → FirstFit p last at x
-    fit_unit last pos on does = by (candidate k) refl
-      where
-        by : (c : Option ℕ) → c ≡ candidate k → FirstFit p last at x
-        by None e = let z : x ≡ 0 = is ∙ ap (◌or 0) (sym e) in absurd (omega arith)
-        by (Some y) e =
-            let q : x ≡ y = is ∙ ap (◌or 0) (sym e) in
-            let w : unit x ≡ k = u.lies k x (sym e ∙ ap Some (sym q)) in
-            record {
-              on = λ h. on;
-              before = λ d a l n. until d a (omega (arith, u.rises d x (omega arith))) (λ r. omega arith);
-              hit = λ h. u.fitting x ∙ rw (w, does, ← e) (eq-eqb y x (sym q));
-            }
+    pub pass_unit : (x : ℕ) → o ≡ Some x → x < at → Passed p unit at (suc k)
+    pass_unit x e l d a h = until d a h (λ y f q. omega (arith, Some-injective y x (sym f ∙ e)))
+
+    pub fit_unit : (x last : ℕ) → o ≡ Some x → at ≤ x → counts k ≡ true → FirstFit p last at x
+    fit_unit x last e on does =
+        let w : unit x ≡ k = u.lies k x (sym is ∙ e) in
+        record {
+          on = λ h. on;
+          before = λ d a l n. until d a (omega (arith, u.rises d x (omega arith))) (λ y f r. omega (arith, Some-injective y x (sym f ∙ e)));
+          hit = λ h. u.fitting x ∙ rw (w, does, ← is, e) (eq-eqb x x refl);
+        }
 
   -- no unit that counts is left
   pub no_unit : (k last : ℕ) → Passed p unit at k → ((i : ℕ) → k ≤ i → i ≤ unit last → counts i ≡ false) → FirstFit p last at (suc last)

@@ -1,18 +1,18 @@
 -- What an element says, as this crate holds it: the rule of an Exception, the days of a WeekDay of DayType 0. Assumes nothing: these are
 -- definitions.
-use Rattle.std.specs.Prelude.{if◌then◌else◌, ℕ, suc, ◌+◌, ◌-◌, ◌%◌, min, ◌≡◌, Bool, List, [], ◌∷◌, length, eqb, ℤ, pos, negsuc}
+use Rattle.std.specs.Prelude.{if◌then◌else◌, ℕ, suc, ◌+◌, ◌-◌, ◌%◌, min, ◌≡◌, ◌≤◌, Bool, List, [], ◌∷◌, length, ℤ, pos, negsuc}
 use Rattle.recurrence.specs.declared.Range.{Range}
-use Rattle.std.specs.Prelude.{Option, Some, None}
+use Rattle.std.specs.Prelude.{Option, Some, None, IfSome}
 use Rattle.definition.specs.Base.{◌>>=◌, ◌or◌, count}
 use Rattle.definition.specs.Ascii.{bytes}
 use Rattle.definition.specs.Bits.{twos}
-use Rattle.definition.specs.Date.{Date, in_years}
+use Rattle.definition.specs.Date.{Date, in_years, last_date}
 use Rattle.definition.specs.Tree.{Element, child}
 use Rattle.definition.specs.Field.{date_in}
 use Rattle.definition.specs.Recurrence as D
 use Rattle.definition.specs.Recurrence.{most_days, century, rule_from, rule_of, recurrence_days, days_of, most_exception_days}
 use Rattle.date.specs.Scale.{day_count}
-use Rattle.recurrence.specs.Scale.{day_date, month_meaning}
+use Rattle.recurrence.specs.Scale.{day_date}
 use Rattle.recurrence.specs.Meaning.{rules, days_by}
 use Rattle.recurrence.specs.declared.Rule.{Rule}
 use Rattle.recurrence.specs.declared.element.Period.{Period}
@@ -24,10 +24,6 @@ abbrev pub capped : ℕ → ℤ → ℕ
 capped most (pos n) = min n most
 capped most (negsuc n) = most
 
-abbrev pub month_by : Option ℕ → Option ℕ
-month_by (Some m) = Some m
-month_by None = None
-
 -- of the weekdays the seven low bits
 abbrev pub held_rule : D.Rule → Rule
 held_rule m =
@@ -37,7 +33,7 @@ held_rule m =
       last = day_date m.last;
       most = m.most;
       period = m.period;
-      month = month_by m.month;
+      month = m.month;
       day = capped 32 m.day;
       item = capped 10 m.item;
       position = capped 5 m.position;
@@ -78,18 +74,21 @@ unfoldable pub most_by : Bool → ℕ → ℕ
 most_by by_count occurrences = if by_count then occurrences else most_days
 
 unfoldable pub judged : Rule → Option Rule
-judged r = if rules r.kind (month_meaning r.month or 13) then Some r else None
+judged r = if rules r.kind (r.month or 13) then Some r else None
 
--- with its dates, 0 for a missing one
-unfoldable pub rule_in : Element → Date → Date → Option Rule
-rule_in x from to =
-    if eqb from 0 then None else judged (held_rule (rule_from x from (if eqb to 0 then from else to)))
+-- a date, if there is one, lies in the years
+abbrev pub UpToLast : Option Date → Type 0
+UpToLast d = IfSome d (λ d. d ≤ last_date)
+
+-- with its dates
+unfoldable pub rule_in : Element → Option Date → Option Date → Option Rule
+rule_in x from to = from >>= λ d. judged (held_rule (rule_from x d (to or d)))
 
 unfoldable pub period_of : Element → Period
 period_of x =
     record {
-      from = (child x (bytes "TimePeriod") >>= λ p. date_in p "FromDate") or 0;
-      to = (child x (bytes "TimePeriod") >>= λ p. date_in p "ToDate") or 0;
+      from = child x (bytes "TimePeriod") >>= λ p. date_in p "FromDate";
+      to = child x (bytes "TimePeriod") >>= λ p. date_in p "ToDate";
     }
 
 -- ---- a WeekDay of DayType 0
@@ -107,8 +106,7 @@ pub record RangeRead (x : Element) (r : Option Range) : Type 0 where
   pub is : r ≡ range_by (days_of x)
   pub days : range_days r ≡ days_of x
 
-unfoldable pub range_in : Date → Date → Option Range
+unfoldable pub range_in : Option Date → Option Date → Option Range
 range_in from to =
-    if eqb from 0 then None else
-    if eqb to 0 then None else
-    Some (record { first = day_date from; count = min (to - from) most_exception_days + 1 })
+    from >>= λ d. to >>= λ e.
+    Some (record { first = day_date d; count = min (e - d) most_exception_days + 1 })

@@ -1,7 +1,7 @@
 -- Days, years and months as this crate counts them, from 1 January of the year -10000 on. Assumes nothing: these are definitions.
 use Rattle.std.specs.Prelude.{ℕ, ◌+◌, ◌-◌, ◌*◌, ◌≤◌, ◌≡◌, ℤ, pos, ◌-ℤ◌}
-use Rattle.std.specs.Prelude.{Option, Some, None}
-use Rattle.definition.specs.Base.{◌or◌, when, within}
+use Rattle.std.specs.Prelude.{Option, Some}
+use Rattle.definition.specs.Base.{◌>>=◌, ◌or◌, when, within}
 use Rattle.definition.specs.Date as D
 use Rattle.definition.specs.Date.{year_of, month_of, date_at, month_length, day_number, first_date, last_date}
 use Rattle.definition.specs.declared.Date.{Date}
@@ -30,14 +30,11 @@ pub record YearNumber (z : ℤ) : Type 0 where
 abbrev pub day_date : D.Date → Date
 day_date n = record { 0 = day_number n }
 
--- 0 stands for no day
-unfoldable pub count_by : Option Date → D.Date
-count_by (Some d) = day_count d.0
-count_by None = 0
+abbrev pub count_by : Option Date → Option D.Date
+count_by a = a >>= λ d. Some (day_count d.0)
 
-unfoldable pub month_meaning : Option ℕ → Option ℕ
-month_meaning (Some m) = Some m
-month_meaning None = None
+abbrev pub month_meaning : Option ℕ → Option ℕ
+month_meaning m = m
 
 -- month 13 stands for none
 abbrev pub scaled_by : Rule → Scaled
@@ -48,7 +45,7 @@ scaled_by r =
       last = day_count r.last.0;
       most = r.most;
       period = r.period;
-      month = month_meaning r.month or 13;
+      month = r.month or 13;
       day = r.day;
       item = r.item;
       position = r.position;

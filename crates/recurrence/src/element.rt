@@ -1,13 +1,13 @@
 // What an element says: the rule of an Exception, the days of a WeekDay of DayType 0.
-ghost use Rattle.std.specs.Prelude.{if◌then◌else◌, ◌≡◌, ◌≤◌, eqb, pos};
+ghost use Rattle.std.specs.Prelude.{◌≡◌, ◌≤◌, pos};
 ghost use Rattle.definition.specs.Base.{◌or◌};
 ghost use Rattle.definition.specs.Recurrence.{month_from, rule_from};
 ghost use Rattle.fields.specs.Said.{whole_said, date_said};
 ghost use Rattle.tree.specs.Place.{element_at};
-ghost use Rattle.recurrence.specs.Element.{pick_of, mask_of, last_by, most_by, month_by, held_rule, judged, rule_in, RuleRead, period_of, range_in, RangeRead};
+ghost use Rattle.recurrence.specs.Element.{pick_of, mask_of, last_by, most_by, held_rule, judged, UpToLast, rule_in, RuleRead, period_of, range_in, RangeRead};
 
 use crate::kind::{kind_of};
-use crate::scale::{LAST, count_or, date_at, later, least, month_number};
+use crate::scale::{LAST, count_by, date_at};
 use crate::{Range, Rule};
 
 // A number held to `most`, with what stands for one below 0 and for a missing one.
@@ -34,10 +34,10 @@ fn number_in(s: &[u8], at: usize, name: &[u8], most: u32, below: u32, absent: u3
     pick(fields::int_in(s, at, name), most, below, absent)
 }
 
-fn day_said(s: &[u8], at: usize, name: &[u8]) -> u32
-    ensures { result ≡ (date_said (element_at s.now at) name.now or 0) }
+fn day_said(s: &[u8], at: usize, name: &[u8]) -> Option<u32>
+    ensures { result ≡ date_said (element_at s.now at) name.now }
 {
-    count_or(fields::date_in(s, at, name))
+    count_by(fields::date_in(s, at, name))
 }
 
 // By occurrences, a century on, if that is a date.
@@ -61,17 +61,14 @@ fn most_by(by_count: bool, occurrences: u32) -> u32
 
 // MSPDI counts months from 0.
 fn month_from(n: u32) -> Option<u32>
-    ensures { result ≡ month_by (month_from (pos n)) }
+    ensures { result ≡ month_from (pos n) }
 {
-    if n < 12 {
-        return Some(n + 1);
-    }
-    None
+    (n < 12).then(|| n + 1)
 }
 
 fn rule_at(s: &[u8], at: usize, from: u32, to: u32) -> Rule
-    requires fact_1 { from ≤ 7304849 }
-    requires fact_2 { to ≤ 7304849 }
+    requires from { from ≤ 7304849 }
+    requires to { to ≤ 7304849 }
     ensures { result ≡ held_rule (rule_from (element_at s.now at) from to) }
 {
     let by_count = fields::yes_in(s, at, b"EnteredByOccurrences");
@@ -81,7 +78,7 @@ fn rule_at(s: &[u8], at: usize, from: u32, to: u32) -> Rule
         from: first,
         last: date_at(last_by(by_count, from, to)),
         most: most_by(by_count, number_in(s, at, b"Occurrences", 5000, 0, 1)),
-        period: later(1, number_in(s, at, b"Period", 1000, 1, 1)),
+        period: number_in(s, at, b"Period", 1000, 1, 1).max(1),
         month: month_from(number_in(s, at, b"Month", 12, 12, 0)),
         day: number_in(s, at, b"MonthDay", 32, 32, 1),
         item: number_in(s, at, b"MonthItem", 10, 10, 0),
@@ -94,46 +91,35 @@ fn rule_at(s: &[u8], at: usize, from: u32, to: u32) -> Rule
 fn judge(r: Rule) -> Option<Rule>
     ensures { result ≡ judged r }
 {
-    let month = r.month;
-    match kind_of(r.kind, month_number(month)) {
-        Some(_) => Some(r),
-        None => None,
-    }
+    kind_of(r.kind, r.month.unwrap_or(13))?;
+    Some(r)
 }
 
-fn or_first(to: u32, from: u32) -> u32
-    ensures { result ≡ (if eqb to 0 then from else to) }
-{
-    if to == 0 { from } else { to }
-}
-
-fn rule_in(s: &[u8], at: usize, from: u32, to: u32) -> Option<Rule>
-    requires fact_1 { from ≤ 7304849 }
-    requires fact_2 { to ≤ 7304849 }
+fn rule_in(s: &[u8], at: usize, from: Option<u32>, to: Option<u32>) -> Option<Rule>
+    requires from { UpToLast from }
+    requires to { UpToLast to }
     ensures { result ≡ rule_in (element_at s.now at) from to }
 {
-    if from == 0 {
-        return None;
-    }
-    judge(rule_at(s, at, from, or_first(to, from)))
+    let first = from?;
+    judge(rule_at(s, at, first, to.unwrap_or(first)))
 }
 
-// FromDate and ToDate of a TimePeriod, each 0 where it is missing.
+// FromDate and ToDate of a TimePeriod.
 #[derive(Clone, Copy)]
 struct Period {
-    from: u32,
-    to: u32,
+    from: Option<u32>,
+    to: Option<u32>,
 }
 
 fn period_of(s: &[u8], at: usize) -> Period
     ensures { result ≡ period_of (element_at s.now at) }
 {
-    match tree::child(s, at, b"TimePeriod") {
-        None => Period { from: 0, to: 0 },
-        Some(p) => Period {
-            from: day_said(s, p, b"FromDate"),
-            to: day_said(s, p, b"ToDate"),
-        },
+    let Some(p) = tree::child(s, at, b"TimePeriod") else {
+        return Period { from: None, to: None };
+    };
+    Period {
+        from: day_said(s, p, b"FromDate"),
+        to: day_said(s, p, b"ToDate"),
     }
 }
 
@@ -146,20 +132,15 @@ pub fn rule_of(s: &[u8], at: usize) -> Option<Rule>
 }
 
 // A reversed range is its first day alone, and 3,661 days are the most.
-fn range_in(from: u32, to: u32) -> Option<Range>
-    requires { from ≤ 7304849 }
+fn range_in(from: Option<u32>, to: Option<u32>) -> Option<Range>
+    requires { UpToLast from }
     ensures { result ≡ range_in from to }
 {
-    if from == 0 {
-        return None;
-    }
-    if to == 0 {
-        return None;
-    }
-    let first = date_at(from);
+    let first = from?;
+    let last = to?;
     Some(Range {
-        first,
-        count: least(later(to, from) - from, 3660) + 1,
+        first: date_at(first),
+        count: last.saturating_sub(first).min(3660) + 1,
     })
 }
 

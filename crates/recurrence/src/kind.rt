@@ -9,16 +9,16 @@ ghost use Rattle.recurrence.specs.Kind.{UpTo, Ready, daily_fits, yearly_fits, mo
 ghost use Rattle.recurrence.specs.Meaning.{as_rule};
 
 use crate::position::{candidate_in, sunday_first};
-use crate::scale::{Scaled, later, least, month_at, year_of};
+use crate::scale::{Scaled, month_at, year_of};
 
 // How many steps reach n.
 fn steps_up(n: u32, step: u32) -> u32
-    requires fact_1 { n ≤ 7304850 }
-    requires fact_2 { 1 ≤ step }
-    requires fact_3 { step ≤ 1000 }
+    requires days { n ≤ 7304850 }
+    requires step { 1 ≤ step }
+    requires most { step ≤ 1000 }
     ensures { UpTo n step result }
 {
-    (n + (step - 1)) / step
+    n.div_ceil(step)
 }
 
 fn daily(r: Scaled, at: u32) -> u32
@@ -34,18 +34,17 @@ fn daily(r: Scaled, at: u32) -> u32
 
 // A candidate a year, 200 years on at most.
 fn yearly(r: Scaled, at: u32, positioned: bool) -> u32
-    requires fact_1 { Ready r at }
-    requires fact_2 { IsMonth r.month }
+    requires ready { Ready r at }
+    requires month { IsMonth r.month }
     ensures { FirstFit (yearly_fits positioned r) r.last at result }
 {
-    let end = least(year_of(r.last), year_of(r.from) + 200);
-    let mut y = year_of(at);
-    while y <= end {
-        let x = candidate_in(positioned, r, y, r.month);
-        if at <= x {
-            return x;
+    let end = year_of(r.last).min(year_of(r.from) + 200) + 1;
+    for y in year_of(at)..end {
+        if let Some(x) = candidate_in(positioned, r, y, r.month) {
+            if at <= x {
+                return x;
+            }
         }
-        y += 1;
     }
     r.last + 1
 }
@@ -57,31 +56,30 @@ fn monthly(r: Scaled, at: u32, positioned: bool) -> u32
 {
     let first = month_at(r.from);
     let end = month_at(r.last);
-    let mut q = steps_up(month_at(at) - first, r.period);
-    while q < 2400 {
+    for q in steps_up(month_at(at) - first, r.period)..2400 {
         let k = first + q * r.period;
         if end < k {
             return r.last + 1;
         }
-        let x = candidate_in(positioned, r, k / 12, k % 12 + 1);
-        if at <= x {
-            return x;
+        if let Some(x) = candidate_in(positioned, r, k / 12, k % 12 + 1) {
+            if at <= x {
+                return x;
+            }
         }
-        q += 1;
     }
     r.last + 1
 }
 
 // The first day from d on in a week that counts. Weeks begin on the day `sunday`.
 fn week_day_from(sunday: u32, step: u32, d: u32) -> u32
-    requires fact_1 { sunday ≤ d }
-    requires fact_2 { d ≤ 7304850 }
-    requires fact_3 { 1 ≤ step }
-    requires fact_4 { step ≤ 1000 }
+    requires sunday { sunday ≤ d }
+    requires day { d ≤ 7304850 }
+    requires step { 1 ≤ step }
+    requires most { step ≤ 1000 }
     ensures { WeekDay sunday step d result }
 {
     let q = steps_up((d - sunday) / 7, step);
-    later(d, sunday + q * step * 7)
+    d.max(sunday + q * step * 7)
 }
 
 // Bit 0 for Sunday.
@@ -96,7 +94,7 @@ fn weekly(r: Scaled, at: u32) -> u32
     ensures { FirstFit (weekly_fits r) r.last at result }
 {
     let sunday = r.from - sunday_first(r.from);
-    let end = least(r.last, r.from + 36600);
+    let end = r.last.min(r.from + 36600);
     let mut d = at;
     loop {
         let g = week_day_from(sunday, r.period, d);
@@ -125,10 +123,7 @@ pub(crate) enum Kind {
 fn in_month(kind: Kind, month: u32) -> Option<Kind>
     ensures { result ≡ (if within 1 12 month then Some kind else None) }
 {
-    if (1 <= month) & (month <= 12) {
-        return Some(kind);
-    }
-    None
+    (1..=12).contains(&month).then_some(kind)
 }
 
 // A Type chooses among the six; any other and, in 2 and 3, a bad Month give no rule.
@@ -148,8 +143,8 @@ pub(crate) fn kind_of(kind: u32, month: u32) -> Option<Kind>
 
 // Of a rule of that kind: the first day from `at` on that fits.
 pub(crate) fn first_fit(kind: Kind, r: Scaled, at: u32) -> u32
-    requires fact_1 { Ready r at }
-    requires fact_2 { IsKind r.kind r.month kind }
+    requires ready { Ready r at }
+    requires kind { IsKind r.kind r.month kind }
     ensures { FirstFit (fits (as_rule r)) r.last at result }
 {
     match kind {

@@ -19,7 +19,7 @@ pub(crate) fn sunday_first(d: u32) -> u32
 fn is_workday(w: u32) -> bool
     ensures { result ≡ within 1 5 w }
 {
-    (1 <= w) & (w <= 5)
+    (1..=5).contains(&w)
 }
 
 // Item 0 is any day, 1 Monday to Friday, 2 the weekend, 3 to 9 Sunday to Saturday.
@@ -35,46 +35,42 @@ fn item_fits(item: u32, d: u32) -> bool
     }
 }
 
-fn nth_fit(first: u32, end: u32, item: u32, position: u32) -> u32
-    ensures { result ≡ (slice_get (keep (item_fits (pos item)) (count first (end - first))) position or 0) }
+fn nth_fit(first: u32, end: u32, item: u32, position: u32) -> Option<u32>
+    ensures { result ≡ slice_get (keep (item_fits (pos item)) (count first (end - first))) position }
 {
-    let mut d = first;
     let mut k = position;
-    while d < end {
+    for d in first..end {
         if item_fits(item, d) {
             if k == 0 {
-                return d;
+                return Some(d);
             }
             k -= 1;
         }
-        d += 1;
     }
-    0
+    None
 }
 
-fn last_fit(first: u32, end: u32, item: u32) -> u32
-    ensures { result ≡ (last_of (keep (item_fits (pos item)) (count first (end - first))) or 0) }
+fn last_fit(first: u32, end: u32, item: u32) -> Option<u32>
+    ensures { result ≡ last_of (keep (item_fits (pos item)) (count first (end - first))) }
 {
-    let mut d = end;
-    while first < d {
-        d -= 1;
+    for d in (first..end).rev() {
         if item_fits(item, d) {
-            return d;
+            return Some(d);
         }
     }
-    0
+    None
 }
 
 // Position 0 to 3 counts from the first, 4 is the last; December 9999 has none.
-fn nth_of(y: u32, m: u32, item: u32, position: u32) -> u32
-    requires fact_1 { IsYear y }
-    requires fact_2 { IsMonth m }
-    ensures { result ≡ (nth_in_month y m (pos item) (pos position) or 0) }
+fn nth_of(y: u32, m: u32, item: u32, position: u32) -> Option<u32>
+    requires year { IsYear y }
+    requires month { IsMonth m }
+    ensures { result ≡ nth_in_month y m (pos item) (pos position) }
 {
     if (y == 19999) & (m == 12) {
-        return 0;
+        return None;
     }
-    let first = day_in(y, m, 1);
+    let first = day_in(y, m, 1)?;
     let end = first + length_in(y, m);
     if position == 4 {
         return last_fit(first, end, item);
@@ -82,14 +78,14 @@ fn nth_of(y: u32, m: u32, item: u32, position: u32) -> u32
     if position < 4 {
         return nth_fit(first, end, item, position);
     }
-    0
+    None
 }
 
 // The candidate of a month: by the item at the position, or by the day.
-pub(crate) fn candidate_in(positioned: bool, r: Scaled, y: u32, m: u32) -> u32
-    requires fact_1 { IsYear y }
-    requires fact_2 { IsMonth m }
-    ensures { result ≡ (candidate_of positioned r y m or 0) }
+pub(crate) fn candidate_in(positioned: bool, r: Scaled, y: u32, m: u32) -> Option<u32>
+    requires year { IsYear y }
+    requires month { IsMonth m }
+    ensures { result ≡ candidate_of positioned r y m }
 {
     if positioned {
         return nth_of(y, m, r.item, r.position);

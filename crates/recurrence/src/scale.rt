@@ -1,9 +1,9 @@
-// Days and years as the arithmetic of this crate counts them: from 1 January of the year -10000 on, so that nothing is negative. 0 is no day.
-ghost use Rattle.std.specs.Prelude.{◌≡◌, ◌≤◌, ◌<◌, ◌^◌, min, max, pos, ◌-ℤ◌};
+// Days and years as the arithmetic of this crate counts them: from 1 January of the year -10000 on, so that nothing is negative.
+ghost use Rattle.std.specs.Prelude.{◌≡◌, ◌≤◌, ◌<◌, ◌^◌, pos, ◌-ℤ◌};
 ghost use Rattle.definition.specs.Base.{◌or◌};
 ghost use Rattle.definition.specs.Date.{month_length, year_of};
 ghost use Rattle.date.specs.Scale.{day_count};
-ghost use Rattle.recurrence.specs.Scale.{InDates, IsYear, IsMonth, YearNumber, day_date, count_by, month_meaning, scaled_by, month_on, month_at, day_in};
+ghost use Rattle.recurrence.specs.Scale.{InDates, IsYear, IsMonth, YearNumber, day_date, count_by, scaled_by, month_on, month_at, day_in};
 
 use crate::{Rule};
 use definition::{Date};
@@ -33,24 +33,12 @@ pub(crate) struct Month {
     pub month: u32,
 }
 
-pub(crate) fn least(a: u32, b: u32) -> u32
-    ensures { result ≡ min a b }
-{
-    if a < b { a } else { b }
-}
-
-pub(crate) fn later(a: u32, b: u32) -> u32
-    ensures { result ≡ max a b }
-{
-    if a < b { b } else { a }
-}
-
 // ---- to and fro
 
 // The difference, with its sign.
 fn lowered(n: u32, by: u32) -> i32
-    requires fact_1 { n < 2 ^ 31 }
-    requires fact_2 { by < 2 ^ 31 }
+    requires small { n < 2 ^ 31 }
+    requires small_by { by < 2 ^ 31 }
     ensures { result ≡ pos n -ℤ pos by }
 {
     (n as i64 - by as i64) as i32
@@ -69,36 +57,22 @@ pub(crate) fn count_of(d: Date) -> u32
     date::days_between(Date(-4371953), d)
 }
 
-pub(crate) fn count_or(a: Option<Date>) -> u32
+pub(crate) fn count_by(a: Option<Date>) -> Option<u32>
     ensures { result ≡ count_by a }
 {
-    match a {
-        Some(d) => count_of(d),
-        None => 0,
-    }
-}
-
-pub(crate) fn month_number(a: Option<u32>) -> u32
-    ensures { result ≡ (month_meaning a or 13) }
-{
-    match a {
-        Some(m) => m,
-        None => 13,
-    }
+    a.map(count_of)
 }
 
 pub(crate) fn to_scale(r: Rule) -> Scaled
     ensures { result ≡ scaled_by r }
 {
-    let from = count_of(r.from);
-    let month = r.month;
     Scaled {
         kind: r.kind,
-        from,
+        from: count_of(r.from),
         last: count_of(r.last),
         most: r.most,
         period: r.period,
-        month: month_number(month),
+        month: r.month.unwrap_or(13),
         day: r.day,
         item: r.item,
         position: r.position,
@@ -109,23 +83,20 @@ pub(crate) fn to_scale(r: Rule) -> Scaled
 // ---- the calendar, by the crate date
 
 // The day of a month, if it has one.
-pub(crate) fn day_in(y: u32, m: u32, day: u32) -> u32
-    requires fact_1 { IsYear y }
-    requires fact_2 { IsMonth m }
-    ensures { result ≡ (day_in y m day or 0) }
+pub(crate) fn day_in(y: u32, m: u32, day: u32) -> Option<u32>
+    requires year { IsYear y }
+    requires month { IsMonth m }
+    ensures { result ≡ day_in y m day }
 {
-    count_or(date::from_ymd(lowered(y, 10000), m, day))
+    count_by(date::from_ymd(lowered(y, 10000), m, day))
 }
 
 pub(crate) fn length_in(y: u32, m: u32) -> u32
-    requires fact_1 { IsYear y }
-    requires fact_2 { IsMonth m }
+    requires year { IsYear y }
+    requires month { IsMonth m }
     ensures { result ≡ month_length y m }
 {
-    match date::days_in_month(lowered(y, 10000), m) {
-        Some(n) => n,
-        None => 0,
-    }
+    date::days_in_month(lowered(y, 10000), m).unwrap_or(0)
 }
 
 fn year_count(year: i32) -> u32
@@ -139,12 +110,12 @@ pub(crate) fn month_on(d: u32) -> Month
     requires { InDates d }
     ensures { result ≡ month_on d }
 {
-    match date::ymd(date_at(d)) {
-        Some(c) => Month {
-            year: year_count(c.year),
-            month: c.month,
-        },
-        None => Month { year: 0, month: 0 },
+    let Some(c) = date::ymd(date_at(d)) else {
+        return Month { year: 0, month: 0 };
+    };
+    Month {
+        year: year_count(c.year),
+        month: c.month,
     }
 }
 

@@ -3,15 +3,14 @@ ghost use Rattle.std.specs.Prelude.{◌≡◌};
 ghost use Rattle.recurrence.specs.Meaning.{sound, days_by, to_come, said, start_of, step_of};
 
 use crate::kind::{first_fit, kind_of};
-use crate::scale::{LAST, Scaled, count_of, date_at, later, to_scale};
+use crate::scale::{LAST, Scaled, count_of, date_at, to_scale};
 use crate::{Cursor, Rule, Step};
 
 // Its dates are such, and its Period is held.
 fn is_sound(r: Scaled) -> bool
     ensures { result ≡ sound r }
 {
-    ((366 <= r.from) & (r.from <= LAST))
-        & ((r.last <= LAST) & ((1 <= r.period) & (r.period <= 1000)))
+    (366..=LAST).contains(&r.from) & ((r.last <= LAST) & (1..=1000).contains(&r.period))
 }
 
 // The cursor that leaves all days to come.
@@ -30,28 +29,26 @@ pub fn next(r: Rule, c: Cursor) -> Step
     if !is_sound(t) {
         return Step::Skipped;
     }
-    match kind_of(t.kind, t.month) {
-        None => Step::Skipped,
-        Some(kind) => {
-            if c.left == 0 {
-                return Step::Done;
-            }
-            let at = later(t.from, count_of(c.at));
-            if t.last < at {
-                return Step::Done;
-            }
-            let x = first_fit(kind, t, at);
-            if t.last < x {
-                return Step::Done;
-            }
-            let day = date_at(x);
-            Step::Day(
-                day,
-                Cursor {
-                    at: date_at(x + 1),
-                    left: c.left - 1,
-                },
-            )
-        }
+    let Some(kind) = kind_of(t.kind, t.month) else {
+        return Step::Skipped;
+    };
+    if c.left == 0 {
+        return Step::Done;
     }
+    let at = t.from.max(count_of(c.at));
+    if t.last < at {
+        return Step::Done;
+    }
+    let x = first_fit(kind, t, at);
+    if t.last < x {
+        return Step::Done;
+    }
+    let day = date_at(x);
+    Step::Day(
+        day,
+        Cursor {
+            at: date_at(x + 1),
+            left: c.left - 1,
+        },
+    )
 }

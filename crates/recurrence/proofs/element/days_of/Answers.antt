@@ -1,7 +1,6 @@
 use mathlib.Core.Path.{ap, subst⁻¹, ◌∙◌}
-use native.Mathlib.Omega.{arith}
 use Rattle.tree.specs.Place.{element_at}
-use Rattle.recurrence.specs.Element.{RangeRead, range_in}
+use Rattle.recurrence.specs.Element.{RangeRead, UpToLast, range_in}
 use Rattle.recurrence.specs.declared.element.Period.{Period}
 use Rattle.recurrence.proofs.Rules.{period_most}
 use Rattle.recurrence.proofs.Ranges.{range_is}
@@ -11,7 +10,7 @@ pub range_in-requires : goal.range_in-requires
 range_in-requires c =
     let x = element_at c.args.s.now c.args.at in
     let m = period_most x in
-    omega (arith, ap (λ (v : Period). v.from) c.period_of-p.ensures)
+    subst⁻¹ UpToLast (ap (λ (v : Period). v.from) c.period_of-p.ensures) m.0
 
 pub returns : goal.returns
 returns c =

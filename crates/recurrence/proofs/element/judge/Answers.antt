@@ -1,26 +1,24 @@
 use mathlib.Core.Path.{◌≡◌, ap, sym, ◌∙◌}
 use mathlib.Core.Bool.{true, false}
 use Rattle.definition.specs.Base.{◌or◌}
-use Rattle.recurrence.specs.Scale.{month_meaning}
 use Rattle.recurrence.specs.Meaning.{rules}
 use Rattle.recurrence.specs.Element.{judged}
+use Rattle.recurrence.proofs.Options.{or_is}
 use Rattle.recurrence.proofs.Types.{chosen_rule, chosen_none}
-use borrow.Author.Rules.{rules as std-rules}
 use Rattle.recurrence.proofs.element.judge.Goals as goal
 
-pub enum_told-1 : goal.enum_told-1
-enum_told-1 c = search std-rules
-
-pub returns-in-Some : goal.returns-in-Some
+pub returns-in_err-kind_of : goal.returns-in_err-kind_of
 unfolding judged
-returns-in-Some c =
+returns-in_err-kind_of c =
     let r = c.args.r in
-    let e : rules r.kind (month_meaning r.month or 13) ≡ true = ap (rules r.kind) (sym c.month_number.ensures) ∙ chosen_rule r.kind c.month_number.result c.kind_of.ensures c.in-Some.is in
-    rw e
+    let m = sym (c.unwrap_or.ensures ∙ or_is r.month 13) in
+    let e : rules r.kind (r.month or 13) ≡ false = ap (rules r.kind) m ∙ chosen_none r.kind c.unwrap_or.result c.kind_of.ensures c.in_err-kind_of.was in
+    rw e c.from_residual.ensures
 
-pub returns-in-None : goal.returns-in-None
+pub returns : goal.returns
 unfolding judged
-returns-in-None c =
+returns c =
     let r = c.args.r in
-    let e : rules r.kind (month_meaning r.month or 13) ≡ false = ap (rules r.kind) (sym c.month_number.ensures) ∙ chosen_none r.kind c.month_number.result c.kind_of.ensures c.in-None.is in
+    let m = sym (c.unwrap_or.ensures ∙ or_is r.month 13) in
+    let e : rules r.kind (r.month or 13) ≡ true = ap (rules r.kind) m ∙ chosen_rule r.kind c.unwrap_or.result c.kind_of.ensures c.in_ok-kind_of.was in
     rw e

@@ -1,16 +1,19 @@
-use borrow.Author.Tests.{eq-eqb, ne_eqb}
+use Prim.Native.Nat.{ℕ, ◌+◌, min}
+use mathlib.Core.Path.{ap, ◌∙◌}
+use Rattle.std.specs.Prelude.{Some}
 use Rattle.recurrence.specs.Element.{range_in}
-use Rattle.recurrence.proofs.Ranges.{range_made}
 use Rattle.recurrence.proofs.element.range_in.Goals as goal
 
-pub returns-then-from-eq0 : goal.returns-then-from-eq0
+pub returns-in_err-first : goal.returns-in_err-first
 unfolding range_in
-returns-then-from-eq0 c = rw (eq-eqb _ _ c.if-from-eq0.true)
+returns-in_err-first c = rw c.in_err-first.was c.from_residual.ensures
 
-pub returns-then-to-eq0 : goal.returns-then-to-eq0
+pub returns-in_err-last : goal.returns-in_err-last
 unfolding range_in
-returns-then-to-eq0 c = rw (ne_eqb _ _ c.if-from-eq0.false, eq-eqb _ _ c.if-to-eq0.true)
+returns-in_err-last c = rw (c.in_ok-first.was, c.in_err-last.was) c.from_residual-in_err-last.ensures
 
 pub returns : goal.returns
+unfolding range_in
 returns c =
-    range_made c.args.from c.args.to c.later.result c.least.result c.date_at-first.ensures c.if-from-eq0.false c.if-to-eq0.false c.later.ensures c.least.ensures
+    let n = c.min.ensures ∙ ap (λ (n : ℕ). min n 3660) c.saturating_sub.ensures in
+    rw (c.in_ok-first.was, c.in_ok-last.was) (λ i. Some (record { first = c.date_at.ensures i; count = n i + 1 }))

@@ -1,7 +1,6 @@
 use mathlib.Core.Path.{ap, subst⁻¹, ◌∙◌}
-use native.Mathlib.Omega.{arith}
 use Rattle.tree.specs.Place.{element_at}
-use Rattle.recurrence.specs.Element.{RuleRead, rule_in}
+use Rattle.recurrence.specs.Element.{RuleRead, UpToLast, rule_in}
 use Rattle.recurrence.specs.declared.element.Period.{Period}
 use Rattle.recurrence.proofs.Rules.{rule_is, period_most}
 use Rattle.recurrence.proofs.element.rule_of.Goals as goal
@@ -10,7 +9,7 @@ pub rule_in-requires : goal.rule_in-requires
 rule_in-requires c =
     let x = element_at c.args.s.now c.args.at in
     let m = period_most x in
-    record { fact_1 = omega (arith, ap (λ (v : Period). v.from) c.period_of-p.ensures); fact_2 = omega (arith, ap (λ (v : Period). v.to) c.period_of-p.ensures) }
+    record { from = subst⁻¹ UpToLast (ap (λ (v : Period). v.from) c.period_of-p.ensures) m.0; to = subst⁻¹ UpToLast (ap (λ (v : Period). v.to) c.period_of-p.ensures) m.1 }
 
 pub returns : goal.returns
 returns c =

@@ -1,21 +1,21 @@
-use Rattle.recurrence.specs.Kind.{UpTo, candidate_at}
+use Rattle.recurrence.specs.Kind.{UpTo, candidate_at, monthly_fits}
 use Rattle.recurrence.specs.Scale.{month_at}
 use Rattle.recurrence.proofs.Bounds.{month_bound, month_last, month_first}
-use Rattle.recurrence.proofs.Fits.{step_month, monthly_first, monthly_next, monthly_fit, monthly_past, monthly_none}
+use Rattle.recurrence.proofs.Fits.{step_month, monthly_units, monthly_first, monthly_next, monthly_fit, monthly_past, monthly_none}
 use Rattle.recurrence.proofs.Months.{month_rises}
-use Rattle.definition.specs.Base.{◌or◌}
-use Prim.Native.Nat.{ℕ, ◌+◌, ◌-◌, ◌*◌, ◌<◌}
+use Rattle.recurrence.proofs.Units.{Passed, pass_none_there, pass_unit}
+use Prim.Native.Nat.{ℕ, suc, ◌+◌, ◌-◌, ◌*◌, ◌<◌}
 use native.Mathlib.Nat.{mul-le-mul, le_of_lt}
 use native.Mathlib.Numerals.{add-one}
 use mathlib.Core.Path.{◌≡◌, ap, subst, ◌∙◌}
 use native.Mathlib.Omega.{arith}
 use Rattle.recurrence.proofs.kind.monthly.Goals as goal
-use Rattle.recurrence.proofs.kind.monthly.Goals.{After-candidate_in-x}
+use Rattle.recurrence.proofs.kind.monthly.Goals.{After-candidate_in, in-Some+else-at-x, in_default}
 
-candidate_is : (c : After-candidate_in-x) →
-    c.candidate_in-x.result ≡ (candidate_at c.args.positioned c.args.r (step_month c.args.r c.loop-q.q) or 0)
+candidate_is : (c : After-candidate_in) →
+    c.candidate_in.result ≡ candidate_at c.args.positioned c.args.r (step_month c.args.r c.loop-q.q)
 candidate_is c =
-    c.candidate_in-x.ensures ∙ ap (λ (n : ℕ). candidate_at c.args.positioned c.args.r (n + c.loop-q.q * c.args.r.period) or 0) c.month_at-first.ensures
+    c.candidate_in.ensures ∙ ap (λ (n : ℕ). candidate_at c.args.positioned c.args.r (n + c.loop-q.q * c.args.r.period)) c.month_at-first.ensures
 
 pub month_at-first-requires : goal.month_at-first-requires
 month_at-first-requires c = let s = c.requires in record { low = s.first; high = omega (arith, s.from, s.until, s.last) }
@@ -32,7 +32,7 @@ overflow_sub-month_at c =
 
 pub steps_up-q-requires : goal.steps_up-q-requires
 steps_up-q-requires c =
-    record { fact_1 = omega (arith, c.month_at.ensures, month_bound c.args.at (omega (arith, c.requires.until, c.requires.last))); fact_2 = c.requires.step; fact_3 = c.requires.most }
+    record { days = omega (arith, c.month_at.ensures, month_bound c.args.at (omega (arith, c.requires.until, c.requires.last))); step = c.requires.step; most = c.requires.most }
 
 pub loop-q-init : goal.loop-q-init
 loop-q-init c =
@@ -59,29 +59,28 @@ returns-then-end-k c =
     let past : month_at c.args.r.last < step_month c.args.r q = omega (arith, c.if-end-k.true, c.month_at-end.ensures, c.month_at-first.ensures) in
     rw add-one (monthly_past c.args.positioned c.args.r c.args.at c.requires.step q past c.loop-q.invariant)
 
-pub candidate_in-x-requires : goal.candidate_in-x-requires
-candidate_in-x-requires c =
-    record { fact_1 = (omega (arith, c.month_at-first.ensures, month_first c.args.r.from c.requires.first), omega (arith, c.if-end-k.false, c.month_at-end.ensures, month_last c.args.r.last c.requires.last)); fact_2 = omega arith }
+pub candidate_in-requires : goal.candidate_in-requires
+candidate_in-requires c =
+    record { year = (omega (arith, c.month_at-first.ensures, month_first c.args.r.from c.requires.first), omega (arith, c.if-end-k.false, c.month_at-end.ensures, month_last c.args.r.last c.requires.last)); month = omega arith }
 
 pub returns-then-at-x : goal.returns-then-at-x
 returns-then-at-x c =
     let q = c.loop-q.q in
     let r = c.args.r in
-    let is = candidate_is (goal.at.returns-then-at-x c).After-candidate_in-x in
-    monthly_fit c.args.positioned r c.args.at c.requires.step q c.candidate_in-x.result is (omega (arith, c.requires.first, c.requires.from)) c.if-at-x.true c.loop-q-test.true c.loop-q.invariant
-
-pub overflow_add-q : goal.overflow_add-q
-overflow_add-q c = omega (arith, c.loop-q-test.true)
-
-pub loop-q-smaller : goal.loop-q-smaller
-loop-q-smaller c = omega (arith, c.loop-q-test.true)
+    let is = candidate_is (goal.at.returns-then-at-x c).After-candidate_in in
+    monthly_fit c.args.positioned r c.args.at c.requires.step q c.in-Some.x c.candidate_in.result is c.in-Some.is c.if-at-x.true c.loop-q-test.true c.loop-q.invariant
 
 pub loop-q-preserved : goal.loop-q-preserved
 loop-q-preserved c =
     let q = c.loop-q.q in
     let r = c.args.r in
-    let is = candidate_is (goal.at.loop-q-preserved c).After-candidate_in-x in
-    rw add-one (monthly_next c.args.positioned r c.args.at c.requires.step q c.candidate_in-x.result is c.if-at-x.false c.loop-q.invariant)
+    let is = candidate_is (goal.at.loop-q-preserved c).After-candidate_in in
+    let u = monthly_units c.args.positioned r in
+    let p : Passed (monthly_fits c.args.positioned r) month_at c.args.at (suc (step_month r q)) = elim c.match-candidate_in.branch [
+      | in-Some+else-at-x w ↦ pass_unit _ _ _ _ u c.args.at (step_month r q) c.candidate_in.result c.loop-q.invariant is w.in-Some.x w.in-Some.is w.if-at-x.false
+      | in_default w ↦ pass_none_there _ _ _ _ u c.args.at (step_month r q) c.candidate_in.result c.loop-q.invariant is w.in_default.is
+    ] in
+    rw add-one (monthly_next c.args.positioned r c.args.at c.requires.step q p)
 
 pub overflow_add-result-2 : goal.overflow_add-result-2
 overflow_add-result-2 c =

@@ -2,11 +2,7 @@ use Rattle.recurrence.specs.Kind.{monthly_fits}
 use Rattle.recurrence.specs.Scale.{month_at}
 use Rattle.recurrence.proofs.Fits.{step_month}
 use Rattle.recurrence.proofs.Units.{Passed}
-use Prim.Native.Nat.{◌-◌}
 use Rattle.recurrence.proofs.kind.monthly.Given as goal
 
 abbrev pub invariant-loop-q : goal.invariant-loop-q
 invariant-loop-q l = Passed (monthly_fits l.positioned l.r) month_at l.at (step_month l.r l.q)
-
-abbrev pub decreases-loop-q : goal.decreases-loop-q
-decreases-loop-q l = 2400 - l.q

@@ -16,4 +16,4 @@ overflow_add-sunday c = omega (arith, c.steps_up-q.ensures.short, c.requires)
 
 pub returns : goal.returns
 returns c =
-    subst⁻¹ (λ (g : ℕ). WeekDay c.args.sunday c.args.step c.args.d g) c.later.ensures (week_day c.args.sunday c.args.step c.args.d c.steps_up-q.result c.requires.fact_1 c.steps_up-q.ensures)
+    subst⁻¹ (λ (g : ℕ). WeekDay c.args.sunday c.args.step c.args.d g) c.max.ensures (week_day c.args.sunday c.args.step c.args.d c.steps_up-q.result c.requires.sunday c.steps_up-q.ensures)

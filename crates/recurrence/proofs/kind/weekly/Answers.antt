@@ -27,7 +27,7 @@ loop-r-init c =
 
 pub week_day_from-g-requires : goal.week_day_from-g-requires
 week_day_from-g-requires c =
-    record { fact_1 = omega (arith, c.loop-r.invariant.1, c.requires.from); fact_2 = c.loop-r.invariant.2; fact_3 = c.requires.step; fact_4 = c.requires.most }
+    record { sunday = omega (arith, c.loop-r.invariant.1, c.requires.from); day = c.loop-r.invariant.2; step = c.requires.step; most = c.requires.most }
 
 pub overflow_add-result : goal.overflow_add-result
 overflow_add-result c =
@@ -37,17 +37,17 @@ pub returns-then-end-g : goal.returns-then-end-g
 returns-then-end-g c =
     let r = c.args.r in
     let w = weekday_from (goal.at.returns-then-end-g c).After-week_day_from-g in
-    rw add-one (weekly_none r c.args.at c.loop-r.d c.week_day_from-g.result w c.loop-r.invariant.0 c.least-end.result c.least-end.ensures c.if-end-g.true)
+    rw add-one (weekly_none r c.args.at c.loop-r.d c.week_day_from-g.result w c.loop-r.invariant.0 c.min-end.result c.min-end.ensures c.if-end-g.true)
 
 pub returns-then-on_weekday : goal.returns-then-on_weekday
 returns-then-on_weekday c =
     let r = c.args.r in
     let w = weekday_from (goal.at.returns-then-on_weekday c).After-week_day_from-g in
-    weekly_fit r c.args.at c.loop-r.d c.week_day_from-g.result w c.loop-r.invariant.0 (sym c.on_weekday.ensures ∙ c.if-on_weekday.true) (omega (arith, c.if-end-g.false, c.least-end.ensures)) (omega (arith, c.loop-r.invariant.1, w.on))
+    weekly_fit r c.args.at c.loop-r.d c.week_day_from-g.result w c.loop-r.invariant.0 (sym c.on_weekday.ensures ∙ c.if-on_weekday.true) (omega (arith, c.if-end-g.false, c.min-end.ensures)) (omega (arith, c.loop-r.invariant.1, w.on))
 
 pub overflow_add-d : goal.overflow_add-d
 overflow_add-d c =
-    omega (arith, c.if-end-g.false, c.least-end.ensures, c.requires.last)
+    omega (arith, c.if-end-g.false, c.min-end.ensures, c.requires.last)
 
 pub loop-r-smaller : goal.loop-r-smaller
 loop-r-smaller c =
@@ -57,4 +57,4 @@ pub loop-r-preserved : goal.loop-r-preserved
 loop-r-preserved c =
     let r = c.args.r in
     let w = weekday_from (goal.at.loop-r-preserved c).After-week_day_from-g in
-    (past_day r c.args.at c.loop-r.d c.week_day_from-g.result w c.loop-r.invariant.0 (sym c.on_weekday.ensures ∙ c.if-on_weekday.false), omega (arith, c.loop-r.invariant.1, w.on), omega (arith, c.if-end-g.false, c.least-end.ensures, c.requires.last))
+    (past_day r c.args.at c.loop-r.d c.week_day_from-g.result w c.loop-r.invariant.0 (sym c.on_weekday.ensures ∙ c.if-on_weekday.false), omega (arith, c.loop-r.invariant.1, w.on), omega (arith, c.if-end-g.false, c.min-end.ensures, c.requires.last))

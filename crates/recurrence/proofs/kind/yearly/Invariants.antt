@@ -1,11 +1,8 @@
 use Rattle.recurrence.specs.Kind.{yearly_fits}
 use Rattle.recurrence.proofs.Units.{Passed}
 use Rattle.definition.specs.Date.{year_of}
-use Prim.Native.Nat.{◌+◌, ◌-◌, ◌≤◌}
+use Prim.Native.Nat.{◌≤◌}
 use Rattle.recurrence.proofs.kind.yearly.Given as goal
 
 abbrev pub invariant-loop-y : goal.invariant-loop-y
 invariant-loop-y l = Passed (yearly_fits l.positioned l.r) year_of l.at l.y × (1 ≤ l.y)
-
-abbrev pub decreases-loop-y : goal.decreases-loop-y
-decreases-loop-y l = l.end + 1 - l.y

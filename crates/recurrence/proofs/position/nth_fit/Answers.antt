@@ -14,7 +14,7 @@ loop-d-init c = refl
 
 pub returns-then-k-eq0 : goal.returns-then-k-eq0
 returns-then-k-eq0 c =
-    nth_hit (item_fits (pos c.args.item)) c.loop-d.d c.args.end c.loop-d.k c.loop-d-test.true (sym c.item_fits.ensures ∙ c.if-item_fits.true) c.if-k-eq0.true ∙ ap (◌or 0) (sym c.loop-d.invariant)
+    nth_hit (item_fits (pos c.args.item)) c.loop-d.d c.args.end c.loop-d.k c.loop-d-test.true (sym c.item_fits.ensures ∙ c.if-item_fits.true) c.if-k-eq0.true ∙ sym c.loop-d.invariant
 
 pub loop-d-preserved : goal.loop-d-preserved
 loop-d-preserved c =
@@ -30,4 +30,4 @@ loop-d-preserved c =
     ]
 
 pub returns : goal.returns
-returns c = nth_end (item_fits (pos c.args.item)) c.loop-d.d c.args.end c.loop-d.k c.loop-d-test.false ∙ ap (◌or 0) (sym c.loop-d.invariant)
+returns c = nth_end (item_fits (pos c.args.item)) c.loop-d.d c.args.end c.loop-d.k c.loop-d-test.false ∙ sym c.loop-d.invariant

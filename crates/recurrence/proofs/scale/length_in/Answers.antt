@@ -1,18 +1,13 @@
+use mathlib.Core.Path.{ap, ◌∙◌}
 use native.Mathlib.Omega.{arith}
+use Prim.Native.Nat.{ℕ}
+use Rattle.std.specs.Prelude.{Option, unwrap_or}
 use Rattle.date.proofs.Signs.{difference_back}
-use Rattle.recurrence.proofs.Counts.{length_is, length_there}
-use borrow.Author.Rules.{rules}
+use Rattle.recurrence.proofs.Counts.{length_by_lem}
 use Rattle.recurrence.proofs.scale.length_in.Goals as goal
 
-pub enum_told-1 : goal.enum_told-1
-enum_told-1 c = search rules
-
-pub returns-in-Some : goal.returns-in-Some
-returns-in-Some c =
-    let e = difference_back c.args.y 10000 (omega (arith, c.requires.fact_1.1)) (omega arith) c.lowered.result c.lowered.ensures in
-    length_is c.args.y c.args.m c.requires.fact_1 c.requires.fact_2 _ e c.days_in_month.result c.days_in_month.ensures _ c.in-Some.is
-
-pub returns-in-None : goal.returns-in-None
-returns-in-None c =
-    let e = difference_back c.args.y 10000 (omega (arith, c.requires.fact_1.1)) (omega arith) c.lowered.result c.lowered.ensures in
-    absurd (length_there c.args.y c.args.m c.requires.fact_1 c.requires.fact_2 _ e c.days_in_month.result c.days_in_month.ensures c.in-None.is)
+pub returns : goal.returns
+returns c =
+    let e = difference_back c.args.y 10000 (omega (arith, c.requires.year.1)) (omega arith) c.lowered.result c.lowered.ensures in
+    c.unwrap_or.ensures
+    ∙ ap (λ (o : Option ℕ). unwrap_or o 0) (c.days_in_month.ensures ∙ length_by_lem c.args.y c.args.m c.requires.year c.requires.month _ e)

@@ -17,18 +17,15 @@ year_count-requires c =
     let l = year_last d c.requires.high in
     record { year = year_of d; number = difference_back (year_of d) 10000 (omega arith) (omega arith) _ (ap (λ (v : Ymd). v.year) e); most = l }
 
-pub enum_told-1 : goal.enum_told-1
-enum_told-1 c = search rules
-
-pub returns-in-Some : goal.returns-in-Some
+pub returns : goal.returns
 unfolding ymd_of
-returns-in-Some c =
+returns c =
     let d = c.args.d in
     let e = ymd_is d c.requires _ (ap (λ (t : Date). t.0) c.date_at.ensures) c.ymd.result c.ymd.ensures _ c.in-Some.is in
     let l = year_last d c.requires.high in
     let n = year_same c.year_count.result (year_of d) (c.year_count.ensures ∙ difference_back (year_of d) 10000 (omega arith) (omega arith) _ (ap (λ (v : Ymd). v.year) e)) in
     λ i. record { year = n i; month = (e i).month }
 
-pub returns-in-None : goal.returns-in-None
-returns-in-None c =
-    absurd (ymd_there c.args.d c.requires _ (ap (λ (t : Date). t.0) c.date_at.ensures) c.ymd.result c.ymd.ensures c.in-None.is)
+pub returns-in_default : goal.returns-in_default
+returns-in_default c =
+    absurd (ymd_there c.args.d c.requires _ (ap (λ (t : Date). t.0) c.date_at.ensures) c.ymd.result c.ymd.ensures c.in_default.is)

@@ -13,7 +13,7 @@ use Rattle.recurrence.proofs.Types.{chosen_kind}
 use Rattle.recurrence.proofs.Going.{Right, is_one, is_one_lem, not_sound, no_kind, ready, no_rule, none_left, past_last, no_more, day_next}
 use borrow.Author.Rules.{rules}
 use Rattle.recurrence.proofs.sequence.next.Goals as goal
-use Rattle.recurrence.proofs.sequence.next.Goals.{After-later-at, Else-not-is_sound, Else-t-at, In-Some}
+use Rattle.recurrence.proofs.sequence.next.Goals.{After-max-at, Else-not-is_sound, Else-t-at, In-Some}
 
 sounds : (c : Else-not-is_sound) → sound c.to_scale-t.result ≡ true
 sounds c = sym c.is_sound.ensures ∙ not-false _ c.if-not-is_sound.false-raw
@@ -21,15 +21,15 @@ sounds c = sym c.is_sound.ensures ∙ not-false _ c.if-not-is_sound.false-raw
 yes : (c : In-Some) → is_one c.to_scale-t.result ≡ true
 yes c = is_one_lem c.to_scale-t.result (sounds c.before.before) c.kind_of.ensures c.in-Some.is
 
-at_is : (c : After-later-at) →
-    c.later-at.result ≡ max c.to_scale-t.result.from (day_count c.args.c.at.0)
+at_is : (c : After-max-at) →
+    c.max-at.result ≡ max c.to_scale-t.result.from (day_count c.args.c.at.0)
 at_is c =
-    c.later-at.ensures ∙ ap (max c.to_scale-t.result.from) c.count_of.ensures
+    c.max-at.ensures ∙ ap (max c.to_scale-t.result.from) c.count_of.ensures
 
 goes : (c : Else-t-at) →
-    Ready c.to_scale-t.result c.later-at.result
+    Ready c.to_scale-t.result c.max-at.result
 goes c =
-    ready c.to_scale-t.result (yes c.before.before.before.before.before.before.before) c.later-at.result (omega (arith, at_is c.before.before)) c.if-t-at.false
+    ready c.to_scale-t.result (yes c.before.before.before.before.before.before.before) c.max-at.result (omega (arith, at_is c.before.before)) c.if-t-at.false
 
 pub returns-then-not-is_sound : goal.returns-then-not-is_sound
 returns-then-not-is_sound c =
@@ -44,15 +44,15 @@ returns-then-c-eq0 c =
 
 pub returns-then-t-at : goal.returns-then-t-at
 returns-then-t-at c =
-    past_last c.args.r c.args.c c.to_scale-t.result c.to_scale-t.ensures (yes (goal.at.returns-then-t-at c).In-Some) c.later-at.result (at_is (goal.at.returns-then-t-at c).After-later-at) c.if-t-at.true
+    past_last c.args.r c.args.c c.to_scale-t.result c.to_scale-t.ensures (yes (goal.at.returns-then-t-at c).In-Some) c.max-at.result (at_is (goal.at.returns-then-t-at c).After-max-at) c.if-t-at.true
 
 pub first_fit-x-requires : goal.first_fit-x-requires
 first_fit-x-requires c =
-    record { fact_1 = goes (goal.at.first_fit-x-requires c).Else-t-at; fact_2 = chosen_kind c.to_scale-t.result.kind c.to_scale-t.result.month c.kind_of.ensures c.in-Some.is }
+    record { ready = goes (goal.at.first_fit-x-requires c).Else-t-at; kind = chosen_kind c.to_scale-t.result.kind c.to_scale-t.result.month c.kind_of.ensures c.in-Some.is }
 
 pub returns-then-t-x : goal.returns-then-t-x
 returns-then-t-x c =
-    no_more c.args.r c.args.c c.to_scale-t.result c.to_scale-t.ensures (yes (goal.at.returns-then-t-x c).In-Some) c.later-at.result (at_is (goal.at.returns-then-t-x c).After-later-at) c.first_fit-x.result c.first_fit-x.ensures c.if-t-x.true
+    no_more c.args.r c.args.c c.to_scale-t.result c.to_scale-t.ensures (yes (goal.at.returns-then-t-x c).In-Some) c.max-at.result (at_is (goal.at.returns-then-t-x c).After-max-at) c.first_fit-x.result c.first_fit-x.ensures c.if-t-x.true
 
 pub date_at-day-requires : goal.date_at-day-requires
 date_at-day-requires c = omega (arith, c.if-t-x.false, (goes (goal.at.date_at-day-requires c).Else-t-at).last)
@@ -63,14 +63,14 @@ overflow_add-x c = omega (arith, c.if-t-x.false, (goes (goal.at.overflow_add-x c
 pub date_at-requires : goal.date_at-requires
 date_at-requires c = omega (arith, c.if-t-x.false, (goes (goal.at.date_at-requires c).Else-t-at).last)
 
-pub returns-in-None : goal.returns-in-None
-returns-in-None c =
-    no_rule c.args.r c.args.c c.to_scale-t.result c.to_scale-t.ensures (no_kind c.to_scale-t.result (sounds (goal.at.returns-in-None c).Else-not-is_sound) c.kind_of.ensures c.in-None.is)
+pub returns-in_default : goal.returns-in_default
+returns-in_default c =
+    no_rule c.args.r c.args.c c.to_scale-t.result c.to_scale-t.ensures (no_kind c.to_scale-t.result (sounds (goal.at.returns-in_default c).Else-not-is_sound) c.kind_of.ensures c.in_default.is)
 
-pub returns-else-t-x : goal.returns-else-t-x
-returns-else-t-x c =
+pub returns : goal.returns
+returns c =
     let x = c.first_fit-x.result in
     let n = c.args.c.left - 1 in
     subst⁻¹ (λ (d : Date). Right c.args.r c.args.c (Day d (record { at = c.date_at.result; left = n }))) c.date_at-day.ensures
     (subst⁻¹ (λ (d : Date). Right c.args.r c.args.c (Day (day_date x) (record { at = d; left = n }))) c.date_at.ensures
-    (day_next c.args.r c.args.c c.to_scale-t.result c.to_scale-t.ensures (yes (goal.at.returns-else-t-x c).In-Some) c.later-at.result (at_is (goal.at.returns-else-t-x c).After-later-at) x c.first_fit-x.ensures c.if-t-x.false c.if-c-eq0.false))
+    (day_next c.args.r c.args.c c.to_scale-t.result c.to_scale-t.ensures (yes (goal.at.returns c).In-Some) c.max-at.result (at_is (goal.at.returns c).After-max-at) x c.first_fit-x.ensures c.if-t-x.false c.if-c-eq0.false))
