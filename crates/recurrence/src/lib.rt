@@ -48,3 +48,4 @@ pub struct Range {
     pub first: Date,
     pub count: u32,
 }
+
