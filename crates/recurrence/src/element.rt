@@ -6,7 +6,7 @@ ghost use Rattle.fields.specs.Said.{whole_said, date_said};
 ghost use Rattle.tree.specs.Place.{element_at};
 ghost use Rattle.recurrence.specs.Element.{pick_of, mask_of, last_by, most_by, held_rule, judged, UpToLast, rule_in, RuleRead, period_of, range_in, RangeRead};
 
-use crate::kind::{kind_of};
+use crate::kind::kind_of;
 use crate::scale::{LAST, count_by, date_at};
 use crate::{Range, Rule};
 

@@ -35,8 +35,3 @@ module _ (per_day format : ℕ) (b : Bool) (n : ℕ) where
   pub lag_working : percent_format format ≡ false → elapsed_format format ≡ false → working_lag per_day (with_sign b (n / 10)) ≡ lag_of per_day format (with_sign b n)
   unfolding lag_of
   lag_working e f = rw (e, f, cut_sign b n 10)
-
--- ---- the tenths of a link
-
-pub held_down : (n : ℕ) → with_sign true (min n 99999999999 + 1) ≡ held_by 100000000000 (negsuc n)
-held_down n = let e : min n 99999999999 + 1 ≡ min (suc n) 100000000000 = omega arith in ap (with_sign true) e
