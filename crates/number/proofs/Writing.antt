@@ -3,14 +3,14 @@ use Rattle.std.specs.Prelude.{if◌then◌else◌, Option, Some, None}
 use Rattle.definition.specs.declared.Refusal.{Refusal}
 use Rattle.definition.specs.declared.Refusal.TheVariants.{Outside}
 use Rattle.std.specs.Prelude.{Err, Ok, Result}
-use Rattle.std.proofs.Common.{◌≡◌, ℕ, zero, suc, ◌+◌, ◌-◌, ◌/◌, ◌%◌, ◌^◌, ◌<◌, ◌≤◌, Bool, true, false, ltb, leb, ◌⊎◌, [], ◌∷◌, ◌++◌, length, take, drop, set, replicate, sym, refl, ap, ◌∙◌, subst, inl, inr, append-nil, zero-le, zero-lt-suc, div-lt_iff_lt-mul, pow-suc, add-one, arith, length-drop, length-set, length-take, length-take-le, take-suc-set, le-ltb, lt-ltb, le-leb}
+use Rattle.std.proofs.Common.{◌≡◌, ℕ, zero, suc, ◌+◌, ◌-◌, ◌/◌, ◌%◌, ◌^◌, ◌<◌, ◌≤◌, Bool, true, false, ltb, leb, ◌⊎◌, [], ◌∷◌, ◌++◌, length, take, drop, set, replicate, sym, refl, ap, ◌∙◌, subst, inl, inr, append-nil, zero-lt-suc, div-lt_iff_lt-mul, pow-suc, add-one, arith, length-drop, length-set, length-take, length-take-le, take-suc-set, le-ltb, lt-ltb, le-leb}
 use borrow.Author.Tests.{lt-leb}
 use borrow.Rule.Slice.PartMut.{put_mid, post_of, Post-is}
 use Rattle.definition.specs.Text.{Text}
 use Rattle.definition.specs.Duration.{decimal, decimal_up}
 use Rattle.definition.specs.Time.{two_digits}
 use Rattle.text.specs.Parts.{le_or_lt, at_end_lem}
-use Rattle.laws.specs.Buf.{Buf, holds, full, ◌▷◌, ▷-fits, ▷-over, ▷-full}
+use Rattle.laws.specs.Buf.{holds, ◌▷◌, ▷-fits, ▷-over}
 use Rattle.number.specs.Written.{Put, Gives, view, answer_of}
 use Rattle.definition.specs.Refusal.{Answer, refused, gives, in_room, ranged}
 

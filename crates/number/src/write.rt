@@ -96,7 +96,7 @@ fn put_time(out: &mut [u8], t: u64) -> Option<usize>
     put(out, e, b'0')
 }
 
-// The text of a time of day up to 1440 minutes.
+// The text of a time of day up to 1440 minutes. One body for both, given the bound and what puts the text, would be no plainer.
 pub fn time_text(minutes: u64, out: &mut [u8]) -> Result<usize, Refusal>
     ensures { Gives (time_answer minutes (length out.old)) (length out.old) result out.new }
 {
