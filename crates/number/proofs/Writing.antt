@@ -1,51 +1,34 @@
 -- One byte written, the decimal digits of a number, and the end of a text. Assumes nothing.
-use Rattle.std.specs.Prelude.{if◌then◌else◌}
+use Rattle.std.specs.Prelude.{if◌then◌else◌, Option, Some, None}
 use Rattle.definition.specs.declared.Refusal.{Refusal}
-use Rattle.definition.specs.declared.Refusal.TheVariants.{NoRoom, Outside}
+use Rattle.definition.specs.declared.Refusal.TheVariants.{Outside}
 use Rattle.std.specs.Prelude.{Err, Ok, Result}
-use Rattle.std.proofs.Common.{◌≡◌, ℕ, zero, suc, ◌+◌, ◌-◌, ◌/◌, ◌%◌, ◌^◌, ◌<◌, ◌≤◌, Bool, true, false, ltb, leb, ◌⊎◌, [], ◌∷◌, ◌++◌, length, take, drop, set, replicate, sym, refl, ap, ◌∙◌, subst, inl, inr, append-nil, zero-le, zero-lt-suc, div-lt_iff_lt-mul, pow-suc, add-one, arith, length-drop, length-set, length-take, length-take-le, take-suc-set, le-ltb, lt-ltb, le-leb}
+use Rattle.std.proofs.Common.{◌≡◌, ℕ, zero, suc, ◌+◌, ◌-◌, ◌/◌, ◌%◌, ◌^◌, ◌<◌, ◌≤◌, Bool, true, false, ltb, leb, ◌⊎◌, [], ◌∷◌, ◌++◌, length, take, drop, set, replicate, sym, refl, ap, ◌∙◌, subst, inl, inr, append-nil, zero-lt-suc, div-lt_iff_lt-mul, pow-suc, add-one, arith, length-drop, length-set, length-take, length-take-le, take-suc-set, le-ltb, lt-ltb, le-leb}
 use borrow.Author.Tests.{lt-leb}
 use borrow.Rule.Slice.PartMut.{put_mid, post_of, Post-is}
 use Rattle.definition.specs.Text.{Text}
 use Rattle.definition.specs.Duration.{decimal, decimal_up}
 use Rattle.definition.specs.Time.{two_digits}
 use Rattle.text.specs.Parts.{le_or_lt, at_end_lem}
-use Rattle.laws.specs.Buf.{Buf, holds, full, ◌▷◌, ▷-fits, ▷-over, ▷-full}
+use Rattle.laws.specs.Buf.{holds, ◌▷◌, ▷-fits, ▷-over}
 use Rattle.number.specs.Written.{Put, Gives, view, answer_of}
 use Rattle.definition.specs.Refusal.{Answer, refused, gives, in_room, ranged}
 
--- ---- a buffer and a place
-
-module _ (d : Text) (at : ℕ) where
-  view_in : at ≤ length d → view d at ≡ holds (length d) (take at d)
-  unfolding view
-  view_in h = rw (le-leb at (length d) h)
-
-  view_past : length d < at → view d at ≡ full (length d)
-  unfolding view
-  view_past h = rw (lt-leb at (length d) h)
-
 -- ---- one byte
 
-pub put_one : (d : Text) (at b : ℕ) → at < length d → Put (b ∷ []) d at (set d at b) (at + 1)
+pub put_one : (d : Text) (at b : ℕ) → at < length d → Put (b ∷ []) d at (set d at b) (Some (at + 1))
 put_one d at b h =
     let same : length (set d at b) ≡ length d = length-set d at b in
     let more : take (at + 1) (set d at b) ≡ take at d ++ (b ∷ []) = rw add-one (take-suc-set d at b h) in
     let size : length (take at d) ≡ at = length-take-le at d (omega arith) in
-    record {
-      same = same;
-      bytes = rw (view_in (set d at b) (at + 1) (omega arith), view_in d at (omega arith), same, more) (sym (▷-fits (length d) (take at d) (b ∷ []) (omega arith)));
-    }
+    record { same = same; inside = omega (arith, same); bytes = rw (same, more) (sym (▷-fits (length d) (take at d) (b ∷ []) (omega arith))) }
 
-pub put_past : (d : Text) (at b past : ℕ) → length d ≤ at → length d < past → Put (b ∷ []) d at d past
-put_past d at b past h k = record { same = refl; bytes = view_past d past k ∙ sym (short (le_or_lt at (length d))) }
-  where
-    short : (at ≤ length d) ⊎ (length d < at) → view d at ▷ (b ∷ []) ≡ full (length d)
-    short (inl l) = rw (view_in d at l) (▷-over (length d) (take at d) (b ∷ []) (omega (arith, length-take-le at d l)))
-    short (inr l) = rw (view_past d at l) (▷-full (length d) (b ∷ []))
+pub put_past : (d : Text) (at b : ℕ) → at ≡ length d → Put (b ∷ []) d at d None
+put_past d at b h =
+    record { same = refl; inside = tt; bytes = sym (▷-over (length d) (take at d) (b ∷ []) (omega (arith, length-take-le at d (omega arith)))) }
 
-pub put_as : {t u d d' : Text} {n n' : ℕ} → t ≡ u → Put t d n d' n' → Put u d n d' n'
-put_as {d = d} {d' = d'} {n = n} {n' = n'} e p = subst (λ (l : Text). Put l d n d' n') e p
+pub put_as : {t u d d' : Text} {n : ℕ} {r : Option ℕ} → t ≡ u → Put t d n d' r → Put u d n d' r
+put_as {d = d} {d' = d'} {n = n} {r = r} e p = subst (λ (l : Text). Put l d n d' r) e p
 
 -- ---- digits
 pub decimal_one : (n : ℕ) → n < 10 → (n % 10 + 48) ∷ [] ≡ decimal n
@@ -75,28 +58,22 @@ two_digits_lem n h = let e : n / 10 % 10 ≡ n / 10 = omega arith in ap (λ (k :
 
 -- ---- the end
 
-module _ (d : Text) (at : ℕ) where
-  pub ends_within : (m : Text) → at ≤ length d → m ≡ replicate (length (take (length d - at) (drop at d))) 0
-      → Gives (answer_of (view d at)) (length d) (Ok at) (put_mid at (length d - at) d m)
-  ends_within m h e =
-      let l : length (take at d) ≡ at = length-take-le at d h in
-      let p : post_of at (length d - at) d ≡ [] = Post-is at (length d) d h ∙ at_end_lem d (length d) (omega arith) in
-      let z : length (take (length d - at) (drop at d)) ≡ length d - length (take at d) = simp (length-take, length-drop) (omega (arith, l)) in
-      subst (λ (b : Buf). Gives (answer_of b) (length d) (Ok at) (put_mid at (length d - at) d m)) (sym (view_in d at h))
-      (record {
-        refusal = refl;
-        count = sym l;
-        buffer = ap (λ (r : Text). take at d ++ (m ++ r)) p ∙ ap (λ (r : Text). take at d ++ r) (append-nil m ∙ e ∙ ap (λ (n : ℕ). replicate n 0) z);
-      })
-
-  pub ends_past : (m : Text) → length d < at → m ≡ replicate (length d) 0 → Gives (answer_of (view d at)) (length d) (Err NoRoom) m
-  ends_past m h e =
-      subst (λ (b : Buf). Gives (answer_of b) (length d) (Err NoRoom) m) (sym (view_past d at h)) (record { refusal = refl; count = refl; buffer = e })
+pub ends_within : (d : Text) (at : ℕ) (m : Text) → at ≤ length d → m ≡ replicate (length (take (length d - at) (drop at d))) 0
+    → Gives (answer_of (view d (Some at))) (length d) (Ok at) (put_mid at (length d - at) d m)
+ends_within d at m h e =
+    let l : length (take at d) ≡ at = length-take-le at d h in
+    let p : post_of at (length d - at) d ≡ [] = Post-is at (length d) d h ∙ at_end_lem d (length d) (omega arith) in
+    let z : length (take (length d - at) (drop at d)) ≡ length d - length (take at d) = simp (length-take, length-drop) (omega (arith, l)) in
+    record {
+      refusal = refl;
+      count = sym l;
+      buffer = ap (λ (r : Text). take at d ++ (m ++ r)) p ∙ ap (λ (r : Text). take at d ++ r) (append-nil m ∙ e ∙ ap (λ (n : ℕ). replicate n 0) z);
+    }
 
 -- a text put from the start on, and then ended
-pub whole : (t d d' : Text) (n : ℕ) → Put t d 0 d' n → answer_of (view d' n) ≡ in_room (length d) t
+pub whole : (t d d' : Text) (r : Option ℕ) → Put t d 0 d' r → answer_of (view d' r) ≡ in_room (length d) t
 unfolding in_room
-whole t d d' n p = ap answer_of (p.bytes ∙ ap (λ (b : Buf). b ▷ t) (view_in d 0 zero-le)) ∙ by (le_or_lt (length t) (length d))
+whole t d d' r p = ap answer_of p.bytes ∙ by (le_or_lt (length t) (length d))
   where
     by : (length t ≤ length d) ⊎ (length d < length t) → answer_of (holds (length d) [] ▷ t) ≡ (if leb (length t) (length d) then gives t else refused 9)
     by (inl h) = rw (▷-fits (length d) [] t (omega arith), le-leb (length t) (length d) h)
@@ -109,7 +86,7 @@ module _ (most : ℕ) (named : ℕ → Text) (n : ℕ) (d : Text) where
       subst (λ (t : Bool). Gives (if t then in_room (length d) (named n) else refused 8) (length d) (Err Outside) m) (sym (lt-leb n most h))
       (record { refusal = refl; count = refl; buffer = e })
 
-  pub inside : {d' out : Text} {k : ℕ} {r : Result ℕ Refusal} → n ≤ most → Put (named n) d 0 d' k → Gives (answer_of (view d' k)) (length d') r out
+  pub inside : {d' out : Text} {k : Option ℕ} {r : Result ℕ Refusal} → n ≤ most → Put (named n) d 0 d' k → Gives (answer_of (view d' k)) (length d') r out
       → Gives (ranged most named n (length d)) (length d) r out
   unfolding ranged
   inside {d'} {out} {k} {r} h p g =

@@ -1,13 +1,13 @@
 -- What writing a text into a buffer gives: document 01's number, the buffer at the end, and how many bytes of it are the text. Assumes nothing.
 use Rattle.definition.specs.Answer.{answer_length, answer_number}
-use Rattle.std.specs.Prelude.{if◌then◌else◌, ◌≡◌, ℕ, ◌++◌, length, take, nat_le}
+use Rattle.std.specs.Prelude.{◌≡◌, ℕ, ◌++◌, length, take, ◌≤◌, Option, Some, None, IfSome}
 use Rattle.definition.specs.declared.Refusal.{Refusal}
 use Rattle.std.specs.Prelude.{Result}
-use Rattle.std.proofs.Common.{ap, ◌∙◌}
+use Rattle.std.proofs.Common.{sym, ap, ◌∙◌}
 use Rattle.definition.specs.Text.{Text}
 use Rattle.definition.specs.Duration.{most_minutes, duration_text}
 use Rattle.definition.specs.Refusal.{Answer, refused, gives, result, left, written, ranged}
-use Rattle.laws.specs.Buf.{Buf, holds, full, ◌▷◌, ▷-▷}
+use Rattle.laws.specs.Buf.{Buf, holds, full, ◌▷◌, ▷-▷, ▷-full}
 
 -- the text of minutes that are not below 0
 abbrev pub minutes_answer : ℕ → ℕ → Answer
@@ -23,18 +23,26 @@ pub record Gives (a : Answer) (room : ℕ) (r : Result ℕ Refusal) (out : Text)
 
 -- ---- one step after the other
 
--- what a buffer and a place in it stand for: the bytes before the place, or too many where the place is past the end
-unfoldable pub view : Text → ℕ → Buf
-view d n = if nat_le n (length d) then holds (length d) (take n d) else full (length d)
+-- what a buffer and a place in it stand for: the bytes before the place, or too many where there is no place left
+abbrev pub view : Text → Option ℕ → Buf
+view d None = full (length d)
+view d (Some n) = holds (length d) (take n d)
 
--- the text t was put at the place n, and n' is the next place
-pub record Put (t d : Text) (n : ℕ) (d' : Text) (n' : ℕ) : Type 0 where
+-- the text t was put at the place n, and r is the next place, none where the text did not fit
+pub record Put (t d : Text) (n : ℕ) (d' : Text) (r : Option ℕ) : Type 0 where
   pub same : length d' ≡ length d
-  pub bytes : view d' n' ≡ view d n ▷ t
+  pub inside : IfSome r (λ m. m ≤ length d')
+  pub bytes : view d' r ≡ view d (Some n) ▷ t
 
 infixr 6 ◌⨾◌
-pub ◌⨾◌ : {t u d d' d'' : Text} {n n' n'' : ℕ} → Put t d n d' n' → Put u d' n' d'' n'' → Put (t ++ u) d n d'' n''
-◌⨾◌ {t} {u} {d} {n = n} p q = record { same = q.same ∙ p.same; bytes = q.bytes ∙ ap (λ (b : Buf). b ▷ u) p.bytes ∙ ▷-▷ (view d n) t u }
+pub ◌⨾◌ : {t u d d' d'' : Text} {n n' : ℕ} {r : Option ℕ} → Put t d n d' (Some n') → Put u d' n' d'' r → Put (t ++ u) d n d'' r
+◌⨾◌ {t} {u} {d} {n = n} p q =
+    record { same = q.same ∙ p.same; inside = q.inside; bytes = q.bytes ∙ ap (λ (b : Buf). b ▷ u) p.bytes ∙ ▷-▷ (view d (Some n)) t u }
+
+-- what did not fit does not fit with more behind it
+pub cut : {t d d' : Text} {n : ℕ} (u : Text) → Put t d n d' None → Put (t ++ u) d n d' None
+cut {t} {d} {d'} {n} u p =
+    record { same = p.same; inside = tt; bytes = sym (▷-full (length d') u) ∙ ap (λ (b : Buf). b ▷ u) p.bytes ∙ ▷-▷ (view d (Some n)) t u }
 
 -- an answer of what stands at the end
 abbrev pub answer_of : Buf → Answer

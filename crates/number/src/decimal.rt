@@ -38,7 +38,7 @@ fn with_digit(n: usize, b: u8) -> usize
     requires { (48 ≤ b) × (b ≤ 57) }
     ensures { result ≡ min (n * 10 + (b - 48)) limit }
 {
-    if n >= 1_000_000_000_000_000_000 {
+    if n >= LIMIT / 10 {
         return LIMIT;
     }
     n * 10 + usize::from(b - b'0')

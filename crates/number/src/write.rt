@@ -1,5 +1,5 @@
 // The texts of durations and times, written into a lent buffer.
-ghost use Rattle.std.specs.Prelude.{◌≡◌, ◌+◌, ◌%◌, ◌<◌, ◌≤◌, [], ◌∷◌, ◌++◌, length, replicate};
+ghost use Rattle.std.specs.Prelude.{◌≡◌, ◌+◌, ◌%◌, ◌<◌, ◌≤◌, [], ◌∷◌, ◌++◌, length, IfSome};
 ghost use Rattle.definition.specs.Duration.{decimal, duration_text};
 ghost use Rattle.definition.specs.Time.{two_digits, time_text};
 ghost use Rattle.number.specs.Written.{Put, Gives, view, answer_of, minutes_answer};
@@ -7,18 +7,16 @@ ghost use Rattle.definition.specs.Refusal.{time_answer};
 
 use definition::Refusal;
 
-// A place past the end of every buffer.
-const PAST: usize = 9_223_372_036_854_775_808;
-
-// The byte b at a place, and the next place.
-fn put(out: &mut [u8], at: usize, b: u8) -> usize
+// The byte b at a place, and the next place; none where the buffer is full.
+fn put(out: &mut [u8], at: usize, b: u8) -> Option<usize>
+    requires { at ≤ length out.old }
     ensures { Put (b ∷ []) out.old at out.new result }
 {
-    if at < out.len() {
-        out[at] = b;
-        return at + 1;
+    if at == out.len() {
+        return None;
     }
-    PAST
+    out[at] = b;
+    Some(at + 1)
 }
 
 fn digit(n: u64) -> u8
@@ -28,38 +26,40 @@ fn digit(n: u64) -> u8
 }
 
 // The number n in decimal.
-fn put_decimal(out: &mut [u8], at: usize, n: u64) -> usize
+fn put_decimal(out: &mut [u8], at: usize, n: u64) -> Option<usize>
+    requires { at ≤ length out.old }
     ensures { Put (decimal n) out.old at out.new result }
 {
     if n < 10 {
         return put(out, at, digit(n));
     }
-    let next = put_decimal(out, at, n / 10);
+    let next = put_decimal(out, at, n / 10)?;
     put(out, next, digit(n))
 }
 
 // What was written up to a place, and zeros behind it; zeros alone where it did not fit.
-fn finish(out: &mut [u8], at: usize) -> Result<usize, Refusal>
-    ensures { Gives (answer_of (view out.old at)) (length out.old) result out.new }
+fn finish(out: &mut [u8], end: Option<usize>) -> Result<usize, Refusal>
+    requires { IfSome end (λ n. n ≤ length out.old) }
+    ensures { Gives (answer_of (view out.old end)) (length out.old) result out.new }
 {
-    if at <= out.len() {
-        out[at..].fill(0);
-        return Ok(at);
-    }
-    out.fill(0);
-    Err(Refusal::NoRoom)
+    let Some(n) = end else {
+        out.fill(0);
+        return Err(Refusal::NoRoom);
+    };
+    out[n..].fill(0);
+    Ok(n)
 }
 
-fn put_duration(out: &mut [u8], n: u64) -> usize
+fn put_duration(out: &mut [u8], n: u64) -> Option<usize>
     ensures { Put (duration_text n) out.old 0 out.new result }
 {
-    let a = put(out, 0, b'P');
-    let b = put(out, a, b'T');
-    let c = put_decimal(out, b, n / 60);
-    let d = put(out, c, b'H');
-    let e = put_decimal(out, d, n % 60);
-    let f = put(out, e, b'M');
-    let g = put(out, f, b'0');
+    let a = put(out, 0, b'P')?;
+    let b = put(out, a, b'T')?;
+    let c = put_decimal(out, b, n / 60)?;
+    let d = put(out, c, b'H')?;
+    let e = put_decimal(out, d, n % 60)?;
+    let f = put(out, e, b'M')?;
+    let g = put(out, f, b'0')?;
     put(out, g, b'S')
 }
 
@@ -71,31 +71,32 @@ pub fn duration_text(minutes: u64, out: &mut [u8]) -> Result<usize, Refusal>
         out.fill(0);
         return Err(Refusal::Outside);
     }
-    let n = put_duration(out, minutes);
-    finish(out, n)
+    let end = put_duration(out, minutes);
+    finish(out, end)
 }
 
-fn put_two(out: &mut [u8], at: usize, n: u64) -> usize
-    requires { n < 100 }
+fn put_two(out: &mut [u8], at: usize, n: u64) -> Option<usize>
+    requires room { at ≤ length out.old }
+    requires two { n < 100 }
     ensures { Put (two_digits n) out.old at out.new result }
 {
-    let next = put(out, at, digit(n / 10));
+    let next = put(out, at, digit(n / 10))?;
     put(out, next, digit(n))
 }
 
-fn put_time(out: &mut [u8], t: u64) -> usize
+fn put_time(out: &mut [u8], t: u64) -> Option<usize>
     requires { t ≤ 1440 }
     ensures { Put (time_text t) out.old 0 out.new result }
 {
-    let a = put_two(out, 0, t / 60);
-    let b = put(out, a, b':');
-    let c = put_two(out, b, t % 60);
-    let d = put(out, c, b':');
-    let e = put(out, d, b'0');
+    let a = put_two(out, 0, t / 60)?;
+    let b = put(out, a, b':')?;
+    let c = put_two(out, b, t % 60)?;
+    let d = put(out, c, b':')?;
+    let e = put(out, d, b'0')?;
     put(out, e, b'0')
 }
 
-// The text of a time of day up to 1440 minutes.
+// The text of a time of day up to 1440 minutes. One body for both, given the bound and what puts the text, would be no plainer.
 pub fn time_text(minutes: u64, out: &mut [u8]) -> Result<usize, Refusal>
     ensures { Gives (time_answer minutes (length out.old)) (length out.old) result out.new }
 {
@@ -103,6 +104,6 @@ pub fn time_text(minutes: u64, out: &mut [u8]) -> Result<usize, Refusal>
         out.fill(0);
         return Err(Refusal::Outside);
     }
-    let n = put_time(out, minutes);
-    finish(out, n)
+    let end = put_time(out, minutes);
+    finish(out, end)
 }

@@ -6,4 +6,4 @@ pub returns-then-minutes-gt1440 : goal.returns-then-minutes-gt1440
 returns-then-minutes-gt1440 c = outside 1440 time_text _ c.args.out.now _ c.if-minutes-gt1440.true (c.fill.ensures.after (λ y h. h))
 
 pub returns : goal.returns
-returns c = inside 1440 time_text _ c.args.out.now c.if-minutes-gt1440.false c.put_time-n.ensures c.finish.ensures
+returns c = inside 1440 time_text _ c.args.out.now c.if-minutes-gt1440.false c.put_time-end.ensures c.finish.ensures
