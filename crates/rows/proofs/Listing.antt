@@ -1,6 +1,7 @@
 -- The walk over a list of elements with a UID, and the table that is filled on it. Assumes nothing.
 use Rattle.std.proofs.Common.{◌≡◌, ℕ, suc, ◌+◌, ◌-◌, ◌^◌, ◌<◌, ◌≤◌, Bool, true, false, ◌&&◌, ltb, List, [], ◌∷◌, length, take, sym, refl, ap, ◌∙◌, zero-add, arith, drop_of_length-le, ltb-false, ltb-true}
 use Rattle.std.specs.Prelude.{None, Option, Some}
+use Rattle.laws.specs.Options.{Some-injective}
 use Rattle.definition.specs.Ascii.{bytes}
 use Rattle.definition.specs.Base.{keep, first}
 use Rattle.definition.specs.Text.{Text}
@@ -70,7 +71,7 @@ picks_lists (Some p) m n list room e y z h i =
     (record {
       is = sym e ∙ h.is ∙ list p;
       on = omega (arith, room p, h.on);
-      there = λ at left i. let y : p ≡ at = cc in omega (arith, h.on);
+      there = λ at left i. let y : p ≡ at = sym (ap (λ (x : ℕ × ℕ). x.0) (Some-injective _ _ i)) in omega (arith, h.on);
     })
 
 -- the first of a list

@@ -3,9 +3,6 @@ use Rattle.rows.specs.Rows.{calendar_meaning}
 use Rattle.rows.proofs.Walking.{first_row, or_is, or_none}
 use Rattle.rows.proofs.built.or_first.Goals as goal
 
-pub enum_told-1 : goal.enum_told-1
-enum_told-1 c = search rules
-
 pub returns-in-Some : goal.returns-in-Some
 returns-in-Some c = or_is _ _ c.in-Some.is
 

@@ -7,9 +7,6 @@ use Rattle.rows.proofs.kept.any_elapsed.Goals as goal
 pub loop-task-init : goal.loop-task-init
 loop-task-init c = any_begin is_elapsed refl
 
-pub enum_told-1 : goal.enum_told-1
-enum_told-1 c = search rules
-
 pub returns-in_default : goal.returns-in_default
 returns-in_default c =
     any_end c.loop-task.invariant (kept_end _ c.in_default.is) ∙ ap (some? is_elapsed) (sym c.first_kept-task.ensures.is)

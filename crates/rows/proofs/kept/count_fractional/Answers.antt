@@ -13,9 +13,6 @@ few root {l} e = omega (arith, keep_most is_fractional l, ap length e, tasks_mos
 pub loop-task-init : goal.loop-task-init
 loop-task-init c = many_begin is_fractional _
 
-pub enum_told-1 : goal.enum_told-1
-enum_told-1 c = search rules
-
 pub returns-in_default : goal.returns-in_default
 returns-in_default c =
     many_end c.loop-task.invariant (kept_end _ c.in_default.is) ∙ ap (λ (l : List Element). length (keep is_fractional l)) (sym c.first_kept-task.ensures.is)

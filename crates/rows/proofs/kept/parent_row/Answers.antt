@@ -9,9 +9,6 @@ use Rattle.rows.proofs.kept.parent_row.Goals as goal
 pub loop-n-init : goal.loop-n-init
 loop-n-init c = parents_begin c.args.row _ _ refl
 
-pub enum_told-1 : goal.enum_told-1
-enum_told-1 c = search rules
-
 pub returns-in_default : goal.returns-in_default
 returns-in_default c =
     let a = c.args in

@@ -5,9 +5,6 @@ use Rattle.rows.proofs.table.count_listed.Goals as goal
 pub loop-e-init : goal.loop-e-init
 loop-e-init c = let h = c.requires.1 in counts_begin (record { is = refl; on = h.on; there = h.there })
 
-pub enum_told-1 : goal.enum_told-1
-enum_told-1 c = search rules
-
 pub returns-in_default : goal.returns-in_default
 returns-in_default c =
     counts_end c.loop-e.invariant c.in_default.is ∙ ap length (sym c.requires.1.is)

@@ -6,9 +6,6 @@ use Rattle.rows.proofs.table.fill.Goals as goal
 pub loop-e-init : goal.loop-e-init
 loop-e-init c = λ root w r h. h
 
-pub enum_told-1 : goal.enum_told-1
-enum_told-1 c = search rules
-
 pub shape_of-words-in_default : goal.shape_of-words-in_default
 shape_of-words-in_default c =
     let p = c.requires in

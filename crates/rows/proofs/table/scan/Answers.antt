@@ -10,9 +10,6 @@ use Rattle.rows.proofs.table.scan.Goals as goal
 pub loop-e-init : goal.loop-e-init
 loop-e-init c = within_begin (2 ^ 32) _ _ refl
 
-pub enum_told-1 : goal.enum_told-1
-enum_told-1 c = search rules
-
 pub returns-in_default : goal.returns-in_default
 returns-in_default c =
     row_end c.loop-e.invariant (lists_end _ _ c.in_default.is)
