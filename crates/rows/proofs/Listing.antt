@@ -71,7 +71,7 @@ picks_lists (Some p) m n list room e y z h i =
     (record {
       is = sym e ∙ h.is ∙ list p;
       on = omega (arith, room p, h.on);
-      there = λ at left i. let y : p ≡ at = sym (ap (λ (x : ℕ × ℕ). x.0) (Some-injective _ _ i)) in omega (arith, h.on);
+      there = λ at left i. let y : p ≡ at = ap (λ (x : ℕ × ℕ). x.0) (Some-injective _ _ i) in omega (arith, h.on);
     })
 
 -- the first of a list
