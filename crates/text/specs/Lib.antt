@@ -3,4 +3,3 @@ pub mod Parts
 pub mod Cut
 pub mod Signs
 pub mod Whole
-pub mod Utf8
