@@ -1,6 +1,6 @@
 // The values of an Assignment. What is right is said in the crate definition, specs/Resource.antt.
-ghost use Rattle.std.specs.Prelude.{◌≡◌, ◌^◌, ◌≤◌, pos, nat_abs};
-ghost use Rattle.definition.specs.Base.{◌>>=◌ as bind, ◌or◌};
+ghost use Rattle.std.specs.Prelude.{◌≡◌, ◌^◌, ◌≤◌, nat_abs};
+ghost use Rattle.definition.specs.Base.{◌>>=◌ as bind};
 ghost use Rattle.definition.specs.Resource.{left_of, other_than, hours_from, hours_in, money_from, money_in, rate_of};
 ghost use Rattle.tree.specs.Place.{element_at};
 ghost use Rattle.fields.specs.Said.{number_said, minutes_said};
