@@ -87,6 +87,7 @@ fn money(s: &[u8], at: usize, name: &[u8]) -> Option<i64>
     fields::hundredths_when((-1e13 < m) & (m < 1e13), m)
 }
 
+// By another reader and other names than `work`; one function for both would be no plainer.
 #[tactic(auto, unfolding(definition::specs::Field::number_in))]
 pub fn cost(s: &[u8], at: usize) -> Amounts
     ensures { Means result (money_in (element_at s.now at) "Cost") (money_in (element_at s.now at) "ActualCost") (money_in (element_at s.now at) "RemainingCost") }
