@@ -1,12 +1,12 @@
 // The values of an Assignment. What is right is said in the crate definition, specs/Resource.antt.
-ghost use Rattle.std.specs.Prelude.{◌≡◌, ◌^◌, ◌≤◌, pos, nat_abs};
-ghost use Rattle.definition.specs.Base.{◌>>=◌ as bind, ◌or◌};
-ghost use Rattle.definition.specs.Resource.{left_of, hours_from, hours_in, money_from, money_in, rate_of};
+ghost use Rattle.std.specs.Prelude.{◌≡◌, ◌^◌, ◌≤◌, nat_abs};
+ghost use Rattle.definition.specs.Base.{◌>>=◌ as bind};
+ghost use Rattle.definition.specs.Resource.{left_of, other_than, hours_from, hours_in, money_from, money_in, rate_of};
 ghost use Rattle.tree.specs.Place.{element_at};
 ghost use Rattle.fields.specs.Said.{number_said, minutes_said};
 ghost use Rattle.resources.specs.Assignment.{Small, Means};
 
-use crate::value::{other_than, units};
+use crate::resource::units;
 
 // Hundredths: of an hour for an assignment, of the currency for an expense.
 #[derive(Clone, Copy)]
@@ -16,30 +16,34 @@ pub struct Amounts {
     pub remaining: Option<i64>,
 }
 
-// ---- what is left
-
 // Planned less actual, at least 0.
 fn left(planned: i64, actual: i64) -> i64
-    requires fact_1 { nat_abs planned ≤ 10 ^ 18 }
-    requires fact_2 { nat_abs actual ≤ 10 ^ 18 }
+    requires planned_small { nat_abs planned ≤ 10 ^ 18 }
+    requires actual_small { nat_abs actual ≤ 10 ^ 18 }
     ensures { result ≡ left_of planned actual }
 {
     (planned - actual).max(0)
 }
 
+// The number, unless it is z.
+fn other_than(z: i64, a: Option<i64>) -> Option<i64>
+    ensures { result ≡ other_than z a }
+{
+    a.filter(|y| *y != z)
+}
+
 // 0 for a missing one; a remaining that is what is left is dropped.
 fn amounts_of(planned: Option<i64>, actual: Option<i64>, remaining: Option<i64>) -> Amounts
-    requires fact_1 { Small planned }
-    requires fact_2 { Small actual }
+    requires planned_small { Small planned }
+    requires actual_small { Small actual }
     ensures { Means result planned actual remaining }
 {
     let planned = planned.unwrap_or(0);
     let actual = actual.unwrap_or(0);
-    let remaining = other_than(left(planned, actual), remaining);
     Amounts {
         planned,
         actual,
-        remaining,
+        remaining: other_than(left(planned, actual), remaining),
     }
 }
 
@@ -53,15 +57,19 @@ fn hours(s: &[u8], at: usize, name: &[u8]) -> Option<i64>
     Some(i64::from(fields::minutes_in(s, at, name)?) * 100 / 60)
 }
 
+#[tactic(auto, unfolding(definition::specs::Field::minutes_in))]
 pub fn work(s: &[u8], at: usize) -> Amounts
     ensures { Means result (hours_in (element_at s.now at) "Work") (hours_in (element_at s.now at) "ActualWork") (hours_in (element_at s.now at) "RemainingWork") }
 {
-    let planned = hours(s, at, b"Work");
-    let actual = hours(s, at, b"ActualWork");
-    amounts_of(planned, actual, hours(s, at, b"RemainingWork"))
+    amounts_of(
+        hours(s, at, b"Work"),
+        hours(s, at, b"ActualWork"),
+        hours(s, at, b"RemainingWork"),
+    )
 }
 
 // Hundredths of Units, of one from 0 to 1,000,000, unless they are 100.
+#[tactic(auto, unfolding(definition::specs::Field::number_in))]
 pub fn rate(s: &[u8], at: usize) -> Option<i64>
     ensures { result ≡ rate_of (element_at s.now at) }
 {
@@ -79,10 +87,14 @@ fn money(s: &[u8], at: usize, name: &[u8]) -> Option<i64>
     fields::hundredths_when((-1e13 < m) & (m < 1e13), m)
 }
 
+// By another reader and other names than `work`; one function for both would be no plainer.
+#[tactic(auto, unfolding(definition::specs::Field::number_in))]
 pub fn cost(s: &[u8], at: usize) -> Amounts
     ensures { Means result (money_in (element_at s.now at) "Cost") (money_in (element_at s.now at) "ActualCost") (money_in (element_at s.now at) "RemainingCost") }
 {
-    let planned = money(s, at, b"Cost");
-    let actual = money(s, at, b"ActualCost");
-    amounts_of(planned, actual, money(s, at, b"RemainingCost"))
+    amounts_of(
+        money(s, at, b"Cost"),
+        money(s, at, b"ActualCost"),
+        money(s, at, b"RemainingCost"),
+    )
 }

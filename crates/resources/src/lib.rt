@@ -3,7 +3,6 @@
 
 mod assignment;
 mod resource;
-mod value;
 
 pub use assignment::{Amounts, cost, rate, work};
 pub use resource::{accrual, is_cost, is_resource, max_units, price, resource_kind};

@@ -1,9 +1,9 @@
 // The values of a Resource. What is right is said in the crate definition, specs/Resource.antt.
 ghost use Rattle.std.specs.Prelude.{◌≡◌};
-ghost use Rattle.definition.specs.Resource.{is_resource, is_cost, resource_kind, max_units, price_of, accrual_of};
+ghost use Rattle.definition.specs.Base.{◌>>=◌ as bind};
+ghost use Rattle.definition.specs.Resource.{is_resource, is_cost, resource_kind, units_from, max_units, price_of, accrual_of};
 ghost use Rattle.tree.specs.Place.{element_at};
-
-use crate::value::units;
+ghost use Rattle.fields.specs.Said.{number_said};
 
 // A UID other than `0`, and a name.
 pub fn is_resource(s: &[u8], at: usize) -> bool
@@ -12,23 +12,34 @@ pub fn is_resource(s: &[u8], at: usize) -> bool
     fields::own_uid(s, at) & fields::given(s, at, b"Name")
 }
 
+#[tactic(auto, unfolding(definition::specs::Field::int_in))]
 pub fn is_cost(s: &[u8], at: usize) -> bool
     ensures { result ≡ is_cost (element_at s.now at) }
 {
-    fields::unsigned_in(s, at, b"Type", 1, 1) == 2
+    fields::int_in(s, at, b"Type") == Some(2)
 }
 
-// 0 labor, 2 material.
+// The model's code, which its writer takes as it is: 0 labor, 2 material.
+#[tactic(auto, unfolding(definition::specs::Field::int_in))]
 pub fn resource_kind(s: &[u8], at: usize) -> u32
     ensures { result ≡ resource_kind (element_at s.now at) }
 {
-    if fields::unsigned_in(s, at, b"Type", 1, 1) == 0 {
-        return 2;
+    match fields::int_in(s, at, b"Type") {
+        Some(0) => 2,
+        _ => 0,
     }
-    0
+}
+
+// Hundredths of a number from 0 to 1,000,000.
+pub(crate) fn units(s: &[u8], at: usize, name: &[u8]) -> Option<i64>
+    ensures { result ≡ bind (number_said (element_at s.now at) name.now) units_from }
+{
+    let u = fields::number_in(s, at, name)?;
+    fields::hundredths_when((0.0 <= u) & (u <= 1000000.0), u)
 }
 
 // Hundredths of MaxUnits, of one from 0 to 1,000,000; else 100.
+#[tactic(auto, unfolding(definition::specs::Field::number_in))]
 pub fn max_units(s: &[u8], at: usize) -> i64
     ensures { result ≡ max_units (element_at s.now at) }
 {
@@ -36,6 +47,7 @@ pub fn max_units(s: &[u8], at: usize) -> i64
 }
 
 // Hundredths of StandardRate, of one above 0 and below 10,000,000,000,000.
+#[tactic(auto, unfolding(definition::specs::Field::number_in))]
 pub fn price(s: &[u8], at: usize) -> Option<i64>
     ensures { result ≡ price_of (element_at s.now at) }
 {
@@ -43,13 +55,14 @@ pub fn price(s: &[u8], at: usize) -> Option<i64>
     fields::hundredths_when((0.0 < p) & (p < 1e13), p)
 }
 
-// 0 at the start, 1 at the end, 2 evenly.
+// The model's code, which its writer takes as it is: 0 at the start, 1 at the end, 2 evenly.
+#[tactic(auto, unfolding(definition::specs::Field::int_in))]
 pub fn accrual(s: &[u8], at: usize) -> u32
     ensures { result ≡ accrual_of (element_at s.now at) }
 {
-    match fields::unsigned_in(s, at, b"AccrueAt", 0, 0) {
-        1 => 0,
-        2 => 1,
+    match fields::int_in(s, at, b"AccrueAt") {
+        Some(1) => 0,
+        Some(2) => 1,
         _ => 2,
     }
 }

@@ -1,23 +1,19 @@
 -- Codes of formats, types, kinds and constraints, by the tests that the code makes. Assumes nothing.
 use Rattle.std.specs.Prelude.{if◌then◌else◌}
-use Prim.Native.Nat.{ℕ, suc, ◌≤◌}
+use Prim.Native.Nat.{ℕ, ◌≤◌}
 use native.Mathlib.Omega.{arith}
 use mathlib.Core.Path.{◌≡◌, refl, sym, subst}
-use mathlib.Core.Bool.{Bool, true, false, ◌&&◌}
+use mathlib.Core.Bool.{Bool, true, false}
 use Rattle.std.specs.Prelude.{Option, Some, None}
 use lib.Dec.{T, leb, eqb, leb→le}
-use lib.IntN.{ℤ, pos, negsuc}
 use lib.Ieee.Fits.{and_l}
-use borrow.Author.Tests.{leb-true, ne_eqb}
-use Rattle.definition.specs.Base.{◌or◌, when, given, within}
+use Rattle.definition.specs.Base.{when, given, within}
 use Rattle.definition.specs.Date.{Date, day_number}
-use Rattle.definition.specs.Task.{constraint_from, duration_type_from}
-use Rattle.definition.specs.Link.{kind_from}
+use Rattle.definition.specs.Task.{constraint_from}
 use Rattle.definition.specs.Answer.{date_meaning, day_number_of}
 use Rattle.definition.specs.declared.Date.{Date as DayNumber}
 use Rattle.std.specs.Option.{is_some}
 use Rattle.std.proofs.Common.{rules}
-use Rattle.fields.specs.Answers.{unsigned_or}
 use Rattle.tasks.specs.Task.{day_numbered}
 
 -- ---- formats
@@ -34,43 +30,7 @@ given_date None (Some n) e f = search rules
 given_date (Some d) None e f = search rules
 given_date (Some d) (Some n) e f = e
 
--- ---- types and kinds
-
-pub type_rest : (n : ℕ) → (n ≡ 0 → ⊥) → (n ≡ 2 → ⊥) → 0 ≡ duration_type_from (Some (pos n))
-type_rest n a b = rw (ne_eqb n 0 a, ne_eqb n 2 b)
-
--- a type below 0 and a missing one are read as 1
-pub type_by : {r n : ℕ} (o : Option ℤ) → r ≡ duration_type_from (Some (pos n)) → n ≡ unsigned_or 1 1 o → r ≡ duration_type_from o
-unfolding unsigned_or
-type_by None e f = rw f at e
-type_by (Some (pos n)) e f = rw f at e
-type_by (Some (negsuc n)) e f = rw f at e
-
-pub kind_rest : (n : ℕ) → (n ≡ 0 → ⊥) → (n ≡ 2 → ⊥) → (n ≡ 3 → ⊥) → 0 ≡ kind_from (pos n)
-kind_rest n a b c = rw (ne_eqb n 0 a, ne_eqb n 2 b, ne_eqb n 3 c)
-
-pub kind_by_lem : {r n : ℕ} (o : Option ℤ) → r ≡ kind_from (pos n) → n ≡ unsigned_or 1 1 o → r ≡ kind_from (o or pos 1)
-unfolding unsigned_or
-kind_by_lem None e f = rw f at e
-kind_by_lem (Some (pos n)) e f = rw f at e
-kind_by_lem (Some (negsuc n)) e f = rw f at e
-
 -- ---- constraints
-
-more : {k n : ℕ} → n ≤ k → (k ≡ n → ⊥) → suc n ≤ k
-more h e = omega arith
-
--- no code from 1 to 7
-pub constraint_rest : (k : ℕ) (z : ℤ) → (k ≡ 1 → ⊥) → (k ≡ 2 → ⊥) → (k ≡ 3 → ⊥) → (k ≡ 4 → ⊥) → (k ≡ 5 → ⊥) → (k ≡ 6 → ⊥) → (k ≡ 7 → ⊥) → None ≡ constraint_from k (Some z)
-constraint_rest k z a b c d e f g = rw (ne_eqb k 1 a) (by (leb 2 k) refl (leb k 7) refl)
-  where
-    by : (s : Bool) → leb 2 k ≡ s → (t : Bool) → leb k 7 ≡ t → ◌≡◌ {A = Option (ℕ × Option ℤ)} None (when (s && t) (k, Some z))
-    by true s true t = let h : 8 ≤ k = more (more (more (more (more (more (leb-true 2 k s) b) c) d) e) f) g in absurd (omega (arith, leb-true k 7 t))
-    by true s false t = refl
-    by false s t u = refl
-
-pub constraint_none : (k : ℕ) → (k ≡ 1 → ⊥) → None ≡ constraint_from {D = ℤ} k None
-constraint_none k n = rw (ne_eqb k 1 n)
 
 pub constraint_numbered : (k : ℕ) (d : Option Date) → constraint_from k (day_number_of d) ≡ day_numbered (constraint_from k d)
 unfolding day_number_of day_numbered

@@ -1,5 +1,5 @@
 -- The day of a number of minutes, and the hundredths of a percentage, by the tests that the code makes. Assumes nothing.
-use Prim.Native.Nat.{◌*◌, ◌^◌}
+use Prim.Native.Nat.{ℕ, ◌*◌, ◌^◌}
 use native.Mathlib.Omega.{arith}
 use mathlib.Core.Path.{◌≡◌, refl, sym, ap, ◌∙◌, subst}
 use mathlib.Core.Bool.{Bool, true, false, ◌&&◌}
@@ -7,11 +7,11 @@ use lib.Dec.{T, eqb, eqb→eq}
 use lib.IntN.{ℤ, pos, nat_abs}
 use lib.Ieee.{Float, nan, inf, fin, binary64, round, le, lt, mul, up, down, eq}
 use lib.Ieee.Fits.{and_l, and_r, down_pos}
-use lib.Signed.{non_neg}
 use mir.Syntax.{w64}
-use mir.Val.{to_z, of_z, SFits, Fits}
+use mir.Val.{to_z, of_z, SFits}
 use mir.ValLaws.{to_z-of_z}
-use Rattle.definition.specs.Base.{◌or◌, when}
+use Rattle.std.specs.Prelude.{Some, None}
+use Rattle.definition.specs.Base.{when}
 use Rattle.definition.specs.Number.{float, zero_float, between, half_away, nearest_whole}
 use Rattle.definition.specs.Task.{per_day_from, percent_from}
 use Rattle.number.specs.Floats.{float_100, float_1440}
@@ -53,14 +53,11 @@ module _ (m : Float) where
     on : to_z w64 (of_z w64 z) ≡ pos (half_away m)
     on = to_z-of_z w64 z f ∙ whole
 
-    pub day_cast : T (non_neg (to_z w64 (of_z w64 z))) × Fits w64 (nat_abs (to_z w64 (of_z w64 z)))
-    day_cast = let k : SFits w64 (pos (half_away m)) = subst (SFits w64) whole f in rw on (tt, record { fits = omega (arith, k.sfits) })
+    pub day_yes : {n : ℕ} → n ≡ nat_abs (to_z w64 (of_z w64 z)) → Some n ≡ per_day_from m
+    day_yes k = ap Some (k ∙ ap nat_abs on) ∙ sym (ap (λ (t : Bool). when t (half_away m)) (sym day_test ∙ h))
 
-    pub day_yes : nat_abs (to_z w64 (of_z w64 z)) ≡ (per_day_from m or 480)
-    day_yes = ap nat_abs on ∙ sym (ap (λ (t : Bool). when t (half_away m) or 480) (sym day_test ∙ h))
-
-  pub day_no : day? ≡ false → 480 ≡ (per_day_from m or 480)
-  day_no h = sym (ap (λ (t : Bool). when t (half_away m) or 480) (sym day_test ∙ h))
+  pub day_no : day? ≡ false → None ≡ per_day_from m
+  day_no h = sym (ap (λ (t : Bool). when t (half_away m)) (sym day_test ∙ h))
 
 -- ---- the percentage
 

@@ -1,14 +1,12 @@
 // The values of a PredecessorLink. What is right is said in the crate definition, specs/Link.antt.
-ghost use Rattle.std.specs.Prelude.{◌≡◌, ◌^◌, ◌≤◌, ◌<◌, pos};
-ghost use Rattle.definition.specs.Base.{◌or◌};
-ghost use Rattle.definition.specs.Number.{with_sign};
+ghost use Rattle.std.specs.Prelude.{◌≡◌, ◌^◌, ◌<◌, nat_abs};
 ghost use Rattle.definition.specs.Field.{yes_in};
-ghost use Rattle.definition.specs.Link.{working_lag, lag_of, link_lag, held_by, kind_from, link_kind};
+ghost use Rattle.definition.specs.Link.{working_lag, lag_of, link_lag, link_kind};
 ghost use Rattle.tree.specs.Place.{element_at};
 ghost use Rattle.tasks.specs.Link.{lag_means};
 
 use crate::task::{elapsed_format, format_of, percent_format};
-use crate::value::{least, quotient, remainder, signed};
+use crate::value::quotient;
 
 // Working time, elapsed time, or a share of the predecessor's duration in hundredths of a percent.
 #[derive(Clone, Copy)]
@@ -26,92 +24,73 @@ pub struct Lag {
     pub kind: LagKind,
 }
 
-// A sign and a size.
-#[derive(Clone, Copy)]
-struct Tenths {
-    negative: bool,
-    size: u64,
-}
-
 // ---- the lag
 
-fn working_lag(per_day: u64, negative: bool, minutes: u64) -> Lag
-    requires { minutes < 2 ^ 63 }
-    ensures { lag_means result ≡ working_lag per_day (with_sign «negative» minutes) }
+fn working_lag(per_day: u64, minutes: i64) -> Lag
+    requires { nat_abs minutes < 2 ^ 63 }
+    ensures { lag_means result ≡ working_lag per_day minutes }
 {
-    if remainder(minutes, per_day) == 0 {
+    let size = minutes.unsigned_abs();
+    if size.is_multiple_of(per_day) {
+        let days = quotient(size, per_day) as i64;
         return Lag {
-            days: signed(negative, quotient(minutes, per_day)),
+            days: if minutes < 0 { -days } else { days },
             minutes: None,
             kind: LagKind::Working,
         };
     }
     Lag {
         days: 0,
-        minutes: Some(signed(negative, minutes)),
+        minutes: Some(minutes),
         kind: LagKind::Working,
     }
 }
 
-// A lag in tenths of a minute, of a percent in the formats 19 and 20. The size is divided, so that the lag is cut toward zero.
-fn lag_of(per_day: u64, format: u64, negative: bool, tenths: u64) -> Lag
-    ensures { lag_means result ≡ lag_of per_day format (with_sign «negative» tenths) }
+// A lag in tenths of a minute, of a percent in the formats 19 and 20.
+fn lag_of(per_day: u64, format: u64, tenths: i64) -> Lag
+    ensures { lag_means result ≡ lag_of per_day format tenths }
 {
     if percent_format(format) {
         return Lag {
             days: 0,
             minutes: None,
-            kind: LagKind::Percent(signed(negative, least(tenths, 1000000) * 10)),
+            kind: LagKind::Percent(tenths.clamp(-1000000, 1000000) * 10),
         };
     }
     if elapsed_format(format) {
         return Lag {
             days: 0,
-            minutes: Some(signed(negative, tenths / 10)),
+            minutes: Some(tenths / 10),
             kind: LagKind::Elapsed,
         };
     }
-    working_lag(per_day, negative, tenths / 10)
+    working_lag(per_day, tenths / 10)
 }
 
-// Held to -100,000,000,000 to 100,000,000,000; 0 where there is none.
-fn tenths_of(a: Option<i64>) -> Tenths
-    ensures { with_sign result.negative result.size ≡ held_by 100000000000 (a or pos 0) }
-{
-    let n = a.unwrap_or(0).clamp(-100000000000, 100000000000);
-    Tenths {
-        negative: n < 0,
-        size: n.unsigned_abs(),
-    }
-}
-
-// The lag of a link, with so many minutes a day.
+// The lag of a link, with so many minutes a day. LinkLag is held to -100,000,000,000 to 100,000,000,000, and 0 where there is none.
 pub fn link_lag(s: &[u8], at: usize, per_day: u64) -> Lag
     ensures { lag_means result ≡ link_lag per_day (element_at s.now at) }
 {
-    let tenths = tenths_of(fields::int_in(s, at, b"LinkLag"));
+    let tenths = fields::int_in(s, at, b"LinkLag")
+        .unwrap_or(0)
+        .clamp(-100000000000, 100000000000);
     let format = format_of(s, at, b"LagFormat");
-    lag_of(per_day, format, tenths.negative, tenths.size)
+    lag_of(per_day, format, tenths)
 }
 
 // ---- the kind
 
-fn kind_code(n: u64) -> u32
-    ensures { result ≡ kind_from (pos n) }
-{
-    match n {
-        0 => 2,
-        2 => 3,
-        3 => 1,
-        _ => 0,
-    }
-}
-
-// 0 finish to start, 1 start to start, 2 finish to finish, 3 start to finish.
+// The model's code, which its writer takes as it is: 0 finish to start, 1 start to start, 2 finish to finish, 3 start to finish.
+#[tactic(auto, unfolding(definition::specs::Field::int_in))]
 pub fn link_kind(s: &[u8], at: usize) -> u32
     ensures { result ≡ link_kind (element_at s.now at) }
 {
-    kind_code(fields::unsigned_in(s, at, b"Type", 1, 1))
+    match fields::int_in(s, at, b"Type") {
+        Some(0) => 2,
+        Some(2) => 3,
+        Some(3) => 1,
+        _ => 0,
+    }
 }
 
 // Across projects.

@@ -1,17 +1,17 @@
 // The values of a Task. What is right is said in the crate definition, specs/Task.antt.
 ghost use Rattle.std.specs.Prelude.{◌≡◌, pos};
-ghost use Rattle.definition.specs.Base.{◌or◌, given};
+ghost use Rattle.definition.specs.Base.{◌or◌};
 ghost use Rattle.definition.specs.Field.{yes_in};
 ghost use Rattle.definition.specs.Answer.{date_meaning};
 ghost use Rattle.definition.specs.Task.{not_below0, level_of, is_kept, unmarked, percent_format, elapsed_format, is_elapsed, is_fractional, per_day_from, per_day_of};
-ghost use Rattle.definition.specs.Task.{constraint_from, constraint_of, duration_type_from, duration_type_of, duration_days, duration_minutes};
+ghost use Rattle.definition.specs.Task.{constraint_from, constraint_of, duration_type_of, duration_days, duration_minutes};
 ghost use Rattle.definition.specs.Task.{under_way, remaining_of, percent_of};
 ghost use Rattle.tree.specs.Place.{element_at};
 ghost use Rattle.tree.specs.Root.{root_at};
 ghost use Rattle.fields.specs.Said.{whole_said};
 ghost use Rattle.tasks.specs.Task.{constraint_means, day_numbered};
 
-use crate::value::{quotient, remainder};
+use crate::value::quotient;
 use definition::Date;
 use tree::Root;
 
@@ -96,20 +96,22 @@ pub fn is_fractional(s: &[u8], at: usize) -> bool
 
 // ---- the day
 
-fn day_from(m: f64) -> u64
-    ensures { result ≡ per_day_from m or 480 }
+fn day_from(m: f64) -> Option<u64>
+    ensures { result ≡ per_day_from m }
 {
     if (1.0 <= m) & (m <= 1440.0) {
-        return number::nearest_whole(m) as u64;
+        return Some(number::nearest_whole(m).unsigned_abs());
     }
-    480
+    None
 }
 
 // MinutesPerDay of the root, from 1 to 1440; else 480.
 pub fn per_day(s: &[u8], root: Root) -> u64
     ensures { result ≡ per_day_of (root_at s.now root) }
 {
-    fields::number_at(s, root.minutes).map_or(480, day_from)
+    fields::number_at(s, root.minutes)
+        .and_then(day_from)
+        .unwrap_or(480)
 }
 
 // ---- a constraint
@@ -140,36 +142,32 @@ pub fn constraint_of(s: &[u8], at: usize) -> Option<Constraint>
 
 // ---- the duration
 
-fn type_code(n: u64) -> u32
-    ensures { result ≡ duration_type_from (Some (pos n)) }
-{
-    match n {
-        0 => 2,
-        2 => 3,
-        _ => 0,
-    }
-}
-
+// The model's code, which its writer takes as it is: 0 fixed duration and rate, 2 fixed rate, 3 fixed units.
+#[tactic(auto, unfolding(definition::specs::Field::int_in))]
 pub fn duration_type(s: &[u8], at: usize) -> u32
     ensures { result ≡ duration_type_of (element_at s.now at) }
 {
-    type_code(fields::unsigned_in(s, at, b"Type", 1, 1))
+    match fields::int_in(s, at, b"Type") {
+        Some(0) => 2,
+        Some(2) => 3,
+        _ => 0,
+    }
 }
 
 pub fn duration_parts(minutes: u32, day: u64) -> Parts
     ensures { (result.days ≡ duration_days minutes day) × (result.minutes ≡ duration_minutes minutes day) }
 {
-    let n = minutes as u64;
-    let whole = quotient(n, day);
-    if remainder(n, day) == 0 {
+    let n = u64::from(minutes);
+    let whole = quotient(n, day) as i64;
+    if n.is_multiple_of(day) {
         return Parts {
-            days: whole as i64,
+            days: whole,
             minutes: None,
         };
     }
     Parts {
-        days: (whole + 1) as i64,
-        minutes: Some(n as i64),
+        days: whole + 1,
+        minutes: Some(i64::from(minutes)),
     }
 }
 

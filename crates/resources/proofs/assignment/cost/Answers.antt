@@ -4,5 +4,4 @@ use Rattle.resources.proofs.assignment.cost.Goals as goal
 
 pub returns : goal.returns
 unfolding number_in
-returns c =
-    means_as c.money-planned.ensures.is c.money-actual.ensures.is c.money.ensures.is c.amounts_of.ensures
+returns c = means_as c.money.ensures.is c.money-2.ensures.is c.money-3.ensures.is c.amounts_of.ensures

@@ -4,5 +4,4 @@ use Rattle.resources.proofs.assignment.work.Goals as goal
 
 pub returns : goal.returns
 unfolding minutes_in
-returns c =
-    means_as c.hours-planned.ensures.is c.hours-actual.ensures.is c.hours.ensures.is c.amounts_of.ensures
+returns c = means_as c.hours.ensures.is c.hours-2.ensures.is c.hours-3.ensures.is c.amounts_of.ensures

@@ -1,13 +1,8 @@
 use mathlib.Core.Path.{sym, ◌∙◌}
 use lib.Ieee.{of_bits}
-use Rattle.std.proofs.Common.{rules}
 use Rattle.definition.specs.Field.{number_in}
 use Rattle.resources.proofs.HeldAmounts.{price_is}
 use Rattle.resources.proofs.resource.price.Goals as goal
-
-pub returns-in_err-p : goal.returns-in_err-p
-unfolding number_in
-returns-in_err-p c = rw (sym c.number_in.ensures, c.in_err-p.was) (search rules)
 
 pub returns : goal.returns
 unfolding number_in of_bits

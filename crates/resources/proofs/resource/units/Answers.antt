@@ -1,7 +1,7 @@
 use mathlib.Core.Path.{sym, ◌∙◌}
 use lib.Ieee.{of_bits}
 use Rattle.resources.proofs.HeldAmounts.{units_is}
-use Rattle.resources.proofs.value.units.Goals as goal
+use Rattle.resources.proofs.resource.units.Goals as goal
 
 pub returns : goal.returns
 unfolding of_bits
