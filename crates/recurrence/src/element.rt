@@ -7,7 +7,7 @@ ghost use Rattle.fields.specs.Said.{whole_said, date_said};
 ghost use Rattle.tree.specs.Place.{element_at};
 ghost use Rattle.recurrence.specs.Element.{pick_of, mask_of, last_by, most_by, held_rule, judged, UpToLast, rule_in, RuleRead, period_of, range_in, RangeRead};
 
-use crate::kind::{kind_of};
+use crate::kind::kind_of;
 use crate::scale::{LAST, count_by, date_at};
 use crate::{Range, Rule};
 use text::Signed;
@@ -121,7 +121,10 @@ fn period_of(s: &[u8], at: usize) -> Period
     ensures { result ≡ period_of (element_at s.now at) }
 {
     let Some(p) = tree::child(s, at, b"TimePeriod") else {
-        return Period { from: None, to: None };
+        return Period {
+            from: None,
+            to: None,
+        };
     };
     Period {
         from: day_said(s, p, b"FromDate"),

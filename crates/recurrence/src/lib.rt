@@ -48,4 +48,3 @@ pub struct Range {
     pub first: Date,
     pub count: u32,
 }
-

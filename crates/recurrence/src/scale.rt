@@ -5,8 +5,8 @@ ghost use Rattle.definition.specs.Date.{month_length, year_of};
 ghost use Rattle.date.specs.Scale.{day_count};
 ghost use Rattle.recurrence.specs.Scale.{InDates, IsYear, IsMonth, YearNumber, day_date, count_by, scaled_by, month_on, month_at, day_in};
 
-use crate::{Rule};
-use definition::{Date};
+use crate::Rule;
+use definition::Date;
 
 // The last date, 31 December 9999.
 pub(crate) const LAST: u32 = 7304849;
