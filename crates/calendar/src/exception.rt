@@ -18,7 +18,7 @@ fn one_if(s: &[u8], at: usize) -> u32
     u32::from(recurrence::rule_of(s, at).is_none())
 }
 
-// How many of an Exception and its later siblings.
+// How many of an Exception and its later siblings. A `loop`, as in the other walks: siblings are found by parsing, and no iterator gives them.
 fn skipped_from(s: &[u8], first: usize) -> u32
     ensures { result ≡ without_rule (element_at s.now first ∷ later_at s.now (bytes "Exception") first) % 2 ^ 32 }
 {

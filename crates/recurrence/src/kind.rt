@@ -32,7 +32,7 @@ fn daily(r: Scaled, at: u32) -> Option<u32>
     None
 }
 
-// A candidate a year, 200 years on at most.
+// A candidate a year, 200 years on at most. Whether it is by position is a flag, as in the definition's candidate.
 fn yearly(r: Scaled, at: u32, positioned: bool) -> Option<u32>
     requires ready { Ready r at }
     requires month { IsMonth r.month }
@@ -96,6 +96,7 @@ fn weekly(r: Scaled, at: u32) -> Option<u32>
     let sunday = r.from - sunday_first(r.from);
     let end = r.last.min(r.from + 36600);
     let mut d = at;
+    // no `for`: d leaps over the weeks that do not count
     loop {
         let g = week_day_from(sunday, r.period, d);
         if end < g {

@@ -13,7 +13,7 @@ use crate::scale::{Scaled, day_in, length_in};
 pub(crate) fn sunday_first(d: u32) -> u32
     ensures { result ≡ sunday_first d }
 {
-    ((d as u64 + 6) % 7) as u32
+    (d % 7 + 6) % 7
 }
 
 fn is_workday(w: u32) -> bool

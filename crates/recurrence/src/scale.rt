@@ -11,7 +11,7 @@ use definition::Date;
 // The last date, 31 December 9999.
 pub(crate) const LAST: u32 = 7304849;
 
-// A rule whose days are counted so; month 13 is none.
+// A rule whose days are counted so. The month stays a number, since 0 and those past 12 are none either; 13 stands for a missing one.
 #[derive(Clone, Copy)]
 pub(crate) struct Scaled {
     pub kind: u32,
