@@ -41,7 +41,7 @@ fn lowered(n: u32, by: u32) -> i32
     requires small_by { by < 2 ^ 31 }
     ensures { result ≡ pos n -ℤ pos by }
 {
-    (n as i64 - by as i64) as i32
+    (i64::from(n) - i64::from(by)) as i32
 }
 
 pub(crate) fn date_at(n: u32) -> Date
@@ -103,7 +103,7 @@ fn year_count(year: i32) -> u32
     requires { YearNumber year }
     ensures { pos result -ℤ pos 10000 ≡ year }
 {
-    (year as i64 + 10000) as u32
+    (i64::from(year) + 10000) as u32
 }
 
 pub(crate) fn month_on(d: u32) -> Month
