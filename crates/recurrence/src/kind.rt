@@ -32,7 +32,7 @@ fn daily(r: Scaled, at: u32) -> Option<u32>
     None
 }
 
-// A candidate a year, 200 years on at most. Whether it is by position is a flag, as in the definition's candidate.
+// A candidate a year, 200 years on at most. Whether it is by position is a flag, as in `candidate` of specs/Kind.antt.
 fn yearly(r: Scaled, at: u32, positioned: bool) -> Option<u32>
     requires ready { Ready r at }
     requires month { IsMonth r.month }

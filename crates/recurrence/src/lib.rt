@@ -35,7 +35,7 @@ pub struct Cursor {
     pub left: u32,
 }
 
-// The next day, with the cursor behind it; no day; no rule. Its own enum: a `Result` of an `Option` would hide which `None` is which.
+// The next day, with the cursor behind it; no day; no rule. Three outcomes with names: a `Result` of an `Option` is no plainer.
 #[derive(Clone, Copy)]
 pub enum Step {
     Day(Date, Cursor),
