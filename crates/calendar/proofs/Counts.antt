@@ -1,9 +1,10 @@
 -- Exceptions that give no rule: one of them, and their number as 32 bits hold it. Assumes nothing.
 use Rattle.std.specs.Prelude.{if◌then◌else◌}
-use Rattle.std.proofs.Common.{◌≡◌, ℕ, ◌+◌, ◌%◌, not, List, [], ◌∷◌, ◌++◌, sym, refl, ap, ◌∙◌, zero-add, arith}
+use Rattle.std.proofs.Common.{◌≡◌, ℕ, ◌+◌, ◌%◌, Bool, true, false, true≢false, not, List, [], ◌∷◌, ◌++◌, sym, refl, ap, ◌∙◌, zero-add, arith}
 use native.Mathlib.Nat.{zero-mod, mod-add-mod}
 use mathlib.Core.List.{flat_map}
-use Rattle.std.specs.Prelude.{Option, Some, None}
+use Rattle.std.specs.Prelude.{Option, Some, None, is_some}
+use Rattle.std.specs.Int.{from_bool}
 use Rattle.definition.specs.Base.{◌>>=◌, given, keep}
 use Rattle.definition.specs.Tree.{Element}
 use Rattle.definition.specs.Recurrence as D
@@ -16,21 +17,15 @@ use Rattle.calendar.specs.Skipped.{one_if, without_rule, in_all}
 
 -- ---- one exception: whether it has a rule
 
-pub one_rule : (x : Element) (r : Option Rule) → r ≡ rule_by (rule_of x) → (m : Rule) → r ≡ Some m → 0 ≡ one_if x
+pub one_rule : (x : Element) (r : Option Rule) → r ≡ rule_by (rule_of x) → (b : Bool) → is_some r ≡ not b → (n : ℕ) → n ≡ from_bool b → n ≡ one_if x
 unfolding recurrence_days
-one_rule x r e m k = by (rule_of x) (sym k ∙ e)
+one_rule x r e b k n f = f ∙ by (rule_of x) b (sym (ap is_some e) ∙ k)
   where
-    by : (o : Option D.Rule) → Some m ≡ rule_by o → ◌≡◌ {A = ℕ} 0 (if not (given (o >>= λ r. Some (days_of_rule r))) then 1 else 0)
-    by None e = let i : ◌≡◌ {A = ℕ} 0 1 = cc in absurd (omega arith)
-    by (Some r) e = refl
-
-pub no_rule : (x : Element) (r : Option Rule) → r ≡ rule_by (rule_of x) → r ≡ None → 1 ≡ one_if x
-unfolding recurrence_days
-no_rule x r e k = by (rule_of x) (sym k ∙ e)
-  where
-    by : (o : Option D.Rule) → None ≡ rule_by o → ◌≡◌ {A = ℕ} 1 (if not (given (o >>= λ r. Some (days_of_rule r))) then 1 else 0)
-    by None e = refl
-    by (Some r) e = let i : ◌≡◌ {A = ℕ} 0 1 = cc in absurd (omega arith)
+    by : (o : Option D.Rule) (b : Bool) → is_some (rule_by o) ≡ not b → from_bool b ≡ (if not (given (o >>= λ r. Some (days_of_rule r))) then 1 else 0)
+    by None true e = refl
+    by None false e = absurd (true≢false (sym e))
+    by (Some r) true e = absurd (true≢false e)
+    by (Some r) false e = refl
 
 -- ---- sums, as so many bits hold them
 

@@ -1,6 +1,7 @@
 -- The flags of a word: one of them, and a word with one of them replaced, tried at all 128 words and seven places. Assumes nothing.
 use Rattle.std.proofs.Common.{◌≡◌, ℕ, zero, suc, ◌+◌, ◌-◌, ◌*◌, ◌/◌, ◌%◌, ◌^◌, ◌<◌, ◌≤◌, Bool, true, false, not, ◌&&◌, T, eqb, List, [], ◌∷◌, length, get_or, set, sym, refl, ap, ◌∙◌, subst, lt_of_le_of_lt, mod-lt, mod-eq_of_lt, zero-lt-suc, mul-le-mul, one-mul, div-le_self, div-one, arith, eqb→eq, pow_pos, pow_mono, eq-eqb, ne_eqb, eqb-true}
 use Rattle.std.specs.Prelude.{Option, Some, None}
+use Rattle.std.specs.Int.{from_bool}
 use lib.ListN.{get_or-eq_default}
 use lib.Bits.{bit_and, bit_or, and_mask, or_shifted}
 use lib.Pow.{pow-lt}
@@ -142,6 +143,13 @@ masked w n h =
 
 pub low_bit : (w : ℕ) → bit_and w 1 ≡ w % 2
 low_bit w = and_mask w 1
+
+pub bit_is : (on : Bool) {b : ℕ} → b ≡ from_bool on → b ≡ bit_of on
+bit_is on e = e ∙ by on
+  where
+    by : (on : Bool) → from_bool on ≡ bit_of on
+    by true = refl
+    by false = refl
 
 pub bit_small : (on : Bool) → bit_of on < 2 ^ 1
 bit_small true = omega arith

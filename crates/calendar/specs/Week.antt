@@ -1,6 +1,6 @@
 -- A week as a word of seven flags, Monday's the most significant. Assumes nothing.
 use Rattle.std.specs.Prelude.{◌≡◌, ℕ, ◌+◌, ◌*◌, ◌/◌, ◌%◌, ◌^◌, Bool, false, List, map, ℤ, nat_eq, slice_index_or, slice_set, refl}
-use Rattle.std.specs.Prelude.{Option, Some, None}
+use Rattle.std.specs.Prelude.{Option, Some}
 use Rattle.definition.specs.Base.{◌>>=◌, ◌or◌, when, within}
 use Rattle.definition.specs.Date.{from_days}
 use Rattle.definition.specs.Bits.{enc, dec}
@@ -15,9 +15,8 @@ use Rattle.definition.specs.Calendar.{place_of, week_days, week_by, works, calen
 abbrev pub place_by : Option ℕ → Option ℕ
 place_by o = o >>= λ t. when (within 1 7 t) ((t + 5) % 7)
 
-unfoldable pub place_meaning : Option ℕ → Option ℕ
-place_meaning (Some k) = Some k
-place_meaning None = None
+abbrev pub place_meaning : Option ℕ → Option ℕ
+place_meaning k = k
 
 -- ---- the flags
 

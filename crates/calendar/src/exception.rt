@@ -9,26 +9,23 @@ ghost use Rattle.tree.specs.Place.{element_at, later_at};
 ghost use Rattle.tree.specs.Root.{root_at};
 ghost use Rattle.calendar.specs.Skipped.{without_rule, in_all, one_if};
 
-use tree::{Root};
+use tree::Root;
 
 // 1 for an Exception that gives no rule.
 fn one_if(s: &[u8], at: usize) -> u32
     ensures { result ≡ one_if (element_at s.now at) }
 {
-    match recurrence::rule_of(s, at) {
-        Some(_) => 0,
-        None => 1,
-    }
+    u32::from(recurrence::rule_of(s, at).is_none())
 }
 
-// How many of an Exception and its later siblings.
+// How many of an Exception and its later siblings. A `loop`, as in the other walks: siblings are found by parsing, and no iterator gives them.
 fn skipped_from(s: &[u8], first: usize) -> u32
     ensures { result ≡ without_rule (element_at s.now first ∷ later_at s.now (bytes "Exception") first) % 2 ^ 32 }
 {
     let mut p = first;
     let mut n: u32 = 0;
     loop {
-        n = std::num::wrapping_add_u32(n, one_if(s, p));
+        n = n.wrapping_add(one_if(s, p));
         let Some(q) = tree::next_child(s, p, b"Exception") else {
             return n;
         };
@@ -39,20 +36,20 @@ fn skipped_from(s: &[u8], first: usize) -> u32
 fn skipped_in(s: &[u8], at: usize) -> u32
     ensures { result ≡ without_rule (all (element_at s.now at) (bytes "Exception")) % 2 ^ 32 }
 {
-    match tree::child(s, at, b"Exception") {
-        None => 0,
-        Some(p) => skipped_from(s, p),
-    }
+    let Some(p) = tree::child(s, at, b"Exception") else {
+        return 0;
+    };
+    skipped_from(s, p)
 }
 
 // How many of a Calendar.
 fn skipped_by(s: &[u8], at: usize) -> u32
     ensures { result ≡ without_rule (recurring (element_at s.now at)) % 2 ^ 32 }
 {
-    match tree::child(s, at, b"Exceptions") {
-        None => 0,
-        Some(p) => skipped_in(s, p),
-    }
+    let Some(p) = tree::child(s, at, b"Exceptions") else {
+        return 0;
+    };
+    skipped_in(s, p)
 }
 
 // How many of a Calendar and its later siblings.
@@ -62,7 +59,7 @@ fn skipped_on(s: &[u8], first: usize) -> u32
     let mut p = first;
     let mut n: u32 = 0;
     loop {
-        n = std::num::wrapping_add_u32(n, skipped_by(s, p));
+        n = n.wrapping_add(skipped_by(s, p));
         let Some(q) = tree::next_child(s, p, b"Calendar") else {
             return n;
         };
@@ -74,8 +71,8 @@ fn skipped_on(s: &[u8], first: usize) -> u32
 pub fn skipped(s: &[u8], root: Root) -> u32
     ensures { result ≡ skipped_in (root_at s.now root) % 2 ^ 32 }
 {
-    match tree::child(s, root.calendars, b"Calendar") {
-        None => 0,
-        Some(p) => skipped_on(s, p),
-    }
+    let Some(p) = tree::child(s, root.calendars, b"Calendar") else {
+        return 0;
+    };
+    skipped_on(s, p)
 }

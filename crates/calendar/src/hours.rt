@@ -4,7 +4,6 @@ ghost use Rattle.definition.specs.Calendar.{working_time};
 ghost use Rattle.tree.specs.Place.{element_at};
 ghost use Rattle.calendar.specs.Hours.{working_meaning, time_said, time_by};
 
-
 // Minutes of a day, from below to.
 #[derive(Clone, Copy)]
 pub struct WorkingTime {
@@ -28,9 +27,11 @@ fn end_of(t: u16) -> u16
     t
 }
 
-fn time_from(from: u16, until: u16) -> Option<WorkingTime>
-    ensures { working_meaning result ≡ (time_by (Some from) (Some until)) }
+fn time_by(from: Option<u16>, until: Option<u16>) -> Option<WorkingTime>
+    ensures { working_meaning result ≡ time_by from until }
 {
+    let from = from?;
+    let until = until?;
     let to = end_of(until);
     if from < to {
         return Some(WorkingTime { from, to });
@@ -38,27 +39,9 @@ fn time_from(from: u16, until: u16) -> Option<WorkingTime>
     None
 }
 
-fn time_to(from: u16, until: Option<u16>) -> Option<WorkingTime>
-    ensures { working_meaning result ≡ (time_by (Some from) until) }
-{
-    match until {
-        Some(t) => time_from(from, t),
-        None => None,
-    }
-}
-
-fn time_by(from: Option<u16>, until: Option<u16>) -> Option<WorkingTime>
-    ensures { working_meaning result ≡ (time_by from until) }
-{
-    match from {
-        Some(t) => time_to(t, until),
-        None => None,
-    }
-}
-
 // FromTime to ToTime.
 pub fn working_time(s: &[u8], at: usize) -> Option<WorkingTime>
-    ensures { working_meaning result ≡ (working_time (element_at s.now at)) }
+    ensures { working_meaning result ≡ working_time (element_at s.now at) }
 {
     let from = time_in(s, at, b"FromTime");
     time_by(from, time_in(s, at, b"ToTime"))

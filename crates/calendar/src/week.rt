@@ -7,7 +7,7 @@ ghost use Rattle.definition.specs.Format.{bit as bit_of};
 ghost use Rattle.definition.specs.Tree.{all};
 ghost use Rattle.definition.specs.Calendar.{day_type, place_of, week_days, week_by};
 ghost use Rattle.tree.specs.Place.{element_at, later_at};
-ghost use Rattle.calendar.specs.Week.{place_meaning, place_by, flags_in, word_of, replaced, week_on, week_with, flag_on, works_on};
+ghost use Rattle.calendar.specs.Week.{place_by, flags_in, word_of, replaced, week_with, works_on};
 
 use definition::Date;
 
@@ -18,45 +18,28 @@ fn day_type(s: &[u8], at: usize) -> Option<u64>
 }
 
 // Sunday is 1, and the week begins on Monday.
-fn place_at(t: u64) -> Option<u32>
-    ensures { place_meaning result ≡ place_by (Some t) }
+fn place_by(a: Option<u64>) -> Option<u32>
+    ensures { result ≡ place_by a }
 {
-    if (1 <= t) & (t <= 7) {
+    let t = a?;
+    if (1..=7).contains(&t) {
         return Some(((t + 5) % 7) as u32);
     }
     None
 }
 
-fn place_by(a: Option<u64>) -> Option<u32>
-    ensures { place_meaning result ≡ place_by a }
-{
-    match a {
-        Some(t) => place_at(t),
-        None => None,
-    }
-}
-
 // The place of a WeekDay in the week, Monday 0.
 pub fn day_place(s: &[u8], at: usize) -> Option<u32>
-    ensures { place_meaning result ≡ place_of (element_at s.now at) }
+    ensures { result ≡ place_of (element_at s.now at) }
 {
     place_by(day_type(s, at))
-}
-
-fn type_or_1(a: Option<u64>) -> u64
-    ensures { result ≡ (a or 1) }
-{
-    match a {
-        Some(t) => t,
-        None => 1,
-    }
 }
 
 // A WeekDay of DayType 0 is an exception in the old form.
 pub fn is_old_exception(s: &[u8], at: usize) -> bool
     ensures { result ≡ ((day_type (element_at s.now at) or 1) == 0) }
 {
-    type_or_1(day_type(s, at)) == 0
+    day_type(s, at).unwrap_or(1) == 0
 }
 
 pub fn day_working(s: &[u8], at: usize) -> bool
@@ -85,19 +68,13 @@ fn flag_at(week: u32, k: u32) -> bool
     (week >> (6 - k)) & 1 == 1
 }
 
-fn bit(on: bool) -> u32
-    ensures { result ≡ bit_of «on» }
-{
-    if on { 1 } else { 0 }
-}
-
 // The bit above the n low ones replaced.
 fn with_bit(w: u32, n: u32, on: bool) -> u32
-    requires fact_1 { w < 128 }
-    requires fact_2 { n ≤ 6 }
+    requires small { w < 128 }
+    requires place { n ≤ 6 }
     ensures { result ≡ replaced w n «on» }
 {
-    let top = ((w >> (n + 1)) << 1) | bit(on);
+    let top = ((w >> (n + 1)) << 1) | u32::from(on);
     (top << n) | low(w, n)
 }
 
@@ -111,21 +88,14 @@ fn with_flag(week: u32, k: u32, on: bool) -> u32
     with_bit(low(week, 7), 6 - k, on)
 }
 
-fn with_place(week: u32, place: Option<u32>, on: bool) -> u32
-    ensures { flags_in result ≡ week_on (place_meaning place) «on» (flags_in week) }
-{
-    match place {
-        Some(k) => with_flag(week, k, on),
-        None => week,
-    }
-}
-
 // A week with what a WeekDay says.
 fn with_day(s: &[u8], at: usize, week: u32) -> u32
     ensures { flags_in result ≡ week_with (element_at s.now at) (flags_in week) }
 {
-    let place = day_place(s, at);
-    with_place(week, place, day_working(s, at))
+    let Some(k) = day_place(s, at) else {
+        return week;
+    };
+    with_flag(week, k, day_working(s, at))
 }
 
 // A WeekDay and its later siblings, one after another.
@@ -146,19 +116,19 @@ fn week_from(s: &[u8], first: usize, base: u32) -> u32
 fn week_in(s: &[u8], at: usize, base: u32) -> u32
     ensures { flags_in result ≡ week_by (all (element_at s.now at) (bytes "WeekDay")) (flags_in base) }
 {
-    match tree::child(s, at, b"WeekDay") {
-        None => base,
-        Some(p) => week_from(s, p, base),
-    }
+    let Some(p) = tree::child(s, at, b"WeekDay") else {
+        return base;
+    };
+    week_from(s, p, base)
 }
 
 fn week_under(s: &[u8], at: usize, base: u32) -> u32
     ensures { flags_in result ≡ week_by (week_days (element_at s.now at)) (flags_in base) }
 {
-    match tree::child(s, at, b"WeekDays") {
-        None => base,
-        Some(p) => week_in(s, p, base),
-    }
+    let Some(p) = tree::child(s, at, b"WeekDays") else {
+        return base;
+    };
+    week_in(s, p, base)
 }
 
 // The week of a Calendar over its base's.
@@ -168,18 +138,12 @@ pub fn week_of(s: &[u8], at: usize, base: u32) -> u32
     low(week_under(s, at, base), 7)
 }
 
-fn works_at(week: u32, weekday: Option<u32>) -> bool
-    ensures { result ≡ flag_on (flags_in week) weekday }
-{
-    match weekday {
-        Some(k) => flag_at(week, k),
-        None => false,
-    }
-}
-
 // Whether a week works on a day; on no day outside the years.
 pub fn works(week: u32, day: Date) -> bool
     ensures { result ≡ works_on (flags_in week) day.0 }
 {
-    works_at(week, date::weekday(day))
+    let Some(k) = date::weekday(day) else {
+        return false;
+    };
+    flag_at(week, k)
 }

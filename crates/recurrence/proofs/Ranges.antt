@@ -1,5 +1,5 @@
 -- The days of a WeekDay of DayType 0. Assumes nothing.
-use Prim.Native.Nat.{ℕ, zero, suc, ◌+◌, ◌-◌, ◌≤◌, min, max}
+use Prim.Native.Nat.{ℕ, zero, suc, ◌+◌, ◌-◌, ◌≤◌, min}
 use native.Mathlib.Omega.{arith}
 use native.Mathlib.Numerals.{add-one}
 use mathlib.Core.Path.{◌≡◌, refl, sym, ap, ◌∙◌}
@@ -7,14 +7,13 @@ use mathlib.Core.List.{◌∷◌}
 use Rattle.std.specs.Prelude.{Option, Some, None}
 use lib.ListN.{length}
 use lib.Dec.{leb}
-use borrow.Author.Tests.{le-leb, ne_eqb}
-use Rattle.definition.specs.Base.{◌>>=◌, ◌or◌, keep, count}
+use borrow.Author.Tests.{le-leb}
+use Rattle.definition.specs.Base.{◌>>=◌, keep, count}
 use Rattle.definition.specs.Ascii.{bytes}
 use Rattle.definition.specs.Date.{Date, last_date}
 use Rattle.definition.specs.Tree.{Element, child}
 use Rattle.definition.specs.Field.{date_in}
 use Rattle.definition.specs.Recurrence.{days_of, most_exception_days}
-use Rattle.definition.specs.declared.Date as Declared
 use Rattle.date.specs.Scale.{count_of_number}
 use Rattle.recurrence.specs.Scale.{day_date}
 use Rattle.recurrence.specs.Element.{range_by, range_days, RangeRead, range_in, period_of}

@@ -1,6 +1,7 @@
 -- The numbers of a run that pass a test, and the first of them. Assumes nothing: these are definitions.
 use Rattle.std.specs.Prelude.{ℕ, suc, ◌-◌, ◌≤◌, ◌<◌, ◌≡◌, Bool, true, false, List}
-use Rattle.definition.specs.Base.{keep, count}
+use Rattle.std.specs.Prelude.{Option}
+use Rattle.definition.specs.Base.{◌or◌, keep, count}
 
 -- those from a number on to the last
 abbrev pub from_on : (ℕ → Bool) → ℕ → ℕ → List ℕ
@@ -11,3 +12,7 @@ pub record FirstFit (p : ℕ → Bool) (last at x : ℕ) : Type 0 where
   pub on : x ≤ last → at ≤ x
   pub before : (d : ℕ) → at ≤ d → d < x → d ≤ last → p d ≡ false
   pub hit : x ≤ last → p x ≡ true
+
+-- the first of them, or one past the last; none where there is none
+abbrev pub FirstFound : (ℕ → Bool) → ℕ → ℕ → Option ℕ → Type 0
+FirstFound p last at x = FirstFit p last at (x or suc last)

@@ -115,7 +115,10 @@ fn period_of(s: &[u8], at: usize) -> Period
     ensures { result ≡ period_of (element_at s.now at) }
 {
     let Some(p) = tree::child(s, at, b"TimePeriod") else {
-        return Period { from: None, to: None };
+        return Period {
+            from: None,
+            to: None,
+        };
     };
     Period {
         from: day_said(s, p, b"FromDate"),

@@ -1,9 +1,9 @@
-// The first day that fits a rule, from a day on, kind by kind: daily, yearly, monthly, weekly; past the last day where none fits. The kind is
-// chosen by the Type.
+// The first day that fits a rule, from a day on, kind by kind: daily, yearly, monthly, weekly. It may lie past the last day. The kind is chosen by
+// the Type.
 ghost use Rattle.std.specs.Prelude.{if◌then◌else◌, ◌≡◌, ◌≤◌};
 ghost use Rattle.definition.specs.Base.{within};
 ghost use Rattle.definition.specs.Recurrence.{fits};
-ghost use Rattle.recurrence.specs.Sequence.{FirstFit};
+ghost use Rattle.recurrence.specs.Sequence.{FirstFound};
 ghost use Rattle.recurrence.specs.Scale.{IsMonth};
 ghost use Rattle.recurrence.specs.Kind.{UpTo, Ready, daily_fits, yearly_fits, monthly_fits, weekly_fits, WeekDay, on_mask, IsKind, Chosen};
 ghost use Rattle.recurrence.specs.Meaning.{as_rule};
@@ -21,53 +21,53 @@ fn steps_up(n: u32, step: u32) -> u32
     n.div_ceil(step)
 }
 
-fn daily(r: Scaled, at: u32) -> u32
+fn daily(r: Scaled, at: u32) -> Option<u32>
     requires { Ready r at }
-    ensures { FirstFit (daily_fits r) r.last at result }
+    ensures { FirstFound (daily_fits r) r.last at result }
 {
     let q = steps_up(at - r.from, r.period);
     if q < 5000 {
-        return r.from + q * r.period;
+        return Some(r.from + q * r.period);
     }
-    r.last + 1
+    None
 }
 
-// A candidate a year, 200 years on at most.
-fn yearly(r: Scaled, at: u32, positioned: bool) -> u32
+// A candidate a year, 200 years on at most. Whether it is by position is a flag, as in `candidate` of specs/Kind.antt.
+fn yearly(r: Scaled, at: u32, positioned: bool) -> Option<u32>
     requires ready { Ready r at }
     requires month { IsMonth r.month }
-    ensures { FirstFit (yearly_fits positioned r) r.last at result }
+    ensures { FirstFound (yearly_fits positioned r) r.last at result }
 {
     let end = year_of(r.last).min(year_of(r.from) + 200) + 1;
     for y in year_of(at)..end {
         if let Some(x) = candidate_in(positioned, r, y, r.month) {
             if at <= x {
-                return x;
+                return Some(x);
             }
         }
     }
-    r.last + 1
+    None
 }
 
 // A candidate every Period-th month, 2,400 steps on at most.
-fn monthly(r: Scaled, at: u32, positioned: bool) -> u32
+fn monthly(r: Scaled, at: u32, positioned: bool) -> Option<u32>
     requires { Ready r at }
-    ensures { FirstFit (monthly_fits positioned r) r.last at result }
+    ensures { FirstFound (monthly_fits positioned r) r.last at result }
 {
     let first = month_at(r.from);
     let end = month_at(r.last);
     for q in steps_up(month_at(at) - first, r.period)..2400 {
         let k = first + q * r.period;
         if end < k {
-            return r.last + 1;
+            return None;
         }
         if let Some(x) = candidate_in(positioned, r, k / 12, k % 12 + 1) {
             if at <= x {
-                return x;
+                return Some(x);
             }
         }
     }
-    r.last + 1
+    None
 }
 
 // The first day from d on in a week that counts. Weeks begin on the day `sunday`.
@@ -89,20 +89,21 @@ fn on_weekday(weekdays: u32, d: u32) -> bool
     (weekdays >> sunday_first(d)) % 2 == 1
 }
 
-fn weekly(r: Scaled, at: u32) -> u32
+fn weekly(r: Scaled, at: u32) -> Option<u32>
     requires { Ready r at }
-    ensures { FirstFit (weekly_fits r) r.last at result }
+    ensures { FirstFound (weekly_fits r) r.last at result }
 {
     let sunday = r.from - sunday_first(r.from);
     let end = r.last.min(r.from + 36600);
     let mut d = at;
+    // no `for`: d leaps over the weeks that do not count
     loop {
         let g = week_day_from(sunday, r.period, d);
         if end < g {
-            return r.last + 1;
+            return None;
         }
         if on_weekday(r.weekdays, g) {
-            return g;
+            return Some(g);
         }
         d = g + 1;
     }
@@ -142,10 +143,10 @@ pub(crate) fn kind_of(kind: u32, month: u32) -> Option<Kind>
 }
 
 // Of a rule of that kind: the first day from `at` on that fits.
-pub(crate) fn first_fit(kind: Kind, r: Scaled, at: u32) -> u32
+pub(crate) fn first_fit(kind: Kind, r: Scaled, at: u32) -> Option<u32>
     requires ready { Ready r at }
     requires kind { IsKind r.kind r.month kind }
-    ensures { FirstFit (fits (as_rule r)) r.last at result }
+    ensures { FirstFound (fits (as_rule r)) r.last at result }
 {
     match kind {
         Kind::Daily => daily(r, at),

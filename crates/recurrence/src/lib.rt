@@ -15,6 +15,7 @@ pub use sequence::{next, start};
 // and past which nothing fits; of the weekdays the seven low bits are held.
 #[derive(Clone, Copy)]
 pub struct Rule {
+    // a number, since callers may pass any, and `next` refuses those that no kind has
     pub kind: u32,
     pub from: Date,
     pub last: Date,
@@ -34,7 +35,7 @@ pub struct Cursor {
     pub left: u32,
 }
 
-// The next day, with the cursor behind it; no day; no rule.
+// The next day, with the cursor behind it; no day; no rule. Three outcomes with names: a `Result` of an `Option` is no plainer.
 #[derive(Clone, Copy)]
 pub enum Step {
     Day(Date, Cursor),
@@ -48,4 +49,3 @@ pub struct Range {
     pub first: Date,
     pub count: u32,
 }
-

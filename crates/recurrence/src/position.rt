@@ -13,7 +13,7 @@ use crate::scale::{Scaled, day_in, length_in};
 pub(crate) fn sunday_first(d: u32) -> u32
     ensures { result ≡ sunday_first d }
 {
-    ((d as u64 + 6) % 7) as u32
+    (d % 7 + 6) % 7
 }
 
 fn is_workday(w: u32) -> bool
@@ -35,6 +35,7 @@ fn item_fits(item: u32, d: u32) -> bool
     }
 }
 
+// `(first..end).filter(..).nth(..)`, and `.rev().find(..)` below, were tried: the search finds no proof that leads over the range.
 fn nth_fit(first: u32, end: u32, item: u32, position: u32) -> Option<u32>
     ensures { result ≡ slice_get (keep (item_fits (pos item)) (count first (end - first))) position }
 {

@@ -5,13 +5,13 @@ ghost use Rattle.definition.specs.Date.{month_length, year_of};
 ghost use Rattle.date.specs.Scale.{day_count};
 ghost use Rattle.recurrence.specs.Scale.{InDates, IsYear, IsMonth, YearNumber, day_date, count_by, scaled_by, month_on, month_at, day_in};
 
-use crate::{Rule};
-use definition::{Date};
+use crate::Rule;
+use definition::Date;
 
 // The last date, 31 December 9999.
 pub(crate) const LAST: u32 = 7304849;
 
-// A rule whose days are counted so; month 13 is none.
+// A rule whose days are counted so. The month stays a number, since 0 and those past 12 are none either; 13 stands for a missing one.
 #[derive(Clone, Copy)]
 pub(crate) struct Scaled {
     pub kind: u32,
@@ -41,7 +41,7 @@ fn lowered(n: u32, by: u32) -> i32
     requires small_by { by < 2 ^ 31 }
     ensures { result ≡ pos n -ℤ pos by }
 {
-    (n as i64 - by as i64) as i32
+    (i64::from(n) - i64::from(by)) as i32
 }
 
 pub(crate) fn date_at(n: u32) -> Date
@@ -103,7 +103,7 @@ fn year_count(year: i32) -> u32
     requires { YearNumber year }
     ensures { pos result -ℤ pos 10000 ≡ year }
 {
-    (year as i64 + 10000) as u32
+    (i64::from(year) + 10000) as u32
 }
 
 pub(crate) fn month_on(d: u32) -> Month

@@ -39,7 +39,9 @@ pub fn next(r: Rule, c: Cursor) -> Step
     if t.last < at {
         return Step::Done;
     }
-    let x = first_fit(kind, t, at);
+    let Some(x) = first_fit(kind, t, at) else {
+        return Step::Done;
+    };
     if t.last < x {
         return Step::Done;
     }

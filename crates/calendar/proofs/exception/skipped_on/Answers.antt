@@ -1,4 +1,4 @@
-use Rattle.std.proofs.Common.{ℕ, ◌%◌, ◌^◌, ap, ◌∙◌, arith, rules}
+use Rattle.std.proofs.Common.{ℕ, ◌%◌, ◌^◌, ap, ◌∙◌, arith, refl, rules}
 use native.Mathlib.Nat.{mod-mod}
 use Rattle.definition.specs.Calendar.{recurring}
 use Rattle.tree.specs.Answer.{found_list, none_list, found_on}
@@ -14,11 +14,11 @@ enum_told-1 c = search rules
 
 pub returns-in_default : goal.returns-in_default
 returns-in_default c =
-    last_sum (2 ^ 32) (λ l. in_all l) (λ e. without_rule (recurring e)) all_more _ _ _ _ _ _ c.loop-q.invariant (ap (λ (u : ℕ). u % 2 ^ 32) c.skipped_by.ensures ∙ mod-mod _ (2 ^ 32)) c.wrapping_add_u32-n.ensures.value all_none (none_list c.next_child.ensures c.in_default.is)
+    last_sum (2 ^ 32) (λ l. in_all l) (λ e. without_rule (recurring e)) all_more _ _ _ _ _ _ c.loop-q.invariant (ap (λ (u : ℕ). u % 2 ^ 32) c.skipped_by-n.ensures ∙ mod-mod _ (2 ^ 32)) refl all_none (none_list c.next_child.ensures c.in_default.is)
 
 pub loop-q-smaller : goal.loop-q-smaller
 loop-q-smaller c = omega (arith, found_on c.next_child.ensures c.in-Some.is)
 
 pub loop-q-preserved : goal.loop-q-preserved
 loop-q-preserved c =
-    next_sum (2 ^ 32) (λ l. in_all l) (λ e. without_rule (recurring e)) all_more _ _ _ _ _ _ c.loop-q.invariant (ap (λ (u : ℕ). u % 2 ^ 32) c.skipped_by.ensures ∙ mod-mod _ (2 ^ 32)) c.wrapping_add_u32-n.ensures.value _ (found_list c.next_child.ensures c.in-Some.is)
+    next_sum (2 ^ 32) (λ l. in_all l) (λ e. without_rule (recurring e)) all_more _ _ _ _ _ _ c.loop-q.invariant (ap (λ (u : ℕ). u % 2 ^ 32) c.skipped_by-n.ensures ∙ mod-mod _ (2 ^ 32)) refl _ (found_list c.next_child.ensures c.in-Some.is)

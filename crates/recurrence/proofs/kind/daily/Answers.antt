@@ -1,5 +1,4 @@
 use Rattle.recurrence.proofs.Fits.{daily_fit, daily_none}
-use native.Mathlib.Numerals.{add-one}
 use mathlib.Core.Path.{refl}
 use native.Mathlib.Omega.{arith}
 use Rattle.recurrence.proofs.kind.daily.Goals as goal
@@ -18,4 +17,4 @@ returns-then-q-lt5000 c =
 
 pub returns : goal.returns
 returns c =
-    rw add-one (daily_none c.args.r c.args.at c.steps_up-q.result c.requires.step c.requires.from c.steps_up-q.ensures c.if-q-lt5000.false)
+    (daily_none c.args.r c.args.at c.steps_up-q.result c.requires.step c.requires.from c.steps_up-q.ensures c.if-q-lt5000.false)

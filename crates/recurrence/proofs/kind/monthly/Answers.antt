@@ -49,15 +49,11 @@ pub overflow_add-k : goal.overflow_add-k
 overflow_add-k c =
     omega (arith, mul-le-mul (le_of_lt c.loop-q-test.true) c.requires.most, c.month_at-first.ensures, month_bound c.args.r.from (omega (arith, c.requires.from, c.requires.until, c.requires.last)))
 
-pub overflow_add-result : goal.overflow_add-result
-overflow_add-result c =
-    omega (arith, c.requires.last)
-
 pub returns-then-end-k : goal.returns-then-end-k
 returns-then-end-k c =
     let q = c.loop-q.q in
     let past : month_at c.args.r.last < step_month c.args.r q = omega (arith, c.if-end-k.true, c.month_at-end.ensures, c.month_at-first.ensures) in
-    rw add-one (monthly_past c.args.positioned c.args.r c.args.at c.requires.step q past c.loop-q.invariant)
+    (monthly_past c.args.positioned c.args.r c.args.at c.requires.step q past c.loop-q.invariant)
 
 pub candidate_in-requires : goal.candidate_in-requires
 candidate_in-requires c =
@@ -82,10 +78,6 @@ loop-q-preserved c =
     ] in
     rw add-one (monthly_next c.args.positioned r c.args.at c.requires.step q p)
 
-pub overflow_add-result-2 : goal.overflow_add-result-2
-overflow_add-result-2 c =
-    omega (arith, c.requires.last)
-
 pub returns : goal.returns
 returns c =
-    rw add-one (monthly_none c.args.positioned c.args.r c.args.at c.requires.step c.loop-q.q c.loop-q-test.false c.loop-q.invariant)
+    (monthly_none c.args.positioned c.args.r c.args.at c.requires.step c.loop-q.q c.loop-q-test.false c.loop-q.invariant)

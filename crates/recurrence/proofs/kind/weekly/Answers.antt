@@ -2,7 +2,6 @@ use Rattle.recurrence.specs.Kind.{WeekDay}
 use Rattle.recurrence.proofs.Fits.{past_day, weekly_fit, weekly_none, sunday_of}
 use Rattle.recurrence.proofs.Months.{sunday_less}
 use Prim.Native.Nat.{ℕ, ◌-◌}
-use native.Mathlib.Numerals.{add-one}
 use mathlib.Core.Path.{sym, subst, ◌∙◌}
 use native.Mathlib.Omega.{arith}
 use Rattle.recurrence.proofs.kind.weekly.Goals as goal
@@ -29,15 +28,11 @@ pub week_day_from-g-requires : goal.week_day_from-g-requires
 week_day_from-g-requires c =
     record { sunday = omega (arith, c.loop-r.invariant.1, c.requires.from); day = c.loop-r.invariant.2; step = c.requires.step; most = c.requires.most }
 
-pub overflow_add-result : goal.overflow_add-result
-overflow_add-result c =
-    omega (arith, c.requires.last)
-
 pub returns-then-end-g : goal.returns-then-end-g
 returns-then-end-g c =
     let r = c.args.r in
     let w = weekday_from (goal.at.returns-then-end-g c).After-week_day_from-g in
-    rw add-one (weekly_none r c.args.at c.loop-r.d c.week_day_from-g.result w c.loop-r.invariant.0 c.min-end.result c.min-end.ensures c.if-end-g.true)
+    (weekly_none r c.args.at c.loop-r.d c.week_day_from-g.result w c.loop-r.invariant.0 c.min-end.result c.min-end.ensures c.if-end-g.true)
 
 pub returns-then-on_weekday : goal.returns-then-on_weekday
 returns-then-on_weekday c =

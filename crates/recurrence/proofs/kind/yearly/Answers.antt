@@ -53,11 +53,7 @@ loop-y-preserved c =
     ] in
     (rw add-one p, omega (arith, c.loop-y.invariant.1))
 
-pub overflow_add-result : goal.overflow_add-result
-overflow_add-result c =
-    omega (arith, c.requires.ready.last)
-
 pub returns : goal.returns
 returns c =
     let end : c.min-end.result ≡ min (year_of c.args.r.last) (year_of c.args.r.from + 200) = c.min-end.ensures ∙ ap (λ (a : ℕ). min a (c.year_of-2.result + 200)) c.year_of.ensures ∙ ap (λ (b : ℕ). min (year_of c.args.r.last) (b + 200)) c.year_of-2.ensures in
-    rw add-one (yearly_none c.args.positioned c.args.r c.args.at c.loop-y.y c.min-end.result c.requires.month c.loop-y.invariant.0 end (omega (arith, c.loop-y-test.false)))
+    (yearly_none c.args.positioned c.args.r c.args.at c.loop-y.y c.min-end.result c.requires.month c.loop-y.invariant.0 end (omega (arith, c.loop-y-test.false)))

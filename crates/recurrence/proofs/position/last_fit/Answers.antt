@@ -1,7 +1,6 @@
 use Rattle.recurrence.proofs.Items.{last_yes, last_no, last_end}
-use mathlib.Core.Path.{refl, ap, sym, ◌∙◌}
+use mathlib.Core.Path.{refl, sym, ◌∙◌}
 use lib.IntN.{pos}
-use Rattle.definition.specs.Base.{◌or◌}
 use Rattle.definition.specs.Recurrence.{item_fits}
 use Rattle.recurrence.proofs.position.last_fit.Goals as goal
 

@@ -4,7 +4,7 @@ use mathlib.Core.Path.{refl, ap, sym, ◌∙◌}
 use Rattle.std.specs.Prelude.{Option}
 use Rattle.std.specs.Prelude.{slice_get}
 use lib.IntN.{pos}
-use Rattle.definition.specs.Base.{◌or◌, keep, count}
+use Rattle.definition.specs.Base.{keep, count}
 use Rattle.definition.specs.Recurrence.{item_fits}
 use Rattle.recurrence.proofs.position.nth_fit.Goals as goal
 use Rattle.recurrence.proofs.position.nth_fit.Goals.{then-item_fits+else-k-eq0, else-item_fits}

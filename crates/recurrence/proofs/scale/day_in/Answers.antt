@@ -1,6 +1,5 @@
-use mathlib.Core.Path.{ap, ◌∙◌}
+use mathlib.Core.Path.{◌∙◌}
 use native.Mathlib.Omega.{arith}
-use Rattle.definition.specs.Base.{◌or◌}
 use Rattle.date.proofs.Signs.{difference_back}
 use Rattle.recurrence.proofs.Counts.{count_said, day_by_lem}
 use Rattle.recurrence.proofs.scale.day_in.Goals as goal

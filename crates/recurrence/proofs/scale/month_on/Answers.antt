@@ -6,7 +6,6 @@ use Rattle.definition.specs.declared.Ymd.{Ymd}
 use Rattle.date.proofs.Signs.{difference_back}
 use Rattle.recurrence.proofs.Bounds.{year_last}
 use Rattle.recurrence.proofs.Counts.{ymd_is, ymd_there, year_same}
-use borrow.Author.Rules.{rules}
 use Rattle.recurrence.proofs.scale.month_on.Goals as goal
 
 pub year_count-requires : goal.year_count-requires
