@@ -3,9 +3,9 @@ use mathlib.Core.Path.{◌≡◌, sym, ap, ◌∙◌}
 use mathlib.Core.List.{List, [], ◌++◌, append_assoc, ◌∷◌}
 use Prim.Native.Nat.{ℕ, ◌+◌, ◌*◌, ◌≤◌, ◌<◌}
 use native.Mathlib.Omega.{arith}
-use lib.ListN.{length, take, drop, get_or, set}
+use lib.ListN.{length, take, drop, get_or}
 use native.Mathlib.Numerals.{add-one}
-use lib.Seq.{paste-suc, take-length, paste, length-paste, take-suc}
+use lib.Seq.{take-length, paste, length-paste, take-suc}
 use Rattle.bits.specs.declared.Place.{Place}
 use Rattle.bits.specs.Over.{over}
 use Rattle.bits.proofs.Overwriting.{over_is, laid_short}

@@ -11,7 +11,7 @@ use Rattle.definition.specs.Format.{bit}
 use lib.Dec.{leb, ltb}
 use borrow.Author.Tests.{leb-true, leb-false, ltb-true, lt-leb}
 use Rattle.bits.specs.declared.Place.{Place}
-use Rattle.bits.specs.Places.{at, room, fits_room, room_short, up_to, before_up}
+use Rattle.bits.specs.Places.{at, room, fits_room, room_short, up_to}
 
 -- room is told by whole bytes
 pub room_bytes : (n : ℕ) (p : Place) (w : ℕ) → p.bit ≤ 7 → p.byte ≤ n → leb ((p.bit + w + 7) / 8) (n - p.byte) ≡ room n p w
@@ -48,11 +48,3 @@ up_not p q h = short (ltb p.bit 8) refl
     short : (t : Bool) → ltb p.bit 8 ≡ t → (t && leb (at p) (at q)) ≡ false
     short true e = lt-leb _ _ (h (ltb-true _ _ e))
     short false e = refl
-
--- within one byte
-pub up_bit : (p q : Place) → p.bit < 8 → p.byte ≡ q.byte → leb p.bit q.bit ≡ up_to p q
-up_bit p q h e = told (leb p.bit q.bit) refl
-  where
-    told : (t : Bool) → leb p.bit q.bit ≡ t → t ≡ up_to p q
-    told true k = sym (before_up (record { bit = h; upto = omega (arith, leb-true p.bit q.bit k) }))
-    told false k = sym (up_not p q (λ b. omega (arith, leb-false p.bit q.bit k)))

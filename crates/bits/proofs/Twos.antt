@@ -2,15 +2,12 @@
 use Rattle.std.specs.Prelude.{if◌then◌else◌}
 use mathlib.Core.Path.{◌≡◌, refl, ap, ◌∙◌}
 use mathlib.Core.Bool.{Bool, true, false}
-use Prim.Native.Nat.{ℕ, suc, ◌-◌, ◌*◌, ◌^◌, ◌<◌}
-use native.Mathlib.Omega.{arith}
-use lib.Dec.{T, ltb}
-use lib.IntN.{ℤ, pos, negsuc, nat_abs}
-use lib.Signed.{lt_z, non_neg}
+use Prim.Native.Nat.{ℕ, suc, ◌-◌, ◌^◌, ◌<◌}
+use lib.Dec.{ltb}
+use lib.IntN.{ℤ, pos, negsuc}
 use mir.Syntax.{Width, w8, w16, w32, w64, w128}
-use mir.Val.{bits, hbits, Fits, SFits, of_z, to_z, sel}
-use mir.Facts.{to_z_pos, to_z-neg, to_z-of_z, sfits_to_z}
-use borrow.Author.Tests.{ltb-true}
+use mir.Val.{bits, hbits, SFits, of_z, to_z, sel}
+use mir.Facts.{to_z-of_z, sfits_to_z}
 use Rattle.definition.specs.Bits.{twos, signed}
 
 half : (w : Width) → hbits w ≡ bits w - 1

@@ -22,7 +22,7 @@ pub use writing::{overwrite, pad, put, put_flag};
 pub use zeros::fill_from;
 
 // A place in a buffer: so many whole bytes and so many bits stand before it. A bit of 8 or more is past every end.
-#[derive(Clone, Copy)]
+#[derive(Clone, Copy, PartialEq, Eq, PartialOrd, Ord)]
 pub struct Place {
     pub byte: usize,
     pub bit: usize,

@@ -11,13 +11,7 @@ pub(crate) fn room(n: usize, p: Place, width: usize) -> bool
     requires { width ≤ 64 }
     ensures { result ≡ room n p width }
 {
-    if 7 < p.bit {
-        return false;
-    }
-    if n < p.byte {
-        return false;
-    }
-    (p.bit + width + 7) >> 3 <= n - p.byte
+    p.bit < 8 && p.byte <= n && (p.bit + width + 7) >> 3 <= n - p.byte
 }
 
 // Whether a place stands in n bytes or at their end: what was written up to it fitted.
@@ -32,32 +26,18 @@ fn up_to(p: Place, q: Place) -> bool
     requires { q.bit < 8 }
     ensures { result ≡ up_to p q }
 {
-    if 7 < p.bit {
-        return false;
-    }
-    if p.byte < q.byte {
-        return true;
-    }
-    if q.byte < p.byte {
-        return false;
-    }
-    p.bit <= q.bit
+    p.bit < 8 && p <= q
 }
 
 // Whether three places stand in n bytes one after another.
 pub(crate) fn in_order(n: usize, a: Place, m: Place, e: Place) -> bool
     ensures { result ≡ ordered n a m e }
 {
-    if !inside(n, e) {
-        return false;
-    }
-    if !up_to(m, e) {
-        return false;
-    }
-    up_to(a, m)
+    inside(n, e) && up_to(m, e) && up_to(a, m)
 }
 
-// The place k bits before another, and the place k bits behind it.
+// The place k bits before another, and the place k bits behind it. That a bit is below 8 stands in each contract and not in a type of its own:
+// what is read or written at a place may lead past the end, so each such place would be turned from one type into the other.
 pub(crate) fn place_before(p: Place, k: usize) -> Place
     requires { (p.bit < 8) × (k ≤ 64) × (k ≤ at p) }
     ensures { (result.bit < 8) × (at result + k ≡ at p) }

@@ -81,14 +81,9 @@ fn take_five(s: &[u8], p: Place) -> Field<u64>
 pub(crate) fn take_count(s: &[u8], p: Place) -> Field<u64>
     ensures { result ≡ taken_at s.now p 32 }
 {
-    if s.len() < 5 {
-        return take(s, p, 32);
+    if p.bit < 8 && 5 <= s.len() && p.byte <= s.len() - 5 {
+        take_five(s, p)
+    } else {
+        take(s, p, 32)
     }
-    if s.len() - 5 < p.byte {
-        return take(s, p, 32);
-    }
-    if 7 < p.bit {
-        return take(s, p, 32);
-    }
-    take_five(s, p)
 }

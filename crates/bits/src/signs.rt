@@ -10,6 +10,7 @@ use crate::writing::put;
 use crate::{Field, Place};
 
 // A signed field of 64 bits, and one of 32; and one of 32 read.
+// Each is one call: one function for both widths, over a trait of signed numbers, would be longer.
 pub fn put_i64(out: &mut [u8], p: Place, v: i64) -> Place
     ensures { Puts (field 64) (twos 64 v) out.old p out.new result }
 {

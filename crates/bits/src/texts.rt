@@ -23,10 +23,7 @@ fn copy_bytes(out: &mut [u8], p: Place, s: &[u8]) -> Place
     ensures { Laid out.old p (bits_of s.now) out.new result }
 {
     let at = p.byte;
-    if out.len() < at {
-        return PAST;
-    }
-    if out.len() - at < s.len() {
+    if out.len() < at || out.len() - at < s.len() {
         return PAST;
     }
     let end = at + s.len();
@@ -71,13 +68,7 @@ pub fn put_text(out: &mut [u8], p: Place, s: &[u8]) -> Place
 fn bytes_at(n: usize, p: Place, len: usize) -> Span
     ensures { result ≡ span_in n p len }
 {
-    if 0 < p.bit {
-        return NO_SPAN;
-    }
-    if n < p.byte {
-        return NO_SPAN;
-    }
-    if n - p.byte < len {
+    if 0 < p.bit || n < p.byte || n - p.byte < len {
         return NO_SPAN;
     }
     Span {

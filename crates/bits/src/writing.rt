@@ -18,6 +18,8 @@ fn mix(old: u64, r: usize, k: usize, x: u64) -> u8
     joined(top, 8 - r - k, low) as u8
 }
 
+// The buffer and the place stay two parameters, here and above. In a struct, which was tried, each function would promise besides that its
+// buffer is still the same one, and a place that is kept for later would stand outside it anyway.
 // Writes the `width` low bits of v over those at a place, and nothing else. The place behind them.
 pub fn overwrite(out: &mut [u8], p: Place, width: usize, v: u64) -> Place
     requires { width ≤ 64 }

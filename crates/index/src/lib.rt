@@ -90,6 +90,7 @@ pub fn hash_starred(s: &[u8], stars: u32) -> u32
     (mix(h, a, b) % LOW) as u32
 }
 
+// That of a text alone, a name for no stars: its many callers have none.
 pub fn hash_of(s: &[u8]) -> u32
     ensures { result ≡ hash_of s.now }
 {
@@ -99,63 +100,39 @@ pub fn hash_of(s: &[u8]) -> u32
 pub fn word(words: &[u32], from: usize, i: usize) -> u32
     ensures { result ≡ get_or words.now (from + i) 0 }
 {
-    let n = words.len();
-    if n <= from {
+    let Some(k) = from.checked_add(i) else {
         return 0;
-    }
-    if n - from <= i {
-        return 0;
-    }
-    words[from + i]
+    };
+    words.get(k).copied().unwrap_or(0)
 }
 
 pub fn set_word(words: &mut [u32], from: usize, i: usize, value: u32)
     ensures { words.new ≡ set words.old (from + i) value }
 {
-    let n = words.len();
-    if n <= from {
-        return;
+    if from < words.len() && i < words.len() - from {
+        words[from + i] = value;
     }
-    if n - from <= i {
-        return;
-    }
-    words[from + i] = value;
 }
 
 // With no bucket the hash itself, as the remainder is defined.
 fn bucket(hash: u32, buckets: u32) -> usize
     ensures { result ≡ hash % buckets }
 {
-    if buckets == 0 {
-        return hash as usize;
-    }
-    (hash % buckets) as usize
+    hash.checked_rem(buckets).unwrap_or(hash) as usize
 }
 
 // The row that a word names, if it is below a bound.
 fn row_below(bound: u32, word: u32) -> Option<u32>
     ensures { result ≡ row_below bound word }
 {
-    if word == 0 {
-        return None;
-    }
-    if bound < word {
-        return None;
-    }
-    Some(word - 1)
+    word.checked_sub(1).filter(|r| *r < bound)
 }
 
 // A table of so many rows in the words from a place on. It needs a row at least, and its words.
 pub fn table_at(len: usize, at: usize, rows: u32) -> Option<Table>
     ensures { result ≡ table_of len at rows }
 {
-    if rows == 0 {
-        return None;
-    }
-    if len <= at {
-        return None;
-    }
-    if len - at < 3 * (rows as usize) {
+    if rows == 0 || len <= at || len - at < 3 * (rows as usize) {
         return None;
     }
     Some(Table { at, rows })
@@ -234,12 +211,5 @@ pub fn end_of(made: Option<Table>, len: usize) -> usize
     let Some(t) = made else {
         return 0;
     };
-    if len <= t.at {
-        return len;
-    }
-    let n = 3 * (t.rows as usize);
-    if len - t.at <= n {
-        return len;
-    }
-    t.at + n
+    t.at.saturating_add(3 * (t.rows as usize)).min(len)
 }

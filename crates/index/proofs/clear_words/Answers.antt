@@ -1,5 +1,5 @@
 -- `index::clear_words` meets its contract. Past the end nothing is stored. Assumes nothing.
-use mathlib.Core.Path.{sym, ◌∙◌}
+use mathlib.Core.Path.{◌∙◌}
 use native.Mathlib.Omega.{arith}
 use Rattle.index.specs.Steps.{zeros_none, zeros_out}
 use Rattle.index.proofs.Calls.{zeros_filled}

@@ -1,25 +1,15 @@
 use mathlib.Core.Path.{sym, ◌∙◌}
-use borrow.Author.Tests.{not-true, not-false}
+use Rattle.laws.specs.Bools.{differ}
 use Rattle.bits.specs.Places.{room_fits, up_before}
 use Rattle.bits.proofs.places.in_order.Goals as goal
-
-pub returns-then-not-inside : goal.returns-then-not-inside
-returns-then-not-inside c = rw (sym c.inside.ensures ∙ not-true _ c.if-not-inside.true-raw)
+use Rattle.bits.proofs.places.in_order.Goals.{then-inside, else-inside}
 
 pub up_to-requires : goal.up_to-requires
-up_to-requires c =
-    let a = c.args in
-    (room_fits a.n a.e 0 (sym c.inside.ensures ∙ not-false _ c.if-not-inside.false-raw)).bit
+up_to-requires c = (room_fits c.args.n c.args.e 0 (sym c.inside.ensures ∙ c.if-inside.true)).bit
 
-pub returns-then-not-up_to : goal.returns-then-not-up_to
-returns-then-not-up_to c =
-    rw (sym c.inside.ensures ∙ not-false _ c.if-not-inside.false-raw, sym c.up_to.ensures ∙ not-true _ c.if-not-up_to.true-raw)
-
-pub up_to-requires-2 : goal.up_to-requires-2
-up_to-requires-2 c =
-    let a = c.args in
-    (up_before a.m a.e (sym c.up_to.ensures ∙ not-false _ c.if-not-up_to.false-raw)).bit
-
-pub returns : goal.returns
-returns c =
-    rw (sym c.inside.ensures ∙ not-false _ c.if-not-inside.false-raw, sym c.up_to.ensures ∙ not-false _ c.if-not-up_to.false-raw) c.up_to-2.ensures
+pub up_to-requires-then-up_to : goal.up_to-requires-then-up_to
+up_to-requires-then-up_to c =
+    elim c.if-inside.branch [
+      | then-inside w ↦ (up_before c.args.m c.args.e (sym w.up_to.ensures ∙ sym w.value-is ∙ c.if-up_to.true)).bit
+      | else-inside w ↦ differ _ c.if-up_to.true (w.value-is ∙ w.if-inside.false)
+    ]

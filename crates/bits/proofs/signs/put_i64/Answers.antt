@@ -1,4 +1,3 @@
-use mathlib.Core.Path.{◌∙◌}
 use mir.Syntax.{w64}
 use Rattle.bits.specs.Steps.{put_same}
 use Rattle.bits.proofs.Twos.{twos_cast}

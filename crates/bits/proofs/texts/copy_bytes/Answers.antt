@@ -10,11 +10,6 @@ returns-then-out-at c =
     let a = c.args in
     copy_short a.out.now a.s.now a.p (λ k. omega arith)
 
-pub returns-then-out-at-2 : goal.returns-then-out-at-2
-returns-then-out-at-2 c =
-    let a = c.args in
-    copy_short a.out.now a.s.now a.p (λ k. omega arith)
-
 pub returns : goal.returns
 returns c =
     let a = c.args in
