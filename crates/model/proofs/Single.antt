@@ -139,6 +139,16 @@ pass_raw s p {x} e = record { passes = bind_ext (rest s p) (left raw) (λ l. (wh
     by_place : (n : ℕ) (b : Place) → Reads (whole count) s p n b → (rest s p >>= λ l. (whole count).get l >>= behind_bytes) ≡ rest s x.next
     by_place n b h = chain {f = whole count} behind_bytes h ∙ by_inside b n (inside (length s) b) refl ∙ ap (λ (o : Option (ℕ × Bits)). rest s (span_of s o).next) (sym h.reads) ∙ ap (λ (y : Span). rest s y.next) (sym e)
 
+-- whether a const parameter, which proofs see as a number, is true
+abbrev pub is_set : ℕ → Bool
+is_set n = not (eqb n 0)
+
+pub is_set-true : {n : ℕ} → (n ≡ 0 → ⊥) → is_set n ≡ true
+is_set-true {n} h = ap not (ne_eqb n 0 h)
+
+pub is_set-false : {n : ℕ} → n ≡ 0 → is_set n ≡ false
+is_set-false {n} h = ap not (eq-eqb n 0 h)
+
 -- the bytes from start to end
 module _ (s : List ℕ) (p : Place) {x : Span} (h : Spans s p x) (check : Bool) where
   module _ (c : check ≡ true) {b : Bool} (e : b ≡ is_utf8 (take (x.start + x.len - x.start) (drop x.start s))) where

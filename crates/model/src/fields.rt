@@ -51,12 +51,12 @@ pub(crate) fn skip_code(s: &[u8], p: Place, lo: u64, hi: u64) -> Place
     k.next
 }
 
-// A text. It is tested for UTF-8 where `check` says so: a model that was opened needs no test.
-pub(crate) fn skip_text(s: &[u8], p: Place, check: bool) -> Place
-    ensures { Passes (text_by check) s.now p result }
+// A text. It is tested for UTF-8 where CHECK says so: a model that was opened needs no test.
+pub(crate) fn skip_text<const CHECK: bool>(s: &[u8], p: Place) -> Place
+    ensures { Passes (text_by CHECK) s.now p result }
 {
     let t = bits::take_text(s, p);
-    if !check {
+    if !CHECK {
         return t.next;
     }
     let start = t.start;
@@ -156,12 +156,12 @@ pub(crate) fn skip_optional_date(s: &[u8], p: Place) -> Place
     f.next
 }
 
-pub(crate) fn skip_optional_text(s: &[u8], p: Place, check: bool) -> Place
-    ensures { Passes (optional (text_by check)) s.now p result }
+pub(crate) fn skip_optional_text<const CHECK: bool>(s: &[u8], p: Place) -> Place
+    ensures { Passes (optional (text_by CHECK)) s.now p result }
 {
     let f = bits::take(s, p, 1);
     if f.value == 1 {
-        return skip_text(s, f.next, check);
+        return skip_text::<CHECK>(s, f.next);
     }
     f.next
 }

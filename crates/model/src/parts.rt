@@ -1,4 +1,4 @@
-// The parts of records: where they stand, and what they are. In a model that was opened no text is tested again; a function with `check` tests
+// The parts of records: where they stand, and what they are. In a model that was opened no text is tested again; a function with CHECK tests
 // where that says so.
 ghost use Rattle.std.specs.Prelude.{◌≡◌, false};
 ghost use Rattle.definition.specs.Base.{given};
@@ -197,32 +197,32 @@ pub fn skip_periods(s: &[u8], p: Place) -> Place
 
 // ---- where a part of a record stands, from the record's place
 
-// An activity's parent. The texts before it are tested where `check` says so.
-pub fn parent_place_by(s: &[u8], p: Place, check: bool) -> Place
-    ensures { Passes (activity_head (text_by check)) s.now p result }
+// An activity's parent. The texts before it are tested where CHECK says so.
+pub fn parent_place_by<const CHECK: bool>(s: &[u8], p: Place) -> Place
+    ensures { Passes (activity_head (text_by CHECK)) s.now p result }
 {
-    let a = skip_text(s, p, check);
-    let b = skip_text(s, a, check);
+    let a = skip_text::<CHECK>(s, p);
+    let b = skip_text::<CHECK>(s, a);
     let c = skip_code(s, b, 0, 2);
     let d = skip(s, c, 64);
     skip_optional(s, d, 64)
 }
 
-// The name of a resource's calendar. The texts before it are tested where `check` says so.
-pub(crate) fn resource_calendar_place_by(s: &[u8], p: Place, check: bool) -> Place
-    ensures { Passes (resource_head (text_by check)) s.now p result }
+// The name of a resource's calendar. The texts before it are tested where CHECK says so.
+pub(crate) fn resource_calendar_place_by<const CHECK: bool>(s: &[u8], p: Place) -> Place
+    ensures { Passes (resource_head (text_by CHECK)) s.now p result }
 {
-    let a = skip_text(s, p, check);
-    let b = skip_text(s, a, check);
+    let a = skip_text::<CHECK>(s, p);
+    let b = skip_text::<CHECK>(s, a);
     let c = skip_code(s, b, 0, 2);
-    let d = skip_text(s, c, check);
+    let d = skip_text::<CHECK>(s, c);
     skip(s, d, 64)
 }
 
 pub fn resource_calendar_place(s: &[u8], p: Place) -> Place
     ensures { Passes (resource_head (text_by false)) s.now p result }
 {
-    resource_calendar_place_by(s, p, false)
+    resource_calendar_place_by::<false>(s, p)
 }
 
 // A calendar's parts.
@@ -238,7 +238,7 @@ pub struct CalendarPlaces {
 pub fn calendar_places(s: &[u8], p: Place) -> CalendarPlaces
     ensures { CalendarAt s.now p result }
 {
-    let week = skip_text(s, p, false);
+    let week = skip_text::<false>(s, p);
     let hours = skip(s, week, 7);
     let holidays = skip_hours(s, hours, 7);
     let extra = skip_days(s, holidays, false);

@@ -65,7 +65,7 @@ pub(crate) fn some_has_key(
         if has_key(s, q, kind, row, name) {
             return true;
         }
-        q = skip_record(s, q, kind, false);
+        q = skip_record::<false>(s, q, kind);
         i += 1;
     }
     false
@@ -87,7 +87,7 @@ pub(crate) fn distinct(s: &[u8], kind: Kind, x: Section) -> bool
     let mut q = Place { byte: x.at, bit: 0 };
     let mut i: u32 = 0;
     while i < count {
-        let next = skip_record(s, q, kind, false);
+        let next = skip_record::<false>(s, q, kind);
         if is_repeated(s, q, kind, next, count - i - 1) {
             return false;
         }

@@ -76,11 +76,11 @@ pub(crate) fn judge_activity(
 ) -> Judged
     ensures { JudgedAt s.now p own calendars names words.now result }
 {
-    let parent = take_row(s, parent_place_by(s, p, true));
+    let parent = take_row(s, parent_place_by::<true>(s, p));
     let row = parent.row;
     let calendar = bits::take_text(s, parent.next).next;
     let known = calendar_known(s, calendar, calendars, words, names);
-    let end = skip_from_notes(s, parent.next, true);
+    let end = skip_from_notes::<true>(s, parent.next);
     let next = bits::take_pad(s, end);
     Judged {
         right: is_below(row, own) & known,
@@ -149,7 +149,7 @@ pub(crate) fn every_right(
         if !is_right(s, q, kind, i, w, words, names) {
             return false;
         }
-        q = skip_record(s, q, kind, false);
+        q = skip_record::<false>(s, q, kind);
         i += 1;
     }
     true

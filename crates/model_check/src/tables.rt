@@ -37,7 +37,7 @@ fn fill(s: &[u8], kind: Kind, x: Section, words: &mut [u32], t: Table)
     while i < t.rows {
         let hash = hash_at(s, q, kind);
         index::put(words, t, i, hash, (q.byte % 4294967296) as u32);
-        q = skip_record(s, q, kind, false);
+        q = skip_record::<false>(s, q, kind);
         i += 1;
     }
 }
