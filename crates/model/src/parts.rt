@@ -11,9 +11,9 @@ ghost use Rattle.model.specs.Answers.{read_at, row_at, rows_at, date_at, period_
 ghost use Rattle.model.specs.Places.{NameTaken, CalendarAt};
 
 use crate::fields::{skip, skip_code, skip_optional, skip_text};
-use crate::lists::{skip_days, skip_hours};
+use crate::lists::{skip_dates, skip_hours};
 use bits::{PAST, Place};
-use definition::{Date};
+use definition::Date;
 
 // ---- what stands at a place. Where nothing can be read, a value is missing or 0, and the next place is past every end
 
@@ -241,8 +241,8 @@ pub fn calendar_places(s: &[u8], p: Place) -> CalendarPlaces
     let week = skip_text::<false>(s, p);
     let hours = skip(s, week, 7);
     let holidays = skip_hours(s, hours, 7);
-    let extra = skip_days(s, holidays, false);
-    let exceptions = skip_days(s, extra, false);
+    let extra = skip_dates(s, holidays);
+    let exceptions = skip_dates(s, extra);
     CalendarPlaces {
         week,
         hours,

@@ -9,7 +9,7 @@ use crate::fields::{
     skip, skip_code, skip_date, skip_lag_kind, skip_optional, skip_optional_constraint,
     skip_optional_date, skip_optional_text, skip_text,
 };
-use crate::lists::{skip_days, skip_hours};
+use crate::lists::{skip_dates, skip_days, skip_hours};
 use crate::parts::{parent_place_by, resource_calendar_place_by};
 use bits::Place;
 
@@ -32,9 +32,9 @@ fn skip_calendar<const CHECK: bool>(s: &[u8], p: Place) -> Place
     let a = skip_text::<CHECK>(s, p);
     let b = skip(s, a, 7);
     let c = skip_hours(s, b, 7);
-    let d = skip_days(s, c, false);
-    let e = skip_days(s, d, false);
-    bits::take_pad(s, skip_days(s, e, true))
+    let d = skip_dates(s, c);
+    let e = skip_dates(s, d);
+    bits::take_pad(s, skip_days(s, e))
 }
 
 // From the calendar's name on.
