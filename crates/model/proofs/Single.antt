@@ -11,7 +11,7 @@ use lib.Seq.{drop-drop}
 use lib.Dec.{leb, ltb, eqb}
 use lib.IntN.{ℤ, pos, negsuc}
 use lib.Signed.{le_z}
-use borrow.Author.Tests.{lt-ltb, le-ltb, ltb-true, ltb-false, le-leb, lt-leb, leb-true, leb-false, eq-eqb, ne_eqb}
+use borrow.Author.Tests.{lt-ltb, le-ltb, ltb-true, ltb-false, le-leb, lt-leb, leb-true, leb-false, eqb-true, eq-eqb, ne_eqb}
 use Rattle.definition.specs.Pack.{lag_kind}
 use Rattle.definition.specs.Base.{◌>>=◌, ◌or◌, given, when}
 use Rattle.definition.specs.Bits.{Bits, bits_of, bytes_up_to, signed}
@@ -31,7 +31,7 @@ use Rattle.bits.specs.declared.Int32.{Int32}
 use Rattle.laws.specs.Options.{Some-injective, bind_ext, never}
 use Rattle.laws.specs.Fields.{day_days}
 use Rattle.model.specs.Lax.{behind, left, like_named, like_optional}
-use Rattle.model.specs.Passes.{Passes, pass_like, pass_read, pass_refused, pass_some, pass_none, pass_both, pass_alone}
+use Rattle.model.specs.Passes.{Passes, Flagged, pass_like, pass_read, pass_refused, pass_some, pass_none, pass_both, pass_alone}
 use Rattle.model.specs.Answers.{read_at, counts_at, row_at, rows_at, date_at, spanned, name_at, read_there, read_nowhere, or_there, or_nowhere}
 use Rattle.model.specs.Splits.{stands_is, not_refused}
 use Rattle.model.specs.Sections.{start, counts_by}
@@ -80,12 +80,15 @@ module _ (s : List ℕ) (p : Place) (lo hi : ℕ) {x : Field} (e : x ≡ taken_a
 
 -- ---- what may be missing
 
-module _ (s : List ℕ) (p : Place) {A : Type 0} (f : Format A) {x : Field} (e : x ≡ taken_at s p 1) where
-  pub flag_set : {r : Place} → x.value ≡ 1 → Passes f s x.next r → Passes (optional f) s p r
-  flag_set h i = pass_some (rw (eq-eqb x.value 1 h) at (read_flag (read_field s p 1 e))) i
+pub pass_flagged : {A : Type 0} (f : Format A) {s : List ℕ} {p r : Place} {φ : Place → Type 0} → Flagged s p r φ → ((q : Place) → φ q → Passes f s q r) → Passes (optional f) s p r
+pass_flagged {A} f {s} {p} {r} h on = by_value (eqb (taken_at s p 1).value 1) refl
+  where
+    x : Field
+    x = taken_at s p 1
 
-  pub flag_clear : (x.value ≡ 1 → ⊥) → Passes (optional f) s p x.next
-  flag_clear h = pass_none f (rw (ne_eqb x.value 1 h) at (read_flag (read_field s p 1 e)))
+    by_value : (t : Bool) → eqb x.value 1 ≡ t → Passes (optional f) s p r
+    by_value true e = pass_some (rw e at (read_flag (read_field s p 1 refl))) (on x.next (h.set (eqb-true x.value 1 e)))
+    by_value false e = rw (h.clear (λ z. absurd (false≢true (sym e ∙ eq-eqb x.value 1 z)))) (pass_none f (rw e at (read_flag (read_field s p 1 refl))))
 
 pub pass_number : {s : List ℕ} {p q : Place} → Passes (field 64) s p q → Passes number s p q
 unfolding number

@@ -9,6 +9,7 @@ ghost use Rattle.model.specs.Passes.{Passes};
 ghost use Rattle.model.specs.Rising.{Finds, PeriodKey, DayKey};
 ghost use Rattle.definition.specs.Pack.{lag_kind};
 ghost use Rattle.model.specs.Parts.{text_by};
+ghost use Rattle.model.specs.Passes.{Flagged};
 
 use bits::{Field, PAST, Place};
 
@@ -134,36 +135,42 @@ pub(crate) fn take_period_key(s: &[u8], p: Place) -> Field
 
 // ---- what may be missing
 
+// Behind a flag, passed over by a function where the flag is set.
+fn skip_flagged<F: Fn(&[u8], Place) -> Place>(s: &[u8], p: Place, skip: F) -> Place
+    requires { F.IsAlwaysCallable skip }
+    ensures { Flagged s.now p result (λ q. F.post skip s.entry q result) }
+{
+    let f = bits::take(s, p, 1);
+    if f.value == 1 {
+        return skip(s, f.next);
+    }
+    f.next
+}
+
 // A number or a row.
 pub(crate) fn skip_optional(s: &[u8], p: Place, width: usize) -> Place
     requires { width ≤ 64 }
     ensures { Passes (optional (field width)) s.now p result }
 {
-    let f = bits::take(s, p, 1);
-    if f.value == 1 {
-        return skip(s, f.next, width);
-    }
-    f.next
+    skip_flagged(s, p, |s, q| skip(s, q, width))
 }
 
 pub(crate) fn skip_optional_date(s: &[u8], p: Place) -> Place
     ensures { Passes (optional date) s.now p result }
 {
-    let f = bits::take(s, p, 1);
-    if f.value == 1 {
-        return skip_date(s, f.next);
-    }
-    f.next
+    skip_flagged(s, p, skip_date)
 }
 
 pub(crate) fn skip_optional_text<const CHECK: bool>(s: &[u8], p: Place) -> Place
     ensures { Passes (optional (text_by CHECK)) s.now p result }
 {
-    let f = bits::take(s, p, 1);
-    if f.value == 1 {
-        return skip_text::<CHECK>(s, f.next);
-    }
-    f.next
+    skip_flagged(s, p, skip_text::<CHECK>)
+}
+
+pub(crate) fn skip_optional_constraint(s: &[u8], p: Place) -> Place
+    ensures { Passes (optional constraint) s.now p result }
+{
+    skip_flagged(s, p, skip_constraint)
 }
 
 // ---- codes that a value follows
@@ -183,16 +190,6 @@ fn skip_constraint(s: &[u8], p: Place) -> Place
         return k.next;
     }
     skip_date(s, k.next)
-}
-
-pub(crate) fn skip_optional_constraint(s: &[u8], p: Place) -> Place
-    ensures { Passes (optional constraint) s.now p result }
-{
-    let f = bits::take(s, p, 1);
-    if f.value == 1 {
-        return skip_constraint(s, f.next);
-    }
-    f.next
 }
 
 // A number if the code is 2.
