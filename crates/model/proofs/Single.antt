@@ -78,6 +78,17 @@ module _ (s : List ℕ) (p : Place) (lo hi : ℕ) {x : Field} (e : x ≡ taken_a
   pub code_above : hi < x.value → Refuses (code lo hi) s p
   code_above h = refuse_code lo hi (read_field s p 4 e) (rw (lt-leb x.value hi h) (and-false (leb lo x.value)))
 
+  pub code_out : (lo ≤ x.value → x.value ≤ hi → ⊥) → Refuses (code lo hi) s p
+  code_out n = by_low (leb lo x.value) refl
+    where
+      by_low : (t : Bool) → leb lo x.value ≡ t → Refuses (code lo hi) s p
+      by_low false h = code_below (leb-false lo x.value h)
+      by_low true h = code_above (by_high (leb x.value hi) refl)
+        where
+          by_high : (u : Bool) → leb x.value hi ≡ u → hi < x.value
+          by_high true k = absurd (n (leb-true lo x.value h) (leb-true x.value hi k))
+          by_high false k = leb-false x.value hi k
+
 -- ---- what may be missing
 
 pub pass_flagged : {A : Type 0} (f : Format A) {s : List ℕ} {p r : Place} {φ : Place → Type 0} → Flagged s p r φ → ((q : Place) → φ q → Passes f s q r) → Passes (optional f) s p r
@@ -169,15 +180,6 @@ module _ (s : List ℕ) (p : Place) {x : Span} (h : Spans s p x) (check : Bool) 
 
 -- ---- dates
 
-pub years_low : (d : ℕ) → d < first_date → 0 ≡ (in_years d or 0)
-years_low d h = rw (lt-leb first_date d h)
-
-pub years_high : (d : ℕ) → first_date ≤ d → last_date < d → 0 ≡ (in_years d or 0)
-years_high d h k = rw (le-leb first_date d h, lt-leb d last_date k)
-
-pub years_in : (d : ℕ) → first_date ≤ d → d ≤ last_date → d ≡ (in_years d or 0)
-years_in d h k = rw (le-leb first_date d h, le-leb d last_date k)
-
 pub date_after : (v : ℕ) → v < 2147483648 → from_days (signed 32 v) ≡ in_years (v + epoch)
 unfolding signed from_days
 date_after v h = rw (lt-ltb v 2147483648 h)
@@ -195,45 +197,38 @@ module _ (v : ℕ) (h : 2147483648 ≤ v) (k : v < 2 ^ 32) where
       let e : epoch - suc (4294967296 - suc v) ≡ v + epoch - 4294967296 = omega arith in
       date_negative ∙ rw (lt-ltb (4294967296 - suc v) epoch (omega arith), e)
 
-years_none : (d : ℕ) → (in_years d or 0) ≡ 0 → in_years d ≡ None
-years_none d = by_low (leb first_date d) refl
+years_above : (d : ℕ) {v : ℕ} → in_years d ≡ Some v → 0 < v
+years_above d {v} = by_low (leb first_date d) refl
   where
-    by_high : first_date ≤ d → (t : Bool) → (when t d or 0) ≡ 0 → when t d ≡ None
-    by_high l true h = absurd (omega arith)
-    by_high l false h = refl
+    by_high : first_date ≤ d → (t : Bool) → when t d ≡ Some v → 0 < v
+    by_high l true e = let z : d ≡ v = cc in omega arith
+    by_high l false e = absurd (never e)
 
-    by_low : (t : Bool) → leb first_date d ≡ t → (when (t && leb d last_date) d or 0) ≡ 0 → when (t && leb d last_date) d ≡ None
-    by_low false e h = refl
-    by_low true e h = by_high (leb-true first_date d e) (leb d last_date) h
+    by_low : (t : Bool) → leb first_date d ≡ t → when (t && leb d last_date) d ≡ Some v → 0 < v
+    by_low false h e = absurd (never e)
+    by_low true h e = by_high (leb-true first_date d h) (leb d last_date) e
 
-date_none : (z : ℤ) → (from_days z or 0) ≡ 0 → from_days z ≡ None
+-- a day's number is above 0
+date_above : (z : ℤ) {v : ℕ} → from_days z ≡ Some v → 0 < v
 unfolding from_days
-date_none (pos n) h = years_none (n + epoch) h
-date_none (negsuc n) h = by_year (ltb n epoch) h
+date_above (pos n) e = years_above (n + epoch) e
+date_above (negsuc n) {v} e = by_year (ltb n epoch) e
   where
-    by_year : (t : Bool) → ((if t then in_years (epoch - suc n) else None) or 0) ≡ 0 → (if t then in_years (epoch - suc n) else None) ≡ None
-    by_year true h = years_none (epoch - suc n) h
-    by_year false h = refl
+    by_year : (t : Bool) → (if t then in_years (epoch - suc n) else None) ≡ Some v → 0 < v
+    by_year true h = years_above (epoch - suc n) h
+    by_year false h = absurd (never h)
 
-given_some : (o : Option ℕ) {d : ℕ} → d ≡ (o or 0) → (d ≡ 0 → ⊥) → o ≡ Some d
-given_some None e h = absurd (h e)
-given_some (Some a) e h = ap Some (sym e)
+module _ (s : List ℕ) (p : Place) {x : Field} (e : x ≡ taken_at s p 32) where
+  pub date_refused : from_days (signed 32 x.value) ≡ None → Finds date (DayKey false) s p (record { value = 0; next = past })
+  date_refused z = record { found = λ l. absurd (omega arith); refuses = λ t. refuse_date (read_field s p 32 e) z; past = λ t. rest_past s }
 
-module _ (s : List ℕ) (p : Place) {x : Field} (e : x ≡ taken_at s p 32) {d : ℕ} (ed : d ≡ (from_days (signed 32 x.value) or 0)) where
-  pub date_refused : d ≡ 0 → Finds date (DayKey false) s p (record { value = 0; next = past })
-  date_refused z =
+  pub date_found : {d : ℕ} → from_days (signed 32 x.value) ≡ Some d → Finds date (DayKey false) s p (record { value = d; next = x.next })
+  date_found {d} z =
+      let l = date_above (signed 32 x.value) z in
       record {
-        found = λ l. absurd (omega arith);
-        refuses = λ t. refuse_date (read_field s p 32 e) (date_none (signed 32 x.value) (sym ed ∙ z));
-        past = λ t. rest_past s;
-      }
-
-  pub date_found : (d ≡ 0 → ⊥) → Finds date (DayKey false) s p (record { value = d; next = x.next })
-  date_found n =
-      record {
-        found = λ l. record { item = d; key = (refl, l); reads = read_date (read_field s p 32 e) (given_some (from_days (signed 32 x.value)) ed n) };
-        refuses = λ t. absurd (n t);
-        past = λ t. absurd (n t);
+        found = λ l. record { item = d; key = (refl, l); reads = read_date (read_field s p 32 e) z };
+        refuses = λ t. absurd (omega arith);
+        past = λ t. absurd (omega arith);
       }
 
 -- ---- periods

@@ -1,6 +1,5 @@
 // Fields: how each is passed over, and what is read of it where the next field depends on it.
 ghost use Rattle.std.specs.Prelude.{◌≡◌, ◌^◌, ◌≤◌, ◌<◌, false};
-ghost use Rattle.definition.specs.Base.{◌or◌};
 ghost use Rattle.definition.specs.Bits.{signed};
 ghost use Rattle.definition.specs.Date.{in_years, from_days};
 ghost use Rattle.definition.specs.Format.{field, code, optional, date, period};
@@ -43,13 +42,10 @@ pub(crate) fn skip_code(s: &[u8], p: Place, lo: u64, hi: u64) -> Place
     ensures { Passes (code lo hi) s.now p result }
 {
     let k = bits::take(s, p, 4);
-    if k.value < lo {
-        return PAST;
+    if (lo..=hi).contains(&k.value) {
+        return k.next;
     }
-    if hi < k.value {
-        return PAST;
-    }
-    k.next
+    PAST
 }
 
 // A text. It is tested for UTF-8 where CHECK says so: a model that was opened needs no test.
@@ -68,31 +64,25 @@ pub(crate) fn skip_text<const CHECK: bool>(s: &[u8], p: Place) -> Place
     t.next
 }
 
-// A date, if its year is in range; else 0.
-fn in_years(d: u64) -> u64
-    ensures { result ≡ in_years d or 0 }
+// A date, if its year is in range.
+fn in_years(d: u64) -> Option<u64>
+    ensures { result ≡ in_years d }
 {
-    if d < 366 {
-        return 0;
+    if (366..=7304849).contains(&d) {
+        return Some(d);
     }
-    if 7304849 < d {
-        return 0;
-    }
-    d
+    None
 }
 
-// The date of a day number of 32 bits, counted from the year -10000; 0 outside the years.
-fn date_of(v: u64) -> u64
+// The date of a day number of 32 bits, counted from the year -10000, if it lies in the years.
+fn date_of(v: u64) -> Option<u64>
     requires { v < 2 ^ 32 }
-    ensures { result ≡ from_days (signed 32 v) or 0 }
+    ensures { result ≡ from_days (signed 32 v) }
 {
     if v < 0x8000_0000 {
         return in_years(v + 4371953);
     }
-    if v + 4371953 < 0x1_0000_0000 {
-        return 0;
-    }
-    in_years(v + 4371953 - 0x1_0000_0000)
+    in_years((v + 4371953).checked_sub(0x1_0000_0000)?)
 }
 
 // A date by its number, counted from the year -10000; 0, and a place past every end, where it is outside the years.
@@ -100,12 +90,11 @@ pub(crate) fn take_date_key(s: &[u8], p: Place) -> Field
     ensures { Finds date (DayKey false) s.now p result }
 {
     let f = bits::take(s, p, 32);
-    let d = date_of(f.value);
-    if d == 0 {
+    let Some(value) = date_of(f.value) else {
         return NOTHING;
-    }
+    };
     let next = f.next;
-    Field { value: d, next }
+    Field { value, next }
 }
 
 pub(crate) fn skip_date(s: &[u8], p: Place) -> Place

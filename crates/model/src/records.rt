@@ -110,7 +110,7 @@ fn skip_expense<const CHECK: bool>(s: &[u8], p: Place) -> Place
 }
 
 // The six sections of records.
-#[derive(Clone, Copy)]
+#[derive(Clone, Copy, Debug, PartialEq, Eq)]
 pub enum Kind {
     Calendars,
     Activities,
