@@ -113,7 +113,7 @@ pub fn take_rows(s: &[u8], p: Place) -> Rows
 fn is_date(n: i32) -> bool
     ensures { result ≡ given (from_days n) }
 {
-    (-4_371_587 <= n) & (n <= 2_932_896)
+    (-4_371_587..=2_932_896).contains(&n)
 }
 
 // A date, and the place behind it.
