@@ -109,10 +109,7 @@ pub(crate) fn take_period_key(s: &[u8], p: Place) -> Field
 {
     let from = bits::take(s, p, 11);
     let to = bits::take(s, from.next, 11);
-    if to.value <= from.value {
-        return NOTHING;
-    }
-    if 1440 < to.value {
+    if to.value <= from.value || 1440 < to.value {
         return NOTHING;
     }
     let next = to.next;
@@ -169,16 +166,11 @@ fn skip_constraint(s: &[u8], p: Place) -> Place
     ensures { Passes constraint s.now p result }
 {
     let k = bits::take(s, p, 4);
-    if k.value == 0 {
-        return PAST;
+    match k.value {
+        1 => k.next,
+        2..=7 => skip_date(s, k.next),
+        _ => PAST,
     }
-    if 7 < k.value {
-        return PAST;
-    }
-    if k.value == 1 {
-        return k.next;
-    }
-    skip_date(s, k.next)
 }
 
 // A number if the code is 2.
@@ -186,11 +178,9 @@ pub(crate) fn skip_lag_kind(s: &[u8], p: Place) -> Place
     ensures { Passes lag_kind s.now p result }
 {
     let k = bits::take(s, p, 4);
-    if 2 < k.value {
-        return PAST;
+    match k.value {
+        0 | 1 => k.next,
+        2 => skip(s, k.next, 64),
+        _ => PAST,
     }
-    if k.value == 2 {
-        return skip(s, k.next, 64);
-    }
-    k.next
 }

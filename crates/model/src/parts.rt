@@ -167,13 +167,7 @@ pub fn take_period(s: &[u8], p: Place) -> PeriodField
     let from = bits::take(s, p, 11);
     let to = bits::take(s, from.next, 11);
     let next = to.next;
-    if to.value <= from.value {
-        return PeriodField {
-            period: None,
-            next: PAST,
-        };
-    }
-    if 1440 < to.value {
+    if to.value <= from.value || 1440 < to.value {
         return PeriodField {
             period: None,
             next: PAST,
