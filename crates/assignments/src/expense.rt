@@ -46,7 +46,7 @@ fn is_there(out: &[u8], p: Place, count: usize, activity: u32, name: &[u8]) -> b
     let mut q = p;
     let mut i: usize = 0;
     while i < count {
-        let next = model::records::skip_record(out, q, Kind::Expenses, false);
+        let next = model::records::skip_record::<false>(out, q, Kind::Expenses);
         if is_expense(out, q, activity, name) {
             return true;
         }

@@ -225,7 +225,7 @@ pub fn day_sheet(s: &[u8], calendar: u32, date: Date, sheet: &mut [u8]) -> Resul
         byte: calendars.at,
         bit: 0,
     };
-    let p = skip_records(s, first, Kind::Calendars, calendar, false);
+    let p = skip_records::<false>(s, first, Kind::Calendars, calendar);
     let d = day_of(s, p, date, weekday);
     let end = put_day(s, d, sheet);
     finish(sheet, end)

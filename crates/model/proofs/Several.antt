@@ -52,28 +52,20 @@ pass_flags n h = pass_like (like_flags n) h
 
 -- ---- days
 
-pub day_alone : {s : List ℕ} {p : Place} {x : Field ℕ Place} (hours : Bool) → hours ≡ false → Finds date (DayKey false) s p x → Finds (day_of hours) (DayKey hours) s p x
+pub day_alone : {s : List ℕ} {p : Place} {x : Field ℕ Place} → Finds date (DayKey false) s p x → Finds (day_of false) (DayKey false) s p x
 unfolding day_of
-day_alone true e h = let z : true ≡ false = e in absurd (elim_bool z)
-  where
-    elim_bool : true ≡ false → ⊥
-    elim_bool z = let n : ◌≡◌ {A = ℕ} 0 1 = cc in omega arith
-day_alone false e h = h
+day_alone h = h
 
 module _ {s : List ℕ} {p q : Place} {x : Field ℕ Place} (h : Finds date (DayKey false) s p x) (i : Passes periods s x.next q) where
   dated : {d : Date} → Reads date s p d x.next → d ≡ x.value → 0 < x.value → Told periods s x.next q → Found (date ⊗ periods) (DayKey true) s p x.value q
   dated {d} r e l (refusing n z) = record { item = (d, []); key = (e, l); reads = read_nothing (d, []) (refuse_second r n) z }
   dated {d} r e l (reading ps m z t) = record { item = (d, ps); key = (e, l); reads = read-⊗ r t }
 
-  both : Finds (date ⊗ periods) (DayKey true) s p (record { value = x.value; next = q })
-  both =
+  pub day_hours_lem : Finds (day_of true) (DayKey true) s p (record { value = x.value; next = q })
+  unfolding day_of
+  day_hours_lem =
       record {
         found = λ l. dated (h.found l).reads (h.found l).key.0 l (told i);
         refuses = λ z. refuse_first periods (h.refuses z);
         past = λ z. sym i.passes ∙ ap (λ (o : Option Bits). o >>= left periods) (h.past z);
       }
-
-  pub day_hours_lem : (hours : Bool) → hours ≡ true → Finds (day_of hours) (DayKey hours) s p (record { value = x.value; next = q })
-  unfolding day_of
-  day_hours_lem true e = both
-  day_hours_lem false e = let n : ◌≡◌ {A = ℕ} 0 1 = cc in absurd (omega arith)

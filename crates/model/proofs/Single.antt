@@ -11,7 +11,7 @@ use lib.Seq.{drop-drop}
 use lib.Dec.{leb, ltb, eqb}
 use lib.IntN.{ℤ, pos, negsuc}
 use lib.Signed.{le_z}
-use borrow.Author.Tests.{lt-ltb, le-ltb, ltb-true, ltb-false, le-leb, lt-leb, leb-true, leb-false, eq-eqb, ne_eqb}
+use borrow.Author.Tests.{lt-ltb, le-ltb, ltb-true, ltb-false, le-leb, lt-leb, leb-true, leb-false, eqb-true, eq-eqb, ne_eqb}
 use Rattle.definition.specs.Pack.{lag_kind}
 use Rattle.definition.specs.Base.{◌>>=◌, ◌or◌, given, when}
 use Rattle.definition.specs.Bits.{Bits, bits_of, bytes_up_to, signed}
@@ -29,7 +29,7 @@ use Rattle.bits.specs.declared.Span.{Span}
 use Rattle.laws.specs.Options.{Some-injective, bind_ext, never}
 use Rattle.laws.specs.Fields.{day_days}
 use Rattle.model.specs.Lax.{behind, left, like_named, like_optional}
-use Rattle.model.specs.Passes.{Passes, pass_like, pass_read, pass_refused, pass_some, pass_none, pass_both, pass_alone}
+use Rattle.model.specs.Passes.{Passes, Flagged, pass_like, pass_read, pass_refused, pass_some, pass_none, pass_both, pass_alone}
 use Rattle.model.specs.Answers.{read_at, counts_at, row_at, rows_at, date_at, spanned, name_at, read_there, read_nowhere, or_there, or_nowhere}
 use Rattle.model.specs.Splits.{stands_is, not_refused}
 use Rattle.model.specs.Sections.{start, counts_by}
@@ -76,14 +76,28 @@ module _ (s : List ℕ) (p : Place) (lo hi : ℕ) {x : Field ℕ Place} (e : x �
   pub code_above : hi < x.value → Refuses (code lo hi) s p
   code_above h = refuse_code lo hi (read_field s p 4 e) (rw (lt-leb x.value hi h) (and-false (leb lo x.value)))
 
+  pub code_out : (lo ≤ x.value → x.value ≤ hi → ⊥) → Refuses (code lo hi) s p
+  code_out n = by_low (leb lo x.value) refl
+    where
+      by_low : (t : Bool) → leb lo x.value ≡ t → Refuses (code lo hi) s p
+      by_low false h = code_below (leb-false lo x.value h)
+      by_low true h = code_above (by_high (leb x.value hi) refl)
+        where
+          by_high : (u : Bool) → leb x.value hi ≡ u → hi < x.value
+          by_high true k = absurd (n (leb-true lo x.value h) (leb-true x.value hi k))
+          by_high false k = leb-false x.value hi k
+
 -- ---- what may be missing
 
-module _ (s : List ℕ) (p : Place) {A : Type 0} (f : Format A) {x : Field ℕ Place} (e : x ≡ taken_at s p 1) where
-  pub flag_set : {r : Place} → x.value ≡ 1 → Passes f s x.next r → Passes (optional f) s p r
-  flag_set h i = pass_some (rw (eq-eqb x.value 1 h) at (read_flag (read_field s p 1 e))) i
+pub pass_flagged : {A : Type 0} (f : Format A) {s : List ℕ} {p r : Place} {φ : Place → Type 0} → Flagged s p r φ → ((q : Place) → φ q → Passes f s q r) → Passes (optional f) s p r
+pass_flagged {A} f {s} {p} {r} h on = by_value (eqb (taken_at s p 1).value 1) refl
+  where
+    x : Field ℕ Place
+    x = taken_at s p 1
 
-  pub flag_clear : (x.value ≡ 1 → ⊥) → Passes (optional f) s p x.next
-  flag_clear h = pass_none f (rw (ne_eqb x.value 1 h) at (read_flag (read_field s p 1 e)))
+    by_value : (t : Bool) → eqb x.value 1 ≡ t → Passes (optional f) s p r
+    by_value true e = pass_some (rw e at (read_flag (read_field s p 1 refl))) (on x.next (h.set (eqb-true x.value 1 e)))
+    by_value false e = rw (h.clear (λ z. absurd (false≢true (sym e ∙ eq-eqb x.value 1 z)))) (pass_none f (rw e at (read_flag (read_field s p 1 refl))))
 
 pub pass_number : {s : List ℕ} {p q : Place} → Passes (field 64) s p q → Passes number s p q
 unfolding number
@@ -137,6 +151,16 @@ pass_raw s p {x} e = record { passes = bind_ext (rest s p) (left raw) (λ l. (wh
     by_place : (n : ℕ) (b : Place) → Reads (whole count) s p n b → (rest s p >>= λ l. (whole count).get l >>= behind_bytes) ≡ rest s x.next
     by_place n b h = chain {f = whole count} behind_bytes h ∙ by_inside b n (inside (length s) b) refl ∙ ap (λ (o : Option (ℕ × Bits)). rest s (span_of s o).next) (sym h.reads) ∙ ap (λ (y : Span). rest s y.next) (sym e)
 
+-- whether a const parameter, which proofs see as a number, is true
+abbrev pub is_set : ℕ → Bool
+is_set n = not (eqb n 0)
+
+pub is_set-true : {n : ℕ} → (n ≡ 0 → ⊥) → is_set n ≡ true
+is_set-true {n} h = ap not (ne_eqb n 0 h)
+
+pub is_set-false : {n : ℕ} → n ≡ 0 → is_set n ≡ false
+is_set-false {n} h = ap not (eq-eqb n 0 h)
+
 -- the bytes from start to end
 module _ (s : List ℕ) (p : Place) {x : Span} (h : Spans s p x) (check : Bool) where
   module _ (c : check ≡ true) {b : Bool} (e : b ≡ is_utf8 (take (x.start + x.len - x.start) (drop x.start s))) where
@@ -153,15 +177,6 @@ module _ (s : List ℕ) (p : Place) {x : Span} (h : Spans s p x) (check : Bool) 
   text_any c = rw c (pass_raw s p h.is)
 
 -- ---- dates
-
-pub years_low : (d : ℕ) → d < first_date → 0 ≡ (in_years d or 0)
-years_low d h = rw (lt-leb first_date d h)
-
-pub years_high : (d : ℕ) → first_date ≤ d → last_date < d → 0 ≡ (in_years d or 0)
-years_high d h k = rw (le-leb first_date d h, lt-leb d last_date k)
-
-pub years_in : (d : ℕ) → first_date ≤ d → d ≤ last_date → d ≡ (in_years d or 0)
-years_in d h k = rw (le-leb first_date d h, le-leb d last_date k)
 
 pub date_after : (v : ℕ) → v < 2147483648 → from_days (signed 32 v) ≡ in_years (v + epoch)
 unfolding signed from_days
@@ -180,45 +195,38 @@ module _ (v : ℕ) (h : 2147483648 ≤ v) (k : v < 2 ^ 32) where
       let e : epoch - suc (4294967296 - suc v) ≡ v + epoch - 4294967296 = omega arith in
       date_negative ∙ rw (lt-ltb (4294967296 - suc v) epoch (omega arith), e)
 
-years_none : (d : ℕ) → (in_years d or 0) ≡ 0 → in_years d ≡ None
-years_none d = by_low (leb first_date d) refl
+years_above : (d : ℕ) {v : ℕ} → in_years d ≡ Some v → 0 < v
+years_above d {v} = by_low (leb first_date d) refl
   where
-    by_high : first_date ≤ d → (t : Bool) → (when t d or 0) ≡ 0 → when t d ≡ None
-    by_high l true h = absurd (omega arith)
-    by_high l false h = refl
+    by_high : first_date ≤ d → (t : Bool) → when t d ≡ Some v → 0 < v
+    by_high l true e = let z : d ≡ v = cc in omega arith
+    by_high l false e = absurd (never e)
 
-    by_low : (t : Bool) → leb first_date d ≡ t → (when (t && leb d last_date) d or 0) ≡ 0 → when (t && leb d last_date) d ≡ None
-    by_low false e h = refl
-    by_low true e h = by_high (leb-true first_date d e) (leb d last_date) h
+    by_low : (t : Bool) → leb first_date d ≡ t → when (t && leb d last_date) d ≡ Some v → 0 < v
+    by_low false h e = absurd (never e)
+    by_low true h e = by_high (leb-true first_date d h) (leb d last_date) e
 
-date_none : (z : ℤ) → (from_days z or 0) ≡ 0 → from_days z ≡ None
+-- a day's number is above 0
+date_above : (z : ℤ) {v : ℕ} → from_days z ≡ Some v → 0 < v
 unfolding from_days
-date_none (pos n) h = years_none (n + epoch) h
-date_none (negsuc n) h = by_year (ltb n epoch) h
+date_above (pos n) e = years_above (n + epoch) e
+date_above (negsuc n) {v} e = by_year (ltb n epoch) e
   where
-    by_year : (t : Bool) → ((if t then in_years (epoch - suc n) else None) or 0) ≡ 0 → (if t then in_years (epoch - suc n) else None) ≡ None
-    by_year true h = years_none (epoch - suc n) h
-    by_year false h = refl
+    by_year : (t : Bool) → (if t then in_years (epoch - suc n) else None) ≡ Some v → 0 < v
+    by_year true h = years_above (epoch - suc n) h
+    by_year false h = absurd (never h)
 
-given_some : (o : Option ℕ) {d : ℕ} → d ≡ (o or 0) → (d ≡ 0 → ⊥) → o ≡ Some d
-given_some None e h = absurd (h e)
-given_some (Some a) e h = ap Some (sym e)
+module _ (s : List ℕ) (p : Place) {x : Field ℕ Place} (e : x ≡ taken_at s p 32) where
+  pub date_refused : from_days (signed 32 x.value) ≡ None → Finds date (DayKey false) s p (record { value = 0; next = past })
+  date_refused z = record { found = λ l. absurd (omega arith); refuses = λ t. refuse_date (read_field s p 32 e) z; past = λ t. rest_past s }
 
-module _ (s : List ℕ) (p : Place) {x : Field ℕ Place} (e : x ≡ taken_at s p 32) {d : ℕ} (ed : d ≡ (from_days (signed 32 x.value) or 0)) where
-  pub date_refused : d ≡ 0 → Finds date (DayKey false) s p (record { value = 0; next = past })
-  date_refused z =
+  pub date_found : {d : ℕ} → from_days (signed 32 x.value) ≡ Some d → Finds date (DayKey false) s p (record { value = d; next = x.next })
+  date_found {d} z =
+      let l = date_above (signed 32 x.value) z in
       record {
-        found = λ l. absurd (omega arith);
-        refuses = λ t. refuse_date (read_field s p 32 e) (date_none (signed 32 x.value) (sym ed ∙ z));
-        past = λ t. rest_past s;
-      }
-
-  pub date_found : (d ≡ 0 → ⊥) → Finds date (DayKey false) s p (record { value = d; next = x.next })
-  date_found n =
-      record {
-        found = λ l. record { item = d; key = (refl, l); reads = read_date (read_field s p 32 e) (given_some (from_days (signed 32 x.value)) ed n) };
-        refuses = λ t. absurd (n t);
-        past = λ t. absurd (n t);
+        found = λ l. record { item = d; key = (refl, l); reads = read_date (read_field s p 32 e) z };
+        refuses = λ t. absurd (omega arith);
+        past = λ t. absurd (omega arith);
       }
 
 -- ---- periods

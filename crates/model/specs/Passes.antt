@@ -8,7 +8,7 @@ use Rattle.laws.specs.Options.{bind_assoc, bind_ext, bind_some, some_is}
 use Rattle.definition.specs.Base.{◌>>=◌}
 use Rattle.definition.specs.Bits.{Bits}
 use Rattle.definition.specs.Format.{Format, ◌⊗◌, depending, optional, whole, times, flag}
-use Rattle.bits.specs.Reads.{rest, Reads, Refuses, Skips, pad_at, chain, skip_pad, pad_whole, read_nothing, read-⊗, read_whole, read_both, read_alone, read_some, read_none, read_no, read_on, read_more, refuse_times}
+use Rattle.bits.specs.Reads.{rest, Reads, Refuses, Skips, taken_at, pad_at, chain, skip_pad, pad_whole, read_nothing, read-⊗, read_whole, read_both, read_alone, read_some, read_none, read_no, read_on, read_more, refuse_times}
 use Rattle.bits.specs.declared.Place.{Place}
 use Rattle.model.specs.Lax.{left, Lax, Like, left_bytes, left_all_bytes, passed, like_passed, like_back, like-⊗, like_whole, like_depending, like_optional}
 
@@ -34,6 +34,11 @@ pass_like {f = f} {g = g} {s} {p} k h = record { passes = bind_ext (rest s p) (l
 
 pub pass_as : {A : Type 0} {f : Format A} {g : Format (Unit {0})} {s : List ℕ} {p q : Place} → g ≡ passed f → Passes f s p q → Passes g s p q
 pass_as {f = f} e h = rw e (pass_like (like_back (like_passed f)) h)
+
+-- a flag at p was taken: where it is set, φ holds of the place behind it; where it is not, that place was answered
+pub record Flagged (s : List ℕ) (p r : Place) (φ : Place → Type 0) : Type 0 where
+  pub set : (taken_at s p 1).value ≡ 1 → φ (taken_at s p 1).next
+  pub clear : ((taken_at s p 1).value ≡ 1 → ⊥) → r ≡ (taken_at s p 1).next
 
 -- ---- what a place behind a value tells
 

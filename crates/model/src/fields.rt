@@ -1,6 +1,5 @@
 // Fields: how each is passed over, and what is read of it where the next field depends on it.
 ghost use Rattle.std.specs.Prelude.{◌≡◌, ◌^◌, ◌≤◌, ◌<◌, false};
-ghost use Rattle.definition.specs.Base.{◌or◌};
 ghost use Rattle.definition.specs.Bits.{signed};
 ghost use Rattle.definition.specs.Date.{in_years, from_days};
 ghost use Rattle.definition.specs.Format.{field, code, optional, date, period};
@@ -9,6 +8,7 @@ ghost use Rattle.model.specs.Passes.{Passes};
 ghost use Rattle.model.specs.Rising.{Finds, PeriodKey, DayKey};
 ghost use Rattle.definition.specs.Pack.{lag_kind};
 ghost use Rattle.model.specs.Parts.{text_by};
+ghost use Rattle.model.specs.Passes.{Flagged};
 
 use bits::{Field, PAST, Place};
 
@@ -42,21 +42,18 @@ pub(crate) fn skip_code(s: &[u8], p: Place, lo: u64, hi: u64) -> Place
     ensures { Passes (code lo hi) s.now p result }
 {
     let k = bits::take(s, p, 4);
-    if k.value < lo {
-        return PAST;
+    if (lo..=hi).contains(&k.value) {
+        return k.next;
     }
-    if hi < k.value {
-        return PAST;
-    }
-    k.next
+    PAST
 }
 
-// A text. It is tested for UTF-8 where `check` says so: a model that was opened needs no test.
-pub(crate) fn skip_text(s: &[u8], p: Place, check: bool) -> Place
-    ensures { Passes (text_by check) s.now p result }
+// A text. It is tested for UTF-8 where CHECK says so: a model that was opened needs no test.
+pub(crate) fn skip_text<const CHECK: bool>(s: &[u8], p: Place) -> Place
+    ensures { Passes (text_by CHECK) s.now p result }
 {
     let t = bits::take_text(s, p);
-    if !check {
+    if !CHECK {
         return t.next;
     }
     let start = t.start;
@@ -67,31 +64,25 @@ pub(crate) fn skip_text(s: &[u8], p: Place, check: bool) -> Place
     t.next
 }
 
-// A date, if its year is in range; else 0.
-fn in_years(d: u64) -> u64
-    ensures { result ≡ in_years d or 0 }
+// A date, if its year is in range.
+fn in_years(d: u64) -> Option<u64>
+    ensures { result ≡ in_years d }
 {
-    if d < 366 {
-        return 0;
+    if (366..=7304849).contains(&d) {
+        return Some(d);
     }
-    if 7304849 < d {
-        return 0;
-    }
-    d
+    None
 }
 
-// The date of a day number of 32 bits, counted from the year -10000; 0 outside the years.
-fn date_of(v: u64) -> u64
+// The date of a day number of 32 bits, counted from the year -10000, if it lies in the years.
+fn date_of(v: u64) -> Option<u64>
     requires { v < 2 ^ 32 }
-    ensures { result ≡ from_days (signed 32 v) or 0 }
+    ensures { result ≡ from_days (signed 32 v) }
 {
     if v < 0x8000_0000 {
         return in_years(v + 4371953);
     }
-    if v + 4371953 < 0x1_0000_0000 {
-        return 0;
-    }
-    in_years(v + 4371953 - 0x1_0000_0000)
+    in_years((v + 4371953).checked_sub(0x1_0000_0000)?)
 }
 
 // A date by its number, counted from the year -10000; 0, and a place past every end, where it is outside the years.
@@ -99,12 +90,11 @@ pub(crate) fn take_date_key(s: &[u8], p: Place) -> Field<u64>
     ensures { Finds date (DayKey false) s.now p result }
 {
     let f = bits::take(s, p, 32);
-    let d = date_of(f.value);
-    if d == 0 {
+    let Some(value) = date_of(f.value) else {
         return NOTHING;
-    }
+    };
     let next = f.next;
-    Field { value: d, next }
+    Field { value, next }
 }
 
 pub(crate) fn skip_date(s: &[u8], p: Place) -> Place
@@ -119,10 +109,7 @@ pub(crate) fn take_period_key(s: &[u8], p: Place) -> Field<u64>
 {
     let from = bits::take(s, p, 11);
     let to = bits::take(s, from.next, 11);
-    if to.value <= from.value {
-        return NOTHING;
-    }
-    if 1440 < to.value {
+    if to.value <= from.value || 1440 < to.value {
         return NOTHING;
     }
     let next = to.next;
@@ -134,36 +121,42 @@ pub(crate) fn take_period_key(s: &[u8], p: Place) -> Field<u64>
 
 // ---- what may be missing
 
+// Behind a flag, passed over by a function where the flag is set.
+fn skip_flagged<F: Fn(&[u8], Place) -> Place>(s: &[u8], p: Place, skip: F) -> Place
+    requires { F.IsAlwaysCallable skip }
+    ensures { Flagged s.now p result (λ q. F.post skip s.entry q result) }
+{
+    let f = bits::take(s, p, 1);
+    if f.value == 1 {
+        return skip(s, f.next);
+    }
+    f.next
+}
+
 // A number or a row.
 pub(crate) fn skip_optional(s: &[u8], p: Place, width: usize) -> Place
     requires { width ≤ 64 }
     ensures { Passes (optional (field width)) s.now p result }
 {
-    let f = bits::take(s, p, 1);
-    if f.value == 1 {
-        return skip(s, f.next, width);
-    }
-    f.next
+    skip_flagged(s, p, |s, q| skip(s, q, width))
 }
 
 pub(crate) fn skip_optional_date(s: &[u8], p: Place) -> Place
     ensures { Passes (optional date) s.now p result }
 {
-    let f = bits::take(s, p, 1);
-    if f.value == 1 {
-        return skip_date(s, f.next);
-    }
-    f.next
+    skip_flagged(s, p, skip_date)
 }
 
-pub(crate) fn skip_optional_text(s: &[u8], p: Place, check: bool) -> Place
-    ensures { Passes (optional (text_by check)) s.now p result }
+pub(crate) fn skip_optional_text<const CHECK: bool>(s: &[u8], p: Place) -> Place
+    ensures { Passes (optional (text_by CHECK)) s.now p result }
 {
-    let f = bits::take(s, p, 1);
-    if f.value == 1 {
-        return skip_text(s, f.next, check);
-    }
-    f.next
+    skip_flagged(s, p, skip_text::<CHECK>)
+}
+
+pub(crate) fn skip_optional_constraint(s: &[u8], p: Place) -> Place
+    ensures { Passes (optional constraint) s.now p result }
+{
+    skip_flagged(s, p, skip_constraint)
 }
 
 // ---- codes that a value follows
@@ -173,26 +166,11 @@ fn skip_constraint(s: &[u8], p: Place) -> Place
     ensures { Passes constraint s.now p result }
 {
     let k = bits::take(s, p, 4);
-    if k.value == 0 {
-        return PAST;
+    match k.value {
+        1 => k.next,
+        2..=7 => skip_date(s, k.next),
+        _ => PAST,
     }
-    if 7 < k.value {
-        return PAST;
-    }
-    if k.value == 1 {
-        return k.next;
-    }
-    skip_date(s, k.next)
-}
-
-pub(crate) fn skip_optional_constraint(s: &[u8], p: Place) -> Place
-    ensures { Passes (optional constraint) s.now p result }
-{
-    let f = bits::take(s, p, 1);
-    if f.value == 1 {
-        return skip_constraint(s, f.next);
-    }
-    f.next
 }
 
 // A number if the code is 2.
@@ -200,11 +178,9 @@ pub(crate) fn skip_lag_kind(s: &[u8], p: Place) -> Place
     ensures { Passes lag_kind s.now p result }
 {
     let k = bits::take(s, p, 4);
-    if 2 < k.value {
-        return PAST;
+    match k.value {
+        0 | 1 => k.next,
+        2 => skip(s, k.next, 64),
+        _ => PAST,
     }
-    if k.value == 2 {
-        return skip(s, k.next, 64);
-    }
-    k.next
 }

@@ -136,7 +136,7 @@ fn past_project<'a>(r: Reader<'a>) -> Reader<'a>
 fn past_records<'a>(r: Reader<'a>, kind: Kind, count: u32) -> Reader<'a>
     ensures { moved_by (PassesRecords kind count) r.entry result }
 {
-    let place = skip_records(r.model, r.place, kind, count, true);
+    let place = skip_records::<true>(r.model, r.place, kind, count);
     Reader {
         model: r.model,
         place,

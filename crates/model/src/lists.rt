@@ -1,65 +1,123 @@
 // Lists: periods, days, a week's hours. A list ends at the first item that is refused, whatever its count says.
-ghost use Rattle.definition.specs.Format.{periods, times};
+ghost use Rattle.std.specs.Prelude.{Bool, false, true, ℕ};
+ghost use Rattle.definition.specs.Format.{Format, Period, period, earlier, list_of, periods, times};
 ghost use Rattle.model.specs.Passes.{Passes};
-ghost use Rattle.model.specs.Rising.{Finds, DayKey, day_of, days_of};
+ghost use Rattle.model.specs.Rising.{Finds, Keys, PeriodKey, DayOf, DayKey, day_of, day_before, days_of, by_period, by_day_lem};
 
 use crate::fields::{take_date_key, take_period_key};
 use bits::{Field, PAST, Place};
 
+// What a list holds in rising order, each item above the one before by a number of its own.
+trait Item {
+    ghost Value: { Type 0 };
+
+    ghost format: { Format Value };
+
+    ghost before: { Value → Value → Bool };
+
+    ghost key: { Value → ℕ → Type 0 };
+
+    // The number of the item at a place, and the place behind it; 0, and a place past every end, where none is.
+    fn take(s: &[u8], p: Place) -> Field<u64>
+        ensures { Finds format key s.now p result };
+
+    ghost keys: { Keys before key };
+}
+
+struct Hours; // a period
+
+struct Day; // a date alone
+
+struct WorkingDay; // a date with its periods
+
+impl Item for Hours {
+    ghost Value = { Period };
+
+    ghost format = { period };
+
+    ghost before = { earlier };
+
+    ghost key = { PeriodKey };
+
+    fn take(s: &[u8], p: Place) -> Field {
+        take_period_key(s, p)
+    }
+
+    ghost keys = { by_period };
+}
+
+impl Item for Day {
+    ghost Value = { DayOf false };
+
+    ghost format = { day_of false };
+
+    ghost before = { day_before false };
+
+    ghost key = { DayKey false };
+
+    fn take(s: &[u8], p: Place) -> Field {
+        take_date_key(s, p)
+    }
+
+    ghost keys = { by_day_lem false };
+}
+
+impl Item for WorkingDay {
+    ghost Value = { DayOf true };
+
+    ghost format = { day_of true };
+
+    ghost before = { day_before true };
+
+    ghost key = { DayKey true };
+
+    fn take(s: &[u8], p: Place) -> Field {
+        let d = take_date_key(s, p);
+        let next = skip_periods(s, d.next);
+        Field {
+            value: d.value,
+            next,
+        }
+    }
+
+    ghost keys = { by_day_lem true };
+}
+
+fn skip_list<T: Item>(s: &[u8], p: Place) -> Place
+    ensures { Passes (list_of T.before T.format) s.now p result }
+{
+    let n = bits::take(s, p, 32);
+    let mut q = n.next;
+    let mut last = 0;
+    for _ in 0..n.value {
+        let item = T::take(s, q);
+        if item.value <= last {
+            return PAST;
+        }
+        last = item.value;
+        q = item.next;
+    }
+    q
+}
+
 pub(crate) fn skip_periods(s: &[u8], p: Place) -> Place
     ensures { Passes periods s.now p result }
 {
-    let n = bits::take(s, p, 32);
-    let count = n.value;
-    let mut q = n.next;
-    let mut last: u64 = 0;
-    let mut i: u64 = 0;
-    while i < count {
-        let t = take_period_key(s, q);
-        if t.value <= last {
-            return PAST;
-        }
-        last = t.value;
-        q = t.next;
-        i += 1;
-    }
-    q
+    skip_list::<Hours>(s, p)
 }
 
-// A date, with its periods or alone.
-fn take_day(s: &[u8], p: Place, hours: bool) -> Field<u64>
-    ensures { Finds (day_of hours) (DayKey hours) s.now p result }
+// Dates alone.
+pub fn skip_dates(s: &[u8], p: Place) -> Place
+    ensures { Passes (days_of false) s.now p result }
 {
-    let d = take_date_key(s, p);
-    if !hours {
-        return d;
-    }
-    let next = skip_periods(s, d.next);
-    Field {
-        value: d.value,
-        next,
-    }
+    skip_list::<Day>(s, p)
 }
 
-// Dates, each with its periods or alone.
-pub fn skip_days(s: &[u8], p: Place, hours: bool) -> Place
-    ensures { Passes (days_of hours) s.now p result }
+// Dates, each with its periods.
+pub fn skip_days(s: &[u8], p: Place) -> Place
+    ensures { Passes (days_of true) s.now p result }
 {
-    let n = bits::take(s, p, 32);
-    let count = n.value;
-    let mut q = n.next;
-    let mut last: u64 = 0;
-    let mut i: u64 = 0;
-    while i < count {
-        let d = take_day(s, q, hours);
-        if d.value <= last {
-            return PAST;
-        }
-        last = d.value;
-        q = d.next;
-        i += 1;
-    }
-    q
+    skip_list::<WorkingDay>(s, p)
 }
 
 // So many lists of periods.
@@ -67,13 +125,11 @@ pub(crate) fn skip_hours(s: &[u8], p: Place, count: usize) -> Place
     ensures { Passes (times count periods) s.now p result }
 {
     let mut q = p;
-    let mut i = 0;
-    while i < count {
+    for _ in 0..count {
         q = skip_periods(s, q);
         if 7 < q.bit {
             return q;
         }
-        i += 1;
     }
     q
 }

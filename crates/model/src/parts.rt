@@ -1,4 +1,4 @@
-// The parts of records: where they stand, and what they are. In a model that was opened no text is tested again; a function with `check` tests
+// The parts of records: where they stand, and what they are. In a model that was opened no text is tested again; a function with CHECK tests
 // where that says so.
 ghost use Rattle.std.specs.Prelude.{◌≡◌, false};
 ghost use Rattle.definition.specs.Base.{given};
@@ -11,7 +11,7 @@ ghost use Rattle.model.specs.Answers.{read_at, row_at, rows_at, date_at, period_
 ghost use Rattle.model.specs.Places.{NameTaken, CalendarAt};
 
 use crate::fields::{skip, skip_code, skip_optional, skip_text};
-use crate::lists::{skip_days, skip_hours};
+use crate::lists::{skip_dates, skip_hours};
 use bits::{PAST, Place};
 use definition::Date;
 
@@ -113,7 +113,7 @@ pub fn take_rows(s: &[u8], p: Place) -> Rows
 fn is_date(n: i32) -> bool
     ensures { result ≡ given (from_days n) }
 {
-    (-4_371_587 <= n) & (n <= 2_932_896)
+    (-4_371_587..=2_932_896).contains(&n)
 }
 
 // A date, and the place behind it.
@@ -167,13 +167,7 @@ pub fn take_period(s: &[u8], p: Place) -> PeriodField
     let from = bits::take(s, p, 11);
     let to = bits::take(s, from.next, 11);
     let next = to.next;
-    if to.value <= from.value {
-        return PeriodField {
-            period: None,
-            next: PAST,
-        };
-    }
-    if 1440 < to.value {
+    if to.value <= from.value || 1440 < to.value {
         return PeriodField {
             period: None,
             next: PAST,
@@ -197,32 +191,32 @@ pub fn skip_periods(s: &[u8], p: Place) -> Place
 
 // ---- where a part of a record stands, from the record's place
 
-// An activity's parent. The texts before it are tested where `check` says so.
-pub fn parent_place_by(s: &[u8], p: Place, check: bool) -> Place
-    ensures { Passes (activity_head (text_by check)) s.now p result }
+// An activity's parent. The texts before it are tested where CHECK says so.
+pub fn parent_place_by<const CHECK: bool>(s: &[u8], p: Place) -> Place
+    ensures { Passes (activity_head (text_by CHECK)) s.now p result }
 {
-    let a = skip_text(s, p, check);
-    let b = skip_text(s, a, check);
+    let a = skip_text::<CHECK>(s, p);
+    let b = skip_text::<CHECK>(s, a);
     let c = skip_code(s, b, 0, 2);
     let d = skip(s, c, 64);
     skip_optional(s, d, 64)
 }
 
-// The name of a resource's calendar. The texts before it are tested where `check` says so.
-pub(crate) fn resource_calendar_place_by(s: &[u8], p: Place, check: bool) -> Place
-    ensures { Passes (resource_head (text_by check)) s.now p result }
+// The name of a resource's calendar. The texts before it are tested where CHECK says so.
+pub(crate) fn resource_calendar_place_by<const CHECK: bool>(s: &[u8], p: Place) -> Place
+    ensures { Passes (resource_head (text_by CHECK)) s.now p result }
 {
-    let a = skip_text(s, p, check);
-    let b = skip_text(s, a, check);
+    let a = skip_text::<CHECK>(s, p);
+    let b = skip_text::<CHECK>(s, a);
     let c = skip_code(s, b, 0, 2);
-    let d = skip_text(s, c, check);
+    let d = skip_text::<CHECK>(s, c);
     skip(s, d, 64)
 }
 
 pub fn resource_calendar_place(s: &[u8], p: Place) -> Place
     ensures { Passes (resource_head (text_by false)) s.now p result }
 {
-    resource_calendar_place_by(s, p, false)
+    resource_calendar_place_by::<false>(s, p)
 }
 
 // A calendar's parts.
@@ -238,11 +232,11 @@ pub struct CalendarPlaces {
 pub fn calendar_places(s: &[u8], p: Place) -> CalendarPlaces
     ensures { CalendarAt s.now p result }
 {
-    let week = skip_text(s, p, false);
+    let week = skip_text::<false>(s, p);
     let hours = skip(s, week, 7);
     let holidays = skip_hours(s, hours, 7);
-    let extra = skip_days(s, holidays, false);
-    let exceptions = skip_days(s, extra, false);
+    let extra = skip_dates(s, holidays);
+    let exceptions = skip_dates(s, extra);
     CalendarPlaces {
         week,
         hours,

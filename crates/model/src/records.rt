@@ -9,16 +9,16 @@ use crate::fields::{
     skip, skip_code, skip_date, skip_lag_kind, skip_optional, skip_optional_constraint,
     skip_optional_date, skip_optional_text, skip_text,
 };
-use crate::lists::{skip_days, skip_hours};
+use crate::lists::{skip_dates, skip_days, skip_hours};
 use crate::parts::{parent_place_by, resource_calendar_place_by};
 use bits::Place;
 
 pub(crate) fn skip_project(s: &[u8], p: Place) -> Place
     ensures { Passes (whole project) s.now p result }
 {
-    let a = skip_text(s, p, true);
+    let a = skip_text::<true>(s, p);
     let b = skip_date(s, a);
-    let c = skip_text(s, b, true);
+    let c = skip_text::<true>(s, b);
     let d = skip(s, c, 32);
     let e = skip(s, d, 32);
     let f = skip(s, e, 32);
@@ -26,22 +26,22 @@ pub(crate) fn skip_project(s: &[u8], p: Place) -> Place
     bits::take_pad(s, skip_optional_date(s, g))
 }
 
-fn skip_calendar(s: &[u8], p: Place, check: bool) -> Place
-    ensures { Passes (whole (calendar_parts (text_by check))) s.now p result × (result.bit % 8 ≡ 0) }
+fn skip_calendar<const CHECK: bool>(s: &[u8], p: Place) -> Place
+    ensures { Passes (whole (calendar_parts (text_by CHECK))) s.now p result × (result.bit % 8 ≡ 0) }
 {
-    let a = skip_text(s, p, check);
+    let a = skip_text::<CHECK>(s, p);
     let b = skip(s, a, 7);
     let c = skip_hours(s, b, 7);
-    let d = skip_days(s, c, false);
-    let e = skip_days(s, d, false);
-    bits::take_pad(s, skip_days(s, e, true))
+    let d = skip_dates(s, c);
+    let e = skip_dates(s, d);
+    bits::take_pad(s, skip_days(s, e))
 }
 
 // From the calendar's name on.
-fn skip_activity_rest(s: &[u8], p: Place, check: bool) -> Place
-    ensures { Passes (activity_rest (text_by check)) s.now p result }
+fn skip_activity_rest<const CHECK: bool>(s: &[u8], p: Place) -> Place
+    ensures { Passes (activity_rest (text_by CHECK)) s.now p result }
 {
-    let a = skip_optional_text(s, p, check);
+    let a = skip_optional_text::<CHECK>(s, p);
     let b = skip_optional_constraint(s, a);
     let c = skip_optional_date(s, b);
     let d = skip_optional_date(s, c);
@@ -49,23 +49,23 @@ fn skip_activity_rest(s: &[u8], p: Place, check: bool) -> Place
     let f = skip_optional(s, e, 64);
     let g = skip_code(s, f, 0, 3);
     let h = skip_optional(s, g, 64);
-    skip_text(s, h, check)
+    skip_text::<CHECK>(s, h)
 }
 
 // From the notes on, behind the parent.
-pub fn skip_from_notes(s: &[u8], p: Place, check: bool) -> Place
-    ensures { Passes (activity_notes (text_by check)) s.now p result }
+pub fn skip_from_notes<const CHECK: bool>(s: &[u8], p: Place) -> Place
+    ensures { Passes (activity_notes (text_by CHECK)) s.now p result }
 {
-    let a = skip_text(s, p, check);
-    skip_activity_rest(s, a, check)
+    let a = skip_text::<CHECK>(s, p);
+    skip_activity_rest::<CHECK>(s, a)
 }
 
-fn skip_activity(s: &[u8], p: Place, check: bool) -> Place
-    ensures { Passes (whole (activity_parts (text_by check))) s.now p result × (result.bit % 8 ≡ 0) }
+fn skip_activity<const CHECK: bool>(s: &[u8], p: Place) -> Place
+    ensures { Passes (whole (activity_parts (text_by CHECK))) s.now p result × (result.bit % 8 ≡ 0) }
 {
-    let a = parent_place_by(s, p, check);
+    let a = parent_place_by::<CHECK>(s, p);
     let b = skip_optional(s, a, 32);
-    bits::take_pad(s, skip_from_notes(s, b, check))
+    bits::take_pad(s, skip_from_notes::<CHECK>(s, b))
 }
 
 fn skip_link(s: &[u8], p: Place) -> Place
@@ -79,11 +79,11 @@ fn skip_link(s: &[u8], p: Place) -> Place
     bits::take_pad(s, skip_lag_kind(s, e))
 }
 
-fn skip_resource(s: &[u8], p: Place, check: bool) -> Place
-    ensures { Passes (whole (resource_parts (text_by check))) s.now p result × (result.bit % 8 ≡ 0) }
+fn skip_resource<const CHECK: bool>(s: &[u8], p: Place) -> Place
+    ensures { Passes (whole (resource_parts (text_by CHECK))) s.now p result × (result.bit % 8 ≡ 0) }
 {
-    let a = resource_calendar_place_by(s, p, check);
-    let b = skip_optional_text(s, a, check);
+    let a = resource_calendar_place_by::<CHECK>(s, p);
+    let b = skip_optional_text::<CHECK>(s, a);
     bits::take_pad(s, skip_optional(s, b, 64))
 }
 
@@ -98,11 +98,11 @@ fn skip_assignment(s: &[u8], p: Place) -> Place
     bits::take_pad(s, skip_optional(s, e, 64))
 }
 
-fn skip_expense(s: &[u8], p: Place, check: bool) -> Place
-    ensures { Passes (whole (expense_parts (text_by check))) s.now p result × (result.bit % 8 ≡ 0) }
+fn skip_expense<const CHECK: bool>(s: &[u8], p: Place) -> Place
+    ensures { Passes (whole (expense_parts (text_by CHECK))) s.now p result × (result.bit % 8 ≡ 0) }
 {
     let a = skip(s, p, 32);
-    let b = skip_text(s, a, check);
+    let b = skip_text::<CHECK>(s, a);
     let c = skip(s, b, 64);
     let d = skip(s, c, 64);
     let e = skip_optional(s, d, 64);
@@ -110,7 +110,7 @@ fn skip_expense(s: &[u8], p: Place, check: bool) -> Place
 }
 
 // The six sections of records.
-#[derive(Clone, Copy)]
+#[derive(Clone, Copy, Debug, PartialEq, Eq)]
 pub enum Kind {
     Calendars,
     Activities,
@@ -120,31 +120,29 @@ pub enum Kind {
     Expenses,
 }
 
-pub fn skip_record(s: &[u8], p: Place, kind: Kind, check: bool) -> Place
-    ensures { Passes (record_of check kind) s.now p result × (result.bit % 8 ≡ 0) }
+pub fn skip_record<const CHECK: bool>(s: &[u8], p: Place, kind: Kind) -> Place
+    ensures { Passes (record_of CHECK kind) s.now p result × (result.bit % 8 ≡ 0) }
 {
     match kind {
-        Kind::Calendars => skip_calendar(s, p, check),
-        Kind::Activities => skip_activity(s, p, check),
+        Kind::Calendars => skip_calendar::<CHECK>(s, p),
+        Kind::Activities => skip_activity::<CHECK>(s, p),
         Kind::Links => skip_link(s, p),
-        Kind::Resources => skip_resource(s, p, check),
+        Kind::Resources => skip_resource::<CHECK>(s, p),
         Kind::Assignments => skip_assignment(s, p),
-        Kind::Expenses => skip_expense(s, p, check),
+        Kind::Expenses => skip_expense::<CHECK>(s, p),
     }
 }
 
 // So many records. It ends at the first that is refused.
-pub fn skip_records(s: &[u8], p: Place, kind: Kind, count: u32, check: bool) -> Place
-    ensures { Passes (times count (record_of check kind)) s.now p result }
+pub fn skip_records<const CHECK: bool>(s: &[u8], p: Place, kind: Kind, count: u32) -> Place
+    ensures { Passes (times count (record_of CHECK kind)) s.now p result }
 {
     let mut q = p;
-    let mut i = 0;
-    while i < count {
-        q = skip_record(s, q, kind, check);
+    for _ in 0..count {
+        q = skip_record::<CHECK>(s, q, kind);
         if 7 < q.bit {
             return q;
         }
-        i += 1;
     }
     q
 }

@@ -10,9 +10,14 @@ use Rattle.model.specs.Splits.{Stands}
 use Rattle.model.specs.declared.records.Kind.{Kind}
 use Rattle.model.specs.declared.records.Kind.TheVariants.{Calendars, Activities, Links, Resources, Assignments, Expenses}
 use Rattle.model_check.specs.Kinds.{Item, format_of}
+use Rattle.model_check.specs.declared.keys.KeyBytes.{KeyBytes}
 
 abbrev pub Key : Type 0
 Key = ℕ × Text
+
+-- as the code holds one
+abbrev pub key_of : KeyBytes → Key
+key_of k = (k.row, k.name.now)
 
 abbrev pub same_key : Key → Key → Bool
 same_key k l = eqb k.0 l.0 && same k.1 l.1

@@ -1,17 +1,67 @@
 // Keys: what no two records of a section share. An id or a name that stands first in its record; of an expense its activity's row and its name.
-ghost use Rattle.std.specs.Prelude.{◌≡◌, List, ℕ};
+ghost use Rattle.std.specs.Prelude.{◌≡◌, ◌%◌, false, List, ℕ};
 ghost use Rattle.definition.specs.Base.{some?};
 ghost use Rattle.definition.specs.Text.{Text};
 ghost use Rattle.definition.specs.Format.{whole, text};
 ghost use Rattle.definition.specs.Check.{distinct};
+ghost use Rattle.model.specs.Passes.{Passes};
+ghost use Rattle.model.specs.Parts.{record_of};
 ghost use Rattle.model.specs.Splits.{Stands};
+ghost use Rattle.model.specs.declared.records.Kind.{Kind};
+ghost use Rattle.model.specs.declared.records.Kind.TheVariants.{Calendars, Activities, Resources, Expenses};
 ghost use Rattle.model.specs.Sections.{Holds};
 ghost use Rattle.model_check.specs.Kinds.{Item, format_of, Run};
-ghost use Rattle.model_check.specs.Keys.{Key, same_key, lead_of, KeyAt, Keyed};
+ghost use Rattle.model_check.specs.Keys.{Key, key_of, same_key, lead_of, KeyAt, Keyed};
 
 use bits::Place;
 use model::Section;
 use model::records::{Kind, skip_record};
+
+// A section's records: what the functions on keys are generic over.
+pub(crate) trait Records {
+    ghost KIND: { Kind };
+
+    const KIND: Kind;
+}
+
+pub(crate) struct Calendars;
+
+pub(crate) struct Activities;
+
+pub(crate) struct Resources;
+
+pub(crate) struct Expenses;
+
+impl Records for Calendars {
+    ghost KIND = { Calendars };
+
+    const KIND: Kind = Kind::Calendars;
+}
+
+impl Records for Activities {
+    ghost KIND = { Activities };
+
+    const KIND: Kind = Kind::Activities;
+}
+
+impl Records for Resources {
+    ghost KIND = { Resources };
+
+    const KIND: Kind = Kind::Resources;
+}
+
+impl Records for Expenses {
+    ghost KIND = { Expenses };
+
+    const KIND: Kind = Kind::Expenses;
+}
+
+// A key: the row that stands in the record before its text, 0 where none does, and the text.
+#[derive(Clone, Copy)]
+pub(crate) struct KeyBytes<'a> {
+    pub(crate) row: u64,
+    pub(crate) name: &'a [u8],
+}
 
 // The bytes of the text at a place.
 pub(crate) fn text_at(s: &[u8], p: Place) -> &[u8]
@@ -24,10 +74,10 @@ pub(crate) fn text_at(s: &[u8], p: Place) -> &[u8]
 }
 
 // How many bits stand in a record before the text of its key: an expense's row.
-pub(crate) fn lead(kind: Kind) -> usize
-    ensures { result ≡ lead_of kind }
+fn lead<K: Records>() -> usize
+    ensures { result ≡ lead_of K.KIND }
 {
-    match kind {
+    match K::KIND {
         Kind::Calendars => 0,
         Kind::Activities => 0,
         Kind::Links => 0,
@@ -37,62 +87,67 @@ pub(crate) fn lead(kind: Kind) -> usize
     }
 }
 
-// Whether the record at a place has a key.
-pub(crate) fn has_key(s: &[u8], p: Place, kind: Kind, row: u64, name: &[u8]) -> bool
-    ensures { (k : Key) → KeyAt (lead_of kind) s.now p k → result ≡ same_key (row, name.now) k }
+// The place behind the record at a place.
+pub(crate) fn next_record<K: Records>(s: &[u8], p: Place) -> Place
+    ensures { Passes (record_of false K.KIND) s.now p result × (result.bit % 8 ≡ 0) }
 {
-    let v = bits::take(s, p, lead(kind));
-    if v.value != row {
+    skip_record::<false>(s, p, K::KIND)
+}
+
+// The key of the record at a place.
+pub(crate) fn key_at<'a, K: Records>(s: &'a [u8], p: Place) -> KeyBytes<'a>
+    ensures { (k : Key) → KeyAt (lead_of K.KIND) s.now p k → key_of result ≡ k }
+{
+    let v = bits::take(s, p, lead::<K>());
+    KeyBytes {
+        row: v.value,
+        name: text_at(s, v.next),
+    }
+}
+
+// Whether the record at a place has a key.
+pub(crate) fn has_key<K: Records>(s: &[u8], p: Place, key: KeyBytes) -> bool
+    ensures { (k : Key) → KeyAt (lead_of K.KIND) s.now p k → result ≡ same_key (key_of key.entry) k }
+{
+    let v = bits::take(s, p, lead::<K>());
+    if v.value != key.row {
         return false;
     }
-    text::same(name, text_at(s, v.next))
+    text::same(key.name, text_at(s, v.next))
 }
 
 // Whether one of so many records from a place on has a key.
-pub(crate) fn some_has_key(
-    s: &[u8],
-    p: Place,
-    kind: Kind,
-    count: u32,
-    row: u64,
-    name: &[u8],
-) -> bool
-    ensures { (key : Item kind → Key) → Keyed kind s.now key → (xs : List (Item kind)) (end : ℕ) → Run kind s.now p count xs end → result ≡ some? (λ (x : Item kind). same_key (row, name.now) (key x)) xs }
+pub(crate) fn some_has_key<K: Records>(s: &[u8], p: Place, count: u32, key: KeyBytes) -> bool
+    ensures { (of : Item K.KIND → Key) → Keyed K.KIND s.now of → (xs : List (Item K.KIND)) (end : ℕ) → Run K.KIND s.now p count xs end → result ≡ some? (λ (x : Item K.KIND). same_key (key_of key.entry) (of x)) xs }
 {
     let mut q = p;
-    let mut i: u32 = 0;
-    while i < count {
-        if has_key(s, q, kind, row, name) {
+    for _ in 0..count {
+        if has_key::<K>(s, q, key) {
             return true;
         }
-        q = skip_record(s, q, kind, false);
-        i += 1;
+        q = next_record::<K>(s, q);
     }
     false
 }
 
 // Whether one of so many records from `next` on has the key of the record at p.
-fn is_repeated(s: &[u8], p: Place, kind: Kind, next: Place, count: u32) -> bool
-    ensures { (key : Item kind → Key) → Keyed kind s.now key → (a : Item kind) → Stands (whole (format_of kind)) s.now p a → (xs : List (Item kind)) (end : ℕ) → Run kind s.now next count xs end → result ≡ some? (λ (x : Item kind). same_key (key a) (key x)) xs }
+fn is_repeated<K: Records>(s: &[u8], p: Place, next: Place, count: u32) -> bool
+    ensures { (of : Item K.KIND → Key) → Keyed K.KIND s.now of → (a : Item K.KIND) → Stands (whole (format_of K.KIND)) s.now p a → (xs : List (Item K.KIND)) (end : ℕ) → Run K.KIND s.now next count xs end → result ≡ some? (λ (x : Item K.KIND). same_key (of a) (of x)) xs }
 {
-    let v = bits::take(s, p, lead(kind));
-    some_has_key(s, next, kind, count, v.value, text_at(s, v.next))
+    some_has_key::<K>(s, next, count, key_at::<K>(s, p))
 }
 
 // Whether no two records of a section have the same key, by a look at all later ones for each.
-pub(crate) fn distinct(s: &[u8], kind: Kind, x: Section) -> bool
-    ensures { (key : Item kind → Key) → Keyed kind s.now key → (xs : List (Item kind)) (end : ℕ) → Holds (format_of kind) s.now x xs end → result ≡ distinct (λ (x y : Item kind). same_key (key x) (key y)) xs }
+pub(crate) fn distinct<K: Records>(s: &[u8], x: Section) -> bool
+    ensures { (of : Item K.KIND → Key) → Keyed K.KIND s.now of → (xs : List (Item K.KIND)) (end : ℕ) → Holds (format_of K.KIND) s.now x xs end → result ≡ distinct (λ (x y : Item K.KIND). same_key (of x) (of y)) xs }
 {
-    let count = x.count;
     let mut q = Place { byte: x.at, bit: 0 };
-    let mut i: u32 = 0;
-    while i < count {
-        let next = skip_record(s, q, kind, false);
-        if is_repeated(s, q, kind, next, count - i - 1) {
+    for i in 0..x.count {
+        let next = next_record::<K>(s, q);
+        if is_repeated::<K>(s, q, next, x.count - i - 1) {
             return false;
         }
         q = next;
-        i += 1;
     }
     true
 }

@@ -15,6 +15,7 @@ ghost use Rattle.definition.specs.Answer.{answer_number};
 ghost use Rattle.model.specs.Sections.{Decoded};
 ghost use Rattle.model_check.specs.Walk.{Looked};
 
+use crate::keys::{Activities, Expenses, Resources};
 use crate::rules::every_right;
 use crate::tables::{all_distinct, distinct_in};
 use crate::walk::walk_model;
@@ -38,9 +39,9 @@ fn keeps_list(
     let links = every_right(s, Kind::Links, w.links, w, words, names);
     let assignments = every_right(s, Kind::Assignments, w.assignments, w, words, names);
     let expenses = every_right(s, Kind::Expenses, w.expenses, w, words, names);
-    let ids_differ = distinct_in(s, Kind::Activities, w.activities, words, ids);
-    let resource_ids = all_distinct(s, Kind::Resources, w.resources, words);
-    let expenses_differ = all_distinct(s, Kind::Expenses, w.expenses, words);
+    let ids_differ = distinct_in::<Activities>(s, w.activities, words, ids);
+    let resource_ids = all_distinct::<Resources>(s, w.resources, words);
+    let expenses_differ = all_distinct::<Expenses>(s, w.expenses, words);
     ids_differ
         & (activities
             & (resource_ids & (resources & (links & (assignments & (expenses & expenses_differ))))))

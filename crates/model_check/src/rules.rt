@@ -15,12 +15,11 @@ ghost use Rattle.model_check.specs.Rules.{rows_below, right_of};
 ghost use Rattle.model_check.specs.Tables.{NamesIn};
 ghost use Rattle.model_check.specs.Walk.{JudgedAt};
 
-use index::Table;
-use crate::keys::some_has_key;
+use crate::keys::{Calendars, KeyBytes, some_has_key};
 use crate::tables::table_has_key;
 use bits::Place;
-use model::parts::{
-    parent_place_by, resource_calendar_place, take_name, take_row, take_rows};
+use index::Table;
+use model::parts::{parent_place_by, resource_calendar_place, take_name, take_row, take_rows};
 use model::records::{Kind, skip_from_notes, skip_record};
 use model::{Section, Sections};
 
@@ -29,9 +28,10 @@ fn is_calendar(s: &[u8], x: Section, words: &[u32], names: Option<Table>, name: 
     ensures { (m : Model) (end : ℕ) → Holds calendar s.now x m.calendars end → NamesIn s.now m names words.now → result ≡ is_calendar m name.now }
 {
     let first = Place { byte: x.at, bit: 0 };
+    let key = KeyBytes { row: 0, name };
     match names {
-        Some(t) => table_has_key(s, Kind::Calendars, words, t, 0, name),
-        None => some_has_key(s, first, Kind::Calendars, x.count, 0, name),
+        Some(t) => table_has_key::<Calendars>(s, words, t, key),
+        None => some_has_key::<Calendars>(s, first, x.count, key),
     }
 }
 
@@ -39,9 +39,7 @@ fn is_calendar(s: &[u8], x: Section, words: &[u32], names: Option<Table>, name: 
 fn calendar_known(s: &[u8], p: Place, x: Section, words: &[u32], names: Option<Table>) -> bool
     ensures { (m : Model) (end : ℕ) → Holds calendar s.now x m.calendars end → NamesIn s.now m names words.now → (o : Option Text) → Stands (optional text) s.now p o → result ≡ if_given (is_calendar m) o }
 {
-    let n = take_name(s, p);
-    let name = n.name;
-    let Some((start, len)) = name else {
+    let Some((start, len)) = take_name(s, p).name else {
         return true;
     };
     let end = start + len;
@@ -76,11 +74,11 @@ pub(crate) fn judge_activity(
 ) -> Judged
     ensures { JudgedAt s.now p own calendars names words.now result }
 {
-    let parent = take_row(s, parent_place_by(s, p, true));
+    let parent = take_row(s, parent_place_by::<true>(s, p));
     let row = parent.row;
     let calendar = bits::take_text(s, parent.next).next;
     let known = calendar_known(s, calendar, calendars, words, names);
-    let end = skip_from_notes(s, parent.next, true);
+    let end = skip_from_notes::<true>(s, parent.next);
     let next = bits::take_pad(s, end);
     Judged {
         right: is_below(row, own) & known,
@@ -93,14 +91,14 @@ fn rows_below(s: &[u8], p: Place, first: u32, second: u32) -> bool
     ensures { result ≡ rows_below (rows_at s.now p).0 first second }
 {
     let r = take_rows(s, p);
-    (r.first < first) & (r.second < second)
+    r.first < first && r.second < second
 }
 
 // Whether the row at a place is below a count.
 fn row_below(s: &[u8], p: Place, count: u32) -> bool
     ensures { (n : ℕ) → Stands row s.now p n → result ≡ ltb n count }
 {
-    bits::take(s, p, 32).value < (count as u64)
+    bits::take(s, p, 32).value < u64::from(count)
 }
 
 // Whether the record at a place, the one of a row, keeps its rules.
@@ -142,15 +140,12 @@ pub(crate) fn every_right(
 ) -> bool
     ensures { (m : Model) → Decoded s.now m w → NamesIn s.now m names words.now → (xs : List (Item kind)) (end : ℕ) → Holds (format_of kind) s.now x xs end → result ≡ every? (right_of m kind) (numbered 0 xs) }
 {
-    let count = x.count;
     let mut q = Place { byte: x.at, bit: 0 };
-    let mut i: u32 = 0;
-    while i < count {
+    for i in 0..x.count {
         if !is_right(s, q, kind, i, w, words, names) {
             return false;
         }
-        q = skip_record(s, q, kind, false);
-        i += 1;
+        q = skip_record::<false>(s, q, kind);
     }
     true
 }

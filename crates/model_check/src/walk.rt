@@ -2,21 +2,18 @@
 ghost use Rattle.std.specs.Prelude.{◌≡◌};
 ghost use Rattle.model_check.specs.Walk.{table_in, JudgedAll, ModelWalked};
 
+use crate::keys::{Activities, Calendars};
 use crate::rules::{Judged, judge_activity};
 use crate::tables::{empty_table, hash_at, index_keys};
 use bits::Place;
-use index::{Table};
-use model::records::Kind;
+use index::Table;
 use model::{Counts, Places, Section, walk_behind, walk_head};
 
 // A table with no rows where there is none.
 fn table_of(made: Option<Table>) -> Table
     ensures { result ≡ table_in made }
 {
-    match made {
-        Some(t) => t,
-        None => Table { at: 0, rows: 0 },
-    }
+    made.unwrap_or(Table { at: 0, rows: 0 })
 }
 
 // Passes over so many activities, and puts the id of each into a table. It ends at the first that is refused.
@@ -33,18 +30,15 @@ fn judge_activities(
 {
     let mut q = p;
     let mut right = true;
-    let mut i: u32 = 0;
-    while i < count {
-        let hash = hash_at(s, q, Kind::Activities);
+    for i in 0..count {
+        let hash = hash_at::<Activities>(s, q);
         t.put(words, i, hash, (q.byte % 4294967296) as u32);
         let a = judge_activity(s, q, i, calendars, words, names);
         right = right & a.right;
-        let next = a.next;
-        q = next;
+        q = a.next;
         if 7 < q.bit {
             return Judged { right, next: q };
         }
-        i += 1;
     }
     Judged { right, next: q }
 }
@@ -66,7 +60,7 @@ pub(crate) fn walk_model(s: &[u8], n: Counts, words: &mut [u32]) -> Walked
         count: n.calendars,
         at: head.calendars.byte,
     };
-    let names = index_keys(s, Kind::Calendars, calendars, words);
+    let names = index_keys::<Calendars>(s, calendars, words);
     let ids = empty_table(s, words, index::end_of(names, words.len()), n.activities);
     let a = judge_activities(
         s,

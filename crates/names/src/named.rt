@@ -68,14 +68,14 @@ fn note_name(
     if first {
         return q;
     }
-    skip_record(out, q, Kind::Calendars, false)
+    skip_record::<false>(out, q, Kind::Calendars)
 }
 
 fn note_names(out: &[u8], c: Place, s: &[u8], words: &mut [u32], t: Table, main: Main)
     requires { names_end t ≤ length words.old }
     ensures { NamesNoted out.now c s.now t main t.rows words.old words.new }
 {
-    let mut q = skip_record(out, c, Kind::Calendars, false);
+    let mut q = skip_record::<false>(out, c, Kind::Calendars);
     let mut row: u32 = 0;
     while row < t.rows {
         q = note_name(out, c, q, s, words, t, row, main);

@@ -20,7 +20,7 @@ fn skip_rows(out: &[u8], p: Place, kind: Kind, row: usize) -> Place
     let mut q = p;
     let mut i = 0;
     while i < row {
-        q = skip_record(out, q, kind, false);
+        q = skip_record::<false>(out, q, kind);
         if 7 < q.bit {
             return q;
         }
@@ -60,7 +60,7 @@ fn taken(out: &[u8], p: Place, kind: Kind, count: u32, wanted: &[u8], stars: u32
         if same_starred(wanted, stars, raw_text(out, q), 0) {
             return true;
         }
-        q = skip_record(out, q, kind, false);
+        q = skip_record::<false>(out, q, kind);
         i += 1;
     }
     false

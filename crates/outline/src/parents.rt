@@ -29,10 +29,10 @@ struct Parent {
 fn take_parent(s: &[u8], p: Place) -> Parent
     ensures { ParentAt s.now p result }
 {
-    let at = parent_place_by(s, p, true);
+    let at = parent_place_by::<true>(s, p);
     let parent = take_row(s, at);
     let row = parent.row;
-    let end = skip_from_notes(s, parent.next, true);
+    let end = skip_from_notes::<true>(s, parent.next);
     let next = take_pad(s, end);
     Parent {
         word: word_of(row),

@@ -1,17 +1,12 @@
+use native.Mathlib.Omega.{arith}
 use Rattle.model.proofs.Single.{lag_high, lag_percent, lag_plain}
 use Rattle.model.proofs.fields.skip_lag_kind.Goals as goal
 
-pub returns-then-k-gt2 : goal.returns-then-k-gt2
-returns-then-k-gt2 c =
-    let a = c.args in
-    lag_high a.s.now a.p c.take-k.ensures c.if-k-gt2.true
+pub returns-in-0 : goal.returns-in-0
+returns-in-0 c = lag_plain c.args.s.now c.args.p c.take-k.ensures (omega arith) (omega arith)
 
-pub returns-then-k-eq2 : goal.returns-then-k-eq2
-returns-then-k-eq2 c =
-    let a = c.args in
-    lag_percent a.s.now a.p c.take-k.ensures c.if-k-eq2.true c.skip.ensures
+pub returns-in-2 : goal.returns-in-2
+returns-in-2 c = lag_percent c.args.s.now c.args.p c.take-k.ensures (omega arith) c.skip.ensures
 
-pub returns : goal.returns
-returns c =
-    let a = c.args in
-    lag_plain a.s.now a.p c.take-k.ensures c.if-k-gt2.false c.if-k-eq2.false
+pub returns-in_default : goal.returns-in_default
+returns-in_default c = lag_high c.args.s.now c.args.p c.take-k.ensures (omega arith)

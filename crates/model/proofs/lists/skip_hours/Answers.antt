@@ -6,20 +6,20 @@ use Rattle.bits.specs.Reads.{far}
 use native.Mathlib.Omega.{arith}
 use Rattle.model.proofs.lists.skip_hours.Goals as goal
 
-pub loop-i-init : goal.loop-i-init
-loop-i-init c =
+pub loop-init : goal.loop-init
+loop-init c =
     let a = c.args in
     (omega arith, pass_no periods a.s.now a.p)
 
 pub returns-then-q-gt7 : goal.returns-then-q-gt7
 returns-then-q-gt7 c =
     let a = c.args in
-    pass_cut periods (c.loop-i.i + 1) a.count (omega arith) (pass_more periods c.loop-i.i c.loop-i.invariant.1 c.skip_periods-q.ensures) (far a.s.now c.skip_periods-q.result c.if-q-gt7.true)
+    pass_cut periods (c.loop.counter + 1) a.count (omega arith) (pass_more periods c.loop.counter c.loop.invariant.1 c.skip_periods-q.ensures) (far a.s.now c.skip_periods-q.result c.if-q-gt7.true)
 
-pub loop-i-preserved : goal.loop-i-preserved
-loop-i-preserved c = (omega arith, pass_more periods c.loop-i.i c.loop-i.invariant.1 c.skip_periods-q.ensures)
+pub loop-preserved : goal.loop-preserved
+loop-preserved c = (omega arith, pass_more periods c.loop.counter c.loop.invariant.1 c.skip_periods-q.ensures)
 
 pub returns : goal.returns
 returns c =
-    let e : c.loop-i.i ≡ c.args.count = omega arith in
-    rw e at c.loop-i.invariant.1
+    let e : c.loop.counter ≡ c.args.count = omega arith in
+    rw e at c.loop.invariant.1

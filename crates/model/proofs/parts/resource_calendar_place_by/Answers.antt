@@ -3,6 +3,6 @@ use Rattle.model.proofs.Single.{pass_number}
 use Rattle.model.proofs.parts.resource_calendar_place_by.Goals as goal
 
 pub returns : goal.returns
-returns c =
+returns g c =
     c.skip_text-a.ensures ⨾ c.skip_text-b.ensures ⨾ c.skip_code-c.ensures
     ⨾ c.skip_text-d.ensures ⨾ pass_number c.skip.ensures

@@ -5,6 +5,6 @@ use Rattle.model.proofs.records.skip_expense.Goals as goal
 
 pub returns : goal.returns
 unfolding expense_parts
-returns c =
+returns g c =
     let fields = c.skip-a.ensures ⨾ c.skip_text-b.ensures ⨾ pass_number c.skip-c.ensures ⨾ pass_number c.skip-d.ensures ⨾ pass_optional_number c.skip_optional-e.ensures ⨾ c.skip_code.ensures in
     ended fields c.take_pad.ensures

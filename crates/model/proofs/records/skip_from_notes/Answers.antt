@@ -2,4 +2,4 @@ use Rattle.model.specs.Passes.{◌⨾◌}
 use Rattle.model.proofs.records.skip_from_notes.Goals as goal
 
 pub returns : goal.returns
-returns c = c.skip_text-a.ensures ⨾ c.skip_activity_rest.ensures
+returns g c = c.skip_text-a.ensures ⨾ c.skip_activity_rest.ensures

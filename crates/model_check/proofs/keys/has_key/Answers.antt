@@ -6,18 +6,18 @@ use native.Mathlib.Omega.{arith}
 use Rattle.model_check.proofs.keys.has_key.Goals as goal
 
 pub take-v-requires : goal.take-v-requires
-take-v-requires c =
-    let l = lead_fits c.args.kind in
+take-v-requires g c =
+    let l = lead_fits g.K.Records.KIND in
     omega (arith, c.lead.ensures)
 
-pub returns-then-v-row : goal.returns-then-v-row
-returns-then-v-row c =
+pub returns-then-v-key : goal.returns-then-v-key
+returns-then-v-key g c =
     let a = c.args in
-    λ k h. other_row h (c.take-v.ensures ∙ ap (taken_at a.s.now a.p) c.lead.ensures) a.row a.name.now c.if-v-row.true
+    λ k h. other_row h (c.take-v.ensures ∙ ap (taken_at a.s.now a.p) c.lead.ensures) a.key.row a.key.name.now c.if-v-key.true
 
 pub returns : goal.returns
-returns c =
+returns g c =
     let a = c.args in
     λ k h.
     let e = c.take-v.ensures ∙ ap (taken_at a.s.now a.p) c.lead.ensures in
-    c.same.ensures ∙ same_row h e a.row a.name.now (omega (arith, c.if-v-row.false)) (c.text_at.ensures k.1 (key_name h e))
+    c.same.ensures ∙ same_row h e a.key.row a.key.name.now (omega (arith, c.if-v-key.false)) (c.text_at.ensures k.1 (key_name h e))

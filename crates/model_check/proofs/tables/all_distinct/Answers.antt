@@ -6,10 +6,10 @@ use Rattle.model_check.proofs.Whole.{distinct_map}
 use Rattle.model_check.proofs.tables.all_distinct.Goals as goal
 
 pub returns-in-Some : goal.returns-in-Some
-returns-in-Some c =
+returns-in-Some g c =
     λ key k xs end h.
-    let x = c.index_keys-made.ensures key k xs end h in
+    let x = c.index_keys.ensures key k xs end h in
     c.table_distinct.ensures (map key xs) (rw c.in-Some.is at x) ∙ sym (distinct_map same_key key xs)
 
 pub returns-in-None : goal.returns-in-None
-returns-in-None c = c.distinct.ensures
+returns-in-None g c = c.distinct.ensures

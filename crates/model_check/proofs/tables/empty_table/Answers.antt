@@ -6,9 +6,6 @@ use Rattle.model_check.proofs.tables.empty_table.Goals as goal
 pub returns-then-s-gt4294967295 : goal.returns-then-s-gt4294967295
 returns-then-s-gt4294967295 c = none_made _ _ _ _
 
-pub returns-in_default : goal.returns-in_default
-returns-in_default c = none_made _ _ _ _
-
 pub returns : goal.returns
 returns c =
-    one_made (emptied _ (omega (arith, c.if-s-gt4294967295.false)) c.table_at-made.ensures c.in-Some.is c.clear.ensures)
+    one_made (emptied _ (omega (arith, c.if-s-gt4294967295.false)) c.table_at.ensures (c.in_ok-t.was {u = tt}) c.clear.ensures)

@@ -3,7 +3,7 @@
 use mathlib.Core.Path.{◌≡◌}
 use mathlib.Core.Bool.{true}
 use mathlib.Core.List.{List}
-use Prim.Native.Nat.{ℕ, ◌-◌, ◌%◌, ◌^◌, ◌≤◌, ◌<◌}
+use Prim.Native.Nat.{ℕ, ◌%◌, ◌^◌, ◌≤◌, ◌<◌}
 use lib.ListN.{length}
 use Rattle.definition.specs.Format.{times}
 use Rattle.definition.specs.Model.{Activity, Model}
@@ -25,6 +25,3 @@ invariant-loop-i l =
     × (ApartFrom l.names l.t → Kept l.names l.initial.words l.words)
     × (ApartFrom l.names l.t → (m : Model) (end : ℕ) → Holds calendar l.s l.calendars m.calendars end → NamesIn l.s m l.names l.initial.words → (next : ℕ) → Run Activities l.s l.initial.q l.count m.activities next → Judging l.s l.count m next l.right l.i l.q)
     × (length l.s < 2 ^ 32 → l.initial.q.bit % 8 ≡ 0 → l.t.rows ≡ l.count → Emptied l.t l.initial.words → (xs : List Activity) (next : ℕ) → Run Activities l.s l.initial.q l.count xs next → Filling Activities l.s id_key xs next l.t l.words l.q l.i)
-
-abbrev pub decreases-loop-i : goal.decreases-loop-i
-decreases-loop-i l = l.count - l.i
