@@ -4,11 +4,11 @@ use mathlib.Core.Logic.{◌⊎◌, inl, inr}
 use mathlib.Core.List.{List, [], ◌∷◌, ◌++◌}
 use mathlib.Core.Bool.{Bool, true, false}
 use Rattle.std.specs.Prelude.{Some, None}
-use Prim.Native.Nat.{ℕ, zero, suc, ◌+◌, ◌-◌, ◌*◌, ◌/◌, ◌%◌, ◌≤◌, ◌<◌}
+use Prim.Native.Nat.{ℕ, zero, suc, ◌+◌, ◌-◌, ◌/◌, ◌≤◌, ◌<◌}
 use native.Mathlib.Omega.{arith}
 use lib.ListN.{length, get_or, take, drop, length-take, length-drop}
 use lib.Seq.{drop-drop, drop-cons}
-use lib.Bits.{bit_and, bit_or, and_mask, or_shifted}
+use lib.Bits.{bit_and, and_mask}
 use lib.Dec.{leb}
 use borrow.Author.Tests.{leb-true, leb-false, le-leb, lt-leb, le-ltb, lt-ltb}
 use Rattle.definition.specs.Bits.{enc, dec, bits_of}
@@ -220,10 +220,3 @@ module _ (s : Text) (at w t : ℕ) (h : at + head_bytes ≤ length s) (hw : IsWo
 
 pub read_past : (s : Text) (at : ℕ) → length s < at + head_bytes → None ≡ head_at s at
 read_past s at h = sym (head_cut s at (omega arith))
-
--- the word of two bytes
-pub is_word : (s : Text) (i x y : ℕ) → (x ≡ get_or s i 0) × (x < 256) → (y ≡ get_or s (i + 1) 0) × (y < 256)
-    → IsWord s i (bit_or (x * 256 % 18446744073709551616) y)
-is_word s i x y p q =
-    let e : x * 256 % 18446744073709551616 ≡ x * 256 = omega arith in
-    record { is = rw (e, or_shifted x 8 y q.1) (omega (arith, p.0, q.0)); first = omega (arith, p.0, p.1); second = omega (arith, q.0, q.1) }

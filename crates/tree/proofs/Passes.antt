@@ -2,15 +2,13 @@
 use mathlib.Core.Path.{◌≡◌, refl, sym, ◌∙◌}
 use Rattle.definition.specs.declared.Duration.{Duration}
 use Rattle.definition.specs.declared.Unread.{Unread}
-use Rattle.definition.specs.declared.Unread.TheVariants.{Absent, Long}
 use Rattle.definition.specs.declared.Refusal.{Refusal}
 use Rattle.std.specs.Option.{ok_or}
 use Rattle.std.specs.Prelude.{Err, Float, None, Ok, Option, Result, Some}
 use mathlib.Core.List.{List, [], ◌∷◌}
-use mathlib.Core.Bool.{Bool, true, false, ◌||◌, or-false}
+use mathlib.Core.Bool.{Bool, true, false}
 use Prim.Native.Nat.{ℕ, ◌≤◌, ◌<◌}
 use native.Mathlib.Omega.{arith}
-use lib.Dec.{eqb}
 use lib.ListN.{length}
 use borrow.Author.Tests.{le-leb, lt-leb, le-ltb, lt-ltb}
 use Rattle.definition.specs.Base.{every?, some?, same}
@@ -19,9 +17,7 @@ use Rattle.definition.specs.Text.{Text, is_utf8, trim}
 use Rattle.definition.specs.Number.{number_of}
 use Rattle.definition.specs.Tree.{Rec, records, layout, element, deeper, below_root}
 use Rattle.definition.specs.Duration.{duration_of}
-use Rattle.number.specs.Number.{number_refusal}
-use Rattle.number.specs.Duration.{duration_refusal}
-use Rattle.tree.specs.Place.{whole, head_at, verdict, verdict_refusal, records_at, element_at}
+use Rattle.tree.specs.Place.{whole, head_at, verdict, records_at, element_at}
 use Rattle.definition.specs.Refusal.{utf8?, project?, long?, number_names, duration_names, long_in, too_long, tree_refusal, most_elements}
 use Rattle.tree.proofs.Heads.{part, bounds, records_cut}
 
@@ -121,7 +117,7 @@ err_is (Some m) e h = let z : ◌≡◌ {A = ℕ} 0 1 = cc in absurd (omega arit
 err_is None e h = (refl, cc)
 
 module _ (s : Text) where
-  pub refused_1 : verdict s ≡ None → verdict_refusal None ≡ tree_refusal s
+  pub refused_1 : verdict s ≡ None → 1 ≡ tree_refusal s
   unfolding tree_refusal
   refused_1 v = rw (broken_is s v)
 
@@ -153,16 +149,6 @@ module _ (s : Text) where
           taken l = rw ((fine_is s v).0, u, (fine_is s v).1, le-ltb _ _ q, root_right, l)
 
 -- ---- names and texts of refusal 5
-
--- a test of some texts, one after the other
-module _ (p : Text → Bool) where
-  pub some_first : {t u : Bool} (n : Text) (l : List Text) → t ≡ p n → u ≡ some? p l → (t || u) ≡ some? p (n ∷ l)
-  unfolding some?
-  some_first n l h k = rw (h, k)
-
-  pub some_last : {t : Bool} (n : Text) → t ≡ p n → t ≡ some? p (n ∷ [])
-  unfolding some?
-  some_last n h = rw h (sym (or-false (p n)))
 
 module _ (name text : Text) where
   pub as_number : {u : Text} {a : Result Float Unread} {r : Bool} → some? (same name) number_names ≡ true → u ≡ trim text → a ≡ number_of u → r ≡ long? a

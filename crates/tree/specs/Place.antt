@@ -31,11 +31,6 @@ head_at s at = head_by at (record_of (drop at s))
 unfoldable pub verdict : Text → Option ℕ
 verdict s = if layout s then Some (length (records s)) else None
 
--- document 01's number for a verdict
-abbrev pub verdict_refusal : Option ℕ → ℕ
-verdict_refusal (Some n) = 0
-verdict_refusal None = 1
-
 -- ---- records
 
 -- the records from a position on

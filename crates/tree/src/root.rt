@@ -6,6 +6,7 @@ ghost use Rattle.tree.specs.Place.{records_at, element_at, named};
 ghost use Rattle.tree.specs.Root.{note_at, Notes, Parts, Stands};
 
 // The children of a project that are read; a position past the end stands for one that is missing.
+// Option<usize> would be no plainer: past the end stands an element with no name, text or child, so that no reader of a part asks whether it is there.
 #[derive(Clone, Copy)]
 pub struct Root {
     pub calendars: usize,

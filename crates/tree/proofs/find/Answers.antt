@@ -3,7 +3,6 @@ use mathlib.Core.Path.{refl, sym, ◌∙◌}
 use Rattle.tree.specs.Place.{Past}
 use Rattle.tree.proofs.Heads.{bounds}
 use Rattle.tree.proofs.Rows.{row_cut, row_end, row_hit, row_miss, row_under}
-use borrow.Author.Rules.{rules}
 use native.Mathlib.Omega.{arith}
 use Rattle.tree.proofs.find.Goals as goal
 

@@ -1,7 +1,6 @@
 use mathlib.Core.Path.{sym, ◌∙◌}
 use Rattle.tree.proofs.Heads.{bounds}
 use Rattle.tree.proofs.Walk.{verdict_all, left_whole, left_wrong, left_step}
-use borrow.Author.Rules.{rules}
 use native.Mathlib.Omega.{arith}
 use Rattle.tree.proofs.layout.Goals as goal
 

@@ -1,6 +1,5 @@
 use mathlib.Core.Path.{sym, ◌∙◌}
 use Rattle.tree.proofs.Rows.{later_cut, later_whole}
-use borrow.Author.Rules.{rules}
 use Rattle.tree.proofs.next_child.Goals as goal
 
 pub returns-in_err-h : goal.returns-in_err-h

@@ -1,5 +1,4 @@
 use Rattle.tree.proofs.Rows.{text_none, text_found}
-use borrow.Author.Rules.{rules}
 use Rattle.tree.proofs.text_of.Goals as goal
 
 pub returns-in_default : goal.returns-in_default

@@ -1,7 +1,6 @@
 use mathlib.Core.Path.{refl, sym, ◌∙◌}
 use Rattle.tree.proofs.Heads.{bounds}
 use Rattle.tree.proofs.Passes.{utf8_cut, utf8_name, utf8_text, utf8_step}
-use borrow.Author.Rules.{rules}
 use native.Mathlib.Omega.{arith}
 use Rattle.tree.proofs.refusal.all_utf8.Goals.{then-not-is_utf8-via-then-not-is_utf8, then-not-is_utf8-via-else-not-is_utf8+then-not-is_utf8-2}
 use Rattle.tree.proofs.refusal.all_utf8.Goals as goal

@@ -1,6 +1,5 @@
 use mathlib.Core.Path.{sym, ◌∙◌}
 use Rattle.tree.proofs.Passes.{long_none, long_below}
-use borrow.Author.Rules.{rules}
 use Rattle.tree.proofs.refusal.any_long.Goals as goal
 
 pub returns-in_default : goal.returns-in_default

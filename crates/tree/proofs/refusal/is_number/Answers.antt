@@ -1,7 +1,6 @@
 use Rattle.std.proofs.Common.{rules, Bor, List, ℕ, ◌∙◌, refl}
 use Rattle.std.proofs.lemmas.Iterator.{YieldsList-from_slice}
 use Rattle.std.proofs.lemmas.Iterator.Search.{any_from_yields_List}
-use Rattle.std.specs.List.{list_any}
 use Rattle.definition.specs.Base.{some?, same}
 use Rattle.tree.proofs.refusal.is_number.Goals as goal
 

@@ -1,7 +1,6 @@
 use mathlib.Core.Path.{refl, sym, ◌∙◌}
 use Rattle.tree.proofs.Heads.{bounds}
 use Rattle.tree.proofs.Passes.{long_cut, long_end, long_here, long_step}
-use borrow.Author.Rules.{rules}
 use native.Mathlib.Omega.{arith}
 use Rattle.tree.proofs.refusal.long_from.Goals as goal
 

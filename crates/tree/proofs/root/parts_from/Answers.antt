@@ -1,7 +1,6 @@
 use mathlib.Core.Path.{sym, ◌∙◌}
 use lib.Arith.{lt_of_le-ne}
 use native.Mathlib.Omega.{arith}
-use borrow.Author.Rules.{rules}
 use Rattle.tree.proofs.Heads.{bounds}
 use Rattle.tree.proofs.Parts.{parts_begin, parts_cut, parts_end, parts_next, parts_under}
 use Rattle.tree.proofs.root.parts_from.Goals as goal

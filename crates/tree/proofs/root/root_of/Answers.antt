@@ -1,6 +1,5 @@
 use mathlib.Core.Path.{sym, ◌∙◌}
 use native.Mathlib.Omega.{arith}
-use borrow.Author.Rules.{rules}
 use Rattle.tree.proofs.Heads.{bounds}
 use Rattle.tree.proofs.Parts.{root_cut, root_whole}
 use Rattle.tree.proofs.root.root_of.Goals as goal
