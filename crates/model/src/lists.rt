@@ -39,7 +39,7 @@ impl Item for Hours {
 
     ghost key = { PeriodKey };
 
-    fn take(s: &[u8], p: Place) -> Field {
+    fn take(s: &[u8], p: Place) -> Field<u64> {
         take_period_key(s, p)
     }
 
@@ -55,7 +55,7 @@ impl Item for Day {
 
     ghost key = { DayKey false };
 
-    fn take(s: &[u8], p: Place) -> Field {
+    fn take(s: &[u8], p: Place) -> Field<u64> {
         take_date_key(s, p)
     }
 
@@ -71,7 +71,7 @@ impl Item for WorkingDay {
 
     ghost key = { DayKey true };
 
-    fn take(s: &[u8], p: Place) -> Field {
+    fn take(s: &[u8], p: Place) -> Field<u64> {
         let d = take_date_key(s, p);
         let next = skip_periods(s, d.next);
         Field {
