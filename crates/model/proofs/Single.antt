@@ -13,7 +13,7 @@ use lib.IntN.{ℤ, pos, negsuc}
 use lib.Signed.{le_z}
 use borrow.Author.Tests.{lt-ltb, le-ltb, ltb-true, ltb-false, le-leb, lt-leb, leb-true, leb-false, eqb-true, eq-eqb, ne_eqb}
 use Rattle.definition.specs.Pack.{lag_kind}
-use Rattle.definition.specs.Base.{◌>>=◌, ◌or◌, given, when}
+use Rattle.definition.specs.Base.{◌>>=◌, given, when}
 use Rattle.definition.specs.Bits.{Bits, bits_of, bytes_up_to, signed}
 use Rattle.definition.specs.Answer.{day_number_of}
 use Rattle.definition.specs.Date.{Date, epoch, first_date, last_date, in_years, from_days}

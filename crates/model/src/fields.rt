@@ -12,7 +12,7 @@ ghost use Rattle.model.specs.Passes.{Flagged};
 
 use bits::{Field, PAST, Place};
 
-// Nothing can be read.
+// Nothing can be read. No Option: 0 is below every item, so a list's one test of its order refuses it too.
 const NOTHING: Field<u64> = Field {
     value: 0,
     next: PAST,

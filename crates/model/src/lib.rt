@@ -45,6 +45,7 @@ pub struct Counts {
     pub next: Place,
 }
 
+// No Option: a walk goes on from a place past every end, as behind any field that is refused, and the callers test its end alone.
 const NO_COUNTS: Counts = Counts {
     calendars: 0,
     activities: 0,

@@ -46,7 +46,7 @@ fn calendar_known(s: &[u8], p: Place, x: Section, words: &[u32], names: Option<T
     is_calendar(s, x, words, names, &s[start..end])
 }
 
-// Whether a row is missing, or below another.
+// Whether a row is missing, or below another. A match, since the library's Option has no is_none_or.
 fn is_below(row: Option<u32>, own: u32) -> bool
     ensures { result ≡ if_given (λ (n : ℕ). ltb n own) row }
 {
@@ -101,7 +101,7 @@ fn row_below(s: &[u8], p: Place, count: u32) -> bool
     bits::take(s, p, 32).value < u64::from(count)
 }
 
-// Whether the record at a place, the one of a row, keeps its rules.
+// Whether the record at a place, the one of a row, keeps its rules. The kind is matched, since each has a rule of its own.
 fn is_right(
     s: &[u8],
     p: Place,

@@ -19,4 +19,4 @@ pub returns : goal.returns
 returns c =
     let a = c.args in
     let s = a.s.now in
-    cost_there (finders_at s a.root a.words.now a.t) (element_at s a.at) c.task_of.ensures s c.cost_of.ensures c.in-Some.is c.in-Some.is c.put_new.ensures
+    cost_there (finders_at s a.root a.words.now a.t) (element_at s a.at) c.task_of.ensures s c.cost_of.ensures c.in-Some.is c.in-Some-cost_of.is c.put_new.ensures

@@ -1,6 +1,5 @@
 use mathlib.Core.Path.{sym, ap, ◌∙◌}
 use native.Mathlib.Omega.{arith}
-use Prim.Native.Nat.{◌≤◌, ◌<◌}
 use Rattle.definition.specs.Date.{in_years}
 use Rattle.model.proofs.Single.{date_after, date_early, date_before}
 use Rattle.model.proofs.fields.date_of.Goals as goal

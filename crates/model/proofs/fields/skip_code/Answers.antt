@@ -1,5 +1,4 @@
 use Rattle.std.proofs.Common.{rules}
-use native.Mathlib.Omega.{arith}
 use Rattle.model.specs.Passes.{pass_read}
 use Rattle.model.proofs.Single.{pass_past, code_in, code_out}
 use Rattle.model.proofs.fields.skip_code.Goals as goal

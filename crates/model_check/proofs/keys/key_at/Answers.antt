@@ -4,7 +4,6 @@ use Prim.Native.Nat.{ℕ}
 use native.Mathlib.Omega.{arith}
 use Rattle.definition.specs.Text.{Text}
 use Rattle.bits.specs.Reads.{taken_at}
-use Rattle.model_check.specs.Keys.{Key}
 use Rattle.model_check.proofs.Keyed.{lead_fits, key_row, key_name}
 use Rattle.model_check.proofs.keys.key_at.Goals as goal
 

@@ -6,10 +6,6 @@ use lib.ListN.{get_or}
 use Rattle.definition.specs.Base.{given, find}
 use Rattle.index.specs.Chains.{chain}
 use Rattle.model_check.specs.Keys.{Key, no_key, same_key}
-use native.Mathlib.Omega.{arith}
-use Rattle.bits.specs.Reads.{taken_at}
-use Rattle.model.specs.Sections.{byte_at}
-use Rattle.model_check.proofs.Keyed.{lead_fits, key_row, key_name}
 use Rattle.model_check.proofs.Tabled.{key_there, next_in, some_twin, lone}
 use Rattle.model_check.proofs.tables.has_twin.Goals as goal
 
