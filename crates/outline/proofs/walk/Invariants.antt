@@ -9,7 +9,4 @@ use Rattle.outline.proofs.Ahead.{Going}
 use Rattle.outline.proofs.walk.Given as goal
 
 abbrev pub invariant-loop-k : goal.invariant-loop-k
-invariant-loop-k l = (l.k ≤ l.n) × (l.depth ≤ l.k) × (length l.rows ≡ length l.initial.rows) × ((ps : List (Option ℕ)) → l.n ≡ length ps → Links ps 0 l.work → Going ps (take (2 * l.k) l.rows) l.row l.depth)
-
-abbrev pub decreases-loop-k : goal.decreases-loop-k
-decreases-loop-k l = l.n - l.k
+invariant-loop-k l = (l.k ≤ l.n) × (l.at.depth ≤ l.k) × (length l.rows ≡ length l.initial.rows) × ((ps : List (Option ℕ)) → l.n ≡ length ps → Links ps 0 l.work → Going ps (take (2 * l.k) l.rows) l.at.row l.at.depth)
