@@ -39,7 +39,7 @@ fn field(work: &[u32], row: u32, word: usize) -> u32
     work.get(4 * (row as usize) + word).copied().unwrap_or(0)
 }
 
-// No `get_mut`: a proof knows nothing of what is written through it.
+// By index: what is written through a `get_mut` is not known to the proof, which was tried.
 fn set_field(work: &mut [u32], row: u32, word: usize, value: u32)
     requires { word < 4 }
     ensures { work.new ≡ set work.old (4 * row + word) value }
@@ -198,18 +198,12 @@ pub fn outline(s: &[u8], rows: &mut [u32], work: &mut [u32]) -> Result<u32, Refu
 {
     let counts = take_counts(s);
     let places = walk_model(s, counts, work);
-    let opened = sections_of(s.len(), counts, places);
-    let Some(m) = opened else {
-        clear_words_from(rows, 0);
-        clear_words_from(work, 0);
-        return Err(Refusal::NoModel);
+    let refusal = match sections_of(s.len(), counts, places) {
+        None => Refusal::NoModel,
+        Some(m) if is_short(m.activities.count, rows.len(), work.len()) => Refusal::NoRoom,
+        Some(m) => return Ok(outline_rows(m.activities.count, rows, work)),
     };
-    let activities = m.activities;
-    let n = activities.count;
-    if is_short(n, rows.len(), work.len()) {
-        clear_words_from(rows, 0);
-        clear_words_from(work, 0);
-        return Err(Refusal::NoRoom);
-    }
-    Ok(outline_rows(n, rows, work))
+    clear_words_from(rows, 0);
+    clear_words_from(work, 0);
+    Err(refusal)
 }

@@ -1,5 +1,5 @@
 -- `outline::empty_lists` meets its contract. The invariant: the lists of the rows passed are empty. Assumes nothing.
-use Prim.Native.Nat.{◌-◌, ◌≤◌}
+use Prim.Native.Nat.{◌≤◌}
 use Rattle.outline.specs.Steps.{Empty}
 use Rattle.outline.proofs.empty_lists.Given as goal
 

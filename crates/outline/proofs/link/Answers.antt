@@ -1,8 +1,7 @@
 -- `outline::link` meets its contract. One return for each kind of parent. Assumes nothing.
-use borrow.Author.Rules.{rules}
 use mathlib.Core.Logic.{⊎_elim}
 use mathlib.Core.Path.{◌≡◌}
-use Rattle.std.specs.Prelude.{Option, Some, None}
+use Rattle.std.specs.Prelude.{Some, None}
 use Rattle.definition.specs.Outline.{parent_in}
 use Rattle.outline.proofs.ParentLaws.{parent_far, parent_self, parent_is}
 use Rattle.outline.proofs.Lists.{link_by_lem}
