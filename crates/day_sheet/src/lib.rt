@@ -24,7 +24,7 @@ use model::records::{Kind, skip_records};
 
 // ---- what a calendar says of a date
 
-// Whether a list of dates has a day.
+// Whether a list of dates has a day. A scan, once a sheet: the items stand in bits at places that only the one before gives, and are no slice.
 fn has_date(s: &[u8], p: Place, day: Date) -> bool
     ensures { (d : DateOf) → from_days day.0 ≡ Some d → (l : List DateOf) → Stands dates s.now p l → result ≡ some? (eqb d) l }
 {

@@ -17,13 +17,14 @@ use model::{sections_of, take_counts};
 // A word that names no row, as the lent words hold it: a word has no room for an Option, so `climb`, `step` and `walk` test for it.
 const NONE: u32 = 0xFFFF_FFFF;
 
-const PARENT: usize = 0;
+// The words of a row in the lent slice. Rows name each other by number there: no heap holds nodes.
+const PARENT: u32 = 0;
 
-const CHILD: usize = 1;
+const CHILD: u32 = 1;
 
-const NEXT: usize = 2;
+const NEXT: u32 = 2;
 
-const TOP: usize = 3;
+const TOP: u32 = 3;
 
 // A row that is visited, and how many rows it is below.
 #[derive(Clone, Copy)]
@@ -32,19 +33,19 @@ struct Visit {
     depth: u32,
 }
 
-fn field(work: &[u32], row: u32, word: usize) -> u32
-    requires { word < 4 }
+fn field(work: &[u32], row: u32, word: u32) -> u32
     ensures { result ≡ get_or work.now (4 * row + word) 0 }
 {
-    work.get(4 * (row as usize) + word).copied().unwrap_or(0)
+    work.get(4 * (row as usize) + word as usize)
+        .copied()
+        .unwrap_or(0)
 }
 
 // By index: what is written through a `get_mut` is not known to the proof, which was tried.
-fn set_field(work: &mut [u32], row: u32, word: usize, value: u32)
-    requires { word < 4 }
+fn set_field(work: &mut [u32], row: u32, word: u32, value: u32)
     ensures { work.new ≡ set work.old (4 * row + word) value }
 {
-    let i = 4 * (row as usize) + word;
+    let i = 4 * (row as usize) + word as usize;
     if i < work.len() {
         work[i] = value;
     }
@@ -62,8 +63,7 @@ fn empty_lists(n: u32, work: &mut [u32])
 }
 
 // Puts row i in front of the list that begins at a word of row p.
-fn push(work: &mut [u32], i: u32, p: u32, word: usize)
-    requires { word < 4 }
+fn push(work: &mut [u32], i: u32, p: u32, word: u32)
     ensures { work.new ≡ pushed work.old i p word }
 {
     set_field(work, i, PARENT, p);
