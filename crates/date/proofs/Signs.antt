@@ -5,29 +5,24 @@ use native.Mathlib.Omega.{arith}
 use native.Mathlib.Nat.{add_comm}
 use mathlib.Core.Path.{◌≡◌, refl, sym, ap, ◌∙◌, subst}
 use mathlib.Core.Bool.{Bool, true, false, cond, ◌&&◌, and-true}
-use Rattle.std.specs.Prelude.{Option, Some, None}
+use Rattle.std.specs.Prelude.{Option, Some, None, Result, Ok, Err}
+use Rattle.std.specs.Option.{MatchOption, IsSomeAnd}
+use Rattle.std.specs.Bool.{then_some}
+use Rattle.std.specs.Int.{FitsUnsignedBits}
+use Rattle.std.specs.Result.{OkIff, result_unwrap_or, result_ok}
+use Rattle.std.proofs.lemmas.Int.{ints}
 use lib.Dec.{leb, ltb}
-use lib.IntN.{ℤ, pos, negsuc, ◌+ℤ◌, ◌-ℤ◌}
+use lib.IntN.{ℤ, pos, negsuc, nat_abs, ◌+ℤ◌, ◌-ℤ◌}
 use lib.Signed.{mag}
 use mir.Syntax.{w32, w64}
 use mir.Val.{to_z, of_z, SFits}
 use mir.ValLaws.{to_z-of_z, to_z_pos}
 use borrow.Author.Tests.{le-leb, lt-leb, leb-true, leb-false, lt-ltb, le-ltb, ltb-true, ltb-false}
-use Rattle.definition.specs.Base.{◌or◌, when, within}
+use Rattle.definition.specs.Base.{◌>>=◌, when, within}
 use Rattle.definition.specs.Date.{from_days, year_at, epoch, first_date, last_date}
-use Rattle.date.specs.Answer.{raised_of, placed, upward, days_between}
+use Rattle.date.specs.Answer.{placed, upward}
 
--- ---- the sum with the least number's size
-
-pub raise : (z : ℤ) → mag z < 2 ^ 31 → z +ℤ pos (2 ^ 31) ≡ pos (raised_of z)
-unfolding raised_of
-raise (pos n) h = refl
-raise (negsuc n) h = simp (le-ltb (2 ^ 31) (suc n) (omega arith))
-
-pub raised_most : (z : ℤ) → mag z < 2 ^ 31 → raised_of z < 2 ^ 32
-unfolding raised_of
-raised_most (pos n) h = omega arith
-raised_most (negsuc n) h = omega arith
+-- ---- a number passed on, and a sum
 
 module _ (z : ℤ) (h : SFits w32 z) where
   -- a number that is passed on
@@ -112,26 +107,52 @@ same_leb a b c d f g = by (leb a b) refl
         by_le true u l = absurd (omega (arith, g (leb-true c d u)))
         by_le false u l = refl
 
--- a place by the raised number
-module _ (from first last : ℕ) (one_le : 1 ≤ first) where
-  abbrev raised_place : ℕ → Option ℕ
-  raised_place k = when (leb (2 ^ 31 + first) k && leb k (2 ^ 31 + last)) (k - 2 ^ 31)
+pub then_when : {A : Type 0} (t : Bool) (x : A) → then_some t x ≡ when t x
+then_when true x = refl
+then_when false x = refl
 
-  same_place : (p k : ℕ) → p + 2 ^ 31 ≡ k → when (within first last p) p ≡ raised_place k
-  same_place p k e =
-      let a : leb first p ≡ leb (2 ^ 31 + first) k = same_leb first p (2 ^ 31 + first) k (λ h. omega arith) (λ h. omega arith) in
-      let b : leb p last ≡ leb k (2 ^ 31 + last) = same_leb p last k (2 ^ 31 + last) (λ h. omega arith) (λ h. omega arith) in
-      let c : k - 2 ^ 31 ≡ p = omega arith in
-      rw (a, b, c)
+beyond : (first last p : ℕ) → last < p → when (within first last p) p ≡ None
+beyond first last p h = by (leb first p)
+  where
+    by : (t : Bool) → when (t && leb p last) p ≡ None
+    by true = rw (lt-leb p last h)
+    by false = refl
 
-  negative : (n k : ℕ) (t : Bool) → ltb n from ≡ t → n < 2 ^ 31 → k ≡ 2 ^ 31 - suc n + from → (if t then when (within first last (from - suc n)) (from - suc n) else None) ≡ raised_place k
-  negative n k true e h f = same_place (from - suc n) k (omega (arith, ltb-true n from e))
-  negative n k false e h f = simp (lt-leb (2 ^ 31 + first) k (omega (arith, ltb-false n from e)))
+-- a place by the sum
+module _ (from first last : ℕ) where
+  pub sum_placed : (z : ℤ) (k : ℕ) → z +ℤ pos from ≡ pos k → placed from first last z ≡ when (within first last k) k
+  unfolding placed
+  sum_placed (pos n) k e = let g : n + from ≡ k = omega (arith, ints) in rw g
+  sum_placed (negsuc n) k e = by (ltb n from) refl
+    where
+      by : (t : Bool) → ltb n from ≡ t → (if t then when (within first last (from - suc n)) (from - suc n) else None) ≡ when (within first last k) k
+      by true h = let g : from - suc n ≡ k = omega (arith, ints, ltb-true n from h) in rw g
+      by false h = absurd (omega (arith, ints, ltb-false n from h))
 
-  pub placed_by : (z : ℤ) → mag z < 2 ^ 31 → placed from first last z ≡ raised_place (raised_of z + from)
-  unfolding placed raised_of
-  placed_by (pos n) h = same_place (n + from) (n + 2 ^ 31 + from) (omega arith)
-  placed_by (negsuc n) h = negative n (2 ^ 31 - suc n + from) (ltb n from) refl h refl
+  pub sum_unplaced : (z : ℤ) → last < 2 ^ 32 → ((k : ℕ) → z +ℤ pos from ≡ pos k → k < 2 ^ 32 → ⊥) → placed from first last z ≡ None
+  unfolding placed
+  sum_unplaced (pos n) l h = let g = h (n + from) refl in beyond first last (n + from) (omega arith)
+  sum_unplaced (negsuc n) l h = by (ltb n from) refl
+    where
+      by : (t : Bool) → ltb n from ≡ t → (if t then when (within first last (from - suc n)) (from - suc n) else None) ≡ None
+      by true e =
+          let q : n < from = ltb-true n from e in
+          let g = h (from - suc n) (omega (arith, ints)) in
+          beyond first last (from - suc n) (omega arith)
+      by false e = refl
+
+  -- by what `try_from` says of the sum z
+  pub tried_placed : {E : Type 0} (r : Result ℕ E) (n z : ℤ) (k : ℕ) → z ≡ n +ℤ pos from → OkIff r (FitsUnsignedBits 32 z) (nat_abs z) → Some k ≡ result_ok r
+      → placed from first last n ≡ when (within first last k) k
+  tried_placed (Ok x) n (pos m) k e h g = sum_placed n k (sym e ∙ ap pos (cc (h.1)))
+  tried_placed (Ok x) n (negsuc m) k e h g = absurd h.0
+  tried_placed (Err x) n z k e h g = absurd (cc)
+
+  pub tried_unplaced : {E : Type 0} (r : Result ℕ E) (n z : ℤ) → last < 2 ^ 32 → z ≡ n +ℤ pos from → OkIff r (FitsUnsignedBits 32 z) (nat_abs z) → None ≡ result_ok r
+      → placed from first last n ≡ None
+  tried_unplaced (Ok x) n z l e h g = absurd (cc)
+  tried_unplaced (Err x) n z l e h g =
+      sum_unplaced n l (λ k f b. h (subst (λ (y : ℤ). FitsUnsignedBits 32 y) (sym (e ∙ f)) b))
 
 pub days_placed : (z : ℤ) → from_days z ≡ placed epoch first_date last_date z
 unfolding from_days placed
@@ -154,16 +175,7 @@ year_placed (pos y) =
     simp (a, le-leb 1 (y + 10000) (omega arith), add_comm 10000 y)
 year_placed (negsuc y) = year_below y (ltb y 10000) refl
 
--- ---- what is placed, and what is not
-
--- n is 0 where nothing is placed, and else what is
-none_placed : (o : Option ℕ) (n : ℕ) → n ≡ o or 0 → n ≡ 0 → (o ≡ Some 0 → ⊥) → o ≡ None
-none_placed None n e z f = refl
-none_placed (Some k) n e z f = absurd (f (ap Some (sym e ∙ z)))
-
-pub some_placed : (o : Option ℕ) (n : ℕ) → n ≡ o or 0 → (n ≡ 0 → ⊥) → o ≡ Some n
-some_placed None n e f = absurd (f e)
-some_placed (Some k) n e f = ap Some (sym e)
+-- ---- what is placed
 
 -- d stands for the number z, counted from `from` below 0 on
 pub record Counted (from first last d : ℕ) (z : ℤ) : Type 0 where
@@ -213,32 +225,17 @@ days_counted z d e = counted 4371952 first_date last_date d z (sym (days_placed 
 pub year_counted : (z : ℤ) (y : ℕ) → year_at z ≡ Some y → Counted 10000 1 19999 y z
 year_counted z y e = counted 9999 1 19999 y z (sym (year_placed z) ∙ e)
 
-pub no_day : (z : ℤ) (n : ℕ) → n ≡ from_days z or 0 → n ≡ 0 → from_days z ≡ None
-no_day z n e g = none_placed (from_days z) n e g (λ s. omega (arith, (days_counted z 0 s).low))
-
-pub no_year : (z : ℤ) (n : ℕ) → n ≡ year_at z or 0 → n ≡ 0 → year_at z ≡ None
-no_year z n e g = none_placed (year_at z) n e g (λ s. omega (arith, (year_counted z 0 s).low))
-
 -- ---- from one number to another
 
-cond_up : (b a : ℕ) (t : Bool) → ltb b a ≡ t → upward (cond t (negsuc (a - suc b)) (pos (b - a))) ≡ b - a
-cond_up b a true e = omega (arith, ltb-true b a e)
-cond_up b a false e = refl
+pub between : {E : Type 0} (r : Result ℕ E) (z : ℤ) → ((n : ℕ) → z ≡ pos n → n < 2 ^ 32) → OkIff r (FitsUnsignedBits 32 z) (nat_abs z) → result_unwrap_or r 0 ≡ upward z
+between (Ok x) (pos n) l h = h.1
+between (Ok x) (negsuc n) l h = absurd h.0
+between (Err e) (pos n) l h = absurd (h (l n refl))
+between (Err e) (negsuc n) l h = refl
 
-apart : (a b : ℤ) → mag a < 2 ^ 31 → mag b < 2 ^ 31 → upward (b -ℤ a) ≡ raised_of b - raised_of a
-unfolding raised_of
-apart (pos zero) (pos b) h l = omega arith
-apart (pos (suc a)) (pos b) h l = cond_up b (suc a) (ltb b (suc a)) refl ∙ omega arith
-apart (negsuc a) (pos b) h l = omega arith
-apart (pos zero) (negsuc b) h l = cond_up 0 (suc b) (ltb 0 (suc b)) refl ∙ omega arith
-apart (pos (suc a)) (negsuc b) h l = omega arith
-apart (negsuc a) (negsuc b) h l = cond_up (suc a) (suc b) (ltb (suc a) (suc b)) refl ∙ omega arith
+-- ---- what `map` gives
 
-module _ (a b : ℤ) (h : mag a < 2 ^ 31) (l : mag b < 2 ^ 31) (from to : ℕ) (e : from ≡ raised_of a) (g : to ≡ raised_of b) where
-  pub between_none : to < from → 0 ≡ days_between a b
-  unfolding days_between
-  between_none k = sym (apart a b h l ∙ omega arith)
-
-  pub between_some : to - from ≡ days_between a b
-  unfolding days_between
-  between_some = sym (apart a b h l ∙ omega arith)
+pub mapped : {A : Type 0} (f : ℕ → A) (o : Option ℕ) (r : Option A) → MatchOption o (r ≡ None) (λ x. IsSomeAnd r (λ y. y ≡ f x)) → r ≡ (o >>= λ d. Some (f d))
+mapped f None r h = h
+mapped f (Some x) (Some y) h = ap Some h
+mapped f (Some x) None h = absurd h

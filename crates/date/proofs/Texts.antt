@@ -8,7 +8,7 @@ use lib.ListN.{length, take, drop, get_or, get_or-eq_default}
 use lib.Seq.{take_all}
 use Rattle.definition.specs.Base.{◌>>=◌, within}
 use Rattle.definition.specs.Text.{Text, before, after}
-use Rattle.definition.specs.Date.{Date, dash, first_ten}
+use Rattle.definition.specs.Date.{dash, first_ten}
 use Rattle.text.specs.Cut.{place_of, before_take, after_some, after_none}
 use Rattle.text.specs.Parts.{all_of}
 
@@ -26,30 +26,22 @@ pub ten_first : (s : Text) → within 0x80 0xBF (get_or s 10 0) ≡ false → ta
 unfolding first_ten
 ten_first s e = rw e
 
--- ---- a number before the first `-`, and what follows it
+-- ---- what stands before the first `-`, and behind it
 
 -- `&s[k + 1..]`
 abbrev pub rest_of : ℕ → Text → Text
 rest_of k s = take (length s - (k + 1)) (drop (k + 1) s)
 
-nothing : {A : Type 0} (o : Option A) → ◌>>=◌ {B = Date} o (λ a. None) ≡ None
+pub nothing : {A B : Type 0} (o : Option A) → ◌>>=◌ {B = B} o (λ a. None) ≡ None
 nothing None = refl
 nothing (Some a) = refl
 
-module _ {A : Type 0} (number : Text → Option A) (rest : A → Text → Option Date) (s : Text) (k : ℕ) (place : k ≡ place_of dash s) where
-  abbrev pub cut_date : Option Date
-  cut_date = number (before dash s) >>= λ a. after dash s >>= λ t. rest a t
+module _ (s : Text) (k : ℕ) (place : k ≡ place_of dash s) where
+  pub head_is : before dash s ≡ take k s
+  head_is = before_take dash s ∙ ap (λ (n : ℕ). take n s) (sym place)
 
-  head : before dash s ≡ take k s
-  head = before_take dash s ∙ ap (λ (n : ℕ). take n s) (sym place)
+  pub no_rest : length s ≤ k → after dash s ≡ None
+  no_rest h = after_none dash s (omega arith)
 
-  pub cut_none : length s ≤ k → cut_date ≡ None
-  cut_none h = rw (after_none dash s (omega arith)) (nothing (number (before dash s)))
-
-  pub cut_absent : number (take k s) ≡ None → cut_date ≡ None
-  cut_absent e = rw (ap number head ∙ e)
-
-  pub cut_on : (a : A) → k < length s → number (take k s) ≡ Some a → cut_date ≡ rest a (rest_of k s)
-  cut_on a h e =
-      let t : after dash s ≡ Some (drop (k + 1) s) = after_some dash s (omega arith) ∙ ap (λ (n : ℕ). Some (drop (n + 1) s)) (sym place) in
-      rw (ap number head ∙ e, t, all_of (k + 1) s)
+  pub rest_is : k < length s → after dash s ≡ Some (rest_of k s)
+  rest_is h = after_some dash s (omega arith) ∙ ap (λ (n : ℕ). Some (drop (n + 1) s)) (sym place) ∙ rw (all_of (k + 1) s)

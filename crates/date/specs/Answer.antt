@@ -1,26 +1,16 @@
 -- What the answers of this crate mean. Assumes nothing.
-use Rattle.std.specs.Prelude.{if◌then◌else◌, ℕ, suc, ◌+◌, ◌-◌, ◌^◌, Bool, ◌&&◌, ltb, ℤ, pos, negsuc, ◌-ℤ◌}
+use Rattle.std.specs.Prelude.{if◌then◌else◌, ℕ, suc, ◌+◌, ◌-◌, Bool, ◌&&◌, ltb, ℤ, pos, negsuc, ◌-ℤ◌}
 use Rattle.std.specs.Prelude.{Option, Some, None}
 use Rattle.definition.specs.Base.{◌>>=◌, when, within}
-use Rattle.definition.specs.Date.{Date, month_length, year_of, month_of, day_of, weekday, from_days, year_at, ymd_of, from_ymd, dash}
+use Rattle.definition.specs.Date.{Date, month_length, weekday, from_days, year_at, ymd_of, from_ymd, dash}
 use Rattle.definition.specs.Text.{Text, before, after, unsigned_of}
 use Rattle.definition.specs.declared.Ymd.{Ymd}
-use Rattle.date.specs.declared.Civil.{Civil}
-
--- year, month and day of a date
-abbrev pub civil_of : Date → Civil
-civil_of d = record { year = year_of d; month = month_of d; day = day_of d }
 
 -- month and day of a year are there
 unfoldable pub is_day : ℕ → ℕ → ℕ → Bool
 is_day y m d = within 1 12 m && within 1 (month_length y m) d
 
 -- ---- numbers with a sign
-
--- above the least number of 32 bits
-unfoldable pub raised_of : ℤ → ℕ
-raised_of (pos n) = n + 2 ^ 31
-raised_of (negsuc n) = 2 ^ 31 - suc n
 
 -- a number counted from `from` below 0 on, where that lies between the first and the last
 unfoldable pub placed : ℕ → ℕ → ℕ → ℤ → Option ℕ

@@ -2,34 +2,20 @@
 // 01's day number. Inside, a day is counted from 1 January of the year -10000 and a year from that year, so that nothing is negative.
 #![tactic(auto)]
 
-ghost use Rattle.std.specs.Prelude.{◌≡◌, ◌≤◌, ◌<◌, ◌^◌, pos, ◌-ℤ◌};
-ghost use Rattle.definition.specs.Base.{◌or◌};
-ghost use Rattle.definition.specs.Date.{leap, month_length, new_year, date_at, weekday, year_at, from_days, from_ymd, first_ten, date_parts, date_of};
-ghost use Rattle.laws.specs.Calendar.{MarchDay};
+ghost use Rattle.std.specs.Prelude.{◌≡◌, ◌≤◌, ◌<◌, ◌^◌, pos, ◌-ℤ◌, MatchOption, Some, None};
+ghost use Rattle.definition.specs.Text.{before, after};
+ghost use Rattle.definition.specs.Date.{leap, month_length, new_year, date_at, weekday, ymd_of, year_at, from_days, from_ymd, dash, first_ten, date_parts, date_of};
+ghost use Rattle.laws.specs.Calendar.{MarchDay, IsDay};
 ghost use Rattle.definition.specs.Answer.{date_meaning, day_number_of};
 ghost use Rattle.date.specs.Answer.{ymd_at, weekday_at, length_at, days_between};
-ghost use Rattle.date.specs.Answer.{civil_of, is_day, raised_of, placed, day_part, month_part};
+ghost use Rattle.date.specs.Answer.{is_day, placed, day_part, month_part};
 
 use definition::{Date, Ymd};
-
-// A day of the calendar, its year counted from the year -10000.
-#[derive(Clone, Copy)]
-struct Civil {
-    year: u32,
-    month: u32,
-    day: u32,
-}
 
 fn is_leap(y: u32) -> bool
     ensures { result ≡ leap y }
 {
-    if y % 4 != 0 {
-        return false;
-    }
-    if y % 100 != 0 {
-        return true;
-    }
-    y % 400 == 0
+    y % 4 == 0 && (y % 100 != 0 || y % 400 == 0)
 }
 
 // The days of a month, from 1 for January.
@@ -43,11 +29,11 @@ fn month_length(y: u32, m: u32) -> u32
     }
 }
 
-// Monday is 0.
+// Monday is 0. A number: the plan and the sheet write it so, and weeks are counted with it.
 fn weekday_of(d: u32) -> u32
     ensures { result ≡ weekday d }
 {
-    ((d as u64 + 5) % 7) as u32
+    (d % 7 + 5) % 7
 }
 
 // 1 January: 365 days a year and the leap days before it.
@@ -60,11 +46,8 @@ fn new_year(y: u32) -> u32
 
 // From March on the months follow in steps of 153 days in five months, and the year before has ended 306 days later.
 fn day_at(y: u32, m: u32, d: u32) -> u32
-    requires fact_1 { y ≤ 20000 }
-    requires fact_2 { 1 ≤ m }
-    requires fact_3 { m ≤ 12 }
-    requires fact_4 { 1 ≤ d }
-    requires fact_5 { d ≤ 31 }
+    requires year { y ≤ 20000 }
+    requires day { IsDay y m d }
     ensures { result ≡ date_at y m d }
 {
     if m < 3 {
@@ -73,7 +56,7 @@ fn day_at(y: u32, m: u32, d: u32) -> u32
     new_year(y + 1) - 306 + (153 * m - 457) / 5 + (d - 1)
 }
 
-// A year that begins in March, by the January in it, and the day of it, counted from 0.
+// A year that begins in March, by the January in it, and the day of it, counted from 0. No other pair of a year and a number means that.
 #[derive(Clone, Copy)]
 struct March {
     year: u32,
@@ -84,7 +67,7 @@ struct March {
 fn march_of(d: u32) -> March
     ensures { MarchDay d result.year result.day }
 {
-    let n = (d as u64 + 146037) * 4 + 3;
+    let n = (u64::from(d) + 146037) * 4 + 3;
     let century = n / 146097;
     let k = n % 146097 / 4 * 4 + 3;
     let year = century * 100 + k / 1461 - 399;
@@ -94,128 +77,88 @@ fn march_of(d: u32) -> March
     }
 }
 
+// The difference, with its sign.
+fn lowered(n: u32, by: u32) -> i32
+    requires small { n < 2 ^ 31 }
+    requires by_small { by < 2 ^ 31 }
+    ensures { result ≡ pos n -ℤ pos by }
+{
+    n as i32 - by as i32
+}
+
 // Year, month and day of a date.
-fn civil_of(d: u32) -> Civil
-    ensures { result ≡ civil_of d }
+fn civil_of(d: u32) -> Ymd
+    ensures { result ≡ ymd_of d }
 {
     let m = march_of(d);
-    let year = m.year;
-    let day = m.day;
-    let k = day * 5 + 461;
-    if day < 306 {
-        return Civil {
-            year: year - 1,
-            month: k / 153,
-            day: k % 153 / 5 + 1,
-        };
-    }
-    Civil {
-        year,
-        month: k / 153 - 12,
+    let k = m.day * 5 + 461;
+    let (year, month) = if m.day < 306 {
+        (m.year - 1, k / 153)
+    } else {
+        (m.year, k / 153 - 12)
+    };
+    Ymd {
+        year: lowered(year, 10000),
+        month,
         day: k % 153 / 5 + 1,
     }
 }
 
-// ---- numbers with a sign
+// ---- dates as they are written
+// Functions, and no From or FromStr: `Date` and `Ymd` belong to the crate definition, and the texts are bytes.
 
-// The number above the least of its type.
-fn raised(n: i32) -> u64
-    ensures { result ≡ raised_of n }
+// A number counted from `from` below 0 on, where that lies between the first and the last.
+fn place(n: i32, from: u32, first: u32, last: u32) -> Option<u32>
+    ensures { result ≡ placed from first last n }
 {
-    (n as i64 + 2147483648) as u64
+    let k = u32::try_from(i64::from(n) + i64::from(from)).ok()?;
+    (first..=last).contains(&k).then_some(k)
 }
 
-// The difference, with its sign.
-fn lowered(n: u32, by: u32) -> i32
-    requires fact_1 { n < 2 ^ 31 }
-    requires fact_2 { by < 2 ^ 31 }
-    ensures { result ≡ pos n -ℤ pos by }
-{
-    (n as i64 - by as i64) as i32
-}
-
-// A number counted from `from` below 0 on, where that lies between the first and the last; 0 elsewhere.
-fn place(n: i32, from: u32, first: u32, last: u32) -> u32
-    requires { 1 ≤ first }
-    ensures { result ≡ placed from first last n or 0 }
-{
-    let k = raised(n) + from as u64;
-    if k < 2147483648 + first as u64 {
-        return 0;
-    }
-    if k > 2147483648 + last as u64 {
-        return 0;
-    }
-    (k - 2147483648) as u32
-}
-
-fn year_at(year: i32) -> u32
-    ensures { result ≡ year_at year or 0 }
+fn year_at(year: i32) -> Option<u32>
+    ensures { result ≡ year_at year }
 {
     place(year, 10000, 1, 19999)
 }
 
-// A day number on the scale inside; 0 outside the years -9999 to 9999.
-fn date_of_number(n: i32) -> u32
-    ensures { result ≡ from_days n or 0 }
+// A day number on the scale inside, if its year is in range.
+fn date_of_number(n: i32) -> Option<u32>
+    ensures { result ≡ from_days n }
 {
     place(n, 4371953, 366, 7304849)
 }
-
-// ---- dates as they are written
 
 // The days of a month of the years -9999 to 9999.
 pub fn days_in_month(year: i32, month: u32) -> Option<u32>
     ensures { result ≡ length_at year month }
 {
-    let y = year_at(year);
-    if y == 0 {
-        return None;
-    }
-    if (1 <= month) & (month <= 12) {
-        return Some(month_length(y, month));
-    }
-    None
+    let y = year_at(year)?;
+    (1..=12).contains(&month).then_some(month_length(y, month))
 }
 
 // Whether a year has such a month and day.
 fn is_day(y: u32, m: u32, d: u32) -> bool
     ensures { result ≡ is_day y m d }
 {
-    if m < 1 {
-        return false;
-    }
-    if m > 12 {
-        return false;
-    }
-    if d < 1 {
-        return false;
-    }
-    d <= month_length(y, m)
+    (1..=12).contains(&m) && (1..=month_length(y, m)).contains(&d)
 }
 
 // The date of a year, a month and a day, if there is one.
 pub fn from_ymd(year: i32, month: u32, day: u32) -> Option<Date>
     ensures { date_meaning result ≡ day_number_of (from_ymd year month day) }
 {
-    let y = year_at(year);
-    if y == 0 {
+    let y = year_at(year)?;
+    if !is_day(y, month, day) {
         return None;
     }
-    if is_day(y, month, day) {
-        let d = day_at(y, month, day);
-        return Some(Date(lowered(d, 4371953)));
-    }
-    None
+    Some(Date(lowered(day_at(y, month, day), 4371953)))
 }
 
 // The date of a day number, if its year is in range.
 pub fn from_days(n: i32) -> Option<Date>
     ensures { date_meaning result ≡ day_number_of (from_days n) }
 {
-    if date_of_number(n) == 0 {
-        return None;
-    }
+    date_of_number(n)?;
     Some(Date(n))
 }
 
@@ -223,52 +166,30 @@ pub fn from_days(n: i32) -> Option<Date>
 pub fn ymd(d: Date) -> Option<Ymd>
     ensures { result ≡ ymd_at d.0 }
 {
-    let n = date_of_number(d.0);
-    if n == 0 {
-        return None;
-    }
-    let c = civil_of(n);
-    Some(Ymd {
-        year: lowered(c.year, 10000),
-        month: c.month,
-        day: c.day,
-    })
+    date_of_number(d.0).map(civil_of)
 }
 
 // The day of the week; none outside the years -9999 to 9999.
 pub fn weekday(d: Date) -> Option<u32>
     ensures { result ≡ weekday_at d.0 }
 {
-    let n = date_of_number(d.0);
-    if n == 0 {
-        return None;
-    }
-    Some(weekday_of(n))
+    date_of_number(d.0).map(weekday_of)
 }
 
 // How many days b lies after a; 0 where it lies before.
 pub fn days_between(a: Date, b: Date) -> u32
     ensures { result ≡ days_between a.0 b.0 }
 {
-    let from = raised(a.0);
-    let to = raised(b.0);
-    if to < from {
-        return 0;
-    }
-    (to - from) as u32
+    u32::try_from(i64::from(b.0) - i64::from(a.0)).unwrap_or(0)
 }
 
 // ---- date texts
 
-// The first ten bytes, or all where byte 10 goes on with the character before it.
+// The first ten bytes, or all where byte 10 goes on with the character before it. A text is bytes, and no `str`.
 fn first_ten(s: &[u8]) -> &[u8]
     ensures { result.now ≡ first_ten s.now }
 {
-    if s.len() <= 10 {
-        return s;
-    }
-    let b = s[10];
-    if (0x80 <= b) & (b <= 0xBF) {
+    if s.len() <= 10 || (0x80..=0xBF).contains(&s[10]) {
         return s;
     }
     &s[..10]
@@ -277,36 +198,32 @@ fn first_ten(s: &[u8]) -> &[u8]
 fn day_part(year: i32, month: u32, s: &[u8]) -> Option<Date>
     ensures { date_meaning result ≡ day_number_of (day_part year month s.now) }
 {
-    match text::whole_of(s) {
-        Some(day) => from_ymd(year, month, day),
-        None => None,
+    from_ymd(year, month, text::whole_of(s)?)
+}
+
+// What stands before the first `-`, and behind it.
+fn split_dash(s: &[u8]) -> Option<(&[u8], &[u8])>
+    ensures { MatchOption result (after dash s.now ≡ None) (λ p. (before dash s.now ≡ p.0.now) × (after dash s.now ≡ Some p.1.now)) }
+{
+    let k = text::place(s, b'-');
+    if k < s.len() {
+        return Some((&s[..k], &s[k + 1..]));
     }
+    None
 }
 
 fn month_part(year: i32, s: &[u8]) -> Option<Date>
     ensures { date_meaning result ≡ day_number_of (month_part year s.now) }
 {
-    let k = text::place(s, 45);
-    if k < s.len() {
-        return match text::whole_of(&s[..k]) {
-            Some(month) => day_part(year, month, &s[k + 1..]),
-            None => None,
-        };
-    }
-    None
+    let (head, rest) = split_dash(s)?;
+    day_part(year, text::whole_of(head)?, rest)
 }
 
 fn date_parts(s: &[u8]) -> Option<Date>
     ensures { date_meaning result ≡ day_number_of (date_parts s.now) }
 {
-    let k = text::place(s, 45);
-    if k < s.len() {
-        return match text::whole_of(&s[..k]) {
-            Some(year) => month_part(year, &s[k + 1..]),
-            None => None,
-        };
-    }
-    None
+    let (head, rest) = split_dash(s)?;
+    month_part(text::whole_of(head)?, rest)
 }
 
 // A date text: year, month and day with `-` between.

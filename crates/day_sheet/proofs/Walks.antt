@@ -4,18 +4,19 @@ use mathlib.Core.Path.{◌≡◌, refl, sym, ap, ◌∙◌}
 use mathlib.Core.Bool.{Bool, true, false, ◌||◌}
 use mathlib.Core.List.{List, [], ◌∷◌}
 use Rattle.std.specs.Prelude.{Option, Some, None}
+use Rattle.std.specs.Option.{option_eq}
+use Rattle.std.proofs.Common.{int_eq, rules, tests}
+use Rattle.definition.specs.contracts.DatePartialEq.TheImpl as date_eq
+use Rattle.definition.specs.declared.Date.{Date as DayNumber}
 use Prim.Native.Nat.{ℕ, suc, ◌+◌, ◌-◌, ◌≤◌, ◌<◌}
 use native.Mathlib.Omega.{arith}
 use borrow.Author.Tests.{eq-eqb, ne_eqb, eqb-true, eqb-false, ltb-true, ltb-false}
 use lib.Dec.{eqb, ltb}
 use lib.IntN.{ℤ, pos, negsuc}
-use mir.Syntax.{w32}
-use mir.Val.{to_z, of_z, SFits}
-use mir.ValLaws.{to_z-of_z}
 use lib.ListN.{length, drop, drop_of_length-le}
 use Rattle.laws.specs.Fields.{day_days}
 use Rattle.definition.specs.Base.{given, some?, keep, first, find}
-use Rattle.definition.specs.Answer.{day_number_of}
+use Rattle.definition.specs.Answer.{day_number_of, date_meaning}
 use Rattle.definition.specs.Date.{Date, epoch, day_number, from_days}
 use Rattle.definition.specs.Format.{Format, ◌⊗◌, date, dates, Period, period, periods, earlier}
 use Rattle.definition.specs.Calendar.{by_date, hours_on, or_hours}
@@ -38,25 +39,17 @@ eqb_by x y a d to from = by_same (eqb a d) refl
     by_same true h = eq-eqb x y (from (eqb-true a d h))
     by_same false h = ne_eqb x y (λ e. eqb-false a d h (to e))
 
--- two numbers of 32 bits
-pub same_bits : (y z : ℤ) → SFits w32 y → SFits w32 z → eqb (of_z w32 y) (of_z w32 z) ≡ same_day y z
-same_bits y z f g = by_bits (eqb (of_z w32 y) (of_z w32 z)) refl
+-- what `==` answers
+pub on_day : {b : Bool} (o : Option DayNumber) (d : DayNumber) → b ≡ option_eq date_eq.eq-value.it o (Some d) → b ≡ is_on (date_meaning o) d.0
+unfolding date_meaning
+on_day None d e = e
+on_day (Some x) d e = e ∙ same x.0 d.0
   where
-    self : (z : ℤ) → true ≡ same_day z z
-    self (pos n) = sym (eq-eqb n n refl)
-    self (negsuc n) = sym (eq-eqb n n refl)
-
-    differ : (y z : ℤ) → (y ≡ z → ⊥) → false ≡ same_day y z
-    differ (pos a) (pos b) n = sym (ne_eqb a b (λ e. n (ap pos e)))
-    differ (pos a) (negsuc b) n = refl
-    differ (negsuc a) (pos b) n = refl
-    differ (negsuc a) (negsuc b) n = sym (ne_eqb a b (λ e. n (ap negsuc e)))
-
-    by_bits : (t : Bool) → eqb (of_z w32 y) (of_z w32 z) ≡ t → t ≡ same_day y z
-    by_bits true h =
-        let e : y ≡ z = sym (to_z-of_z w32 y f) ∙ ap (to_z w32) (eqb-true (of_z w32 y) (of_z w32 z) h) ∙ to_z-of_z w32 z g in
-        self z ∙ ap (λ (x : ℤ). same_day x z) (sym e)
-    by_bits false h = differ y z (λ e. eqb-false (of_z w32 y) (of_z w32 z) h (ap (of_z w32) e))
+    same : (y z : ℤ) → int_eq y z ≡ same_day y z
+    same (pos a) (pos b) = search (rules, tests)
+    same (pos a) (negsuc b) = refl
+    same (negsuc a) (pos b) = refl
+    same (negsuc a) (negsuc b) = search (rules, tests)
 
 same_number : (a d : Date) → same_day (day_number a) (day_number d) ≡ eqb a d
 unfolding day_number

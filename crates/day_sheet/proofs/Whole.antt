@@ -2,31 +2,31 @@
 use mathlib.Core.Path.{◌≡◌, refl, sym, ap, ◌∙◌}
 use Rattle.definition.specs.declared.Refusal.{Refusal}
 use Rattle.definition.specs.declared.Refusal.TheVariants.{NoRoom}
-use Rattle.std.specs.Prelude.{Err, Ok, Result}
-use mathlib.Core.Bool.{true, false, ◌&&◌}
+use Rattle.std.specs.Prelude.{Err, Ok}
+use mathlib.Core.Bool.{true, false}
 use mathlib.Core.List.{List, [], ◌∷◌}
 use Rattle.std.specs.Prelude.{Option, Some, None}
 use Prim.Native.Nat.{ℕ, zero, suc, ◌+◌, ◌*◌, ◌/◌, ◌%◌, ◌≤◌, ◌<◌}
 use native.Mathlib.Nat.{add-zero}
 use native.Mathlib.Omega.{arith}
-use borrow.Author.Tests.{le-leb, lt-leb, lt-ltb, ltb-true}
-use lib.Dec.{ltb}
+use borrow.Author.Tests.{le-leb, lt-leb}
 use lib.IntN.{ℤ}
 use Rattle.std.specs.Prelude.{slice_get}
+use Rattle.std.specs.Option.{ok_or}
+use Rattle.std.proofs.lemmas.Option.{slice_get_past}
+use Rattle.date.specs.Answer.{weekday_at}
 use lib.ListN.{length, take, drop, get_or, replicate, length-append, length-replicate}
 use lib.Seq.{get_or-drop, length-take-le}
-use Rattle.definition.specs.Base.{◌>>=◌, ◌or◌}
+use Rattle.definition.specs.Base.{◌>>=◌}
 use Rattle.definition.specs.Text.{Text}
 use Rattle.definition.specs.Bits.{Bits, bits_of, bytes_of}
 use Rattle.definition.specs.Date.{Date, weekday, from_days}
 use Rattle.definition.specs.Format.{Format, Period, whole, times, periods, dates}
-use Rattle.definition.specs.Model.{Model, Calendar}
+use Rattle.definition.specs.Model.{Calendar}
 use Rattle.definition.specs.Pack.{calendar}
 use Rattle.definition.specs.Calendar.{or_hours, hours_on, default_periods, day_periods}
 use Rattle.definition.specs.DaySheet.{sheet, day_sheet}
 use Rattle.definition.specs.Refusal.{refused, in_room, sheet_on, day_sheet_answer}
-use Rattle.laws.specs.Options.{never}
-use Rattle.laws.specs.Bools.{and_left, and_right}
 use Rattle.laws.specs.Bits.{length_bytes, whole_bytes, bits_take, bytes_of_lem}
 use Rattle.laws.specs.Each.{each_take}
 use Rattle.bits.specs.Places.{at, inside, Fits, room_none}
@@ -41,12 +41,12 @@ use Rattle.model.specs.Parts.{record_of, lax_calendars}
 use Rattle.model.specs.Splits.{Stands, read_stands}
 use Rattle.model.specs.Lists.{stands_rest, ahead_later, ahead_item}
 use Rattle.model.specs.Places.{CalendarAt, calendar_is}
-use Rattle.model.specs.Sections.{byte_at, byte_rest, Opens, Sectioned}
+use Rattle.model.specs.Sections.{byte_at, byte_rest, Opens}
 use Rattle.model.specs.declared.parts.CalendarPlaces.{CalendarPlaces}
 use Rattle.model.specs.declared.Sections.{Sections}
 use Rattle.model.specs.declared.records.Kind.TheVariants.{Calendars}
 use Rattle.day_sheet.specs.Days.{exceptions, Listed, DayIs, day_value}
-use Rattle.day_sheet.specs.Answer.{start, leaves, left_by, Finished}
+use Rattle.day_sheet.specs.Answer.{start, leaves, left_by, Found}
 use Rattle.day_sheet.specs.declared.Day.{Day}
 use Rattle.day_sheet.proofs.Walks.{listed}
 
@@ -137,72 +137,79 @@ element_at_lem [] (suc i) e = cc
 element_at_lem (y ∷ xs) zero e = cc
 element_at_lem (y ∷ xs) (suc i) e = element_at_lem xs i e
 
-element_in : {A : Type 0} (xs : List A) (i : ℕ) {x : A} → slice_get xs i ≡ Some x → i < length xs
-element_in [] zero e = absurd (never e)
-element_in [] (suc i) e = absurd (never e)
-element_in (y ∷ xs) zero e = omega arith
-element_in (y ∷ xs) (suc i) e = omega (arith, element_in xs i e)
+-- a date's weekday
+dated : (z : ℤ) {w : ℕ} → weekday_at z ≡ Some w → (d : Date) × (from_days z ≡ Some d) × (w ≡ weekday d)
+unfolding weekday_at
+dated z {w} e = by (from_days z) refl e
+  where
+    by : (o : Option Date) → from_days z ≡ o → (o >>= λ d. Some (weekday d)) ≡ Some w → (d : Date) × (from_days z ≡ Some d) × (w ≡ weekday d)
+    by None f g = absurd (cc)
+    by (Some d) f g = (d, f, cc)
+
+undated : (z : ℤ) → weekday_at z ≡ None → from_days z ≡ None
+unfolding weekday_at
+undated z e = by (from_days z) refl e
+  where
+    by : (o : Option Date) → from_days z ≡ o → (o >>= λ d. Some (weekday d)) ≡ None → from_days z ≡ None
+    by None f g = f
+    by (Some d) f g = absurd (cc)
+
+-- what `ok_or` made of a value that may be missing
+pub was_none : {A : Type 0} {o : Option A} {e f : Refusal} → Err f ≡ ok_or o e → (o ≡ None) × (f ≡ e)
+was_none {o = None} h = (refl, cc)
+was_none {o = Some x} h = absurd (cc)
+
+pub was_some : {A : Type 0} {o : Option A} (e : Refusal) {x : A} → Ok x ≡ ok_or o e → o ≡ Some x
+was_some {o = None} e h = absurd (cc)
+was_some {o = Some y} e h = cc
 
 module _ {s : Text} (row : ℕ) (z : ℤ) (room : ℕ) {o : Option Sections} (h : Opens s o) where
   pub no_model : o ≡ None → day_sheet_answer s row z room ≡ refused 6
   unfolding day_sheet_answer
   no_model e = rw (h.refused e)
 
-  module _ {r : Sections} (ok : o ≡ Some r) {w : ℕ} (is : w ≡ ((from_days z >>= λ d. Some (weekday d)) or 7)) where
-    model_of : Sectioned s r
-    model_of = h.model r ok
+  -- the date is none
+  pub no_date : {r : Sections} → o ≡ Some r → weekday_at z ≡ None → day_sheet_answer s row z room ≡ refused 8
+  unfolding day_sheet_answer
+  no_date {r} ok e = let m = h.model r ok in rw (m.decodes, undated z e) (by_row (slice_get m.model.calendars row))
+    where
+      by_row : (c : Option Calendar) → sheet_on c None room ≡ refused 8
+      by_row None = refl
+      by_row (Some c) = refl
 
-    -- the row or the date is none
-    pub outside : (ltb row r.calendars.count && ltb w 7) ≡ false → day_sheet_answer s row z room ≡ refused 8
-    unfolding day_sheet_answer
-    outside k = let m = model_of in rw m.decodes (by_parts m.model m.sections.calendars.count (slice_get m.model.calendars row) (from_days z) refl refl)
-      where
-        by_parts : (m : Model) → length m.calendars ≡ r.calendars.count → (c : Option Calendar) (d : Option Date) → slice_get m.calendars row ≡ c → from_days z ≡ d → sheet_on c d room ≡ refused 8
-        by_parts m n None d i j = refl
-        by_parts m n (Some c) None i j = refl
-        by_parts m n (Some c) (Some d) i j =
-            let lt : row < r.calendars.count = omega (arith, element_in m.calendars row i) in
-            let eq : w ≡ weekday d = is ∙ rw j in
-            let l7 : w < 7 = omega (arith, weekday_lt d) in
-            let no : true ≡ false = sym (rw (lt-ltb _ _ lt, lt-ltb _ _ l7)) ∙ k in
-            cc
+  -- the row is none
+  pub no_row : {r : Sections} → o ≡ Some r → r.calendars.count ≤ row → day_sheet_answer s row z room ≡ refused 8
+  unfolding day_sheet_answer
+  no_row {r} ok le =
+      let m = h.model r ok in
+      rw (m.decodes, slice_get_past m.model.calendars row (omega (arith, m.sections.calendars.count)))
 
-    -- the calendar of the row stands where the records before it end
-    pub record SheetAt (p : Place) : Type 0 where
-      pub value : Calendar
-      pub date : Date
-      pub stands : Stands (whole calendar) s p value
-      pub is_date : from_days z ≡ Some date
-      pub on : w ≡ weekday date
-      pub answers : day_sheet_answer s row z room ≡ in_room room (day_sheet value date)
+-- the calendar of the row stands where the records before it end
+pub record SheetAt (s : Text) (row : ℕ) (z : ℤ) (w : ℕ) (p : Place) : Type 0 where
+  pub value : Calendar
+  pub date : Date
+  pub stands : Stands (whole calendar) s p value
+  pub is_date : from_days z ≡ Some date
+  pub on : w ≡ weekday date
+  pub answers : (room : ℕ) → day_sheet_answer s row z room ≡ in_room room (day_sheet value date)
 
-    dated : w < 7 → (d : Date) × (from_days z ≡ Some d) × (w ≡ weekday d)
-    dated l = by_date_lem (from_days z) refl
-      where
-        by_date_lem : (o : Option Date) → from_days z ≡ o → (d : Date) × (from_days z ≡ Some d) × (w ≡ weekday d)
-        by_date_lem None j = let e : w ≡ 7 = is ∙ rw j in absurd (omega arith)
-        by_date_lem (Some d) j = (d, j, is ∙ rw j)
+pub sheet_at : {s : Text} (row : ℕ) (z : ℤ) {o : Option Sections} → Opens s o → {r : Sections} → o ≡ Some r → {w : ℕ} → weekday_at z ≡ Some w → {p : Place} → row < r.calendars.count
+    → Passes (times row (record_of false Calendars)) s (byte_at r.calendars.at) p → SheetAt s row z w p
+unfolding day_sheet_answer
+sheet_at {s} row z h {r} ok e {p} lt q =
+    let m = h.model r ok in
+    let x = m.sections.calendars in
+    let d = dated z e in
+    let i = ahead_item (ahead_later r.calendars.count row (lax_calendars false) (byte_rest s _ x.ends) x.reads q) lt in
+    record {
+      value = i.item;
+      date = d.0;
+      stands = i.stands;
+      is_date = d.1;
+      on = d.2;
+      answers = λ room. rw (m.decodes, element_at_lem m.model.calendars row i.is, d.1);
+    }
 
-    pub sheet_at : {p : Place} → (ltb row r.calendars.count && ltb w 7) ≡ true → Passes (times row (record_of false Calendars)) s (byte_at r.calendars.at) p → SheetAt p
-    unfolding day_sheet_answer
-    sheet_at k q =
-        let m = model_of in
-        let x = m.sections.calendars in
-        let lt = ltb-true row r.calendars.count (and_left _ (ltb w 7) k) in
-        let d = dated (ltb-true w 7 (and_right (ltb row r.calendars.count) _ k)) in
-        let i = ahead_item (ahead_later r.calendars.count row (lax_calendars false) (byte_rest s _ x.ends) x.reads q) lt in
-        record {
-          value = i.item;
-          date = d.0;
-          stands = i.stands;
-          is_date = d.1;
-          on = d.2;
-          answers = rw (m.decodes, element_at_lem m.model.calendars row i.is, d.1);
-        }
-
--- the sheet was put and finished
-pub answered : {s : Text} {day : ℕ} (row : ℕ) (z : ℤ) {d₀ d out : Text} {end : Place} {dd : Day} {c : Calendar} (r : Result ℕ Refusal) → day_sheet_answer s row z (length d₀) ≡ in_room (length d₀) (day_sheet c day)
-    → DayIs s c day dd → ((l : List Period) → Listed s dd.hours l → Puts sheet (day_value dd l) d₀ start d end) → Finished d end r out → leaves r out ≡ left_by (length d₀) (day_sheet_answer s row z (length d₀))
-answered row z r e h w f =
-    let u = w _ h.hours in
-    f _ _ u ∙ rw (u.step.same, sheet_is h, e)
+-- what a sheet is put of
+pub found : {s : Text} {row : ℕ} {z : ℤ} {w : ℕ} {p : Place} {r : Day} (t : SheetAt s row z w p) → DayIs s t.value t.date r → Found s row z (Ok r)
+found t h = (_, h.hours, λ room. t.answers room ∙ ap (in_room room) (sym (sheet_is h)))

@@ -1,8 +1,8 @@
 -- What stands at the places that are looked up: a list of periods, and what a calendar says of a date. Assumes nothing.
 use Rattle.std.specs.Prelude.{◌≡◌, Bool, false, ℤ, pos, negsuc, List, [], ℕ, eqb, get_or}
 use Rattle.std.specs.Prelude.{Option, Some, None}
-use Rattle.definition.specs.Base.{◌>>=◌, ◌or◌, some?}
-use Rattle.definition.specs.Date.{Date, weekday as weekday_of, from_days}
+use Rattle.definition.specs.Base.{some?}
+use Rattle.definition.specs.Date.{Date, weekday as weekday_of}
 use Rattle.definition.specs.Format.{Format, ◌⊗◌, Period, period, periods, date, list_of}
 use Rattle.definition.specs.Model.{Calendar}
 use Rattle.definition.specs.Calendar.{by_date, or_hours, hours_on, default_periods}
@@ -14,10 +14,6 @@ use Rattle.day_sheet.specs.declared.Day.{Day}
 -- a calendar's exceptions
 abbrev pub exceptions : Format (List (Date × List Period))
 exceptions = list_of by_date (date ⊗ periods)
-
--- the weekday of a day by document 01's number; 7 outside the years
-abbrev pub weekday_on : ℤ → ℕ
-weekday_on z = (from_days z >>= λ d. Some (weekday_of d)) or 7
 
 -- whether a date that may be missing is a day, both by document 01's numbers
 abbrev pub same_day : ℤ → ℤ → Bool

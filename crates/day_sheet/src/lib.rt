@@ -3,7 +3,6 @@
 
 ghost use Rattle.std.specs.Prelude.{◌≡◌, List, eqb, length};
 ghost use Rattle.definition.specs.Base.{◌or◌, some?};
-ghost use Rattle.definition.specs.Answer.{date_meaning};
 ghost use Rattle.definition.specs.Date.{Date as DateOf, weekday as weekday_of, from_days};
 ghost use Rattle.definition.specs.Format.{Period as PeriodOf, period, periods, dates, times, whole};
 ghost use Rattle.definition.specs.Model.{Calendar};
@@ -15,8 +14,8 @@ ghost use Rattle.bits.specs.Steps.{Puts};
 ghost use Rattle.model.specs.Answers.{period_meaning};
 ghost use Rattle.model.specs.Splits.{Stands};
 ghost use Rattle.model.specs.Lists.{Ahead};
-ghost use Rattle.day_sheet.specs.Days.{exceptions, weekday_on, is_on, Listed, DayIs, day_value};
-ghost use Rattle.day_sheet.specs.Answer.{start, Finished, leaves, left_by};
+ghost use Rattle.day_sheet.specs.Days.{exceptions, Listed, DayIs, day_value};
+ghost use Rattle.day_sheet.specs.Answer.{start, Found, Finished, leaves, left_by};
 
 use bits::{PAST, Place};
 use definition::{Date, Refusal};
@@ -25,42 +24,18 @@ use model::records::{Kind, skip_records};
 
 // ---- what a calendar says of a date
 
-// The weekday of a day, Monday 0; 7 outside the years.
-fn weekday_of(day: Date) -> u32
-    ensures { result ≡ weekday_on day.0 }
-{
-    match date::weekday(day) {
-        Some(w) => w,
-        None => 7,
-    }
-}
-
-// Whether a date that was taken is a day.
-fn is_on(d: Option<Date>, day: Date) -> bool
-    ensures { result ≡ is_on (date_meaning d) day.0 }
-{
-    match d {
-        Some(x) => x.0 == day.0,
-        None => false,
-    }
-}
-
-// Whether a list of dates has a day.
+// Whether a list of dates has a day. A scan, once a sheet: the items stand in bits at places that only the one before gives, and are no slice.
 fn has_date(s: &[u8], p: Place, day: Date) -> bool
     ensures { (d : DateOf) → from_days day.0 ≡ Some d → (l : List DateOf) → Stands dates s.now p l → result ≡ some? (eqb d) l }
 {
     let n = bits::take(s, p, 32);
-    let count = n.value;
     let mut q = n.next;
-    let mut i: u64 = 0;
-    while i < count {
+    for _ in 0..n.value {
         let t = take_date(s, q);
-        let d = t.date;
-        if is_on(d, day) {
+        if t.date == Some(day) {
             return true;
         }
         q = t.next;
-        i += 1;
     }
     false
 }
@@ -70,18 +45,13 @@ fn exception_place(s: &[u8], p: Place, day: Date) -> Place
     ensures { (d : DateOf) → from_days day.0 ≡ Some d → (l : List (DateOf × List PeriodOf)) → Stands exceptions s.now p l → Listed s.now result (hours_on l d) }
 {
     let n = bits::take(s, p, 32);
-    let count = n.value;
     let mut q = n.next;
-    let mut i: u64 = 0;
-    while i < count {
+    for _ in 0..n.value {
         let t = take_date(s, q);
-        let d = t.date;
-        let next = t.next;
-        if is_on(d, day) {
-            return next;
+        if t.date == Some(day) {
+            return t.next;
         }
-        q = skip_periods(s, next);
-        i += 1;
+        q = skip_periods(s, t.next);
     }
     PAST
 }
@@ -124,6 +94,24 @@ fn day_of(s: &[u8], p: Place, day: Date, weekday: u32) -> Day
     }
 }
 
+// The day in the calendar of a row.
+fn find_day(s: &[u8], calendar: u32, date: Date) -> Result<Day, Refusal>
+    ensures { Found s.now calendar date.0 result }
+{
+    let m = model::open(s).ok_or(Refusal::NoModel)?;
+    let weekday = date::weekday(date).ok_or(Refusal::Outside)?;
+    let calendars = m.calendars;
+    if calendars.count <= calendar {
+        return Err(Refusal::Outside);
+    }
+    let first = Place {
+        byte: calendars.at,
+        bit: 0,
+    };
+    let p = skip_records::<false>(s, first, Kind::Calendars, calendar);
+    Ok(day_of(s, p, date, weekday))
+}
+
 // ---- the sheet written
 
 fn put_period(out: &mut [u8], p: Place, from: u64, to: u64) -> Place
@@ -147,7 +135,7 @@ fn put_taken(out: &mut [u8], p: Place, t: Option<Period>) -> Place
     ensures { Puts period (period_meaning t or (0, 0)) out.old p out.new result }
 {
     match t {
-        Some(x) => put_period(out, p, x.from as u64, x.to as u64),
+        Some(x) => put_period(out, p, u64::from(x.from), u64::from(x.to)),
         None => put_period(out, p, 0, 0),
     }
 }
@@ -158,13 +146,10 @@ fn copy_periods(s: &[u8], from: Place, count: u64, out: &mut [u8], p: Place) -> 
 {
     let mut q = from;
     let mut at = p;
-    let mut i: u64 = 0;
-    while i < count {
+    for _ in 0..count {
         let t = take_period(s, q);
-        let taken = t.period;
-        at = put_taken(out, at, taken);
+        at = put_taken(out, at, t.period);
         q = t.next;
-        i += 1;
     }
     at
 }
@@ -185,7 +170,7 @@ fn put_periods(s: &[u8], q: Place, out: &mut [u8], p: Place) -> Place
 fn put_day(s: &[u8], d: Day, out: &mut [u8]) -> Place
     ensures { (l : List PeriodOf) → Listed s.now d.hours l → Puts sheet_format (day_value d l) out.old start out.new result }
 {
-    let a = bits::put(out, Place { byte: 0, bit: 0 }, 4, d.weekday as u64);
+    let a = bits::put(out, Place { byte: 0, bit: 0 }, 4, u64::from(d.weekday));
     let b = bits::put_flag(out, a, d.holiday);
     let c = bits::put_flag(out, b, d.extra);
     let e = put_periods(s, d.hours, out, c);
@@ -209,24 +194,14 @@ fn finish(out: &mut [u8], end: Place) -> Result<usize, Refusal>
 pub fn day_sheet(s: &[u8], calendar: u32, date: Date, sheet: &mut [u8]) -> Result<usize, Refusal>
     ensures { leaves result sheet.new ≡ left_by (length sheet.old) (day_sheet_answer s.now calendar date.0 (length sheet.old)) }
 {
-    let opened = model::open(s);
-    let Some(m) = opened else {
-        sheet.fill(0);
-        return Err(Refusal::NoModel);
-    };
-    let weekday = weekday_of(date);
-    let calendars = m.calendars;
-    let there = (calendar < calendars.count) & (weekday < 7);
-    if !there {
-        sheet.fill(0);
-        return Err(Refusal::Outside);
+    match find_day(s, calendar, date) {
+        Ok(d) => {
+            let end = put_day(s, d, sheet);
+            finish(sheet, end)
+        }
+        Err(e) => {
+            sheet.fill(0);
+            Err(e)
+        }
     }
-    let first = Place {
-        byte: calendars.at,
-        bit: 0,
-    };
-    let p = skip_records::<false>(s, first, Kind::Calendars, calendar);
-    let d = day_of(s, p, date, weekday);
-    let end = put_day(s, d, sheet);
-    finish(sheet, end)
 }

@@ -1,9 +1,11 @@
 -- From the rows that are written to what the definition says. Assumes nothing.
 use mathlib.Core.Path.{◌≡◌, refl, sym, ap, ◌∙◌}
 use mathlib.Core.List.{List, ◌++◌}
-use Prim.Native.Nat.{ℕ, ◌-◌, ◌*◌, ◌/◌, ◌≤◌, ◌<◌}
+use Prim.Native.Nat.{ℕ, ◌-◌, ◌*◌, ◌/◌, ◌≤◌}
 use native.Mathlib.Omega.{arith}
-use borrow.Author.Tests.{lt-ltb, le-ltb}
+use mathlib.Core.Bool.{Bool, true, false, ◌||◌}
+use lib.Dec.{ltb}
+use borrow.Author.Tests.{le-ltb, ltb-false}
 use lib.ListN.{length, take, replicate}
 use lib.Seq.{length-take-le}
 use Rattle.definition.specs.Outline.{outline_of}
@@ -14,26 +16,20 @@ use Rattle.outline.proofs.ParentLaws.{length_parents}
 use Rattle.outline.proofs.Lists.{links_none}
 
 module _ (n room : ℕ) (work : List ℕ) where
-  short_rows : room < 2 * n → outline_words n room work ≡ refused 9
+  short : (ltb room (2 * n) || ltb (length work) (4 * n)) ≡ true → outline_words n room work ≡ refused 9
   unfolding outline_words
-  short_rows h = rw (lt-ltb room (2 * n) h)
-
-  short_work : 2 * n ≤ room → length work < 4 * n → outline_words n room work ≡ refused 9
-  unfolding outline_words
-  short_work h k = rw (le-ltb room (2 * n) h, lt-ltb (length work) (4 * n) k)
+  short h = rw h
 
   enough : 2 * n ≤ room → 4 * n ≤ length work → outline_words n room work ≡ gives (row_words (outline_of (parents_in n work)))
   unfolding outline_words
   enough h k = rw (le-ltb room (2 * n) h, le-ltb (length work) (4 * n) k)
 
-pub wrote_none : (n : ℕ) (rows work : List ℕ) → outline_words n (length rows) work ≡ refused 9 → Wrote n rows work rows work 0
-wrote_none n rows work e = record { long_rows = refl; long_work = refl; room = omega arith; words = ap words_of e }
+pub wrote_short : (n : ℕ) (rows work : List ℕ) → (ltb (length rows) (2 * n) || ltb (length work) (4 * n)) ≡ true → Wrote n rows work rows work 0
+wrote_short n rows work h = record { long_rows = refl; long_work = refl; room = omega arith; words = ap words_of (short n (length rows) work h) }
 
-pub wrote_short_rows : (n : ℕ) (rows work : List ℕ) → length rows < 2 * n → Wrote n rows work rows work 0
-wrote_short_rows n rows work h = wrote_none n rows work (short_rows n (length rows) work h)
-
-pub wrote_short_work : (n : ℕ) (rows work : List ℕ) → 2 * n ≤ length rows → length work < 4 * n → Wrote n rows work rows work 0
-wrote_short_work n rows work h k = wrote_none n rows work (short_work n (length rows) work h k)
+pub room_for : (a b c d : ℕ) (t : Bool) → ltb a b ≡ t → (t || ltb c d) ≡ false → (b ≤ a) × (d ≤ c)
+room_for a b c d true e h = let z : ◌≡◌ {A = ℕ} 0 1 = cc in absurd (omega arith)
+room_for a b c d false e h = (ltb-false a b e, ltb-false c d h)
 
 pub wrote_all : (n : ℕ) (rows work : List ℕ) {rows' work₁ work₂ : List ℕ} {r : ℕ} → 2 * n ≤ length rows → 4 * n ≤ length work → Empty n work work₁
     → Linked n work₁ work₂ → Walked n rows work₂ rows' r → Wrote n rows work rows' work₂ r

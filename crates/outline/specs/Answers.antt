@@ -2,8 +2,7 @@
 use Rattle.definition.specs.Answer.{answer_length, answer_number}
 use Rattle.std.specs.Prelude.{ℕ, ◌≡◌, List, length, replicate}
 use Rattle.definition.specs.declared.Refusal.{Refusal}
-use Rattle.definition.specs.declared.Refusal.TheVariants.{NoModel, NoRoom}
-use Rattle.std.specs.Prelude.{Err, Ok, Result}
+use Rattle.std.specs.Prelude.{Result}
 use Rattle.definition.specs.Refusal.{result, left, row_count, outline_answer}
 
 -- document 01's number, and how many rows there are

@@ -14,16 +14,17 @@ use bits::fill_from;
 use definition::Refusal;
 use model::{sections_of, take_counts};
 
-// A word that names no row.
+// A word that names no row, as the lent words hold it: a word has no room for an Option, so `climb`, `step` and `walk` test for it.
 const NONE: u32 = 0xFFFF_FFFF;
 
-const PARENT: usize = 0;
+// The words of a row in the lent slice. Rows name each other by number there: no heap holds nodes.
+const PARENT: u32 = 0;
 
-const CHILD: usize = 1;
+const CHILD: u32 = 1;
 
-const NEXT: usize = 2;
+const NEXT: u32 = 2;
 
-const TOP: usize = 3;
+const TOP: u32 = 3;
 
 // A row that is visited, and how many rows it is below.
 #[derive(Clone, Copy)]
@@ -32,19 +33,19 @@ struct Visit {
     depth: u32,
 }
 
-fn field(work: &[u32], row: u32, word: usize) -> u32
-    requires { word < 4 }
+fn field(work: &[u32], row: u32, word: u32) -> u32
     ensures { result ≡ get_or work.now (4 * row + word) 0 }
 {
-    let i = 4 * (row as usize) + word;
-    if i < work.len() { work[i] } else { 0 }
+    work.get(4 * (row as usize) + word as usize)
+        .copied()
+        .unwrap_or(0)
 }
 
-fn set_field(work: &mut [u32], row: u32, word: usize, value: u32)
-    requires { word < 4 }
+// By index: what is written through a `get_mut` is not known to the proof, which was tried.
+fn set_field(work: &mut [u32], row: u32, word: u32, value: u32)
     ensures { work.new ≡ set work.old (4 * row + word) value }
 {
-    let i = 4 * (row as usize) + word;
+    let i = 4 * (row as usize) + word as usize;
     if i < work.len() {
         work[i] = value;
     }
@@ -55,17 +56,14 @@ fn empty_lists(n: u32, work: &mut [u32])
     requires { 4 * n ≤ length work.old }
     ensures { Empty n work.old work.new }
 {
-    let mut i: u32 = 0;
-    while i < n {
+    for i in 0..n {
         set_field(work, i, CHILD, NONE);
         set_field(work, i, TOP, NONE);
-        i += 1;
     }
 }
 
 // Puts row i in front of the list that begins at a word of row p.
-fn push(work: &mut [u32], i: u32, p: u32, word: usize)
-    requires { word < 4 }
+fn push(work: &mut [u32], i: u32, p: u32, word: u32)
     ensures { work.new ≡ pushed work.old i p word }
 {
     set_field(work, i, PARENT, p);
@@ -79,15 +77,11 @@ fn link(n: u32, i: u32, work: &mut [u32])
     ensures { work.new ≡ link_of n i work.old }
 {
     let p = field(work, i, PARENT);
-    if n <= p {
+    if n <= p || p == i {
         push(work, i, 0, TOP);
-        return;
+    } else {
+        push(work, i, p, CHILD);
     }
-    if p == i {
-        push(work, i, 0, TOP);
-        return;
-    }
-    push(work, i, p, CHILD);
 }
 
 // Links all rows, the last first, so that each list rises.
@@ -95,9 +89,7 @@ fn link_rows(n: u32, work: &mut [u32])
     requires { 4 * n ≤ length work.old }
     ensures { Linked n work.old work.new }
 {
-    let mut i = n;
-    while 0 < i {
-        i -= 1;
+    for i in (0..n).rev() {
         link(n, i, work);
     }
 }
@@ -107,17 +99,15 @@ fn climb(work: &[u32], row: u32, depth: u32) -> Visit
     ensures { Climbed work.now row depth result }
 {
     let mut r = row;
-    let mut d = depth;
-    while 0 < d {
+    for d in (0..depth).rev() {
         let next = field(work, r, NEXT);
         if next != NONE {
             return Visit {
                 row: next,
-                depth: d,
+                depth: d + 1,
             };
         }
         r = field(work, r, PARENT);
-        d -= 1;
     }
     Visit {
         row: field(work, r, NEXT),
@@ -131,10 +121,7 @@ fn step(n: u32, work: &[u32], row: u32, depth: u32) -> Visit
     ensures { Stepped n work.now row depth result }
 {
     let child = field(work, row, CHILD);
-    if child == NONE {
-        return climb(work, row, depth);
-    }
-    if depth + 1 < n {
+    if child != NONE && depth + 1 < n {
         return Visit {
             row: child,
             depth: depth + 1,
@@ -161,29 +148,24 @@ fn walk(n: u32, rows: &mut [u32], work: &[u32]) -> u32
     if n == 0 {
         return 0;
     }
-    let mut k: u32 = 0;
-    let mut row = field(work, 0, TOP);
-    let mut depth: u32 = 0;
-    while k < n {
-        if row == NONE {
+    let mut at = Visit {
+        row: field(work, 0, TOP),
+        depth: 0,
+    };
+    for k in 0..n {
+        if at.row == NONE {
             return k;
         }
-        put_row(rows, k, row, depth + 1);
-        k += 1;
-        let at = step(n, work, row, depth);
-        row = at.row;
-        depth = at.depth;
+        put_row(rows, k, at.row, at.depth + 1);
+        at = step(n, work, at.row, at.depth);
     }
-    k
+    n
 }
 
 fn write_rows(n: u32, rows: &mut [u32], work: &mut [u32]) -> u32
     ensures { Wrote n rows.old work.old rows.new work.new result }
 {
-    if rows.len() < 2 * (n as usize) {
-        return 0;
-    }
-    if work.len() < 4 * (n as usize) {
+    if is_short(n, rows.len(), work.len()) {
         return 0;
     }
     empty_lists(n, work);
@@ -216,18 +198,12 @@ pub fn outline(s: &[u8], rows: &mut [u32], work: &mut [u32]) -> Result<u32, Refu
 {
     let counts = take_counts(s);
     let places = walk_model(s, counts, work);
-    let opened = sections_of(s.len(), counts, places);
-    let Some(m) = opened else {
-        fill_from(rows, 0, 0);
-        fill_from(work, 0, 0);
-        return Err(Refusal::NoModel);
+    let refusal = match sections_of(s.len(), counts, places) {
+        None => Refusal::NoModel,
+        Some(m) if is_short(m.activities.count, rows.len(), work.len()) => Refusal::NoRoom,
+        Some(m) => return Ok(outline_rows(m.activities.count, rows, work)),
     };
-    let activities = m.activities;
-    let n = activities.count;
-    if is_short(n, rows.len(), work.len()) {
-        fill_from(rows, 0, 0);
-        fill_from(work, 0, 0);
-        return Err(Refusal::NoRoom);
-    }
-    Ok(outline_rows(n, rows, work))
+    fill_from(rows, 0, 0);
+    fill_from(work, 0, 0);
+    Err(refusal)
 }

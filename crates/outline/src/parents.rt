@@ -13,10 +13,7 @@ use model::{Counts, Places, walk_behind, walk_head};
 fn word_of(parent: Option<u32>) -> u32
     ensures { result ≡ word_of parent }
 {
-    match parent {
-        Some(row) => row,
-        None => NONE,
-    }
+    parent.unwrap_or(NONE)
 }
 
 // The word for the parent of the activity at a place, and the place of the next activity.
@@ -45,16 +42,13 @@ fn fill(s: &[u8], p: Place, count: u32, work: &mut [u32]) -> Place
     ensures { Filled s.now p count work.old work.new result }
 {
     let mut q = p;
-    let mut i: u32 = 0;
-    while i < count {
+    for i in 0..count {
         let parent = take_parent(s, q);
         set_field(work, i, PARENT, parent.word);
-        let next = parent.next;
-        q = next;
+        q = parent.next;
         if 7 < q.bit {
             return q;
         }
-        i += 1;
     }
     q
 }

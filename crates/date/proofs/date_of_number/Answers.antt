@@ -1,5 +1,3 @@
-use lib.IntN.{ℤ}
-use Rattle.definition.specs.Base.{◌or◌}
 use Rattle.date.specs.Answer.{placed}
 use Rattle.definition.specs.Date.{epoch, first_date, last_date}
 use mathlib.Core.Path.{◌∙◌, ap}
@@ -7,5 +5,4 @@ use Rattle.date.proofs.Signs.{back, days_placed}
 use Rattle.date.proofs.date_of_number.Goals as goal
 
 pub returns : goal.returns
-returns c =
-    rw days_placed (c.place.ensures ∙ ap (λ (z : ℤ). placed epoch first_date last_date z or 0) (back c.args.n c.ranges.n))
+returns c = rw days_placed (c.place.ensures ∙ ap (placed epoch first_date last_date) (back c.args.n c.ranges.n))

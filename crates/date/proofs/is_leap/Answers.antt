@@ -4,12 +4,12 @@ use Rattle.date.proofs.is_leap.Goals as goal
 
 pub returns-then-y-ne0 : goal.returns-then-y-ne0
 unfolding leap
-returns-then-y-ne0 c = simp (ne_eqb _ _ c.if-y-ne0.true)
+returns-then-y-ne0 c = simp (eq-eqb _ _ c.if-y-eq0.true, ne_eqb _ _ c.if-y-ne0.true)
 
-pub returns-then-y-ne0-2 : goal.returns-then-y-ne0-2
+pub returns-else-y-ne0 : goal.returns-else-y-ne0
 unfolding leap
-returns-then-y-ne0-2 c = simp (eq-eqb _ _ c.if-y-ne0.false, ne_eqb _ _ c.if-y-ne0-2.true)
+returns-else-y-ne0 c = simp (eq-eqb _ _ c.if-y-eq0.true, eq-eqb _ _ c.if-y-ne0.false)
 
-pub returns : goal.returns
+pub returns-else-y-eq0 : goal.returns-else-y-eq0
 unfolding leap
-returns c = simp (eq-eqb _ _ c.if-y-ne0.false, eq-eqb _ _ c.if-y-ne0-2.false)
+returns-else-y-eq0 c = simp (ne_eqb _ _ c.if-y-eq0.false)

@@ -1,30 +1,24 @@
-use mathlib.Core.Path.{◌≡◌, ap, ◌∙◌}
-use Rattle.date.specs.Answer.{raised_of}
-use borrow.Author.Tests.{le-leb, lt-leb}
-use Rattle.date.proofs.Signs.{back, raised_most, placed_by}
-use native.Mathlib.Omega.{arith}
+use Rattle.std.proofs.Common.{rules, tests, arith}
+use Rattle.std.proofs.lemmas.Int.{ints}
+use lib.IntN.{pos, ◌+ℤ◌}
+use mir.Syntax.{w64}
+use mir.Val.{to_z, of_z}
+use mathlib.Core.Path.{◌≡◌, sym, ◌∙◌}
+use Rattle.definition.specs.Base.{within}
+use Rattle.date.proofs.Signs.{then_when, tried_placed, tried_unplaced}
 use Rattle.date.proofs.place.Goals as goal
-use Rattle.date.proofs.place.Goals.{After-raised}
+use Rattle.date.proofs.place.Goals.{After-try_from}
 
-told : (c : After-raised) → c.raised.result ≡ raised_of c.args.n
-told c = c.raised.ensures ∙ ap raised_of (back c.args.n c.ranges.n)
+sum : (c : After-try_from) → to_z w64 (of_z w64 (to_z w64 (of_z w64 c.from.result) +ℤ to_z w64 (of_z w64 c.from-2.result))) ≡ c.args.n +ℤ pos c.args.from
+sum c = omega (arith, ints)
 
-pub overflow_add-k : goal.overflow_add-k
-overflow_add-k c =
-    let e = told (goal.at.overflow_add-k c).After-raised in
-    omega (arith, raised_most c.args.n c.ranges.n.sfits)
-
-pub returns-then-k-first : goal.returns-then-k-first
-returns-then-k-first c =
-    rw (placed_by c.args.from c.args.first c.args.last c.requires c.args.n c.ranges.n.sfits, ← told (goal.at.returns-then-k-first c).After-raised)
-    (simp (lt-leb _ _ c.if-k-first.true))
-
-pub returns-then-k-last : goal.returns-then-k-last
-returns-then-k-last c =
-    rw (placed_by c.args.from c.args.first c.args.last c.requires c.args.n c.ranges.n.sfits, ← told (goal.at.returns-then-k-last c).After-raised)
-    (simp (le-leb _ _ c.if-k-first.false, lt-leb _ _ c.if-k-last.true))
+pub returns-in_err-k : goal.returns-in_err-k
+returns-in_err-k c =
+    c.from_residual.ensures
+    ∙ sym (tried_unplaced _ _ c.args.last c.try_from.result c.args.n _ (omega arith) (sum (goal.at.returns-in_err-k c).After-try_from) c.try_from.ensures c.in_err-k.ensures.value)
 
 pub returns : goal.returns
 returns c =
-    rw (placed_by c.args.from c.args.first c.args.last c.requires c.args.n c.ranges.n.sfits, ← told (goal.at.returns c).After-raised)
-    (simp (le-leb _ _ c.if-k-first.false, le-leb _ _ c.if-k-last.false))
+    let h : c.contains.result ≡ within c.args.first c.args.last c.in_ok-k.k = search (rules, tests) in
+    rw (tried_placed _ c.args.first c.args.last c.try_from.result c.args.n _ c.in_ok-k.k (sum (goal.at.returns c).After-try_from) c.try_from.ensures c.in_ok-k.ensures.value, ← h)
+    (c.then_some.ensures ∙ then_when c.contains.result c.in_ok-k.k)

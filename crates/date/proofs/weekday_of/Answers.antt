@@ -1,7 +1,7 @@
-use mathlib.Core.Path.{refl}
+use native.Mathlib.Omega.{arith}
 use Rattle.definition.specs.Date.{weekday}
 use Rattle.date.proofs.weekday_of.Goals as goal
 
 pub returns : goal.returns
 unfolding weekday
-returns c = refl
+returns c = omega arith

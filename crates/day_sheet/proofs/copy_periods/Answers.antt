@@ -3,14 +3,14 @@ use native.Mathlib.Omega.{arith}
 use Rattle.day_sheet.proofs.Writes.{copied_none, copied_more, copied_all}
 use Rattle.day_sheet.proofs.copy_periods.Goals as goal
 
-pub loop-i-init : goal.loop-i-init
-loop-i-init c = let a = c.args in (omega arith, refl, copied_none a.s.now a.from a.count a.out.now a.p)
+pub loop-init : goal.loop-init
+loop-init c = let a = c.args in (omega arith, refl, copied_none a.s.now a.from a.count a.out.now a.p)
 
-pub loop-i-preserved : goal.loop-i-preserved
-loop-i-preserved c = (omega arith, c.put_taken-at.ensures.step.same ∙ c.loop-i.invariant.1, copied_more c.loop-i.invariant.2 c.loop-i-test.true c.take_period-t.ensures c.put_taken-at.ensures)
+pub loop-preserved : goal.loop-preserved
+loop-preserved c = (omega arith, c.put_taken-at.ensures.step.same ∙ c.loop.invariant.1, copied_more c.loop.invariant.2 c.loop-test.true c.take_period-t.ensures c.put_taken-at.ensures)
 
 pub shape_of-out : goal.shape_of-out
-shape_of-out c = c.loop-i.invariant.1
+shape_of-out c = c.loop.invariant.1
 
 pub returns : goal.returns
-returns c = λ l h. copied_all c.loop-i.invariant.2 (omega arith) l h
+returns c = λ l h. copied_all c.loop.invariant.2 (omega arith) l h

@@ -1,5 +1,7 @@
 use mathlib.Core.Path.{refl, ◌∙◌}
 use Rattle.outline.proofs.Turns.{climb_found, climb_up, climb_last}
+use mathlib.Core.Path.{◌≡◌}
+use Prim.Native.Nat.{◌+◌, ◌-◌}
 use native.Mathlib.Omega.{arith}
 use Rattle.outline.proofs.climb.Goals as goal
 
@@ -9,7 +11,8 @@ loop-d-init c = (omega arith, refl)
 pub returns-then-next : goal.returns-then-next
 returns-then-next c =
     let w = c.args.work.now in
-    record { place = climb_found w c.loop-d.r c.loop-d.d c.field-next.ensures c.if-next.true (omega arith) ∙ c.loop-d.invariant.1; deep = omega arith }
+    let e : c.loop-d.d - 1 + 1 ≡ c.loop-d.d = omega arith in
+    record { place = rw e (climb_found w c.loop-d.r c.loop-d.d c.field-next.ensures c.if-next.true (omega arith) ∙ c.loop-d.invariant.1); deep = omega arith }
 
 pub loop-d-preserved : goal.loop-d-preserved
 loop-d-preserved c =

@@ -6,6 +6,3 @@ use Rattle.outline.proofs.climb.Given as goal
 
 abbrev pub invariant-loop-d : goal.invariant-loop-d
 invariant-loop-d l = (l.d ≤ l.depth) × (climb_of l.work l.d l.r ≡ climb_of l.work l.depth l.row)
-
-abbrev pub decreases-loop-d : goal.decreases-loop-d
-decreases-loop-d l = l.d

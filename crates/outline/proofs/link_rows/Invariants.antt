@@ -9,6 +9,3 @@ use Rattle.outline.proofs.link_rows.Given as goal
 
 abbrev pub invariant-loop-i : goal.invariant-loop-i
 invariant-loop-i l = (l.i ≤ l.n) × (length l.work ≡ length l.initial.work) × ((ps : List (Option ℕ)) → l.n ≡ length ps → Links ps l.n l.initial.work → Links ps l.i l.work)
-
-abbrev pub decreases-loop-i : goal.decreases-loop-i
-decreases-loop-i l = l.i

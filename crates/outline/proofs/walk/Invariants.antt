@@ -2,14 +2,11 @@
 use mathlib.Core.Path.{◌≡◌}
 use mathlib.Core.List.{List}
 use Rattle.std.specs.Prelude.{Option}
-use Prim.Native.Nat.{ℕ, ◌-◌, ◌*◌, ◌≤◌}
+use Prim.Native.Nat.{ℕ, ◌*◌, ◌≤◌}
 use lib.ListN.{length, take}
 use Rattle.outline.specs.Steps.{Links}
 use Rattle.outline.proofs.Ahead.{Going}
 use Rattle.outline.proofs.walk.Given as goal
 
 abbrev pub invariant-loop-k : goal.invariant-loop-k
-invariant-loop-k l = (l.k ≤ l.n) × (l.depth ≤ l.k) × (length l.rows ≡ length l.initial.rows) × ((ps : List (Option ℕ)) → l.n ≡ length ps → Links ps 0 l.work → Going ps (take (2 * l.k) l.rows) l.row l.depth)
-
-abbrev pub decreases-loop-k : goal.decreases-loop-k
-decreases-loop-k l = l.n - l.k
+invariant-loop-k l = (l.k ≤ l.n) × (l.at.depth ≤ l.k) × (length l.rows ≡ length l.initial.rows) × ((ps : List (Option ℕ)) → l.n ≡ length ps → Links ps 0 l.work → Going ps (take (2 * l.k) l.rows) l.at.row l.at.depth)

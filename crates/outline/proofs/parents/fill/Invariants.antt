@@ -3,7 +3,7 @@
 use mathlib.Core.Path.{◌≡◌}
 use mathlib.Core.Bool.{true}
 use mathlib.Core.List.{List}
-use Prim.Native.Nat.{ℕ, ◌-◌, ◌*◌, ◌≤◌}
+use Prim.Native.Nat.{ℕ, ◌*◌, ◌≤◌}
 use lib.ListN.{length}
 use Rattle.definition.specs.Format.{times}
 use Rattle.definition.specs.Model.{Activity}
@@ -25,6 +25,3 @@ abbrev pub invariant-loop-i : goal.invariant-loop-i
 invariant-loop-i l =
     (l.i ≤ l.count) × (length l.work ≡ length l.initial.work) × Passes (times l.i (record_of true Activities)) l.s l.initial.q l.q
     × ((xs : List Activity) (next : ℕ) → Holds activity l.s (section_of l.count l.initial.q) xs next → l.initial.q ≡ byte_at l.initial.q.byte → 4 * l.count ≤ length l.initial.work → Turn l.s (section_of l.count l.initial.q) xs next l.q l.i l.work)
-
-abbrev pub decreases-loop-i : goal.decreases-loop-i
-decreases-loop-i l = l.count - l.i
