@@ -6,7 +6,6 @@ ghost use Rattle.definition.specs.Base.{◌or◌};
 ghost use Rattle.definition.specs.Recurrence.{rule_of, days_of};
 ghost use Rattle.date.specs.Scale.{day_count};
 ghost use Rattle.tree.specs.Place.{element_at};
-ghost use Rattle.recurrence.specs.Scale.{month_meaning};
 ghost use Rattle.recurrence.specs.Meaning.{step_of};
 ghost use Rattle.recurrence.specs.Element.{rule_by, range_by};
 ghost use Rattle.probe.specs.Fields.{day_at, month_at, fields_of, run_of, Told, rule, cursor};
@@ -45,7 +44,7 @@ fn day_at(n: u32) -> Date
 // ---- a month, 13 for none
 
 fn month_number(a: Option<u32>) -> u32
-    ensures { result ≡ (month_meaning a or 13) }
+    ensures { result ≡ (a or 13) }
 {
     match a {
         Some(m) => m,
