@@ -1,7 +1,7 @@
 // Rules and their days. A rule goes out and comes in by its fields; a day goes as its count from 1 January of the
 // year -10000 on, 0 for none, and what lies past 31 December 9999 comes in as the day behind that; a month goes by
 // its number, 13 for none.
-ghost use Rattle.std.specs.Prelude.{◌≡◌, ◌≤◌, min, pos, ◌-ℤ◌};
+ghost use Rattle.std.specs.Prelude.{◌≡◌, ◌<◌, ◌^◌, pos, ◌-ℤ◌};
 ghost use Rattle.definition.specs.Base.{◌or◌};
 ghost use Rattle.definition.specs.Recurrence.{rule_of, days_of};
 ghost use Rattle.date.specs.Scale.{day_count};
@@ -11,7 +11,7 @@ ghost use Rattle.recurrence.specs.Element.{rule_by, range_by};
 ghost use Rattle.probe.specs.Fields.{day_at, month_at, fields_of, run_of, Told, rule, cursor};
 
 use definition::Date;
-use recurrence::{Cursor, Rule, Step};
+use recurrence::{Cursor, Range, Rule, Step};
 
 // ---- days
 
@@ -21,49 +21,31 @@ fn count(d: Date) -> u32
     date::days_between(Date(-4371953), d)
 }
 
-fn held(n: u32) -> u32
-    ensures { result ≡ min n 7304850 }
-{
-    if n < 7304850 { n } else { 7304850 }
-}
-
 fn lowered(n: u32, by: u32) -> i32
-    requires fact_1 { n ≤ 7304850 }
-    requires fact_2 { by ≤ 7304850 }
+    requires small { n < 2 ^ 31 }
+    requires small_by { by < 2 ^ 31 }
     ensures { result ≡ pos n -ℤ pos by }
 {
-    (n as i64 - by as i64) as i32
+    (i64::from(n) - i64::from(by)) as i32
 }
 
 fn day_at(n: u32) -> Date
     ensures { result ≡ day_at n }
 {
-    Date(lowered(held(n), 4371953))
+    Date(lowered(n.min(7304850), 4371953))
 }
 
 // ---- a month, 13 for none
 
-fn month_number(a: Option<u32>) -> u32
-    ensures { result ≡ (a or 13) }
-{
-    match a {
-        Some(m) => m,
-        None => 13,
-    }
-}
-
 fn month_at(n: u32) -> Option<u32>
     ensures { result ≡ month_at n }
 {
-    if n == 13 {
-        return None;
-    }
-    Some(n)
+    if n == 13 { None } else { Some(n) }
 }
 
 // ---- a rule
 
-#[derive(Clone, Copy)]
+#[derive(Clone, Copy, Default)]
 struct Fields {
     kind: u32,
     from: u32,
@@ -80,15 +62,13 @@ struct Fields {
 fn fields_by(r: Rule) -> Fields
     ensures { result ≡ fields_of (Some r) }
 {
-    let from = count(r.from);
-    let month = r.month;
     Fields {
         kind: r.kind,
-        from,
+        from: count(r.from),
         last: count(r.last),
         most: r.most,
         period: r.period,
-        month: month_number(month),
+        month: r.month.unwrap_or(13),
         day: r.day,
         item: r.item,
         position: r.position,
@@ -99,21 +79,7 @@ fn fields_by(r: Rule) -> Fields
 fn fields_of(a: Option<Rule>) -> Fields
     ensures { result ≡ fields_of a }
 {
-    match a {
-        Some(r) => fields_by(r),
-        None => Fields {
-            kind: 0,
-            from: 0,
-            last: 0,
-            most: 0,
-            period: 0,
-            month: 0,
-            day: 0,
-            item: 0,
-            position: 0,
-            weekdays: 0,
-        },
-    }
+    a.map_or(Fields::default(), fields_by)
 }
 
 // The rule of a tree whose root is an Exception; zeros where there is none.
@@ -168,41 +134,21 @@ fn told(s: Step, at: &mut u32, left: &mut u32, day: &mut u32) -> u32
     }
 }
 
-fn step(
-    kind: u32,
-    from: u32,
-    last: u32,
-    most: u32,
-    period: u32,
-    month: u32,
-    day: u32,
-    item: u32,
-    position: u32,
-    weekdays: u32,
-    at: u32,
-    left: u32,
-) -> Step
-    ensures { result ≡ step_of (rule kind from last most period month day item position weekdays) (cursor at left) }
+fn rule_by(f: Fields) -> Rule
+    ensures { result ≡ rule f.kind f.from f.last f.most f.period f.month f.day f.item f.position f.weekdays }
 {
-    let first = day_at(from);
-    let end = day_at(last);
-    let to = day_at(at);
-    let in_month = month_at(month);
-    recurrence::next(
-        Rule {
-            kind,
-            from: first,
-            last: end,
-            most,
-            period,
-            month: in_month,
-            day,
-            item,
-            position,
-            weekdays,
-        },
-        Cursor { at: to, left },
-    )
+    Rule {
+        kind: f.kind,
+        from: day_at(f.from),
+        last: day_at(f.last),
+        most: f.most,
+        period: f.period,
+        month: month_at(f.month),
+        day: f.day,
+        item: f.item,
+        position: f.position,
+        weekdays: f.weekdays,
+    }
 }
 
 // The next day of a rule: 0 with the day and what is to come, 1 where no day is left, 2 where it is no rule.
@@ -223,15 +169,28 @@ pub fn probe_next(
 ) -> u32
     ensures { Told (step_of (rule kind from last most period month monthday item position weekdays) (cursor at.old left.old)) at.old left.old result day.new at.new left.new }
 {
-    let s = step(
-        kind, from, last, most, period, month, monthday, item, position, weekdays, *at, *left,
-    );
-    told(s, at, left, day)
+    let r = rule_by(Fields {
+        kind,
+        from,
+        last,
+        most,
+        period,
+        month,
+        day: monthday,
+        item,
+        position,
+        weekdays,
+    });
+    let c = Cursor {
+        at: day_at(*at),
+        left: *left,
+    };
+    told(recurrence::next(r, c), at, left, day)
 }
 
 // ---- days in a row
 
-#[derive(Clone, Copy)]
+#[derive(Clone, Copy, Default)]
 struct Run {
     first: u32,
     count: u32,
@@ -240,13 +199,13 @@ struct Run {
 fn run_of(a: Option<Range>) -> Run
     ensures { result ≡ run_of a }
 {
-    match a {
-        Some(r) => Run {
+    a.map_or(
+        Run::default(),
+        |r| Run {
             first: count(r.first),
             count: r.count,
         },
-        None => Run { first: 0, count: 0 },
-    }
+    )
 }
 
 // The days of a tree whose root is a WeekDay: the first, and how many.

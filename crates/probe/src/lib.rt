@@ -3,7 +3,8 @@
 // values, its minutes and 1 where the sum was whole.
 #![tactic(auto)]
 
-use definition::{Duration, Unread};
+use definition::{Date, Duration, Unread};
+
 mod days; // rules and their days
 
 ghost use Rattle.std.specs.Prelude.{◌≡◌, eqb, length};
@@ -17,115 +18,48 @@ ghost use Rattle.definition.specs.Refusal.{tree_refusal};
 ghost use Rattle.definition.specs.Pack.{decode};
 ghost use Rattle.definition.specs.Answer.{date_meaning, day_number_of};
 ghost use Rattle.model.specs.Sections.{opened_number};
-ghost use Rattle.probe.specs.Answer.{Whole, Signed, Minutes, Number, one};
+ghost use Rattle.probe.specs.Answer.{Put, Whole, Signed, Minutes, Number, code_read, one};
 
 pub use days::{probe_next, probe_rule, probe_week_day};
 
 // ---- whole numbers
 
-fn put_u64(a: Option<u64>, out: &mut u64) -> u32
-    ensures { Whole a result out.new }
+// What there is goes to `out`, else the zero.
+fn put<T: Copy>(a: Option<T>, zero: T, out: &mut T) -> u32
+    ensures { Put zero a result out.new }
 {
-    match a {
-        Some(n) => {
-            *out = n;
-            0
-        }
-        None => {
-            *out = 0;
-            1
-        }
-    }
-}
-
-fn put_u32(a: Option<u32>, out: &mut u32) -> u32
-    ensures { Whole a result out.new }
-{
-    match a {
-        Some(n) => {
-            *out = n;
-            0
-        }
-        None => {
-            *out = 0;
-            1
-        }
-    }
-}
-
-fn put_u16(a: Option<u16>, out: &mut u16) -> u32
-    ensures { Whole a result out.new }
-{
-    match a {
-        Some(n) => {
-            *out = n;
-            0
-        }
-        None => {
-            *out = 0;
-            1
-        }
-    }
-}
-
-fn put_i64(a: Option<i64>, out: &mut i64) -> u32
-    ensures { Signed a result out.new }
-{
-    match a {
-        Some(n) => {
-            *out = n;
-            0
-        }
-        None => {
-            *out = 0;
-            1
-        }
-    }
-}
-
-fn put_i32(a: Option<i32>, out: &mut i32) -> u32
-    ensures { Signed a result out.new }
-{
-    match a {
-        Some(n) => {
-            *out = n;
-            0
-        }
-        None => {
-            *out = 0;
-            1
-        }
-    }
+    *out = a.unwrap_or(zero);
+    u32::from(a.is_none())
 }
 
 pub fn probe_u64(s: &[u8], out: &mut u64) -> u32
     ensures { Whole (unsigned_of 64 s.now) result out.new }
 {
-    put_u64(text::whole_of(s), out)
+    put(text::whole_of(s), 0, out)
 }
 
 pub fn probe_u32(s: &[u8], out: &mut u32) -> u32
     ensures { Whole (unsigned_of 32 s.now) result out.new }
 {
-    put_u32(text::whole_of(s), out)
+    put(text::whole_of(s), 0, out)
 }
 
 pub fn probe_u16(s: &[u8], out: &mut u16) -> u32
     ensures { Whole (unsigned_of 16 s.now) result out.new }
 {
-    put_u16(text::whole_of(s), out)
+    put(text::whole_of(s), 0, out)
 }
 
 pub fn probe_i64(s: &[u8], out: &mut i64) -> u32
     ensures { Signed (signed_of 64 s.now) result out.new }
 {
-    put_i64(text::whole_of(s), out)
+    put(text::whole_of(s), 0, out)
 }
 
 pub fn probe_i32(s: &[u8], out: &mut i32) -> u32
     ensures { Signed (signed_of 32 s.now) result out.new }
 {
-    put_i32(text::whole_of(s), out)
+    put(text::whole_of(s), 0, out)
 }
 
 // ---- texts
@@ -141,119 +75,67 @@ pub fn probe_trim(s: &[u8]) -> usize
 pub fn probe_trimmed(s: &[u8], t: &[u8]) -> u32
     ensures { result ≡ one (same (trim s.now) t.now) }
 {
-    as_number(text::same(text::trim(s), t))
+    u32::from(text::same(text::trim(s), t))
 }
 
 pub fn probe_utf8(s: &[u8]) -> u32
     ensures { result ≡ one (is_utf8 s.now) }
 {
-    as_number(text::is_utf8(s))
-}
-
-fn as_number(b: bool) -> u32
-    ensures { result ≡ one b }
-{
-    if b { 1 } else { 0 }
+    u32::from(text::is_utf8(s))
 }
 
 // ---- dates
 
-fn put_date(a: Option<Date>, out: &mut i32) -> u32
-    ensures { Signed (date_meaning a) result out.new }
+fn number_by(a: Option<Date>) -> Option<i32>
+    ensures { result ≡ date_meaning a }
 {
-    match a {
-        Some(d) => {
-            let n = d.0;
-            *out = n;
-            0
-        }
-        None => {
-            *out = 0;
-            1
-        }
-    }
+    a.map(|d| d.0)
 }
 
 pub fn probe_date(s: &[u8], out: &mut i32) -> u32
     ensures { Signed (day_number_of (date_of s.now)) result out.new }
 {
-    put_date(date::date_of(s), out)
+    put(number_by(date::date_of(s)), 0, out)
 }
 
 // ---- numbers, durations, times
 
-fn put_time(a: Option<u16>, out: &mut u16) -> u32
-    ensures { Whole a result out.new }
+// The answer of a leaf that may refuse a number.
+fn answer_of<T: Copy>(a: Result<T, Unread>) -> u32
+    ensures { result ≡ code_read a }
 {
     match a {
-        Some(n) => {
-            *out = n;
-            0
-        }
-        None => {
-            *out = 0;
-            1
-        }
-    }
-}
-
-fn put_duration(a: Result<Duration, Unread>, minutes: &mut u32, whole: &mut u32) -> u32
-    ensures { Minutes a result minutes.new whole.new }
-{
-    match a {
-        Ok((n, w)) => {
-            *minutes = n;
-            *whole = as_number(w);
-            0
-        }
-        Err(Unread::Absent) => {
-            *minutes = 0;
-            *whole = 0;
-            1
-        }
-        Err(Unread::Long) => {
-            *minutes = 0;
-            *whole = 0;
-            2
-        }
-    }
-}
-
-fn put_number(a: Result<f64, Unread>, out: &mut f64) -> u32
-    ensures { Number a result out.new }
-{
-    match a {
-        Ok(x) => {
-            *out = x;
-            0
-        }
-        Err(Unread::Absent) => {
-            *out = 0.0;
-            1
-        }
-        Err(Unread::Long) => {
-            *out = 0.0;
-            2
-        }
+        Ok(_) => 0,
+        Err(Unread::Absent) => 1,
+        Err(Unread::Long) => 2,
     }
 }
 
 pub fn probe_time(s: &[u8], out: &mut u16) -> u32
     ensures { Whole (time_of s.now) result out.new }
 {
-    put_time(number::time_of(s), out)
+    put(number::time_of(s), 0, out)
 }
 
 pub fn probe_duration(s: &[u8], minutes: &mut u32, whole: &mut u32) -> u32
     ensures { Minutes (duration_of s.now) result minutes.new whole.new }
 {
-    put_duration(number::duration_of(s), minutes, whole)
+    let a = number::duration_of(s);
+    let d = a.unwrap_or(Duration {
+        minutes: 0,
+        whole: false,
+    });
+    *minutes = d.minutes;
+    *whole = u32::from(d.whole);
+    answer_of(a)
 }
 
 pub fn probe_number(s: &[u8], out: &mut f64) -> u32
     ensures { Number (number_text s.now) result out.new }
 {
-    put_number(number::number_of(s), out)
+    let a = number::number_of(s);
+    *out = a.unwrap_or(0.0);
+    answer_of(a)
 }
 
 // ---- trees
@@ -270,20 +152,9 @@ pub fn probe_tree(s: &[u8]) -> u32
 
 // ---- models
 
-// Whether a model was opened.
-fn is_open(m: Option<Sections>) -> bool
-    ensures { result ≡ eqb (opened_number m) 0 }
-{
-    match m {
-        Some(_) => true,
-        None => false,
-    }
-}
-
 // Whether a model decodes.
 pub fn probe_model(s: &[u8]) -> u32
     ensures { result ≡ one (given (decode s.now)) }
 {
-    let m = model::open(s);
-    as_number(is_open(m))
+    u32::from(model::open(s).is_some())
 }

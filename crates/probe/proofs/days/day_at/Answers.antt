@@ -9,5 +9,5 @@ use Rattle.probe.proofs.days.day_at.Goals as goal
 pub returns : goal.returns
 unfolding day_number
 returns c =
-    let n = difference_back c.held.result epoch (omega (arith, c.held.ensures)) (omega arith) c.lowered.result c.lowered.ensures ∙ ap (λ (k : ℕ). pos k -ℤ pos epoch) c.held.ensures in
+    let n = difference_back c.min.result epoch (omega (arith, c.min.ensures)) (omega arith) c.lowered.result c.lowered.ensures ∙ ap (λ (k : ℕ). pos k -ℤ pos epoch) c.min.ensures in
     λ i. record { 0 = n i }
