@@ -21,6 +21,14 @@ date_by z = from_days z or 0
 abbrev pub date_given : Option DayNumber → Option Date
 date_given d = date_meaning d >>= λ z. Some (date_by z)
 
+pub date_none : date_given None ≡ None
+unfolding date_meaning
+date_none = refl
+
+pub date_some : (d : DayNumber) → date_given (Some d) ≡ Some (date_by d.0)
+unfolding date_meaning
+date_some d = refl
+
 -- a constraint that may be missing: its code, and its date unless the code is 1
 abbrev pub constraint_given : Option Constraint → Option (ℕ × Option Date)
 constraint_given c = constraint_means c >>= λ x. Some (x.0, x.1 >>= λ z. Some (date_by z))

@@ -1,29 +1,29 @@
 // The fields of a record, and values that may be missing.
-ghost use Rattle.std.specs.Prelude.{ℕ, ◌≡◌};
-ghost use Rattle.definition.specs.Date.{day_number};
-ghost use Rattle.definition.specs.Format.{count, row, code, number, date, optional};
+ghost use Rattle.std.specs.Prelude.{ℕ, ℤ, ◌≡◌, refl, Option, Some, None};
+ghost use Rattle.definition.specs.Date.{day_number, Date as DateOf};
+ghost use Rattle.definition.specs.Format.{Format, count, row, code, number, date, optional};
 ghost use Rattle.definition.specs.Pack.{constraint};
 ghost use Rattle.bits.specs.Steps.{Puts};
 ghost use Rattle.tasks.specs.Link.{lag_kind_means};
 ghost use Rattle.definition.specs.Pack.{lag_kind};
-ghost use Rattle.pack.specs.Value.{date_by, date_given, constraint_given};
+ghost use Rattle.pack.specs.Value.{date_by, date_given, date_none, date_some, constraint_given};
 
 use bits::Place;
-use definition::{Date};
+use definition::Date;
 use tasks::{Constraint, LagKind};
 
 // A count or a row.
 pub fn put_count(out: &mut [u8], p: Place, n: u32) -> Place
     ensures { Puts count n out.old p out.new result }
 {
-    bits::put(out, p, 32, n as u64)
+    bits::put(out, p, 32, u64::from(n))
 }
 
 // A code, whatever its range.
 pub(crate) fn put_code(out: &mut [u8], p: Place, v: u32) -> Place
     ensures { (lo hi : ℕ) → Puts (code lo hi) v out.old p out.new result }
 {
-    bits::put(out, p, 4, v as u64)
+    bits::put(out, p, 4, u64::from(v))
 }
 
 pub(crate) fn put_number(out: &mut [u8], p: Place, v: i64) -> Place
@@ -36,10 +36,7 @@ pub(crate) fn put_number(out: &mut [u8], p: Place, v: i64) -> Place
 fn day_number(d: Date) -> i32
     ensures { result ≡ day_number (date_by d.0) }
 {
-    match date::from_days(d.0) {
-        Some(n) => n.0,
-        None => -4371953,
-    }
+    date::from_days(d.0).unwrap_or(Date(-4371953)).0
 }
 
 pub fn put_date(out: &mut [u8], p: Place, d: Date) -> Place
@@ -50,37 +47,86 @@ pub fn put_date(out: &mut [u8], p: Place, d: Date) -> Place
 
 // ---- values that may be missing
 
-pub(crate) fn put_optional_number(out: &mut [u8], p: Place, n: Option<i64>) -> Place
-    ensures { Puts (optional number) n out.old p out.new result }
-{
-    match n {
-        Some(n) => {
-            let q = bits::put_flag(out, p, true);
-            put_number(out, q, n)
-        }
-        None => bits::put_flag(out, p, false),
+// A value of a record that may be missing: its format, and what it means.
+pub(crate) trait Put {
+    ghost Meant: { Type 0 };
+
+    ghost format: { Format Meant };
+
+    ghost means: { Self → Meant };
+
+    ghost given: { Option Self → Option Meant };
+
+    fn put(self, out: &mut [u8], p: Place) -> Place
+        ensures { Puts format (means self) out.old p out.new result };
+
+    ghost of_none: { given None ≡ None };
+
+    ghost of_some: { (x : Self) → given (Some x) ≡ Some (means x) };
+}
+
+impl Put for i64 {
+    ghost Meant = { ℤ };
+
+    ghost format = { number };
+
+    ghost means = { λ x. x };
+
+    ghost given = { λ x. x };
+
+    ghost of_none = { refl };
+
+    ghost of_some = { λ x. refl };
+
+    fn put(self, out: &mut [u8], p: Place) -> Place {
+        put_number(out, p, self)
     }
 }
 
-pub(crate) fn put_optional_row(out: &mut [u8], p: Place, n: Option<u32>) -> Place
-    ensures { Puts (optional row) n out.old p out.new result }
-{
-    match n {
-        Some(n) => {
-            let q = bits::put_flag(out, p, true);
-            put_count(out, q, n)
-        }
-        None => bits::put_flag(out, p, false),
+// A row.
+impl Put for u32 {
+    ghost Meant = { ℕ };
+
+    ghost format = { row };
+
+    ghost means = { λ x. x };
+
+    ghost given = { λ x. x };
+
+    ghost of_none = { refl };
+
+    ghost of_some = { λ x. refl };
+
+    fn put(self, out: &mut [u8], p: Place) -> Place {
+        put_count(out, p, self)
     }
 }
 
-pub(crate) fn put_optional_date(out: &mut [u8], p: Place, d: Option<Date>) -> Place
-    ensures { Puts (optional date) (date_given d) out.old p out.new result }
+impl Put for Date {
+    ghost Meant = { DateOf };
+
+    ghost format = { date };
+
+    ghost means = { λ x. date_by x.0 };
+
+    ghost given = { date_given };
+
+    ghost of_none = { date_none };
+
+    ghost of_some = { date_some };
+
+    fn put(self, out: &mut [u8], p: Place) -> Place {
+        put_date(out, p, self)
+    }
+}
+
+pub(crate) fn put_optional<T: Put>(out: &mut [u8], p: Place, v: Option<T>) -> Place
+    ensures { Puts (optional T.format) (T.given v) out.old p out.new result }
 {
-    match d {
-        Some(d) => {
+    match v {
+        Some(v) => {
             let q = bits::put_flag(out, p, true);
-            put_date(out, q, d)
+            v.put(out, q)
         }
         None => bits::put_flag(out, p, false),
     }
