@@ -10,8 +10,7 @@ use Rattle.definition.specs.Base.{◌or◌}
 use Rattle.definition.specs.Answer.{date_meaning, day_number_of}
 use Rattle.definition.specs.Date as D
 use Rattle.definition.specs.Date.{day_number}
-use Rattle.definition.specs.Format.{Format, optional, flag, code, date}
-use Rattle.definition.specs.Pack.{constraint}
+use Rattle.definition.specs.Format.{Format, optional, flag}
 use Rattle.definition.specs.declared.Date.{Date}
 use Rattle.bits.specs.Steps.{Puts, put_same, put_via, put_alone, put_both}
 use Rattle.bits.specs.declared.Place.{Place}
@@ -35,14 +34,3 @@ day_or None None h = refl
 day_or None (Some d) h = cc
 day_or (Some x) None h = cc
 day_or (Some x) (Some d) h = cc
-
--- ---- constraints
-
-module _ {d : List ℕ} {p : Place} {d1 : List ℕ} {p1 : Place} {d2 : List ℕ} {p2 : Place} (x : Puts flag true d p d1 p1) {k : ℕ} (y : Puts (code 1 7) k d1 p1 d2 p2) where
-  pub constraint_alone : Puts (optional constraint) (Some (k, None)) d p d2 p2
-  unfolding constraint
-  constraint_alone = put_given_lem refl x (put_alone _ date y)
-
-  pub constraint_dated : {t : D.Date} {d3 : List ℕ} {p3 : Place} → Puts date t d2 p2 d3 p3 → Puts (optional constraint) (Some (k, Some t)) d p d3 p3
-  unfolding constraint
-  constraint_dated z = put_given_lem refl x (put_both _ y z)

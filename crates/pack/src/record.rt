@@ -7,9 +7,7 @@ ghost use Rattle.bits.specs.Steps.{Puts};
 ghost use Rattle.pack.specs.Record.{link_by, assignment_by, expense_by, project_by, resource_by, activity_by, schedule_fields, schedule_of, counts_by};
 
 use crate::stars::{put_optional_name, put_starred};
-use crate::value::{
-    put_code, put_constraint, put_count, put_date, put_lag_kind, put_number, put_optional,
-};
+use crate::value::{put_code, put_count, put_date, put_lag_kind, put_number, put_optional};
 use bits::Place;
 use definition::Date;
 use resources::Amounts;
@@ -207,7 +205,7 @@ fn put_schedule(
     let remaining = progress.remaining;
     let a = bits::put_text(out, p, notes);
     let b = put_optional_name(out, a, calendar, named);
-    let c = put_constraint(out, b, constraint);
+    let c = put_optional(out, b, constraint);
     let d = put_optional(out, c, deadline);
     let e = put_optional(out, d, start);
     let f = put_optional(out, e, finish);

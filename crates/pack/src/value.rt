@@ -1,12 +1,14 @@
 // The fields of a record, and values that may be missing.
-ghost use Rattle.std.specs.Prelude.{ℕ, ℤ, ◌≡◌, refl, Option, Some, None};
+ghost use Rattle.std.specs.Prelude.{ℕ, ℤ, ◌≡◌, refl, Bool, Option, Some, None};
 ghost use Rattle.definition.specs.Date.{day_number, Date as DateOf};
-ghost use Rattle.definition.specs.Format.{Format, count, row, code, number, date, optional};
+ghost use Rattle.definition.specs.Format.{Format, depending, count, row, code, number, date, optional};
 ghost use Rattle.definition.specs.Pack.{constraint};
 ghost use Rattle.bits.specs.Steps.{Puts};
 ghost use Rattle.tasks.specs.Link.{lag_kind_means};
 ghost use Rattle.definition.specs.Pack.{lag_kind};
-ghost use Rattle.pack.specs.Value.{date_by, date_given, date_none, date_some, constraint_given};
+ghost use Rattle.pack.specs.Value.{date_by, date_given, date_none, date_some, constraint_by, constraint_given, constraint_none, constraint_some};
+ghost use Rattle.definition.specs.Answer.{date_meaning};
+ghost use Rattle.tasks.specs.Task.{code_and_day};
 
 use bits::Place;
 use definition::Date;
@@ -134,42 +136,58 @@ pub(crate) fn put_optional<T: Put>(out: &mut [u8], p: Place, v: Option<T>) -> Pl
 
 // ---- constraints and kinds of lag
 
-// A constraint of a code, and its date.
-fn put_dated(out: &mut [u8], p: Place, code: u32, d: Date) -> Place
-    ensures { Puts (optional constraint) (Some (code, Some (date_by d.0))) out.old p out.new result }
+// A code, and behind it a value where there is one.
+fn put_coded<T: Put>(out: &mut [u8], p: Place, k: u32, v: Option<T>) -> Place
+    ensures { (lo hi : ℕ) (has : ℕ → Bool) → Puts (depending (code lo hi) has T.format) (k, T.given v) out.old p out.new result }
 {
-    let q = bits::put_flag(out, p, true);
-    let r = put_code(out, q, code);
-    put_date(out, r, d)
-}
-
-fn put_undated(out: &mut [u8], p: Place) -> Place
-    ensures { Puts (optional constraint) (Some (1, None)) out.old p out.new result }
-{
-    let q = bits::put_flag(out, p, true);
-    put_code(out, q, 1)
-}
-
-fn put_given_constraint(out: &mut [u8], p: Place, c: Constraint) -> Place
-    ensures { Puts (optional constraint) (constraint_given (Some c)) out.old p out.new result }
-{
-    match c {
-        Constraint::AsLateAsPossible => put_undated(out, p),
-        Constraint::StartOn(d) => put_dated(out, p, 2, d),
-        Constraint::FinishOn(d) => put_dated(out, p, 3, d),
-        Constraint::StartOnOrAfter(d) => put_dated(out, p, 4, d),
-        Constraint::StartOnOrBefore(d) => put_dated(out, p, 5, d),
-        Constraint::FinishOnOrAfter(d) => put_dated(out, p, 6, d),
-        Constraint::FinishOnOrBefore(d) => put_dated(out, p, 7, d),
+    let q = put_code(out, p, k);
+    match v {
+        Some(v) => v.put(out, q),
+        None => q,
     }
 }
 
-pub(crate) fn put_constraint(out: &mut [u8], p: Place, c: Option<Constraint>) -> Place
-    ensures { Puts (optional constraint) (constraint_given c) out.old p out.new result }
+#[tactic(auto, unfolding(definition::specs::Answer::date_meaning))]
+fn code_and_date(c: Constraint) -> (u32, Option<Date>)
+    ensures { (result.0, date_meaning result.1) ≡ code_and_day c }
 {
     match c {
-        Some(c) => put_given_constraint(out, p, c),
-        None => bits::put_flag(out, p, false),
+        Constraint::AsLateAsPossible => (1, None),
+        Constraint::StartOn(d) => (2, Some(d)),
+        Constraint::FinishOn(d) => (3, Some(d)),
+        Constraint::StartOnOrAfter(d) => (4, Some(d)),
+        Constraint::StartOnOrBefore(d) => (5, Some(d)),
+        Constraint::FinishOnOrAfter(d) => (6, Some(d)),
+        Constraint::FinishOnOrBefore(d) => (7, Some(d)),
+    }
+}
+
+impl Put for Constraint {
+    ghost Meant = { ℕ × Option DateOf };
+
+    ghost format = { constraint };
+
+    ghost means = { constraint_by };
+
+    ghost given = { constraint_given };
+
+    ghost of_none = { constraint_none };
+
+    ghost of_some = { constraint_some };
+
+    fn put(self, out: &mut [u8], p: Place) -> Place {
+        let (k, d) = code_and_date(self);
+        put_coded(out, p, k, d)
+    }
+}
+
+fn code_and_share(kind: LagKind) -> (u32, Option<i64>)
+    ensures { result ≡ lag_kind_means kind }
+{
+    match kind {
+        LagKind::Working => (0, None),
+        LagKind::Elapsed => (1, None),
+        LagKind::Percent(n) => (2, Some(n)),
     }
 }
 
@@ -177,12 +195,6 @@ pub(crate) fn put_constraint(out: &mut [u8], p: Place, c: Option<Constraint>) ->
 pub(crate) fn put_lag_kind(out: &mut [u8], p: Place, kind: LagKind) -> Place
     ensures { Puts lag_kind (lag_kind_means kind) out.old p out.new result }
 {
-    match kind {
-        LagKind::Working => put_code(out, p, 0),
-        LagKind::Elapsed => put_code(out, p, 1),
-        LagKind::Percent(n) => {
-            let q = put_code(out, p, 2);
-            put_number(out, q, n)
-        }
-    }
+    let (k, n) = code_and_share(kind);
+    put_coded(out, p, k, n)
 }
