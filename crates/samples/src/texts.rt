@@ -1,8 +1,8 @@
 // A text and what its reading gives: a tag (one byte), a value (eight bytes), the text. Tags: 0 absent, 1 the value, 2 the number -1 - value, 3
 // a number that is too long. A duration's value is its minutes, with 2^32 added where the sum was not whole. A float's value is its bits; a trimmed
 // text begins at value / 65536 and is value % 65536 bytes long.
-use definition::Unread;
 use crate::{floats, parts};
+use definition::Unread;
 
 // ---- whether a number is the one that is expected
 
