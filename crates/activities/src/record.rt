@@ -18,14 +18,14 @@ ghost use Rattle.activities.specs.Own.{IdsOpen, RowNoted};
 ghost use Rattle.activities.specs.Parents.{Ready};
 ghost use Rattle.activities.specs.Values.{name_found, activity_planned};
 
-use index::Table;
 use crate::own::Own;
 use crate::parents::parent_of;
 use crate::value::{calendar_for, dates_of, day_of, plan_of, progress_of, wanted_id};
 use bits::Place;
+use index::Table;
 use model::records::Kind;
 use names::CalendarName;
-use pack::{Plan};
+use pack::Plan;
 use tree::Root;
 
 // The task at `at` with its id, its plan and its calendar's name.

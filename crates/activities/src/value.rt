@@ -8,8 +8,8 @@ ghost use Rattle.tree.specs.Place.{element_at};
 ghost use Rattle.tree.specs.Root.{root_at};
 ghost use Rattle.activities.specs.Values.{kind_by, day_by, names_calendar, name_found, calendar_in, PlanOf, DatesOf, ProgressOf};
 
-use index::Table;
 use bits::Place;
+use index::Table;
 use names::CalendarName;
 use pack::{Dates, Plan, Progress};
 use tree::Root;

@@ -18,7 +18,7 @@ use bits::Place;
 use index::Table;
 use pack::Records;
 use rows::Listed;
-use tree::{Root};
+use tree::Root;
 
 // ---- what an Assignment names
 

@@ -16,10 +16,10 @@ ghost use Rattle.assignments.specs.InUse.{key_of, is_used, emptied, noted_by, In
 use crate::assignment::{cost_of, task_of};
 use crate::section::{Done, Tables, more, records_of};
 use bits::Place;
-use index::{Table};
+use index::Table;
 use model::records::Kind;
 use pack::Records;
-use tree::{Root};
+use tree::Root;
 
 // What is written, and a table of it by activity and name, with the byte of each record; none once one does not fit there.
 #[derive(Clone, Copy)]

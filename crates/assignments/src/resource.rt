@@ -17,13 +17,13 @@ ghost use Rattle.names.specs.Context.{context_at, calendars_before};
 ghost use Rattle.names.specs.Named.{named_in, calendar_name};
 ghost use Rattle.assignments.specs.Resources.{is_work, wanted_id, resource_with, AddsResources, PutsResources};
 
-use index::Table;
 use crate::section::{Done, more, records_of};
 use bits::{PAST, Place};
+use index::Table;
 use model::records::Kind;
 use names::{CalendarName, Ids};
-use pack::{Records};
-use tree::{Root};
+use pack::Records;
+use tree::Root;
 
 // ---- how many there are
 

@@ -15,9 +15,6 @@ use Rattle.definition.specs.Calendar.{place_of, week_days, week_by, works, calen
 abbrev pub place_by : Option ℕ → Option ℕ
 place_by o = o >>= λ t. when (within 1 7 t) ((t + 5) % 7)
 
-abbrev pub place_meaning : Option ℕ → Option ℕ
-place_meaning k = k
-
 -- ---- the flags
 
 -- a word's seven flags, from bit 6 for Monday to bit 0 for Sunday

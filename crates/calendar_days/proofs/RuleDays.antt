@@ -15,13 +15,13 @@ use Rattle.definition.specs.Recurrence.{is_rule, fits, days_of_rule, days_of, re
 use Rattle.laws.specs.Bools.{within_is, is_within, both}
 use Rattle.laws.specs.Each.{Each, empty, next, each_take}
 use Rattle.laws.specs.Fields.{InYears, days_day}
-use Rattle.laws.specs.Options.{never}
+use Rattle.laws.specs.Options.{Some-injective, never}
 use Rattle.date.specs.Scale.{day_count, count_of_number}
 use Rattle.pack.specs.Value.{date_by}
 use Rattle.recurrence.proofs.Rules.{field_in}
 use Rattle.recurrence.specs.Element.{rule_days, range_by, range_days, RangeRead}
 use Rattle.recurrence.specs.Meaning.{as_rule, sound, meaning, days_by, to_come, after, step_by, step_of, said}
-use Rattle.recurrence.specs.Scale.{day_date, scaled_by, month_meaning}
+use Rattle.recurrence.specs.Scale.{day_date, scaled_by}
 use Rattle.recurrence.specs.Sequence.{from_on}
 use Rattle.recurrence.specs.declared.Rule.{Rule}
 use Rattle.recurrence.specs.declared.Range.{Range}
@@ -111,8 +111,9 @@ module _ (r : Rule) (c : Cursor) {s : Step} (h : (s ≡ step_of r c) × (said r 
   pub day_follows : (d : DateIs) (c' : Cursor) → s ≡ Day d c' → Follows r c (Some (d, c'))
   day_follows d c' e = record {
     day = λ d2 c2 z.
-        let ed : d ≡ d2 = cc in
-        let ec : c' ≡ c2 = cc in
+        let p : ◌≡◌ {A = DateIs × Cursor} (d, c') (d2, c2) = Some-injective _ _ z in
+        let ed : d ≡ d2 = ap (λ (x : DateIs × Cursor). x.0) p in
+        let ec : c' ≡ c2 = ap (λ (x : DateIs × Cursor). x.1) p in
         subst (λ x. Next r c x c2) ed (subst (λ y. Next r c d y) ec (next_day e));
     none = λ z. let n : ◌≡◌ {A = ℕ} 0 1 = cc in absurd (omega arith);
   }
@@ -201,7 +202,7 @@ module _ (r : Range) where
       rw (x, y, lt-ltb (d - from) 5000 (omega arith))
 
   daily_is : InYears from → meaning (daily r) ≡ Some rule
-  unfolding meaning month_meaning
+  unfolding meaning
   daily_is y = rw (last_day, is_within first_date last_date from (y.0, y.1))
 
   daily_run : (n : ℕ) → r.count ≡ suc n → InYears from → from + n ≤ last_date → n < 3661 → days_of_rule rule ≡ count from r.count

@@ -25,7 +25,7 @@ use Rattle.bits.specs.Reads.{rest_in, Reads, taken_at, take_whole}
 use Rattle.bits.specs.Round.{stood_from}
 use Rattle.bits.specs.Steps.{Puts, Pads, put_same, put_no, put_more}
 use Rattle.bits.specs.declared.Place.{Place}
-use Rattle.calendar.specs.Week.{flags_in, word_of, place_meaning}
+use Rattle.calendar.specs.Week.{flags_in, word_of}
 use Rattle.tree.specs.Place.{element_at}
 use Rattle.rows.specs.Rows.{found_meaning}
 use Rattle.model.specs.Lax.{lax_same}
@@ -100,7 +100,7 @@ week_default d = record { week = λ p c i. rw i }
 
 -- ---- the last WeekDay of a day
 
-module _ (s : Text) (at day : ℕ) (found : Option ℕ) (a : Option ℕ) {t : Bool} (p : place_meaning a ≡ place_of (element_at s at)) (e : t ≡ is_place day (place_meaning a)) where
+module _ (s : Text) (at day : ℕ) (found : Option ℕ) (a : Option ℕ) {t : Bool} (p : a ≡ place_of (element_at s at)) (e : t ≡ is_place day a) where
   on_place_lem : on_place day (element_at s at) ≡ t
   on_place_lem = ap (is_place day) (sym p) ∙ sym e
 

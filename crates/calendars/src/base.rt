@@ -1,3 +1,2 @@
 // The calendar that another one is based on.
 use model::parts::CalendarPlaces;
-

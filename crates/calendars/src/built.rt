@@ -12,15 +12,15 @@ ghost use Rattle.tree.specs.Root.{root_at};
 ghost use Rattle.pack.specs.Writes.{WritesIf};
 ghost use Rattle.calendars.specs.Built.{Begins, AtRow, BaseFound, BaseIn, Adds, AddsAll, AddsDefault, PutsBuilt, Turns, TurnsMain, AddsElapsed};
 
-use index::Table;
-use model::parts::CalendarPlaces;
-use names::Ids;
 use crate::plain::{put_default_calendar, put_elapsed_calendar};
 use crate::record::put_calendar;
 use bits::{PAST, Place};
+use index::Table;
+use model::parts::CalendarPlaces;
 use model::records::Kind;
+use names::Ids;
 use pack::Records;
-use tree::{Root};
+use tree::Root;
 
 // ---- the section's words
 
@@ -55,7 +55,14 @@ fn tables_for(
 // ---- one more
 
 // The calendar of a row, if it is built.
-fn base_at(out: &[u8], start: Place, count: u32, words: &[u32], names: Option<Ids>, row: usize) -> Option<CalendarPlaces>
+fn base_at(
+    out: &[u8],
+    start: Place,
+    count: u32,
+    words: &[u32],
+    names: Option<Ids>,
+    row: usize,
+) -> Option<CalendarPlaces>
     ensures { AtRow row names start count out.now words.now result }
 {
     if count as usize <= row {

@@ -7,15 +7,14 @@ ghost use Rattle.definition.specs.Calendar.{week_days};
 ghost use Rattle.tree.specs.Place.{element_at, later_at};
 ghost use Rattle.bits.specs.Clear.{cleared};
 ghost use Rattle.bits.specs.Steps.{Puts};
-ghost use Rattle.calendar.specs.Week.{place_meaning};
 ghost use Rattle.rows.specs.Rows.{found_meaning};
 ghost use Rattle.calendars.specs.Base.{days_place};
 ghost use Rattle.calendars.specs.Record.{is_place, on_place, later_found, hours_of, WeekRead, CopiesHours, BaseHours, PutsHours, PutsWeekHours, PutsCalendar};
 
-use model::parts::CalendarPlaces;
 use crate::plain::put_week;
 use bits::{PAST, Place};
 use calendar_days::{put_days, put_periods};
+use model::parts::CalendarPlaces;
 use pack::put_count;
 
 // ---- the week
@@ -33,7 +32,7 @@ fn base_week(out: &[u8], base: Option<CalendarPlaces>) -> u32
 // ---- the hours: of each day the last WeekDay of its place decides
 
 fn is_place(a: Option<u32>, day: usize) -> bool
-    ensures { result ≡ is_place day (place_meaning a) }
+    ensures { result ≡ is_place day a }
 {
     match a {
         Some(k) => k as usize == day,
@@ -104,7 +103,14 @@ fn put_base_hours(out: &mut [u8], p: Place, base: Option<CalendarPlaces>, day: u
     }
 }
 
-fn put_hours_of(out: &mut [u8], p: Place, s: &[u8], at: usize, day: usize, base: Option<CalendarPlaces>) -> Place
+fn put_hours_of(
+    out: &mut [u8],
+    p: Place,
+    s: &[u8],
+    at: usize,
+    day: usize,
+    base: Option<CalendarPlaces>,
+) -> Place
     ensures { PutsHours (week_days (element_at s.now at)) day base out.old p out.new result }
 {
     match last_day(s, at, day) {

@@ -7,20 +7,12 @@ use Rattle.definition.specs.Ascii.{bytes}
 use Rattle.definition.specs.Tree.{Element, all}
 use Rattle.definition.specs.Task.{Context, context_of, kept_tasks}
 use Rattle.definition.specs.Link.{Fate, is_dangling, is_across}
-use Rattle.links.specs.Fates.{Finder, fate_to, fates_by, fate_for, Counted, counted_by, counted_in, counted_of}
+use Rattle.links.specs.Fates.{LinkFate, Finder, fate_to, fates_by, fate_for, Counted, counted_by, counted_in, counted_of}
 use Rattle.links.specs.Entered.{fate_with, fate_is}
 use Rattle.links.specs.More.{sum_none, sum_both}
 use Rattle.links.specs.declared.Fates.{Fates}
-use Rattle.links.specs.declared.fate.LinkFate.{LinkFate}
-use Rattle.links.specs.declared.fate.LinkFate.TheVariants.{Across, Dangling, Kept}
-
--- ---- one more
-
-pub counted_across : (n : Fates) {f : LinkFate} {m : ℕ} → f ≡ Across → m ≡ (n.across + 1) % 2 ^ 32 → ◌≡◌ {A = Fates} (record { dangling = n.dangling; across = m }) (counted_by n f)
-counted_across n e h = rw (e, h)
-
-pub counted_dangling : (n : Fates) {f : LinkFate} {m : ℕ} → f ≡ Dangling → m ≡ (n.dangling + 1) % 2 ^ 32 → ◌≡◌ {A = Fates} (record { dangling = m; across = n.across }) (counted_by n f)
-counted_dangling n e h = rw (e, h)
+use Rattle.links.specs.declared.fate.LeftOut.TheVariants.{Across, Dangling}
+use Rattle.std.specs.Prelude.{Ok, Err}
 
 -- ---- the loops: with what is left, the count is that of all
 
@@ -91,15 +83,15 @@ module _ (find : Finder) (x : Context) (get : Fates → ℕ) (is : Fate → Bool
 
 one_dangling : (x : Context) (n : Fates) (row : ℕ) (l : Element) (f : LinkFate) → n.dangling < 2 ^ 32 → (counted_by n f).dangling ≡ (n.dangling + length (keep is_dangling (fate_with x row l f ∷ []))) % 2 ^ 32
 unfolding keep fate_with
-one_dangling x n row l Across h = sum_none (2 ^ 32) n.dangling h
-one_dangling x n row l Dangling h = refl
-one_dangling x n row l (Kept p) h = sum_none (2 ^ 32) n.dangling h
+one_dangling x n row l (Err Across) h = sum_none (2 ^ 32) n.dangling h
+one_dangling x n row l (Err Dangling) h = refl
+one_dangling x n row l (Ok p) h = sum_none (2 ^ 32) n.dangling h
 
 one_across : (x : Context) (n : Fates) (row : ℕ) (l : Element) (f : LinkFate) → n.across < 2 ^ 32 → (counted_by n f).across ≡ (n.across + length (keep is_across (fate_with x row l f ∷ []))) % 2 ^ 32
 unfolding keep fate_with
-one_across x n row l Across h = refl
-one_across x n row l Dangling h = sum_none (2 ^ 32) n.across h
-one_across x n row l (Kept p) h = sum_none (2 ^ 32) n.across h
+one_across x n row l (Err Across) h = refl
+one_across x n row l (Err Dangling) h = sum_none (2 ^ 32) n.across h
+one_across x n row l (Ok p) h = sum_none (2 ^ 32) n.across h
 
 pub tasks_end : (find : Finder) (root : Element) {n : Fates} {ts : List Element} → CountOf find (counted_of find (record { dangling = 0; across = 0 }) (kept_tasks root)) n ts → ts ≡ [] → Counted (fates_by find (context_of root)) n
 unfolding counted_of context_of

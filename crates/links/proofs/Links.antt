@@ -19,33 +19,36 @@ use Rattle.tasks.specs.declared.link.Lag.{Lag}
 use Rattle.pack.specs.Record.{link_by}
 use Rattle.pack.specs.declared.record.Records.{Records}
 use Rattle.rows.specs.Turns.{text_given, text_missing}
-use Rattle.links.specs.Fates.{Finder, fate_by_row, fate_for, kept_fate, is_kept_link, links_by, day_only, links_for, links_in, links_from}
+use Rattle.links.specs.Fates.{LinkFate, Finder, fate_for, is_kept_link, links_by, day_only, links_for, links_in, links_from}
 use Rattle.links.specs.Given.{given_none, given_some}
 use Rattle.links.specs.Entered.{kept_is, links_are}
 use Rattle.links.specs.More.{More, more_none, more_one, more_as, Left, left_all, left_next, left_end}
-use Rattle.links.specs.declared.fate.LinkFate.{LinkFate}
-use Rattle.links.specs.declared.fate.LinkFate.TheVariants.{Across, Dangling, Kept}
+use Rattle.links.specs.declared.fate.LeftOut.{LeftOut}
+use Rattle.links.specs.declared.fate.LeftOut.TheVariants.{Across, Dangling}
+use Rattle.std.specs.Prelude.{Ok, Err}
+use Rattle.std.specs.Option.{ok_or}
+use Rattle.std.specs.Result.{is_ok}
 
 -- ---- what becomes of one
 
 module _ (find : Finder) (l : Element) where
-  pub fate_across : yes_in l "CrossProject" ≡ true → Across ≡ fate_for find l
+  pub fate_across : yes_in l "CrossProject" ≡ true → Err Across ≡ fate_for find l
   unfolding fate_for
   fate_across e = rw e
 
   module _ (e : yes_in l "CrossProject" ≡ false) (t : Text) (j : t ≡ (text_in l "PredecessorUID" or [])) where
-    pub fate_none : length t ≡ 0 → Dangling ≡ fate_for find l
+    pub fate_none : length t ≡ 0 → Err Dangling ≡ fate_for find l
     unfolding fate_for
     fate_none h = rw (e, ← text_missing (text_in l "PredecessorUID") find (given_none l (bytes "PredecessorUID") t j h))
 
-    pub fate_row : (length t ≡ 0 → ⊥) → {a : Option ℕ} → a ≡ find t → {r : LinkFate} → r ≡ fate_by_row a → r ≡ fate_for find l
+    pub fate_row : (length t ≡ 0 → ⊥) → {a : Option ℕ} → a ≡ find t → {r : LinkFate} → r ≡ ok_or a Dangling → r ≡ fate_for find l
     unfolding fate_for
     fate_row h {a} k m =
         let z : a ≡ (text_in l "PredecessorUID" >>= find) = k ∙ text_given (text_in l "PredecessorUID") find (given_some l (bytes "PredecessorUID") t j h) j in
-        rw e (m ∙ ap (λ (o : Option ℕ). fate_by_row o) z)
+        rw e (m ∙ ap (λ (o : Option ℕ). ok_or o Dangling) z)
 
-  pub fate_kept : {f : LinkFate} {b v : Bool} → f ≡ fate_for find l → b ≡ kept_fate f → b ≡ v → is_kept_link find l ≡ v
-  fate_kept e h i = kept_is find l ∙ ap (λ (f : LinkFate). kept_fate f) (sym e) ∙ sym h ∙ i
+  pub fate_kept : {f : LinkFate} {b v : Bool} → f ≡ fate_for find l → b ≡ is_ok f → b ≡ v → is_kept_link find l ≡ v
+  fate_kept e h i = kept_is find l ∙ ap (λ (f : LinkFate). is_ok f) (sym e) ∙ sym h ∙ i
 
 -- ---- one written
 
@@ -59,19 +62,15 @@ link_is per_day p row l lag e h = ap (λ (k : ℕ). lagged p row k (lag_means la
 
 module _ (per_day row : ℕ) (l : Element) {d : List ℕ} {done : Records} where
   pub put_one : (p : ℕ) (lag : Lag) {kind : ℕ} {d' : List ℕ} {q : Place} {n : ℕ} → kind ≡ link_kind l → lag_means lag ≡ link_lag per_day l → Puts (whole link) (link_by p row kind lag) d done.next d' q → n ≡ (done.count + 1) % 2 ^ 32
-      → More (whole link) (links_for per_day row l (Kept p)) d done d' (record { count = n; next = q })
+      → More (whole link) (links_for per_day row l (Ok p)) d done d' (record { count = n; next = q })
   unfolding links_for
   put_one p lag e h i j = more_one (put_same (link_is per_day p row l lag e h) i) j
 
-  pub put_across : {f : LinkFate} → f ≡ Across → More (whole link) (links_for per_day row l f) d done d done
+  pub put_none : {f : LinkFate} {why : LeftOut} → f ≡ Err why → More (whole link) (links_for per_day row l f) d done d done
   unfolding links_for
-  put_across e = rw e (more_none d done)
+  put_none e = rw e (more_none d done)
 
-  pub put_dangling : {f : LinkFate} → f ≡ Dangling → More (whole link) (links_for per_day row l f) d done d done
-  unfolding links_for
-  put_dangling e = rw e (more_none d done)
-
-  pub put_fate : {f : LinkFate} {p : ℕ} → f ≡ Kept p → {d' : List ℕ} {r : Records} → More (whole link) (links_for per_day row l (Kept p)) d done d' r → More (whole link) (links_for per_day row l f) d done d' r
+  pub put_fate : {f : LinkFate} {p : ℕ} → f ≡ Ok p → {d' : List ℕ} {r : Records} → More (whole link) (links_for per_day row l (Ok p)) d done d' r → More (whole link) (links_for per_day row l f) d done d' r
   put_fate e h = more_as (ap (links_for per_day row l) (sym e)) h
 
 -- ---- the loops: what is left to be written

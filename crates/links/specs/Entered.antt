@@ -16,9 +16,11 @@ use Rattle.definition.specs.Tree.{Element, all}
 use Rattle.definition.specs.Task.{Context, row_of}
 use Rattle.definition.specs.Link.{Fate, link_of, fate_by, fate_of, fates, kept_of, links, entered}
 use Rattle.laws.specs.Tests.{some_both}
-use Rattle.links.specs.Fates.{Finder, fate_to, fates_by, links_by, fate_by_row, fate_for, kept_fate, is_kept_link, is_entered, links_for, links_in, links_from}
-use Rattle.links.specs.declared.fate.LinkFate.{LinkFate}
-use Rattle.links.specs.declared.fate.LinkFate.TheVariants.{Across, Dangling, Kept}
+use Rattle.links.specs.Fates.{LinkFate, Finder, fate_to, fates_by, links_by, fate_for, is_kept_link, is_entered, links_for, links_in, links_from}
+use Rattle.links.specs.declared.fate.LeftOut.TheVariants.{Across, Dangling}
+use Rattle.std.specs.Prelude.{Ok, Err}
+use Rattle.std.specs.Option.{ok_or}
+use Rattle.std.specs.Result.{is_ok}
 
 -- ---- where the finder gives the rows of the kept tasks
 
@@ -35,24 +37,24 @@ module _ (x : Context) {find : Finder} (h : (u : Text) → find u ≡ row_of x.t
 
 -- with its link
 unfoldable pub fate_with : Context → ℕ → Element → LinkFate → Fate
-fate_with x row l Across = Fate.across
-fate_with x row l Dangling = Fate.dangling
-fate_with x row l (Kept p) = Fate.kept (link_of x p row l)
+fate_with x row l (Err Across) = Fate.across
+fate_with x row l (Err Dangling) = Fate.dangling
+fate_with x row l (Ok p) = Fate.kept (link_of x p row l)
 
 pub fate_is : (find : Finder) (x : Context) (row : ℕ) (l : Element) → fate_to find x row l ≡ fate_with x row l (fate_for find l)
 unfolding fate_to fate_for fate_with
 fate_is find x row l = by (yes_in l "CrossProject") (text_in l "PredecessorUID" >>= find)
   where
-    by : (t : Bool) (o : Option ℕ) → (if t then Fate.across else fate_by x row l o) ≡ fate_with x row l (if t then Across else fate_by_row o)
+    by : (t : Bool) (o : Option ℕ) → (if t then Fate.across else fate_by x row l o) ≡ fate_with x row l (if t then Err Across else ok_or o Dangling)
     by true o = refl
     by false None = refl
     by false (Some p) = refl
 
-pub kept_is : (find : Finder) (l : Element) → is_kept_link find l ≡ kept_fate (fate_for find l)
+pub kept_is : (find : Finder) (l : Element) → is_kept_link find l ≡ is_ok (fate_for find l)
 unfolding is_kept_link fate_for
 kept_is find l = by (yes_in l "CrossProject") (text_in l "PredecessorUID" >>= find) refl refl
   where
-    by : (t : Bool) (o : Option ℕ) → yes_in l "CrossProject" ≡ t → (text_in l "PredecessorUID" >>= find) ≡ o → is_kept_link find l ≡ kept_fate (fate_for find l)
+    by : (t : Bool) (o : Option ℕ) → yes_in l "CrossProject" ≡ t → (text_in l "PredecessorUID" >>= find) ≡ o → is_kept_link find l ≡ is_ok (fate_for find l)
     by true o e f = rw e
     by false None e f = rw (e, f)
     by false (Some p) e f = rw (e, f)
@@ -69,9 +71,9 @@ kept_both (Fate.kept x ∷ k) l = ap (λ (k : List Link). x ∷ k) (kept_both k 
 module _ (find : Finder) (x : Context) where
   links_by_lem : (row : ℕ) (l : Element) (f : LinkFate) (k : List Fate) → kept_of (fate_with x row l f ∷ k) ≡ links_for x.per_day row l f ++ kept_of k
   unfolding fate_with links_for kept_of link_of
-  links_by_lem row l Across k = refl
-  links_by_lem row l Dangling k = refl
-  links_by_lem row l (Kept p) k = refl
+  links_by_lem row l (Err Across) k = refl
+  links_by_lem row l (Err Dangling) k = refl
+  links_by_lem row l (Ok p) k = refl
 
   links_in_lem : (row : ℕ) (ls : List Element) → kept_of (map (fate_to find x row) ls) ≡ links_in x.per_day find row ls
   unfolding links_in kept_of
@@ -104,17 +106,15 @@ abbrev to : ℕ → Link → Bool
 to i l = l.successor == i
 
 module _ (per_day : ℕ) (find : Finder) where
-  by_own : (row : ℕ) (l : Element) (f : LinkFate) → some? (to row) (links_for per_day row l f) ≡ kept_fate f
+  by_own : (row : ℕ) (l : Element) (f : LinkFate) → some? (to row) (links_for per_day row l f) ≡ is_ok f
   unfolding some? links_for link_of
-  by_own row l Across = refl
-  by_own row l Dangling = refl
-  by_own row l (Kept p) = rw (eq-eqb row row refl)
+  by_own row l (Err why) = refl
+  by_own row l (Ok p) = rw (eq-eqb row row refl)
 
   by_other : (i row : ℕ) → (row ≢ i) → (l : Element) (f : LinkFate) → some? (to i) (links_for per_day row l f) ≡ false
   unfolding some? links_for link_of
-  by_other i row h l Across = refl
-  by_other i row h l Dangling = refl
-  by_other i row h l (Kept p) = rw (ne_eqb row i h)
+  by_other i row h l (Err why) = refl
+  by_other i row h l (Ok p) = rw (ne_eqb row i h)
 
   in_own : (row : ℕ) (ls : List Element) → some? (to row) (links_in per_day find row ls) ≡ some? (is_kept_link find) ls
   unfolding some? links_in

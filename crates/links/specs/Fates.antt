@@ -18,8 +18,10 @@ use Rattle.tree.specs.declared.root.Root.{Root}
 use Rattle.rows.specs.Tables.{row_in}
 use Rattle.rows.specs.declared.table.Listed.TheVariants.{Tasks}
 use Rattle.links.specs.declared.Fates.{Fates}
-use Rattle.links.specs.declared.fate.LinkFate.{LinkFate}
-use Rattle.links.specs.declared.fate.LinkFate.TheVariants.{Across, Dangling, Kept}
+use Rattle.links.specs.declared.fate.LeftOut.{LeftOut}
+use Rattle.links.specs.declared.fate.LeftOut.TheVariants.{Across, Dangling}
+use Rattle.std.specs.Prelude.{Ok, Err, Result}
+use Rattle.std.specs.Option.{ok_or}
 
 abbrev pub Finder : Type 0
 Finder = Text → Option ℕ
@@ -41,18 +43,12 @@ links_by find x = kept_of (fates_by find x)
 
 -- ---- a link element
 
--- by the row of its predecessor
-abbrev pub fate_by_row : Option ℕ → LinkFate
-fate_by_row None = Dangling
-fate_by_row (Some n) = Kept n
+-- the row of its predecessor, or why it is not kept
+abbrev pub LinkFate : Type 0
+LinkFate = Result ℕ LeftOut
 
 unfoldable pub fate_for : Finder → Element → LinkFate
-fate_for find l = if yes_in l "CrossProject" then Across else fate_by_row (text_in l "PredecessorUID" >>= find)
-
-abbrev pub kept_fate : LinkFate → Bool
-kept_fate Across = false
-kept_fate Dangling = false
-kept_fate (Kept n) = true
+fate_for find l = if yes_in l "CrossProject" then Err Across else ok_or (text_in l "PredecessorUID" >>= find) Dangling
 
 -- the link is kept: it is not across, and its predecessor is a kept task
 unfoldable pub is_kept_link : Finder → Element → Bool
@@ -75,9 +71,9 @@ pub record Counted (l : List Fate) (r : Fates) : Type 0 where
 
 -- with one more
 abbrev pub counted_by : Fates → LinkFate → Fates
-counted_by n Across = record { dangling = n.dangling; across = (n.across + 1) % 2 ^ 32 }
-counted_by n Dangling = record { dangling = (n.dangling + 1) % 2 ^ 32; across = n.across }
-counted_by n (Kept p) = n
+counted_by n (Err Across) = record { dangling = n.dangling; across = (n.across + 1) % 2 ^ 32 }
+counted_by n (Err Dangling) = record { dangling = (n.dangling + 1) % 2 ^ 32; across = n.across }
+counted_by n (Ok p) = n
 
 -- with some link elements, and with those of some tasks
 unfoldable pub counted_in : Finder → Fates → List Element → Fates
@@ -95,9 +91,8 @@ abbrev pub day_only : ℕ → Context
 day_only per_day = record { per_day = per_day; built = []; main = default_calendar; tasks = [] }
 
 unfoldable pub links_for : ℕ → ℕ → Element → LinkFate → List Link
-links_for per_day row l Across = []
-links_for per_day row l Dangling = []
-links_for per_day row l (Kept p) = link_of (day_only per_day) p row l ∷ []
+links_for per_day row l (Err why) = []
+links_for per_day row l (Ok p) = link_of (day_only per_day) p row l ∷ []
 
 -- of some link elements of a task, and of those of some tasks from a row on
 unfoldable pub links_in : ℕ → Finder → ℕ → List Element → List Link

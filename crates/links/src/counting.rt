@@ -7,40 +7,45 @@ ghost use Rattle.tree.specs.Place.{element_at};
 ghost use Rattle.tree.specs.Root.{root_at};
 ghost use Rattle.links.specs.Fates.{task_in, fates_by, counted_by, counted_in, Counted};
 
-use index::Table;
 use crate::Fates;
-use crate::fate::{LinkFate, fate_of};
-use tree::{Root};
+use crate::fate::{LeftOut, fate_of};
+use index::Table;
+use tree::Root;
 
-fn counted(n: Fates, fate: LinkFate) -> Fates
+fn counted(n: Fates, fate: Result<u32, LeftOut>) -> Fates
     ensures { result ≡ counted_by n fate }
 {
     match fate {
-        LinkFate::Across => Fates {
-            dangling: n.dangling,
-            across: std::num::wrapping_add_u32(n.across, 1),
+        Err(LeftOut::Across) => Fates {
+            across: n.across.wrapping_add(1),
+            ..n
         },
-        LinkFate::Dangling => Fates {
-            dangling: std::num::wrapping_add_u32(n.dangling, 1),
-            across: n.across,
+        Err(LeftOut::Dangling) => Fates {
+            dangling: n.dangling.wrapping_add(1),
+            ..n
         },
-        LinkFate::Kept(_) => n,
+        Ok(_) => n,
     }
 }
 
 // With those of the task at `at`.
-fn counted_in(s: &[u8], root: Root, at: usize, words: &[u32], tasks: Option<Table>, n: Fates) -> Fates
+fn counted_in(
+    s: &[u8],
+    root: Root,
+    at: usize,
+    words: &[u32],
+    tasks: Option<Table>,
+    n: Fates,
+) -> Fates
     ensures { result ≡ counted_in (task_in s.now root words.now tasks) n (all (element_at s.now at) (bytes "PredecessorLink")) }
 {
     let mut count = n;
     let mut link = tree::child(s, at, b"PredecessorLink");
-    loop {
-        let Some(p) = link else {
-            return count;
-        };
+    while let Some(p) = link {
         count = counted(count, fate_of(s, root, p, words, tasks));
         link = tree::next_child(s, p, b"PredecessorLink");
     }
+    count
 }
 
 // By the table of the kept tasks.
@@ -52,11 +57,9 @@ pub fn count_fates(s: &[u8], root: Root, words: &[u32], tasks: Option<Table>) ->
         across: 0,
     };
     let mut task = rows::first_kept(s, root);
-    loop {
-        let Some((at, left)) = task else {
-            return count;
-        };
+    while let Some((at, left)) = task {
         count = counted_in(s, root, at, words, tasks, count);
         task = rows::next_kept(s, at, left);
     }
+    count
 }

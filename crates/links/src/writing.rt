@@ -1,4 +1,5 @@
 // The kept links, written one after another.
+ghost use Rattle.std.specs.Prelude.{Ok};
 ghost use Rattle.definition.specs.Ascii.{bytes};
 ghost use Rattle.definition.specs.Format.{whole};
 ghost use Rattle.definition.specs.Pack.{link as link_format};
@@ -9,13 +10,12 @@ ghost use Rattle.tree.specs.Root.{root_at};
 ghost use Rattle.pack.specs.Writes.{Writes};
 ghost use Rattle.links.specs.Fates.{task_in, links_by, links_for, links_in};
 ghost use Rattle.links.specs.More.{More};
-ghost use Rattle.links.specs.declared.fate.LinkFate.TheVariants.{Kept as KeptFate};
 
-use index::Table;
-use crate::fate::{LinkFate, fate_of};
+use crate::fate::{LeftOut, fate_of};
 use bits::Place;
+use index::Table;
 use pack::Records;
-use tree::{Root};
+use tree::Root;
 
 // The link element at `at`, from the row of its predecessor to that of its task.
 fn put_kept(
@@ -27,13 +27,13 @@ fn put_kept(
     row: u32,
     predecessor: u32,
 ) -> Records
-    ensures { More (whole link_format) (links_for per_day row (element_at s.now at) (KeptFate predecessor)) out.old done out.new result }
+    ensures { More (whole link_format) (links_for per_day row (element_at s.now at) (Ok predecessor)) out.old done out.new result }
 {
     let kind = tasks::link_kind(s, at);
     let lag = tasks::link_lag(s, at, per_day);
     let next = pack::put_link(out, done.next, predecessor, row, kind, lag);
     Records {
-        count: std::num::wrapping_add_u32(done.count, 1),
+        count: done.count.wrapping_add(1),
         next,
     }
 }
@@ -45,14 +45,13 @@ fn put_fate(
     at: usize,
     per_day: u64,
     row: u32,
-    fate: LinkFate,
+    fate: Result<u32, LeftOut>,
 ) -> Records
     ensures { More (whole link_format) (links_for per_day row (element_at s.now at) fate) out.old done out.new result }
 {
     match fate {
-        LinkFate::Across => done,
-        LinkFate::Dangling => done,
-        LinkFate::Kept(p) => put_kept(out, done, s, at, per_day, row, p),
+        Ok(p) => put_kept(out, done, s, at, per_day, row, p),
+        Err(_) => done,
     }
 }
 
@@ -72,10 +71,7 @@ fn put_links_in(
 {
     let mut r = done;
     let mut link = tree::child(s, at, b"PredecessorLink");
-    loop {
-        let Some(p) = link else {
-            return r;
-        };
+    while let Some(p) = link {
         r = put_fate(
             out,
             r,
@@ -87,6 +83,7 @@ fn put_links_in(
         );
         link = tree::next_child(s, p, b"PredecessorLink");
     }
+    r
 }
 
 // The kept links, one after another, by the table of the kept tasks.
@@ -104,12 +101,10 @@ pub fn put_links(
     let mut r = Records { count: 0, next: p };
     let mut row: u32 = 0;
     let mut task = rows::first_kept(s, root);
-    loop {
-        let Some((at, left)) = task else {
-            return r;
-        };
+    while let Some((at, left)) = task {
         r = put_links_in(out, r, s, root, at, words, tasks, per_day, row);
         row += 1;
         task = rows::next_kept(s, at, left);
     }
+    r
 }

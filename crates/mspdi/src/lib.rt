@@ -20,20 +20,22 @@ fn from_zero(n: i64) -> u64
     n as u64
 }
 
+// The number of an answer.
+fn number_of<T: Copy>(a: Result<T, Refusal>) -> u32
+    ensures { result ≡ answer_number a }
+{
+    match a {
+        Ok(_) => 0,
+        Err(e) => u32::from(e),
+    }
+}
+
 // The number of an answer, and how long its result is.
 fn told(a: Result<usize, Refusal>, written: &mut u64) -> u32
     ensures { (result ≡ answer_number a) × (written.new ≡ answer_length a) }
 {
-    match a {
-        Ok(n) => {
-            *written = n as u64;
-            0
-        }
-        Err(e) => {
-            *written = 0;
-            u32::from(e)
-        }
-    }
+    *written = a.unwrap_or(0) as u64;
+    number_of(a)
 }
 
 // The text of minutes from 0 to 1,000,000,000, as `PT8H30M0S`.
@@ -56,10 +58,7 @@ pub fn mspdi_time(minutes: u32, text: &mut [u8], written: &mut u64) -> u32
 pub fn mspdi_check(model: &[u8], work: &mut [u32]) -> u32
     ensures { ◌≡◌ {A = ℕ × List ℕ} (result, work.new) (check_answer model.now, replicate (length work.old) 0) }
 {
-    match model_check::check(model, work) {
-        Ok(()) => 0,
-        Err(e) => u32::from(e),
-    }
+    number_of(model_check::check(model, work))
 }
 
 // The outline of a model: rows of (activity, level from 1), two words each, and how many there are. rows needs 2 words an activity, work 4.
@@ -67,7 +66,8 @@ pub fn mspdi_outline(model: &[u8], rows: &mut [u32], work: &mut [u32], count: &m
     ensures { (result, rows.new, work.new, count.new) ≡ outline_leaves (length rows.old) (length work.old) (outline_answer model.now (length rows.old) (length work.old)) }
 {
     let a = outline::outline(model, rows, work);
-    told(a.map(|n| n as usize), count)
+    *count = u64::from(a.unwrap_or(0));
+    number_of(a)
 }
 
 // The day sheet of a date, by its day number, in the calendar of a row.

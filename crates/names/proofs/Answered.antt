@@ -1,9 +1,9 @@
 -- What the words of a table of the calendars answer. Assumes nothing.
-use Prim.Native.Nat.{ℕ, zero, suc, ◌+◌, ◌-◌, ◌*◌}
+use Prim.Native.Nat.{ℕ, zero, suc, ◌+◌, ◌-◌, ◌*◌, ◌≤◌}
 use native.Mathlib.Omega.{arith}
 use mathlib.Core.Path.{◌≡◌, refl, sym, ap, ◌∙◌}
 use mathlib.Core.List.{List}
-use Rattle.std.specs.Prelude.{Option, Some, None}
+use Rattle.std.specs.Prelude.{Option, Some, None, SomeIff}
 use lib.ListN.{get_or}
 use Rattle.definition.specs.Base.{◌>>=◌}
 use Rattle.definition.specs.Calendar.{elapsed_name}
@@ -23,14 +23,12 @@ use Rattle.names.specs.Naming.{named_by_lem}
 
 -- ---- a word
 
-pub word_none : {word : ℕ} → word ≡ 0 → (text : Text) → name_meaning text None ≡ name_by text word
+pub word_lem : (word : ℕ) (o : Option ℕ) → SomeIff o (1 ≤ word) (word - 1) → (text : Text) → name_meaning text o ≡ name_by text word
 unfolding name_meaning name_by
-word_none e text = rw e
-
-pub word_some : (word : ℕ) → (word ≡ 0 → ⊥) → (text : Text) → name_meaning text (Some (word - 1)) ≡ name_by text word
-unfolding name_meaning name_by
-word_some zero h text = absurd (h refl)
-word_some (suc k) h text = let z : suc k - 1 ≡ k = omega arith in ap (λ (n : ℕ). Some (starred_by text n)) z
+word_lem zero None h text = refl
+word_lem zero (Some k) h text = absurd (omega (arith, h.0))
+word_lem (suc n) None h text = absurd (h (omega arith))
+word_lem (suc n) (Some k) h text = let z : k ≡ n = omega (arith, h.1) in ap (λ (n : ℕ). Some (starred_by text n)) z
 
 -- ---- a row
 

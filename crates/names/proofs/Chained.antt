@@ -1,15 +1,15 @@
 -- What a walk over a chain finds, and the places of two tables. Assumes nothing.
 use Rattle.std.specs.Prelude.{if◌then◌else◌}
 use mathlib.Core.Path.{◌≡◌, refl, sym, ap, ◌∙◌}
-use mathlib.Core.Bool.{Bool, true, false, true≢false, not, ◌&&◌, ◌||◌}
+use mathlib.Core.Bool.{Bool, true, false, ◌&&◌}
 use mathlib.Core.List.{List}
 use Rattle.std.specs.Prelude.{Option, Some, None}
 use Prim.Native.Nat.{ℕ, ◌+◌, ◌*◌, ◌≤◌, ◌<◌, min}
 use native.Mathlib.Numerals.{add-one}
 use native.Mathlib.Omega.{arith}
-use lib.Dec.{ltb, leb, eqb}
+use lib.Dec.{leb, eqb}
 use lib.ListN.{length}
-use borrow.Author.Tests.{ltb-true, ltb-false, lt-ltb, le-ltb, le-leb, lt-leb}
+use borrow.Author.Tests.{lt-ltb, le-ltb, le-leb, lt-leb, eq-eqb, ne_eqb}
 use Rattle.definition.specs.Base.{◌>>=◌, ◌or◌, given, same}
 use Rattle.definition.specs.Calendar.{free}
 use Rattle.definition.specs.Text.{Text}
@@ -95,24 +95,22 @@ module _ (bytes : ℕ) (start : Place) (w : List ℕ) (at rows : ℕ) where
   abbrev Starts : Option Ids → List ℕ → Type 0
   Starts m w' = (m ≡ ids_for bytes start (length w) at rows) × (w' ≡ begun w m)
 
-  pub tables_none : (not (eqb start.bit 0) || ltb 4294967295 bytes) ≡ true → Starts None w
+  pub tables_inside : (start.bit ≡ 0 → ⊥) → Starts None w
   unfolding ids_for
-  tables_none h = (go (eqb start.bit 0) (ltb 4294967295 bytes) refl h, refl)
-    where
-      go : (a b : Bool) → ltb 4294967295 bytes ≡ b → (not a || b) ≡ true → None ≡ (if a && leb bytes 4294967295 then ids_of (length w) at rows else None)
-      go false b e h = refl
-      go true true e h = rw (lt-leb bytes 4294967295 (ltb-true 4294967295 bytes e))
-      go true false e h = absurd (true≢false (sym h))
+  tables_inside h = (rw (ne_eqb start.bit 0 h), refl)
 
-  module _ (h : (not (eqb start.bit 0) || ltb 4294967295 bytes) ≡ false) where
+  pub tables_long : 4294967295 < bytes → Starts None w
+  unfolding ids_for
+  tables_long h = (go (eqb start.bit 0), refl)
+    where
+      go : (a : Bool) → None ≡ (if a && leb bytes 4294967295 then ids_of (length w) at rows else None)
+      go false = refl
+      go true = rw (lt-leb bytes 4294967295 h)
+
+  module _ (z : start.bit ≡ 0) (h : bytes ≤ 4294967295) where
     tables_may : ids_of (length w) at rows ≡ ids_for bytes start (length w) at rows
     unfolding ids_for
-    tables_may = go (eqb start.bit 0) (ltb 4294967295 bytes) refl h
-      where
-        go : (a b : Bool) → ltb 4294967295 bytes ≡ b → (not a || b) ≡ false → ids_of (length w) at rows ≡ (if a && leb bytes 4294967295 then ids_of (length w) at rows else None)
-        go false b e h = absurd (true≢false h)
-        go true true e h = absurd (true≢false h)
-        go true false e h = rw (le-leb bytes 4294967295 (ltb-false 4294967295 bytes e))
+    tables_may = rw (eq-eqb start.bit 0 z, le-leb bytes 4294967295 h)
 
     module _ {m : Option Ids} (i : m ≡ ids_of (length w) at rows) where
       pub tables_refused : m ≡ None → Starts None w

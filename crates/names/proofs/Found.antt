@@ -1,6 +1,7 @@
 -- The calendars of a tree and the names by which they are found. Assumes nothing.
 use mathlib.Core.Path.{◌≡◌, refl, sym, ap, ◌∙◌}
-use mathlib.Core.Bool.{Bool, true, false, ◌&&◌}
+use mathlib.Core.Bool.{Bool, true, false, not, ◌&&◌}
+use Rattle.std.specs.Bool.{then_some}
 use mathlib.Core.List.{List, [], ◌∷◌}
 use Rattle.std.specs.Prelude.{Option, Some, None}
 use Prim.Native.Nat.{ℕ, ◌+◌, ◌*◌, ◌-◌, ◌/◌, ◌^◌, ◌≤◌, ◌<◌}
@@ -8,7 +9,7 @@ use native.Mathlib.Omega.{arith}
 use lib.Dec.{leb, ltb}
 use lib.ListN.{length}
 use borrow.Author.Tests.{lt-ltb, le-ltb, le-leb, lt-leb, ltb-true, leb-true, leb-false, eq-eqb, ne_eqb}
-use Rattle.definition.specs.Base.{◌>>=◌, ◌or◌, same}
+use Rattle.definition.specs.Base.{◌>>=◌, ◌or◌, when, same}
 use Rattle.definition.specs.Text.{Text, trim}
 use Rattle.definition.specs.Tree.{Element, child, non_empty, text_of}
 use Rattle.definition.specs.Calendar.{calendar_elements}
@@ -66,9 +67,6 @@ module _ (d : List ℕ) (p : Place) (e : Element) {t w : Text} (ht : t ≡ ((rea
   pub stars_is : length t - length w ≡ stars_by ((read_at raw d p).0 or []) e
   stars_is = ap (λ (x : Text). length x - length w) ht ∙ ap (λ (x : Text). length ((read_at raw d p).0 or []) - length x) hw
 
-  pub stars_none : length t < length w → 0 ≡ stars_by ((read_at raw d p).0 or []) e
-  stars_none h = let z : 0 ≡ length t - length w = omega arith in z ∙ stars_is
-
   pub stars_fit : length t - length w < 2 ^ 32
   stars_fit = let z : length t < 2 ^ 32 = rw ht (raw_length d p) in omega arith
 
@@ -80,13 +78,13 @@ module _ (d : List ℕ) (c : Place) (root : Element) where
       → name_meaning (wanted_name e) r ≡ unless_main (context_at d c root) (starred_by (wanted_name e) (stars_in d c root row e))
   beside row e {t} {k} r h i x = ap (λ (t : Text). name_meaning t r) (sym h) ∙ x ∙ ap (λ (t : Text). unless_main (context_at d c root) (starred_by t k)) h ∙ ap (λ (k : ℕ). unless_main (context_at d c root) (starred_by (wanted_name e) k)) i
 
-  pub unless_is : (t : Text) (k : ℕ) → same (starred_by t k) (context_at d c root).main.name ≡ true → name_meaning t None ≡ unless_main (context_at d c root) (starred_by t k)
+  pub unless_by : (t : Text) (k : ℕ) {b : Bool} → b ≡ same (starred_by t k) (context_at d c root).main.name → name_meaning t (then_some (not b) k) ≡ unless_main (context_at d c root) (starred_by t k)
   unfolding name_meaning
-  unless_is t k h = rw h
-
-  pub unless_other : (t : Text) (k : ℕ) → same (starred_by t k) (context_at d c root).main.name ≡ false → name_meaning t (Some k) ≡ unless_main (context_at d c root) (starred_by t k)
-  unfolding name_meaning
-  unless_other t k h = rw h
+  unless_by t k {b} h = rw (sym h) (by_test b)
+    where
+      by_test : (b : Bool) → name_meaning t (then_some (not b) k) ≡ when (not b) (starred_by t k)
+      by_test true = refl
+      by_test false = refl
 
   module _ (row : ℕ) (e : Element) {w : Text} (hw : w ≡ wanted_name e) where
     pub main_same : (t : Text) {k : ℕ} → k ≡ stars_in d c root row e → same t (starred_by w k) ≡ same t (name_in d c root (row, e))

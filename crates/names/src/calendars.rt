@@ -16,7 +16,8 @@ use crate::records::{place_of_row, raw_text};
 use crate::stars::same_starred;
 use bits::Place;
 use model::records::Kind;
-use tree::{Root};
+use std::cmp::Ordering;
+use tree::Root;
 
 // ---- how many
 
@@ -26,19 +27,18 @@ fn count_from(s: &[u8], first: usize) -> usize
 {
     let mut p = first;
     let mut n = 1;
-    loop {
-        let Some(q) = tree::next_child(s, p, b"Calendar") else {
-            return n;
-        };
+    while let Some(q) = tree::next_child(s, p, b"Calendar") {
         p = q;
         n += 1;
     }
+    n
 }
 
 // How many calendars there are.
 pub fn count_calendars(s: &[u8], root: Root) -> usize
     ensures { result ≡ length (calendar_elements (root_at s.now root)) }
 {
+    // `map_or` was tried: the proof learns too little of what the closure gives.
     match tree::child(s, root.calendars, b"Calendar") {
         None => 0,
         Some(p) => count_from(s, p),
@@ -80,16 +80,14 @@ pub fn wanted_name<'a>(s: &'a [u8], at: usize, unnamed: &'a [u8]) -> &'a [u8]
     ensures { result.now ≡ wanted_by unnamed.now (element_at s.now at) }
 {
     let n = tree::text_of(s, at, b"Name");
-    if n.len() == 0 {
-        return unnamed;
-    }
-    n
+    if n.is_empty() { unnamed } else { n }
 }
 
 // The row of the main calendar among those in the order in which they are built.
 fn main_row(s: &[u8], root: Root) -> usize
     ensures { result ≡ main_row (root_at s.now root) }
 {
+    // `map_or` was tried, as above.
     match rows::main_calendar(s, root) {
         Some((row, _)) => row,
         None => 0,
@@ -99,13 +97,11 @@ fn main_row(s: &[u8], root: Root) -> usize
 fn section_row(main: usize, row: usize) -> usize
     ensures { result ≡ section_row main row }
 {
-    if row == main {
-        return 0;
+    match row.cmp(&main) {
+        Ordering::Less => row + 1,
+        Ordering::Equal => 0,
+        Ordering::Greater => row,
     }
-    if row < main {
-        return row + 1;
-    }
-    row
 }
 
 // How many `*` the name of the calendar at `at` has behind its wanted name; its record in the buffer stands at p.
@@ -114,10 +110,7 @@ pub(crate) fn stars_at(out: &[u8], p: Place, s: &[u8], at: usize) -> u32
 {
     let long = raw_text(out, p).len();
     let short = wanted_name(s, at, b"Calendar").len();
-    if long < short {
-        return 0;
-    }
-    (long - short) as u32
+    long.saturating_sub(short) as u32
 }
 
 // That of the calendar of a row.
@@ -153,10 +146,7 @@ pub(crate) fn unless_main(
 ) -> Option<u32>
     ensures { name_meaning text.now result ≡ unless_main (context_at out.now c (root_at s.now root)) (starred_by text.now stars) }
 {
-    if is_main(out, c, s, root, text, stars) {
-        return None;
-    }
-    Some(stars)
+    (!is_main(out, c, s, root, text, stars)).then_some(stars)
 }
 
 // The elapsed calendar's name, unless it is the main one's.

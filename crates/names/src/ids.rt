@@ -8,7 +8,7 @@ ghost use Rattle.names.specs.Ids.{ids_of, no_ids, noted, id_at, taken_in, stars_
 use crate::records::{free_stars, place_of_row, raw_text};
 use crate::stars::same_starred;
 use bits::Place;
-use index::{Table};
+use index::Table;
 use model::records::Kind;
 
 #[derive(Clone, Copy)]
@@ -23,14 +23,8 @@ pub struct Ids {
 fn ids_at(len: usize, at: usize, rows: u32) -> Option<Ids>
     ensures { result ≡ ids_of len at rows }
 {
-    if rows == 0 {
-        return None;
-    }
-    if len <= at {
-        return None;
-    }
     let n = 3 * (rows as usize);
-    if len - at < 2 * n {
+    if rows == 0 || len <= at || len - at < 2 * n {
         return None;
     }
     Some(Ids {
@@ -69,16 +63,14 @@ fn id_of<'a>(out: &'a [u8], words: &[u32], ids: Ids, row: u32) -> &'a [u8]
 fn taken_in(out: &[u8], words: &[u32], ids: Ids, wanted: &[u8], stars: u32) -> bool
     ensures { result ≡ taken_in out.now words.now ids wanted.now stars }
 {
-    let mut row = ids.ids.first(words, index::hash_starred(wanted, stars));
-    loop {
-        let Some(r) = row else {
-            return false;
-        };
+    let mut at = ids.ids.first(words, index::hash_starred(wanted, stars));
+    while let Some(r) = at {
         if same_starred(wanted, stars, id_of(out, words, ids, r), 0) {
             return true;
         }
-        row = ids.ids.next(words, r);
+        at = ids.ids.next(words, r);
     }
+    false
 }
 
 // One more, unless there are that many.
@@ -92,31 +84,28 @@ fn behind(stars: u32, count: u32) -> u32
 fn stars_from(out: &[u8], words: &[u32], ids: Ids, count: u32, wanted: &[u8]) -> u32
     ensures { result ≡ stars_from out.now words.now ids count wanted.now }
 {
-    let mut row = ids.wanted.first(words, index::hash_of(wanted));
-    loop {
-        let Some(r) = row else {
-            return 0;
-        };
+    let mut at = ids.wanted.first(words, index::hash_of(wanted));
+    while let Some(r) = at {
         let stars = ids.wanted.place(words, r);
         if same_starred(wanted, stars, id_of(out, words, ids, r), 0) {
             return behind(stars, count);
         }
-        row = ids.wanted.next(words, r);
+        at = ids.wanted.next(words, r);
     }
+    0
 }
 
 // How many `*` a text needs so that it is the id of none of so many rows.
 fn free_in(out: &[u8], words: &[u32], ids: Ids, count: u32, wanted: &[u8]) -> u32
     ensures { result ≡ free_in out.now words.now ids count wanted.now }
 {
-    let mut stars = stars_from(out, words, ids, count, wanted);
-    while stars < count {
+    let first = stars_from(out, words, ids, count, wanted);
+    for stars in first..count {
         if !taken_in(out, words, ids, wanted, stars) {
             return stars;
         }
-        stars += 1;
     }
-    stars
+    first.max(count)
 }
 
 // ---- the ids of a section that is written, with tables or with none
@@ -126,12 +115,10 @@ fn free_in(out: &[u8], words: &[u32], ids: Ids, count: u32, wanted: &[u8]) -> u3
 pub fn ids_for(len: usize, p: Place, words: &mut [u32], at: usize, rows: u32) -> Option<Ids>
     ensures { (result ≡ ids_for len p (length words.old) at rows) × (words.new ≡ begun words.old result) }
 {
-    if (p.bit != 0) | (4294967295 < len) {
+    if p.bit != 0 || 4294967295 < len {
         return None;
     }
-    let Some(ids) = ids_at(words.len(), at, rows) else {
-        return None;
-    };
+    let ids = ids_at(words.len(), at, rows)?;
     clear_ids(words, ids);
     Some(ids)
 }
@@ -141,10 +128,7 @@ pub fn end_of_ids(ids: Option<Ids>, at: usize, len: usize) -> usize
     ensures { result ≡ end_ids ids at len }
 {
     match ids {
-        Some(t) => {
-            let wanted = t.wanted;
-            index::end_of(Some(wanted), len)
-        }
+        Some(t) => index::end_of(Some(t.wanted), len),
         None => at,
     }
 }
@@ -200,11 +184,17 @@ pub fn place_in(
 }
 
 // Notes the id of a row: a text with so many `*`, that stands at p.
-pub fn note_stars(words: &mut [u32], ids: Option<Ids>, row: u32, wanted: &[u8], stars: u32, p: Place)
+pub fn note_stars(
+    words: &mut [u32],
+    ids: Option<Ids>,
+    row: u32,
+    wanted: &[u8],
+    stars: u32,
+    p: Place,
+)
     ensures { words.new ≡ noted_by words.old ids row wanted.now stars (p.byte % 2 ^ 32) }
 {
-    let Some(t) = ids else {
-        return;
-    };
-    note_id(words, t, row, wanted, stars, (p.byte % 4294967296) as u32);
+    if let Some(t) = ids {
+        note_id(words, t, row, wanted, stars, (p.byte % 4294967296) as u32);
+    }
 }

@@ -14,7 +14,7 @@ use crate::calendars::{elapsed_named, stars_at, stars_of, unless_main, wanted_na
 use crate::stars::same_starred;
 use crate::uids::{CalendarTable, index_uids};
 use bits::Place;
-use index::{Table};
+use index::Table;
 use model::records::{Kind, skip_record};
 use tree::Root;
 
@@ -76,10 +76,8 @@ fn note_names(out: &[u8], c: Place, s: &[u8], words: &mut [u32], t: Table, main:
     ensures { NamesNoted out.now c s.now t main t.rows words.old words.new }
 {
     let mut q = skip_record::<false>(out, c, Kind::Calendars);
-    let mut row: u32 = 0;
-    while row < t.rows {
+    for row in 0..t.rows {
         q = note_name(out, c, q, s, words, t, row, main);
-        row += 1;
     }
 }
 
@@ -111,11 +109,9 @@ pub fn index_calendars(
     ensures { Makes out.now c s.now (root_at s.now root) at words.old words.new result }
 {
     let made = index_uids(s, root, words, at);
-    let table = made.table;
-    let Some(t) = table else {
-        return made;
-    };
-    note_all(out, c, s, root, words, t);
+    if let Some(t) = made.table {
+        note_all(out, c, s, root, words, t);
+    }
     made
 }
 
@@ -125,10 +121,7 @@ pub fn index_calendars(
 fn by_word(word: u32) -> Option<u32>
     ensures { (text : Text) → name_meaning text result ≡ name_by text word }
 {
-    if word == 0 {
-        return None;
-    }
-    Some(word - 1)
+    word.checked_sub(1)
 }
 
 // Where a calendar stands, and its name beside its wanted name.

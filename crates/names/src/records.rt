@@ -18,13 +18,11 @@ fn skip_rows(out: &[u8], p: Place, kind: Kind, row: usize) -> Place
     ensures { Passes (times row (record_of false kind)) out.now p result }
 {
     let mut q = p;
-    let mut i = 0;
-    while i < row {
+    for _ in 0..row {
         q = skip_record::<false>(out, q, kind);
         if 7 < q.bit {
             return q;
         }
-        i += 1;
     }
     q
 }
@@ -55,13 +53,11 @@ fn taken(out: &[u8], p: Place, kind: Kind, count: u32, wanted: &[u8], stars: u32
     ensures { result ≡ some? (same (starred_by wanted.now stars)) (texts_at kind out.now p count) }
 {
     let mut q = p;
-    let mut i: u32 = 0;
-    while i < count {
+    for _ in 0..count {
         if same_starred(wanted, stars, raw_text(out, q), 0) {
             return true;
         }
         q = skip_record::<false>(out, q, kind);
-        i += 1;
     }
     false
 }
@@ -70,12 +66,10 @@ fn taken(out: &[u8], p: Place, kind: Kind, count: u32, wanted: &[u8], stars: u32
 pub(crate) fn free_stars(out: &[u8], p: Place, kind: Kind, count: u32, wanted: &[u8]) -> u32
     ensures { starred_by wanted.now result ≡ free (texts_at kind out.now p count) wanted.now }
 {
-    let mut stars: u32 = 0;
-    while stars < count {
+    for stars in 0..count {
         if !taken(out, p, kind, count, wanted, stars) {
             return stars;
         }
-        stars += 1;
     }
-    stars
+    count
 }

@@ -7,10 +7,7 @@ ghost use Rattle.pack.specs.Value.{starred_by};
 fn byte_of(s: &[u8], i: usize) -> u8
     ensures { result ≡ get_or s.now i 42 }
 {
-    if i < s.len() {
-        return s[i];
-    }
-    42
+    s.get(i).copied().unwrap_or(b'*')
 }
 
 // Whether two texts are the same, each with so many `*` behind it.
@@ -21,12 +18,10 @@ pub(crate) fn same_starred(a: &[u8], m: u32, b: &[u8], n: u32) -> bool
     if len != b.len() + n as usize {
         return false;
     }
-    let mut i = 0;
-    while i < len {
+    for i in 0..len {
         if byte_of(a, i) != byte_of(b, i) {
             return false;
         }
-        i += 1;
     }
     true
 }

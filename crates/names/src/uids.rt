@@ -8,17 +8,10 @@ ghost use Rattle.tree.specs.Root.{root_at};
 ghost use Rattle.names.specs.Uids.{how_many, made_in, names_end, Stays, Ripe, Stand, Chained, MakesUids, order_row, calendar_by};
 
 use crate::calendars::count_calendars;
-use index::{Table};
-use tree::{Root};
+use index::Table;
+use tree::Root;
 
 // ---- the table is made
-
-// One row at least: a table of no rows would be none.
-fn rows_for(n: u32) -> u32
-    ensures { result ≡ max 1 n }
-{
-    if n == 0 { 1 } else { n }
-}
 
 // Room for a table of all calendars, 4 words for each and one more, where 32 bits hold each position in the tree.
 fn room_for(s: &[u8], root: Root, len: usize, at: usize) -> Option<Table>
@@ -31,7 +24,8 @@ fn room_for(s: &[u8], root: Root, len: usize, at: usize) -> Option<Table>
     if 5000000 < n {
         return None;
     }
-    let rows = rows_for(n as u32);
+    // One row at least: a table of no rows would be none.
+    let rows = (n as u32).max(1);
     if len <= rows as usize {
         return None;
     }
@@ -45,10 +39,7 @@ fn note_places(s: &[u8], root: Root, words: &mut [u32], t: Table) -> u32
 {
     let mut left = t.rows;
     let mut e = rows::first_calendar(s, root);
-    loop {
-        let Some(at) = e else {
-            return t.rows - left;
-        };
+    while let Some(at) = e {
         left -= 1;
         index::set_word(
             words,
@@ -58,6 +49,7 @@ fn note_places(s: &[u8], root: Root, words: &mut [u32], t: Table) -> u32
         );
         e = rows::next_calendar(s, root, at);
     }
+    t.rows - left
 }
 
 // The first so many rows into the chains of their UIDs.
@@ -66,12 +58,10 @@ fn chain_rows(s: &[u8], words: &mut [u32], t: Table, count: u32)
     ensures { Chained s.now t count words.old words.new }
 {
     t.clear(words);
-    let mut row: u32 = 0;
-    while row < count {
+    for row in 0..count {
         let at = t.place(words, row);
         let hash = index::hash_of(tree::text_of(s, at as usize, b"UID"));
         t.put(words, row, hash, at);
-        row += 1;
     }
 }
 
@@ -107,26 +97,27 @@ pub fn index_uids(s: &[u8], root: Root, words: &mut [u32], at: usize) -> Calenda
 fn order_row(rows: u32, row: u32) -> usize
     ensures { result ≡ rows - suc row }
 {
-    if row < rows {
-        return (rows - 1 - row) as usize;
-    }
-    0
+    rows.saturating_sub(1).saturating_sub(row) as usize
 }
 
 fn in_order(words: &[u32], t: Table, row: Option<u32>) -> Option<(usize, usize)>
     ensures { result ≡ order_row words.now t row }
 {
+    // `map` was tried: the proof learns too little of what the closure gives.
     match row {
-        Some(r) => Some((
-            order_row(t.rows, r),
-            t.place(words, r) as usize,
-        )),
+        Some(r) => Some((order_row(t.rows, r), t.place(words, r) as usize)),
         None => None,
     }
 }
 
 // The first calendar with a UID in the order in which they are built, by a table in the words; by a scan where there is none.
-pub fn calendar_by(s: &[u8], root: Root, words: &[u32], table: Option<Table>, uid: &[u8]) -> Option<(usize, usize)>
+pub fn calendar_by(
+    s: &[u8],
+    root: Root,
+    words: &[u32],
+    table: Option<Table>,
+    uid: &[u8],
+) -> Option<(usize, usize)>
     ensures { calendar_meaning s.now result ≡ calendar_by s.now (root_at s.now root) words.now table uid.now }
 {
     match table {

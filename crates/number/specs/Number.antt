@@ -10,12 +10,6 @@ use Rattle.number.specs.declared.decimal.Mantissa.{Mantissa}
 use Rattle.number.specs.declared.decimal.Power.{Power}
 use Rattle.number.specs.declared.decimal.Power.TheVariants as power
 
--- document 01's number for an answer: a number that is too long refuses the tree
-abbrev pub number_refusal : Result Float Unread → ℕ
-number_refusal (Err Absent) = 0
-number_refusal (Err Long) = 5
-number_refusal (Ok x) = 0
-
 -- ---- digits, held to a limit that is past every length
 abbrev pub limit : ℕ
 limit = 10 ^ 19

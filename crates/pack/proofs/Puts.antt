@@ -1,16 +1,16 @@
 -- Laws of what is put: values that may be missing, dates, constraints. Assumes nothing.
 use Prim.Native.Nat.{ℕ}
-use mathlib.Core.Path.{◌≡◌, refl, sym, ap, ◌∙◌}
+use mathlib.Core.Path.{◌≡◌, refl, sym}
 use mathlib.Core.Bool.{true, false}
 use mathlib.Core.List.{List}
 use Rattle.std.specs.Prelude.{Option, Some, None}
 use lib.IntN.{negsuc}
-use Rattle.definition.specs.Base.{◌>>=◌, ◌or◌}
+use Rattle.std.specs.Option.{unwrap_or}
+use Rattle.definition.specs.Base.{◌or◌}
 use Rattle.definition.specs.Answer.{date_meaning, day_number_of}
 use Rattle.definition.specs.Date as D
 use Rattle.definition.specs.Date.{day_number}
-use Rattle.definition.specs.Format.{Format, optional, flag, code, date}
-use Rattle.definition.specs.Pack.{constraint}
+use Rattle.definition.specs.Format.{Format, optional, flag}
 use Rattle.definition.specs.declared.Date.{Date}
 use Rattle.bits.specs.Steps.{Puts, put_same, put_via, put_alone, put_both}
 use Rattle.bits.specs.declared.Place.{Place}
@@ -28,30 +28,9 @@ module _ {d : List ℕ} {p : Place} {d' : List ℕ} {q : Place} where
 
 -- ---- dates
 
-module _ {a : Option Date} (o : Option D.Date) (h : date_meaning a ≡ day_number_of o) where
-  pub day_is : {x : Date} → a ≡ Some x → x.0 ≡ day_number (o or 0)
-  unfolding date_meaning day_number_of
-  day_is {x} e = by o (ap date_meaning (sym e) ∙ h)
-    where
-      by : (o : Option D.Date) → Some x.0 ≡ (o >>= λ d. Some (day_number d)) → x.0 ≡ day_number (o or 0)
-      by None i = cc
-      by (Some d) i = cc
-
-  pub no_day : a ≡ None → negsuc 4371952 ≡ day_number (o or 0)
-  unfolding date_meaning day_number_of day_number
-  no_day e = by o (ap date_meaning (sym e) ∙ h)
-    where
-      by : (o : Option D.Date) → None ≡ (o >>= λ d. Some (day_number d)) → negsuc 4371952 ≡ day_number (o or 0)
-      by None i = refl
-      by (Some d) i = cc
-
--- ---- constraints
-
-module _ {d : List ℕ} {p : Place} {d1 : List ℕ} {p1 : Place} {d2 : List ℕ} {p2 : Place} (x : Puts flag true d p d1 p1) {k : ℕ} (y : Puts (code 1 7) k d1 p1 d2 p2) where
-  pub constraint_alone : Puts (optional constraint) (Some (k, None)) d p d2 p2
-  unfolding constraint
-  constraint_alone = put_given_lem refl x (put_alone _ date y)
-
-  pub constraint_dated : {t : D.Date} {d3 : List ℕ} {p3 : Place} → Puts date t d2 p2 d3 p3 → Puts (optional constraint) (Some (k, Some t)) d p d3 p3
-  unfolding constraint
-  constraint_dated z = put_given_lem refl x (put_both _ y z)
+pub day_or : (a : Option Date) (o : Option D.Date) → date_meaning a ≡ day_number_of o → (unwrap_or a (record { 0 = negsuc 4371952 })).0 ≡ day_number (o or 0)
+unfolding date_meaning day_number_of day_number
+day_or None None h = refl
+day_or None (Some d) h = cc
+day_or (Some x) None h = cc
+day_or (Some x) (Some d) h = cc

@@ -11,7 +11,7 @@ use Rattle.laws.specs.Fields.{InYears, days_day}
 use Rattle.laws.specs.Formats.{IfGiven}
 use Rattle.definition.specs.Text.{Text}
 use Rattle.definition.specs.Answer.{date_meaning, day_number_of}
-use Rattle.tasks.specs.Task.{constraint_means, day_numbered}
+use Rattle.tasks.specs.Task.{code_and_day, constraint_means, day_numbered}
 
 -- the date of a day number; 0 outside the years
 abbrev pub date_by : ℤ → Date
@@ -21,9 +21,29 @@ date_by z = from_days z or 0
 abbrev pub date_given : Option DayNumber → Option Date
 date_given d = date_meaning d >>= λ z. Some (date_by z)
 
+pub date_none : date_given None ≡ None
+unfolding date_meaning
+date_none = refl
+
+pub date_some : (d : DayNumber) → date_given (Some d) ≡ Some (date_by d.0)
+unfolding date_meaning
+date_some d = refl
+
 -- a constraint that may be missing: its code, and its date unless the code is 1
 abbrev pub constraint_given : Option Constraint → Option (ℕ × Option Date)
 constraint_given c = constraint_means c >>= λ x. Some (x.0, x.1 >>= λ z. Some (date_by z))
+
+-- that of one
+abbrev pub constraint_by : Constraint → ℕ × Option Date
+constraint_by c = let x = code_and_day c in (x.0, x.1 >>= λ z. Some (date_by z))
+
+pub constraint_none : constraint_given None ≡ None
+unfolding constraint_means
+constraint_none = refl
+
+pub constraint_some : (c : Constraint) → constraint_given (Some c) ≡ Some (constraint_by c)
+unfolding constraint_means
+constraint_some c = refl
 
 -- a name that may be missing: the text with so many `*` behind it
 unfoldable pub name_meaning : Text → Option ℕ → Option Text

@@ -10,5 +10,5 @@ pub use record::{
     Counts, Dates, Plan, Progress, Records, Skips, put_activity, put_assignment, put_counts,
     put_expense, put_link, put_project, put_resource,
 };
-pub use stars::{put_starred};
+pub use stars::put_starred;
 pub use value::{put_count, put_date};

@@ -7,12 +7,9 @@ ghost use Rattle.bits.specs.Steps.{Puts};
 ghost use Rattle.pack.specs.Record.{link_by, assignment_by, expense_by, project_by, resource_by, activity_by, schedule_fields, schedule_of, counts_by};
 
 use crate::stars::{put_optional_name, put_starred};
-use crate::value::{
-    put_code, put_constraint, put_count, put_date, put_lag_kind, put_number, put_optional_date,
-    put_optional_number, put_optional_row,
-};
+use crate::value::{put_code, put_count, put_date, put_lag_kind, put_number, put_optional};
 use bits::Place;
-use definition::{Date};
+use definition::Date;
 use resources::Amounts;
 use tasks::{Constraint, Lag, Parts};
 
@@ -83,7 +80,7 @@ pub fn put_link(
     let b = put_count(out, a, successor);
     let c = put_code(out, b, kind);
     let d = put_number(out, c, lag.days);
-    let e = put_optional_number(out, d, minutes);
+    let e = put_optional(out, d, minutes);
     let f = put_lag_kind(out, e, kind_of_lag);
     bits::pad(out, f)
 }
@@ -103,8 +100,8 @@ pub fn put_assignment(
     let b = put_count(out, a, resource);
     let c = put_number(out, b, work.planned);
     let d = put_number(out, c, work.actual);
-    let e = put_optional_number(out, d, remaining);
-    let f = put_optional_number(out, e, rate);
+    let e = put_optional(out, d, remaining);
+    let f = put_optional(out, e, rate);
     bits::pad(out, f)
 }
 
@@ -123,7 +120,7 @@ pub fn put_expense(
     let b = bits::put_text(out, a, name);
     let c = put_number(out, b, cost.planned);
     let d = put_number(out, c, cost.actual);
-    let e = put_optional_number(out, d, remaining);
+    let e = put_optional(out, d, remaining);
     let f = put_code(out, e, accrual);
     bits::pad(out, f)
 }
@@ -146,7 +143,7 @@ pub fn put_project(
     let e = put_count(out, d, skips.dangling);
     let f = put_count(out, e, skips.across);
     let g = put_count(out, f, skips.fractional);
-    let h = put_optional_date(out, g, status);
+    let h = put_optional(out, g, status);
     bits::pad(out, h)
 }
 
@@ -183,7 +180,7 @@ pub fn put_resource(
     let d = bits::put_text(out, c, unit);
     let e = put_number(out, d, units);
     let f = put_optional_name(out, e, calendar, named);
-    let g = put_optional_number(out, f, price);
+    let g = put_optional(out, f, price);
     bits::pad(out, g)
 }
 
@@ -208,13 +205,13 @@ fn put_schedule(
     let remaining = progress.remaining;
     let a = bits::put_text(out, p, notes);
     let b = put_optional_name(out, a, calendar, named);
-    let c = put_constraint(out, b, constraint);
-    let d = put_optional_date(out, c, deadline);
-    let e = put_optional_date(out, d, start);
-    let f = put_optional_date(out, e, finish);
-    let g = put_optional_number(out, f, percent);
+    let c = put_optional(out, b, constraint);
+    let d = put_optional(out, c, deadline);
+    let e = put_optional(out, d, start);
+    let f = put_optional(out, e, finish);
+    let g = put_optional(out, f, percent);
     let h = put_code(out, g, progress.duration_type);
-    let i = put_optional_number(out, h, remaining);
+    let i = put_optional(out, h, remaining);
     bits::put_text(out, i, uid)
 }
 
@@ -242,8 +239,8 @@ pub fn put_activity(
     let b = bits::put_text(out, a, name);
     let c = put_code(out, b, plan.kind);
     let d = put_number(out, c, duration.days);
-    let e = put_optional_number(out, d, minutes);
-    let f = put_optional_row(out, e, parent);
+    let e = put_optional(out, d, minutes);
+    let f = put_optional(out, e, parent);
     let g = put_schedule(out, f, notes, calendar, named, dates, progress, uid);
     bits::pad(out, g)
 }

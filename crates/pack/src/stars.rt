@@ -13,10 +13,8 @@ fn put_stars(out: &mut [u8], p: Place, stars: u32) -> Place
     ensures { Step out.old p (λ b. b ▷ bits_of (replicate stars 42)) out.new result }
 {
     let mut q = p;
-    let mut i: u32 = 0;
-    while i < stars {
+    for _ in 0..stars {
         q = bits::put(out, q, 8, 42);
-        i += 1;
     }
     q
 }
@@ -25,7 +23,7 @@ fn put_stars(out: &mut [u8], p: Place, stars: u32) -> Place
 pub fn put_starred(out: &mut [u8], p: Place, s: &[u8], stars: u32) -> Place
     ensures { Puts text (starred_by s.now stars) out.old p out.new result }
 {
-    let a = bits::put(out, p, 32, s.len() as u64 + stars as u64);
+    let a = bits::put(out, p, 32, s.len() as u64 + u64::from(stars));
     let b = bits::pad(out, a);
     let c = bits::put_bytes(out, b, s);
     put_stars(out, c, stars)

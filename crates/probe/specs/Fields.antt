@@ -5,7 +5,7 @@ use Rattle.std.specs.Prelude.{None, Option, Some}
 use Rattle.definition.specs.Base.{◌or◌}
 use Rattle.definition.specs.declared.Date.{Date}
 use Rattle.date.specs.Scale.{day_count}
-use Rattle.recurrence.specs.Scale.{day_date, month_meaning}
+use Rattle.recurrence.specs.Scale.{day_date}
 use Rattle.recurrence.specs.declared.Rule.{Rule}
 use Rattle.recurrence.specs.declared.Cursor.{Cursor}
 use Rattle.recurrence.specs.declared.Step.{Step}
@@ -38,7 +38,7 @@ fields_of (Some r) =
       last = day_count r.last.0;
       most = r.most;
       period = r.period;
-      month = month_meaning r.month or 13;
+      month = r.month or 13;
       day = r.day;
       item = r.item;
       position = r.position;

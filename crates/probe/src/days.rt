@@ -6,7 +6,6 @@ ghost use Rattle.definition.specs.Base.{◌or◌};
 ghost use Rattle.definition.specs.Recurrence.{rule_of, days_of};
 ghost use Rattle.date.specs.Scale.{day_count};
 ghost use Rattle.tree.specs.Place.{element_at};
-ghost use Rattle.recurrence.specs.Scale.{month_meaning};
 ghost use Rattle.recurrence.specs.Meaning.{step_of};
 ghost use Rattle.recurrence.specs.Element.{rule_by, range_by};
 ghost use Rattle.probe.specs.Fields.{day_at, month_at, fields_of, run_of, Told, rule, cursor};

@@ -37,6 +37,9 @@ use Rattle.read.specs.Answers.{Leaves}
 use Rattle.read.specs.Answers as A
 use Rattle.std.specs.Prelude.{Result, Ok, Err}
 use Rattle.definition.specs.declared.Refusal.{Refusal}
+use Rattle.definition.specs.declared.Refusal.TheVariants as refusal
+use Rattle.definition.specs.declared.Refusal.TheVariants.{NoRoom}
+use Rattle.definition.specs.Answer.{refusal_number}
 use Rattle.laws.specs.Evens.{even_body}
 
 -- ---- whole bytes
@@ -125,11 +128,11 @@ module _ (m : Model) {d d1 : List ℕ} {end : Place} (w : Puts (counts ⊗ body 
       let lt' : 8 * length d < at start + length (f.put 0 a) = rw e at lt in
       omega (arith, encode_long m, ap length (bits_with m zeros), long_with m zeros, body_whole m)
 
-  leaves_short : {out : List ℕ} → inside (length d1) end ≡ false → out ≡ replicate (length d1) 0 → Leaves (length d) (in_room (length d) (encode m)) (Err 9) out
+  leaves_short : {out : List ℕ} → inside (length d1) end ≡ false → out ≡ replicate (length d1) 0 → Leaves (length d) (in_room (length d) (encode m)) (Err NoRoom) out
   unfolding in_room
   leaves_short {out} h e =
       let i : in_room (length d) (encode m) ≡ refused 9 = rw (lt-leb _ _ (short h)) in
-      subst (λ (a : Answer). Leaves (length d) a (Err 9) out) (sym i) (record { refusal = refl; count = refl; given = e ∙ ap (λ (k : ℕ). replicate k 0) w.step.same })
+      subst (λ (a : Answer). Leaves (length d) a (Err NoRoom) out) (sym i) (record { refusal = refl; count = refl; given = e ∙ ap (λ (k : ℕ). replicate k 0) w.step.same })
 
   leaves_written : {n : P.Counts} {d2 out : List ℕ} → inside (length d1) end ≡ true → counts_by n ≡ low (counts_of m) → Closes n d1 d2 → ((i : ℕ) → get_or d2 i 0 < 256)
       → out ≡ cleared end.byte d2 → Leaves (length d) (in_room (length d) (encode m)) (Ok end.byte) out
@@ -171,10 +174,10 @@ unfolding read_answer
 reads_not s room h = rw (lt-ltb 0 (tree_refusal s) h)
 
 module _ {s : Text} {d d1 : List ℕ} {r : Sections} (w : AllPut (element_at s 0) d d1 r) where
-  pub fills_short : {out : List ℕ} → inside (length d1) r.next ≡ false → out ≡ replicate (length d1) 0 → A.Fills s d out (Err 9)
+  pub fills_short : {out : List ℕ} → inside (length d1) r.next ≡ false → out ≡ replicate (length d1) 0 → A.Fills s d out (Err NoRoom)
   fills_short {out} h e = record {
     fills = λ k.
-        subst (λ (a : Answer). Leaves (length d) a (Err 9) out) (sym (reads_on s (length d) k))
+        subst (λ (a : Answer). Leaves (length d) a (Err NoRoom) out) (sym (reads_on s (length d) k))
         (leaves_short (model_of (element_at s 0)) (w.puts (few_of s k)) h e);
   }
 
@@ -189,11 +192,23 @@ module _ {s : Text} {d d1 : List ℕ} {r : Sections} (w : AllPut (element_at s 0
 
 -- the answer for a tree that is refused, and for one that is read
 
-module _ (s : Text) (model : List ℕ) {n : ℕ} {out : List ℕ} (e : n ≡ tree_refusal s) where
-  pub leaves_refused : 0 < n → out ≡ replicate (length model) 0 → Leaves (length model) (read_answer s (length model)) (Err n) out
-  leaves_refused h o =
-      let k : read_answer s (length model) ≡ refused n = reads_not s (length model) (rw (← e) h) ∙ ap refused (sym e) in
-      subst (λ (a : Answer). Leaves (length model) a (Err n) out) (sym k) (record { refusal = refl; count = refl; given = o })
+above_zero : (e : Refusal) → 0 < refusal_number e
+above_zero refusal.Layout = omega arith
+above_zero refusal.Utf8 = omega arith
+above_zero refusal.TooMany = omega arith
+above_zero refusal.NoProject = omega arith
+above_zero refusal.TooLong = omega arith
+above_zero refusal.NoModel = omega arith
+above_zero refusal.ListBroken = omega arith
+above_zero refusal.Outside = omega arith
+above_zero refusal.NoRoom = omega arith
 
-  pub leaves_read : {r : Result ℕ Refusal} → n ≤ 0 → A.Fills s model out r → Leaves (length model) (read_answer s (length model)) r out
-  leaves_read h f = f.fills (sym e ∙ omega arith)
+module _ (s : Text) (model : List ℕ) {out : List ℕ} where
+  pub leaves_refused : (e : Refusal) → refusal_number e ≡ tree_refusal s → out ≡ replicate (length model) 0 → Leaves (length model) (read_answer s (length model)) (Err e) out
+  leaves_refused e h o =
+      let p : 0 < tree_refusal s = rw (← h) (above_zero e) in
+      let k : read_answer s (length model) ≡ refused (refusal_number e) = reads_not s (length model) p ∙ ap refused (sym h) in
+      subst (λ (a : Answer). Leaves (length model) a (Err e) out) (sym k) (record { refusal = refl; count = refl; given = o })
+
+  pub leaves_read : {r : Result ℕ Refusal} → 0 ≡ tree_refusal s → A.Fills s model out r → Leaves (length model) (read_answer s (length model)) r out
+  leaves_read e f = f.fills (sym e)

@@ -36,11 +36,13 @@ fn put_model(tree: &[u8], model: &mut [u8], work: &mut [u32]) -> Result<usize, R
 fn answer(tree: &[u8], model: &mut [u8], work: &mut [u32]) -> Result<usize, Refusal>
     ensures { Leaves (length model.old) (read_answer tree.now (length model.old)) result model.new }
 {
-    if let Err(refusal) = tree::judge(tree) {
-        model.fill(0);
-        return Err(refusal);
+    match tree::judge(tree) {
+        Ok(()) => put_model(tree, model, work),
+        Err(refusal) => {
+            model.fill(0);
+            Err(refusal)
+        }
     }
-    put_model(tree, model, work)
 }
 
 // The model of a tree, with zeros behind it, and zeros in work; zeros alone where there is none.

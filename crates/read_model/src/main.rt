@@ -5,7 +5,6 @@ ghost use Rattle.std.specs.Prelude.{◌≡◌};
 ghost use Rattle.io.specs.Counts.{IsPrefixLen};
 ghost use Rattle.read_model.specs.Writes.{Writes};
 
-
 // The streams' numbers.
 const STDIN_FILENO: i32 = 0;
 

@@ -33,9 +33,6 @@ day_date n = record { 0 = day_number n }
 abbrev pub count_by : Option Date → Option D.Date
 count_by a = a >>= λ d. Some (day_count d.0)
 
-abbrev pub month_meaning : Option ℕ → Option ℕ
-month_meaning m = m
-
 -- month 13 stands for none
 abbrev pub scaled_by : Rule → Scaled
 scaled_by r =

@@ -1,5 +1,4 @@
 -- The last of a list that passes a test, and its row, found from the front on. Assumes nothing.
-use Rattle.std.specs.Prelude.{if◌then◌else◌}
 use Rattle.std.proofs.Common.{◌≡◌, ℕ, suc, ◌+◌, ◌-◌, ◌%◌, Bool, true, false, ltb, List, [], ◌∷◌, map, take, sym, refl, ap, ◌∙◌, arith}
 use native.Mathlib.Nat.{zero-mod, mod-add-mod}
 use Rattle.std.specs.Prelude.{Option, Some, None}
@@ -109,16 +108,16 @@ pub last_begin : (s : Text) (p : Element → Bool) {es l : List Element} → es 
 unfolding found_meaning
 last_begin s p e = record { is = ap (find_last p) e ∙ sym (none_else _) }
 
-found_if_is : (s : Text) (t : Bool) {r : Option ℕ} (at : ℕ) (found : Option ℕ) → r ≡ (if t then Some at else found) → found_meaning s r ≡ (when t (element_at s at) or_else found_meaning s found)
+found_when : (s : Text) (t : Bool) (at : ℕ) (found : Option ℕ) → found_meaning s (when t at or_else found) ≡ (when t (element_at s at) or_else found_meaning s found)
 unfolding found_meaning
-found_if_is s true at found e = rw e
-found_if_is s false at found e = rw e
+found_when s true at found = refl
+found_when s false at found = refl
 
 module _ {s : Text} {p : Element → Bool} {t : Option Element} {l : List Element} {found : Option ℕ} (h : LastIn s p t l found) where
-  pub last_turn : (at : ℕ) {k : List Element} → l ≡ element_at s at ∷ k → {b : Bool} → b ≡ p (element_at s at) → {found' : Option ℕ} → found' ≡ (if b then Some at else found) → LastIn s p t k found'
+  pub last_turn : (at : ℕ) {k : List Element} → l ≡ element_at s at ∷ k → {b : Bool} → b ≡ p (element_at s at) → {here : Option ℕ} → here ≡ when b at → {found' : Option ℕ} → found' ≡ (here or_else found) → LastIn s p t k found'
   unfolding find_last
-  last_turn at {k} i {b} z {found'} j =
-      let f : found_meaning s found' ≡ (when (p (element_at s at)) (element_at s at) or_else found_meaning s found) = found_if_is s b at found j ∙ rw z in
+  last_turn at {k} i {b} z w {found'} j =
+      let f : found_meaning s found' ≡ (when (p (element_at s at)) (element_at s at) or_else found_meaning s found) = ap (found_meaning s) (j ∙ ap (λ o. o or_else found) w) ∙ found_when s b at found ∙ rw z in
       let a : (find_last p l or_else found_meaning s found) ≡ (find_last p k or_else (when (p (element_at s at)) (element_at s at) or_else found_meaning s found)) = rw i (else_else (find_last p k) (when (p (element_at s at)) (element_at s at)) (found_meaning s found)) in
       record { is = h.is ∙ a ∙ ap (λ o. find_last p k or_else o) (sym f) }
 

@@ -1,6 +1,6 @@
 -- The walks: each turn of the search for the next element that counts. Assumes nothing.
 use Rattle.std.proofs.Common.{◌≡◌, ℕ, zero, suc, ◌+◌, ◌-◌, ◌<◌, ◌≤◌, Bool, true, false, not, ◌&&◌, List, [], ◌∷◌, length, take, refl, ap, ◌∙◌, arith}
-use Rattle.std.specs.Prelude.{Option, Some, None}
+use Rattle.std.specs.Prelude.{Option, Some, None, MatchOption}
 use lib.Seq.{take-nil}
 use borrow.Author.Tests.{not-true}
 use Rattle.definition.specs.Base.{◌or_else◌, given, keep, first, numbered}
@@ -173,6 +173,10 @@ module _ {s : Text} (root : Element) where
         record { is = rw i o.is; on = o.on };
   }
 
+  pub after_either : (f : Option ℕ) (m : ℕ) (r : Option ℕ) {P : Type 0} → MatchOption f P (λ p. r ≡ Some p) → (P → Picks s (bytes "Calendar") Derived (calendar_elements root) (m + 1) r) → OrdersAfter s root f r
+  after_either None m r h d = after_none m refl (d h)
+  after_either (Some p) m r h d = rw h (after_plain refl)
+
   pub order_first : (m : ℕ) {f r : Option ℕ} → Picks s (bytes "Calendar") Plain (calendar_elements root) (m + 1) f → OrdersAfter s root f r → Orders s root (in_order root) (suc (length s + length s)) r
   unfolding in_order passes
   order_first m h a = let o = a.go (calendar_elements root) (m + 1) h in record { is = o.is; on = omega (arith, o.on) }
@@ -193,10 +197,7 @@ unfolding calendar_meaning order_by numbered first
 first_row None h = rw h.is
 first_row (Some p) h = rw h.is
 
-pub or_is : (s : Text) {c : Option (ℕ × ℕ)} {row at : ℕ} (o : Option (ℕ × Element)) → c ≡ Some (row, at) → calendar_meaning s (Some (row, at)) ≡ (calendar_meaning s c or_else o)
+pub or_first_row : (s : Text) (c : Option (ℕ × ℕ)) (r : Option (ℕ × ℕ)) (o : Option (ℕ × Element)) {P : Type 0} → MatchOption c P (λ x. r ≡ Some x) → (P → calendar_meaning s r ≡ o) → calendar_meaning s r ≡ (calendar_meaning s c or_else o)
 unfolding calendar_meaning
-or_is s o e = rw e
-
-pub or_none : (s : Text) {c : Option (ℕ × ℕ)} {a o : Option (ℕ × Element)} → c ≡ None → a ≡ o → a ≡ (calendar_meaning s c or_else o)
-unfolding calendar_meaning
-or_none s e h = rw e h
+or_first_row s None r o h i = i h
+or_first_row s (Some (row, at)) r o h i = rw h refl

@@ -1,33 +1,30 @@
 // The calendars in the order in which they are built: those without a base, then the others.
 ghost use Rattle.std.specs.Prelude.{◌≡◌, suc, ◌+◌, length};
-ghost use Rattle.definition.specs.Base.{◌>>=◌ as bind, ◌or_else◌, first as first_of, numbered};
+ghost use Rattle.definition.specs.Base.{◌>>=◌ as bind, first as first_of, numbered};
 ghost use Rattle.definition.specs.Field.{text_in};
 ghost use Rattle.tree.specs.Root.{root_at};
-ghost use Rattle.rows.specs.Rows.{in_order, with_uid_in, main_in, calendar_meaning, row_zero};
+ghost use Rattle.rows.specs.Rows.{in_order, with_uid_in, main_in, calendar_meaning};
 ghost use Rattle.rows.specs.Walks.{later_in_order, order_room, Orders, OrdersAfter};
 
-use crate::section::{Which, first_which, next_which, which_from};
-use tree::{Root};
+use crate::section::{Which, first_which, next_which};
+use tree::Root;
 
 // After those without a base, the first over one.
 fn or_derived(s: &[u8], root: Root, plain: Option<usize>) -> Option<usize>
     ensures { OrdersAfter s.now (root_at s.now root) plain result }
 {
-    match plain {
-        Some(at) => Some(at),
-        None => first_which(s, root.calendars, b"Calendar", Which::Derived),
-    }
+    plain.or_else(|| first_which(s, root.calendars, b"Calendar", Which::Derived))
 }
 
 // The first calendar to be built.
 pub fn first_calendar(s: &[u8], root: Root) -> Option<usize>
     ensures { Orders s.now (root_at s.now root) (in_order (root_at s.now root)) (suc (length s.now + length s.now)) result }
 {
-    let first = tree::child(s, root.calendars, b"Calendar");
-    match which_from(s, first, b"Calendar", Which::Plain) {
-        Some(at) => Some(at),
-        None => which_from(s, first, b"Calendar", Which::Derived),
-    }
+    or_derived(
+        s,
+        root,
+        first_which(s, root.calendars, b"Calendar", Which::Plain),
+    )
 }
 
 // The one to be built after that at `at`.
@@ -46,16 +43,14 @@ pub fn calendar_with(s: &[u8], root: Root, uid: &[u8]) -> Option<(usize, usize)>
 {
     let mut row: usize = 0;
     let mut c = first_calendar(s, root);
-    loop {
-        let Some(at) = c else {
-            return None;
-        };
+    while let Some(at) = c {
         if fields::text_is(s, at, b"UID", uid) {
             return Some((row, at));
         }
         row += 1;
         c = next_calendar(s, root, at);
     }
+    None
 }
 
 // The calendar of CalendarUID.
@@ -69,28 +64,16 @@ fn named_calendar(s: &[u8], root: Root) -> Option<(usize, usize)>
     None
 }
 
-fn row_0(c: Option<usize>) -> Option<(usize, usize)>
-    ensures { result ≡ row_zero c }
+// The first to be built, with its row.
+fn first_row(s: &[u8], root: Root) -> Option<(usize, usize)>
+    ensures { calendar_meaning s.now result ≡ first_of (numbered 0 (in_order (root_at s.now root))) }
 {
-    match c {
-        Some(at) => Some((0, at)),
-        None => None,
-    }
-}
-
-// A calendar, or the first where there is none.
-fn or_first(s: &[u8], root: Root, c: Option<(usize, usize)>) -> Option<(usize, usize)>
-    ensures { calendar_meaning s.now result ≡ (calendar_meaning s.now c or_else first_of (numbered 0 (in_order (root_at s.now root)))) }
-{
-    match c {
-        Some((row, at)) => Some((row, at)),
-        None => row_0(first_calendar(s, root)),
-    }
+    first_calendar(s, root).map(|at| (0, at))
 }
 
 // The main calendar: that of CalendarUID, else the first.
 pub fn main_calendar(s: &[u8], root: Root) -> Option<(usize, usize)>
     ensures { calendar_meaning s.now result ≡ main_in (root_at s.now root) }
 {
-    or_first(s, root, named_calendar(s, root))
+    named_calendar(s, root).or_else(|| first_row(s, root))
 }

@@ -1,14 +1,13 @@
 // The kept tasks: those among the first 100,000 that have a UID other than `0` and a level of at least 1.
 ghost use Rattle.std.specs.Prelude.{◌≡◌, map, length, take};
-ghost use Rattle.definition.specs.Base.{◌or_else◌, when, keep, some?};
+ghost use Rattle.definition.specs.Base.{keep, some?};
 ghost use Rattle.definition.specs.Ascii.{bytes};
 ghost use Rattle.definition.specs.Task.{level_of, most_tasks, is_kept, kept_tasks, parent_of, is_elapsed, is_fractional};
-ghost use Rattle.laws.specs.Keep.{one_if};
 ghost use Rattle.tree.specs.Place.{later_at, list_of};
 ghost use Rattle.tree.specs.Root.{root_at};
 ghost use Rattle.rows.specs.Walks.{Kept};
 
-use tree::{Root};
+use tree::Root;
 
 // The first of at most `most` tasks, from where a list of tasks starts.
 fn kept_from(s: &[u8], start: Option<usize>, most: u32) -> Option<(usize, u32)>
@@ -16,10 +15,7 @@ fn kept_from(s: &[u8], start: Option<usize>, most: u32) -> Option<(usize, u32)>
 {
     let mut task = start;
     let mut left = most;
-    loop {
-        let Some(at) = task else {
-            return None;
-        };
+    while let Some(at) = task {
         if left == 0 {
             return None;
         }
@@ -29,6 +25,7 @@ fn kept_from(s: &[u8], start: Option<usize>, most: u32) -> Option<(usize, u32)>
         }
         task = tree::next_child(s, at, b"Task");
     }
+    None
 }
 
 // The first kept task.
@@ -45,41 +42,18 @@ pub fn next_kept(s: &[u8], at: usize, left: u32) -> Option<(usize, u32)>
     kept_from(s, tree::next_child(s, at, b"Task"), left)
 }
 
-// The row where the test holds.
-pub(crate) fn row_when(test: bool, row: u32) -> Option<u32>
-    ensures { result ≡ when «test» row }
-{
-    if test {
-        Some(row)
-    } else {
-        None
-    }
-}
-
-// The first of two that is there.
-pub(crate) fn or_row(a: Option<u32>, b: Option<u32>) -> Option<u32>
-    ensures { result ≡ (a or_else b) }
-{
-    match a {
-        Some(n) => Some(n),
-        None => b,
-    }
-}
-
 // The nearest kept task of a lower level before the task of a row.
 pub fn parent_row(s: &[u8], root: Root, row: u32, level: u64) -> Option<u32>
     ensures { result ≡ parent_of (map level_of (take row (kept_tasks (root_at s.now root)))) level }
 {
     let mut found = None;
-    let mut n: u32 = 0;
     let mut task = first_kept(s, root);
-    while n < row {
+    for n in 0..row {
         let Some((at, left)) = task else {
             return found;
         };
-        let lower = row_when(tasks::level_of(s, at) < level, n);
-        found = or_row(lower, found);
-        n += 1;
+        let lower = (tasks::level_of(s, at) < level).then_some(n);
+        found = lower.or(found);
         task = next_kept(s, at, left);
     }
     found
@@ -89,34 +63,24 @@ pub fn any_elapsed(s: &[u8], root: Root) -> bool
     ensures { result ≡ some? is_elapsed (kept_tasks (root_at s.now root)) }
 {
     let mut task = first_kept(s, root);
-    loop {
-        let Some((at, left)) = task else {
-            return false;
-        };
+    while let Some((at, left)) = task {
         if tasks::is_elapsed(s, at) {
             return true;
         }
         task = next_kept(s, at, left);
     }
-}
-
-fn one_if(test: bool) -> u32
-    ensures { result ≡ one_if «test» }
-{
-    if test { 1 } else { 0 }
+    false
 }
 
 // How many kept tasks have a Duration that gives minutes and was not whole.
 pub fn count_fractional(s: &[u8], root: Root) -> u32
     ensures { result ≡ length (keep is_fractional (kept_tasks (root_at s.now root))) }
 {
-    let mut count = 0;
+    let mut count: u32 = 0;
     let mut task = first_kept(s, root);
-    loop {
-        let Some((at, left)) = task else {
-            return count;
-        };
-        count += one_if(tasks::is_fractional(s, at));
+    while let Some((at, left)) = task {
+        count += u32::from(tasks::is_fractional(s, at));
         task = next_kept(s, at, left);
     }
+    count
 }

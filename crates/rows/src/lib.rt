@@ -12,4 +12,3 @@ pub use built::{calendar_with, first_calendar, main_calendar, next_calendar};
 pub use kept::{any_elapsed, count_fractional, first_kept, next_kept, parent_row};
 pub use section::first_in;
 pub use table::{Listed, cost_with, index_rows, row_with, seek};
-

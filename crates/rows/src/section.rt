@@ -4,7 +4,6 @@ ghost use Rattle.definition.specs.Tree.{child as child_of, all, all_in};
 ghost use Rattle.tree.specs.Place.{element_at, later_at, Starts};
 ghost use Rattle.rows.specs.Walks.{passes as passes_by, Picks, PicksFrom};
 
-
 // Work and cost resources; calendars without a base and over one.
 #[derive(Clone, Copy)]
 pub(crate) enum Which {
@@ -18,10 +17,8 @@ pub(crate) enum Which {
 pub fn first_in(s: &[u8], at: usize, section: &[u8], name: &[u8]) -> Option<usize>
     ensures { Starts s.now name.now (all_in (child_of (element_at s.now at) section.now) name.now) (at + 1) result }
 {
-    match tree::child(s, at, section) {
-        None => None,
-        Some(p) => tree::child(s, p, name),
-    }
+    let p = tree::child(s, at, section)?;
+    tree::child(s, p, name)
 }
 
 fn passes(s: &[u8], at: usize, which: Which) -> bool
@@ -40,15 +37,13 @@ pub(crate) fn which_from(s: &[u8], start: Option<usize>, name: &[u8], which: Whi
     ensures { PicksFrom s.now name.now which start result }
 {
     let mut e = start;
-    loop {
-        let Some(at) = e else {
-            return None;
-        };
+    while let Some(at) = e {
         if passes(s, at, which) {
             return Some(at);
         }
         e = tree::next_child(s, at, name);
     }
+    None
 }
 
 // The first of the section at `at` that passes.

@@ -1,14 +1,14 @@
 // Tables of the elements that have a UID, in lent words: the hash of each UID, and where its element stands in the tree.
-ghost use Rattle.std.specs.Prelude.{◌≡◌, suc, ◌^◌, ◌<◌, max, length};
+ghost use Rattle.std.specs.Prelude.{◌≡◌, suc, ◌^◌, ◌<◌, length};
 ghost use Rattle.tree.specs.Root.{root_at};
 ghost use Rattle.rows.specs.Rows.{found_meaning};
 ghost use Rattle.rows.specs.Tables.{listed, row_in32, sought_in, row_in, cost_in, later_in, most_in, room_in, Lists, unbounded_of, found_in, Ripe, Tabled, Makes};
 
-use crate::kept::{first_kept, next_kept, or_row, row_when};
+use crate::kept::{first_kept, next_kept};
 use crate::resource::cost_resource;
 use crate::section::{Which, first_which, next_which};
-use index::{Table};
-use tree::{Root};
+use index::Table;
+use tree::Root;
 
 // The kept tasks, the work resources, the cost resources.
 #[derive(Clone, Copy)]
@@ -24,10 +24,7 @@ pub enum Listed {
 fn unbounded(e: Option<usize>) -> Option<(usize, u32)>
     ensures { result ≡ unbounded_of e }
 {
-    match e {
-        Some(at) => Some((at, 0)),
-        None => None,
-    }
+    e.map(|at| (at, 0))
 }
 
 fn first_listed(s: &[u8], root: Root, list: Listed) -> Option<(usize, u32)>
@@ -59,38 +56,33 @@ fn count_listed(s: &[u8], root: Root, list: Listed, first: Option<(usize, u32)>)
 {
     let mut n: u32 = 0;
     let mut e = first;
-    loop {
-        let Some((at, left)) = e else {
-            return n;
-        };
+    while let Some((at, left)) = e {
         n += 1;
         e = next_listed(s, list, at, left);
     }
+    n
 }
 
-fn fill(s: &[u8], root: Root, list: Listed, first: Option<(usize, u32)>, words: &mut [u32], t: Table)
+fn fill(
+    s: &[u8],
+    root: Root,
+    list: Listed,
+    first: Option<(usize, u32)>,
+    words: &mut [u32],
+    t: Table,
+)
     requires { Ripe s.now (root_at s.now root) list t words.old × Lists s.now list (listed list (root_at s.now root)) (suc (most_in s.now list)) first }
     ensures { Tabled s.now (root_at s.now root) list t words.old words.new }
 {
     t.clear(words);
     let mut row: u32 = 0;
     let mut e = first;
-    loop {
-        let Some((at, left)) = e else {
-            return;
-        };
+    while let Some((at, left)) = e {
         let hash = index::hash_of(tree::text_of(s, at, b"UID"));
         t.put(words, row, hash, at as u32);
         row += 1;
         e = next_listed(s, list, at, left);
     }
-}
-
-// One row at least: a table of no rows would be none.
-fn rows_for(n: u32) -> u32
-    ensures { result ≡ max 1 n }
-{
-    if n == 0 { 1 } else { n }
 }
 
 // A table of a list, in the words from a place on, where there is room for it and 32 bits hold each position in the tree.
@@ -101,11 +93,9 @@ pub fn index_rows(s: &[u8], root: Root, list: Listed, words: &mut [u32], at: usi
         return None;
     }
     let first = first_listed(s, root, list);
-    let rows = rows_for(count_listed(s, root, list, first));
-    let made = index::table_at(words.len(), at, rows);
-    let Some(t) = made else {
-        return None;
-    };
+    let n = count_listed(s, root, list, first);
+    // A table of no rows would be none.
+    let t = index::table_at(words.len(), at, n.max(1))?;
     fill(s, root, list, first, words, t);
     Some(t)
 }
@@ -117,16 +107,14 @@ pub fn seek(s: &[u8], words: &[u32], t: Table, uid: &[u8]) -> Option<u32>
     ensures { result ≡ sought_in s.now words.now t uid.now }
 {
     let mut row = t.first(words, index::hash_of(uid));
-    loop {
-        let Some(r) = row else {
-            return None;
-        };
+    while let Some(r) = row {
         let at = t.place(words, r) as usize;
         if fields::text_is(s, at, b"UID", uid) {
             return Some(r);
         }
         row = t.next(words, r);
     }
+    None
 }
 
 // The row of the last of a list with a UID, as 32 bits hold it, by a look at all of them.
@@ -136,15 +124,13 @@ fn scan(s: &[u8], root: Root, list: Listed, uid: &[u8]) -> Option<u32>
     let mut found = None;
     let mut row: u32 = 0;
     let mut e = first_listed(s, root, list);
-    loop {
-        let Some((at, left)) = e else {
-            return found;
-        };
-        let named = row_when(fields::text_is(s, at, b"UID", uid), row);
-        found = or_row(named, found);
-        row = std::num::wrapping_add_u32(row, 1);
+    while let Some((at, left)) = e {
+        let named = fields::text_is(s, at, b"UID", uid).then_some(row);
+        found = named.or(found);
+        row = row.wrapping_add(1);
         e = next_listed(s, list, at, left);
     }
+    found
 }
 
 // The row of the last of a list with a UID, by a table in the words; by a scan where there is none.
@@ -168,14 +154,17 @@ pub fn row_with(
 fn place_of(words: &[u32], t: Table, row: Option<u32>) -> Option<usize>
     ensures { result ≡ found_in words.now t row }
 {
-    match row {
-        Some(r) => Some(t.place(words, r) as usize),
-        None => None,
-    }
+    row.map(|r| t.place(words, r) as usize)
 }
 
 // The last cost resource with a UID, by a table in the words; by a scan where there is none.
-pub fn cost_with(s: &[u8], root: Root, words: &[u32], made: Option<Table>, uid: &[u8]) -> Option<usize>
+pub fn cost_with(
+    s: &[u8],
+    root: Root,
+    words: &[u32],
+    made: Option<Table>,
+    uid: &[u8],
+) -> Option<usize>
     ensures { found_meaning s.now result ≡ cost_in s.now (root_at s.now root) words.now made uid.now }
 {
     match made {

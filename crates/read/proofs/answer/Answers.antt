@@ -1,8 +1,12 @@
+use Rattle.std.proofs.Common.{sym, ap, ◌∙◌}
+use Rattle.definition.specs.Answer.{answer_number}
 use Rattle.read.proofs.Whole.{leaves_refused, leaves_read}
 use Rattle.read.proofs.answer.Goals as goal
 
-pub returns-then-refusal-gt0 : goal.returns-then-refusal-gt0
-returns-then-refusal-gt0 c = let a = c.args in leaves_refused a.tree.now a.model.now c.judge-refusal.ensures c.if-refusal-gt0.true (c.fill.ensures.after (λ y e. e))
+pub returns-in-Ok : goal.returns-in-Ok
+returns-in-Ok c = let a = c.args in leaves_read a.tree.now a.model.now (sym (ap answer_number c.in-Ok.is) ∙ c.judge.ensures) c.put_model.ensures
 
-pub returns : goal.returns
-returns c = let a = c.args in leaves_read a.tree.now a.model.now c.judge-refusal.ensures c.if-refusal-gt0.false c.put_model.ensures
+pub returns-in-Err : goal.returns-in-Err
+returns-in-Err c =
+    let a = c.args in
+    leaves_refused a.tree.now a.model.now c.in-Err.refusal (sym (ap answer_number c.in-Err.is) ∙ c.judge.ensures) (c.fill.ensures.after (λ y e. e))

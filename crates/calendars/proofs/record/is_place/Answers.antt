@@ -1,10 +1,7 @@
-use Rattle.calendar.specs.Week.{place_meaning}
 use Rattle.calendars.proofs.record.is_place.Goals as goal
 
 pub returns-in-Some : goal.returns-in-Some
-unfolding place_meaning
 returns-in-Some c = rw c.in-Some.is
 
 pub returns-in-None : goal.returns-in-None
-unfolding place_meaning
 returns-in-None c = rw c.in-None.is

@@ -6,8 +6,8 @@ use Rattle.links.proofs.counting.count_fates.Goals as goal
 pub loop-task-init : goal.loop-task-init
 loop-task-init c = tasks_begin _ _ c.first_kept-task.ensures.is
 
-pub returns-in_default : goal.returns-in_default
-returns-in_default c = tasks_end _ _ c.loop-task.invariant (kept_end _ c.in_default.is)
+pub returns : goal.returns
+returns c = tasks_end _ _ c.loop-task.invariant (kept_end _ c.in_default.is)
 
 pub loop-task-smaller : goal.loop-task-smaller
 loop-task-smaller c = kept_less c.in-Some.is c.next_kept-task.ensures (omega arith)

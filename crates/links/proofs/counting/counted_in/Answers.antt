@@ -5,8 +5,8 @@ use Rattle.links.proofs.counting.counted_in.Goals as goal
 pub loop-link-init : goal.loop-link-init
 loop-link-init c = count_begin _ _ c.child-link.ensures.is
 
-pub returns-in_default : goal.returns-in_default
-returns-in_default c = count_end c.loop-link.invariant (list_end _ _ c.in_default.is)
+pub returns : goal.returns
+returns c = count_end c.loop-link.invariant (list_end _ _ c.in_default.is)
 
 pub loop-link-smaller : goal.loop-link-smaller
 loop-link-smaller c = ahead_less _ c.in-Some.is _ c.next_child-link.ensures.on

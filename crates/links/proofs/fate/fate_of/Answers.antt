@@ -16,4 +16,4 @@ returns-then-uid-eq0 c =
 pub returns : goal.returns
 returns c =
     let a = c.args in
-    fate_row _ (element_at a.s.now a.at) (sym c.is_across.ensures ∙ c.if-is_across.false) _ c.text_of-uid.ensures c.if-uid-eq0.false c.row_with.ensures c.by_row.ensures
+    fate_row _ (element_at a.s.now a.at) (sym c.is_across.ensures ∙ c.if-is_across.false) _ c.text_of-uid.ensures c.if-uid-eq0.false c.row_with.ensures c.ok_or.ensures.value

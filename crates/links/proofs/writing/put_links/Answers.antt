@@ -7,11 +7,11 @@ use Rattle.links.proofs.writing.put_links.Goals as goal
 pub loop-task-init : goal.loop-task-init
 loop-task-init c = (refl, from_begin _ _ c.per_day-per_day.ensures c.first_kept-task.ensures.is, omega (arith, c.first_kept-task.ensures.on))
 
-pub shape_of-out-in_default : goal.shape_of-out-in_default
-shape_of-out-in_default c = c.loop-task.invariant.0
+pub shape_of-out : goal.shape_of-out
+shape_of-out c = c.loop-task.invariant.0
 
-pub returns-in_default : goal.returns-in_default
-returns-in_default c = more_all (from_end _ _ _ c.loop-task.invariant.1 (kept_end _ c.in_default.is))
+pub returns : goal.returns
+returns c = more_all (from_end _ _ _ c.loop-task.invariant.1 (kept_end _ c.in_default.is))
 
 pub overflow_add-row : goal.overflow_add-row
 overflow_add-row c =

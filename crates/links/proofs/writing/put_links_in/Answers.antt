@@ -6,11 +6,11 @@ use Rattle.links.proofs.writing.put_links_in.Goals as goal
 pub loop-link-init : goal.loop-link-init
 loop-link-init c = (refl, in_begin _ _ _ c.child-link.ensures.is)
 
-pub shape_of-out-in_default : goal.shape_of-out-in_default
-shape_of-out-in_default c = c.loop-link.invariant.0
+pub shape_of-out : goal.shape_of-out
+shape_of-out c = c.loop-link.invariant.0
 
-pub returns-in_default : goal.returns-in_default
-returns-in_default c = in_end _ _ _ c.loop-link.invariant.1 (list_end _ _ c.in_default.is)
+pub returns : goal.returns
+returns c = in_end _ _ _ c.loop-link.invariant.1 (list_end _ _ c.in_default.is)
 
 pub loop-link-smaller : goal.loop-link-smaller
 loop-link-smaller c = ahead_less _ c.in-Some.is _ c.next_child-link.ensures.on

@@ -9,8 +9,8 @@ use Rattle.names.proofs.calendars.count_from.Goals as goal
 pub loop-q-init : goal.loop-q-init
 loop-q-init c = (omega arith, omega arith)
 
-pub returns-in_default : goal.returns-in_default
-returns-in_default c = omega (arith, c.loop-q.invariant.1, ap (λ (l : List Element). length l) (none_list c.next_child.ensures c.in_default.is))
+pub returns : goal.returns
+returns c = omega (arith, c.loop-q.invariant.1, ap (λ (l : List Element). length l) (none_list c.next_child.ensures c.in_default.is))
 
 pub overflow_add-n : goal.overflow_add-n
 overflow_add-n c = omega (arith, c.loop-q.invariant.0, found_on c.next_child.ensures c.in-Some.is, c.well_formed)

@@ -1,15 +1,13 @@
 -- `names::calendars::unless_main` meets its contract. Assumes nothing.
-use mathlib.Core.Path.{sym, ◌∙◌}
+use mathlib.Core.Path.{ap, ◌∙◌}
+use Rattle.std.specs.Prelude.{Option}
+use Prim.Native.Nat.{ℕ}
+use Rattle.pack.specs.Value.{name_meaning}
 use Rattle.tree.specs.Root.{root_at}
-use Rattle.names.proofs.Found.{unless_is, unless_other}
+use Rattle.names.proofs.Found.{unless_by}
 use Rattle.names.proofs.calendars.unless_main.Goals as goal
-
-pub returns-then-is_main : goal.returns-then-is_main
-returns-then-is_main c =
-    let a = c.args in
-    unless_is a.out.now a.c (root_at a.s.now a.root) a.text.now a.stars (sym c.is_main.ensures ∙ c.if-is_main.true)
 
 pub returns : goal.returns
 returns c =
     let a = c.args in
-    unless_other a.out.now a.c (root_at a.s.now a.root) a.text.now a.stars (sym c.is_main.ensures ∙ c.if-is_main.false)
+    ap (λ (o : Option ℕ). name_meaning a.text.now o) c.then_some.ensures ∙ unless_by a.out.now a.c (root_at a.s.now a.root) a.text.now a.stars c.is_main.ensures

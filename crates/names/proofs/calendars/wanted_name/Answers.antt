@@ -1,15 +1,16 @@
 -- `names::calendars::wanted_name` meets its contract. Assumes nothing.
+use Rattle.std.proofs.Common.{rules}
 use Rattle.definition.specs.Ascii.{bytes}
 use Rattle.tree.specs.Place.{element_at}
 use Rattle.names.proofs.Found.{wanted_given, wanted_not}
 use Rattle.names.proofs.calendars.wanted_name.Goals as goal
 
-pub returns-then-n-eq0 : goal.returns-then-n-eq0
-returns-then-n-eq0 c =
+pub returns-then-is_empty : goal.returns-then-is_empty
+returns-then-is_empty c =
     let a = c.args in
-    wanted_not (element_at a.s.now a.at) (bytes "Name") a.unnamed.now c.text_of-n.ensures c.if-n-eq0.true
+    wanted_not (element_at a.s.now a.at) (bytes "Name") a.unnamed.now c.text_of-n.ensures (search rules)
 
-pub returns : goal.returns
-returns c =
+pub returns-else-is_empty : goal.returns-else-is_empty
+returns-else-is_empty c =
     let a = c.args in
-    wanted_given (element_at a.s.now a.at) (bytes "Name") a.unnamed.now c.text_of-n.ensures c.if-n-eq0.false
+    wanted_given (element_at a.s.now a.at) (bytes "Name") a.unnamed.now c.text_of-n.ensures (search rules)

@@ -1,4 +1,4 @@
-use mathlib.Core.Path.{sym, ap, ◌∙◌}
+use mathlib.Core.Path.{◌≡◌, sym, ap, ◌∙◌}
 use Prim.Native.Nat.{ℕ, ◌-◌}
 use native.Mathlib.Omega.{arith}
 use Rattle.names.specs.Stars.{tries, tries_on, tries_here, tries_end}
@@ -10,19 +10,20 @@ pub loop-stars-init : goal.loop-stars-init
 unfolding free_in
 loop-stars-init c =
     let a = c.args in
-    ap (λ (k : ℕ). tries (a.count - k) (taken_in a.out.now a.words.now a.ids a.wanted.now) k) c.stars_from-stars.ensures
+    (ap (λ (k : ℕ). tries (a.count - k) (taken_in a.out.now a.words.now a.ids a.wanted.now) k) c.stars_from-first.ensures, omega arith)
 
 pub returns-then-not-taken_in : goal.returns-then-not-taken_in
 returns-then-not-taken_in c =
     let a = c.args in
-    sym (tries_here a.count (taken_in a.out.now a.words.now a.ids a.wanted.now) c.loop-stars.stars (sym c.taken_in.ensures ∙ not-true _ c.if-not-taken_in.true-raw)) ∙ c.loop-stars.invariant
+    sym (tries_here a.count (taken_in a.out.now a.words.now a.ids a.wanted.now) c.loop-stars.stars (sym c.taken_in.ensures ∙ not-true _ c.if-not-taken_in.true-raw)) ∙ c.loop-stars.invariant.0
 
 pub loop-stars-preserved : goal.loop-stars-preserved
 loop-stars-preserved c =
     let a = c.args in
-    sym (tries_on a.count (taken_in a.out.now a.words.now a.ids a.wanted.now) c.loop-stars.stars (omega arith) (sym c.taken_in.ensures ∙ not-false _ c.if-not-taken_in.false-raw)) ∙ c.loop-stars.invariant
+    (sym (tries_on a.count (taken_in a.out.now a.words.now a.ids a.wanted.now) c.loop-stars.stars (omega arith) (sym c.taken_in.ensures ∙ not-false _ c.if-not-taken_in.false-raw)) ∙ c.loop-stars.invariant.0, omega arith)
 
 pub returns : goal.returns
 returns c =
     let a = c.args in
-    sym (tries_end a.count (taken_in a.out.now a.words.now a.ids a.wanted.now) c.loop-stars.stars (omega arith)) ∙ c.loop-stars.invariant
+    let e : c.max.result ≡ c.loop-stars.stars = omega (arith, c.loop-stars.invariant.1) in
+    e ∙ sym (tries_end a.count (taken_in a.out.now a.words.now a.ids a.wanted.now) c.loop-stars.stars (omega arith)) ∙ c.loop-stars.invariant.0

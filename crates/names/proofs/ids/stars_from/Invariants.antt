@@ -6,8 +6,8 @@ use Rattle.index.specs.Law.{Seeks}
 use Rattle.names.specs.Ids.{wants}
 use Rattle.names.proofs.ids.stars_from.Given as goal
 
-abbrev pub invariant-loop-row : goal.invariant-loop-row
-invariant-loop-row l = Seeks l.words l.ids.wanted (wants l.out l.words l.ids l.wanted) (find (wants l.out l.words l.ids l.wanted) (chain_of l.words l.ids.wanted (hash_of l.wanted))) l.row
+abbrev pub invariant-loop-at : goal.invariant-loop-at
+invariant-loop-at l = Seeks l.words l.ids.wanted (wants l.out l.words l.ids l.wanted) (find (wants l.out l.words l.ids l.wanted) (chain_of l.words l.ids.wanted (hash_of l.wanted))) l.at
 
-abbrev pub decreases-loop-row : goal.decreases-loop-row
-decreases-loop-row l = up_to l.row
+abbrev pub decreases-loop-at : goal.decreases-loop-at
+decreases-loop-at l = up_to l.at

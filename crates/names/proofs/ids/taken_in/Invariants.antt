@@ -7,9 +7,9 @@ use Rattle.pack.specs.Value.{starred_by}
 use Rattle.names.specs.Ids.{is_id}
 use Rattle.names.proofs.ids.taken_in.Given as goal
 
-abbrev pub invariant-loop-row : goal.invariant-loop-row
-invariant-loop-row l =
-    Seeks l.words l.ids.ids (is_id l.out l.words l.ids l.wanted l.stars) (find (is_id l.out l.words l.ids l.wanted l.stars) (chain_of l.words l.ids.ids (hash_of (starred_by l.wanted l.stars)))) l.row
+abbrev pub invariant-loop-at : goal.invariant-loop-at
+invariant-loop-at l =
+    Seeks l.words l.ids.ids (is_id l.out l.words l.ids l.wanted l.stars) (find (is_id l.out l.words l.ids l.wanted l.stars) (chain_of l.words l.ids.ids (hash_of (starred_by l.wanted l.stars)))) l.at
 
-abbrev pub decreases-loop-row : goal.decreases-loop-row
-decreases-loop-row l = up_to l.row
+abbrev pub decreases-loop-at : goal.decreases-loop-at
+decreases-loop-at l = up_to l.at

@@ -7,5 +7,5 @@ returns-in_default c = makes_none c.index_uids-made.ensures c.in_default.is
 pub note_all-requires : goal.note_all-requires
 note_all-requires c = makes_uids c.index_uids-made.ensures c.in-Some.is
 
-pub returns : goal.returns
-returns c = makes_ready c.index_uids-made.ensures c.in-Some.is c.note_all.ensures
+pub returns-in-Some : goal.returns-in-Some
+returns-in-Some c = makes_ready c.index_uids-made.ensures c.in-Some.is c.note_all.ensures

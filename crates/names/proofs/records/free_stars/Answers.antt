@@ -1,4 +1,4 @@
-use mathlib.Core.Path.{sym, ap, ◌∙◌}
+use mathlib.Core.Path.{◌≡◌, sym, ap, ◌∙◌}
 use Prim.Native.Nat.{ℕ}
 use Rattle.definition.specs.Calendar.{starred}
 use Rattle.names.specs.Texts.{texts_at}
@@ -33,5 +33,7 @@ returns c =
     let a = c.args in
     let l = c.loop-stars in
     let ns = texts_at a.kind a.out.now a.p a.count in
-    tried_all ns a.wanted.now a.count l.stars l.invariant.1 (omega arith)
-    ∙ ap (λ (k : ℕ). starred k ns a.wanted.now) (sym (texts_length a.kind a.out.now a.p a.count))
+    let e : l.stars ≡ a.count = omega arith in
+    rw e at
+    (tried_all ns a.wanted.now a.count l.stars l.invariant.1 (omega arith)
+    ∙ ap (λ (k : ℕ). starred k ns a.wanted.now) (sym (texts_length a.kind a.out.now a.p a.count)))

@@ -1,6 +1,6 @@
 -- `names::records::taken` meets its contract. Assumes nothing.
 use mathlib.Core.Bool.{false}
-use Prim.Native.Nat.{◌-◌, ◌≤◌}
+use Prim.Native.Nat.{◌≤◌}
 use Rattle.definition.specs.Base.{same}
 use Rattle.definition.specs.Format.{times}
 use Rattle.model.specs.Passes.{Passes}
@@ -9,8 +9,5 @@ use Rattle.pack.specs.Value.{starred_by}
 use Rattle.names.specs.Seen.{Left}
 use Rattle.names.proofs.records.taken.Given as goal
 
-abbrev pub invariant-loop-i : goal.invariant-loop-i
-invariant-loop-i l = (l.i ≤ l.count) × Passes (times l.i (record_of false l.kind)) l.out l.initial.q l.q × Left l.kind l.out l.initial.q l.count (same (starred_by l.wanted l.stars)) l.i
-
-abbrev pub decreases-loop-i : goal.decreases-loop-i
-decreases-loop-i l = l.count - l.i
+abbrev pub invariant-loop : goal.invariant-loop
+invariant-loop l = (l.counter ≤ l.count) × Passes (times l.counter (record_of false l.kind)) l.out l.initial.q l.q × Left l.kind l.out l.initial.q l.count (same (starred_by l.wanted l.stars)) l.counter

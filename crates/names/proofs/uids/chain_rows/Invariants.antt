@@ -1,10 +1,7 @@
 -- `names::uids::chain_rows` meets its contract. Assumes nothing.
-use Prim.Native.Nat.{◌-◌, ◌≤◌}
+use Prim.Native.Nat.{◌≤◌}
 use Rattle.names.specs.Uids.{Chained}
 use Rattle.names.proofs.uids.chain_rows.Given as goal
 
 abbrev pub invariant-loop-row : goal.invariant-loop-row
 invariant-loop-row l = (l.row ≤ l.count) × Chained l.s l.t l.row l.initial.words l.words
-
-abbrev pub decreases-loop-row : goal.decreases-loop-row
-decreases-loop-row l = l.count - l.row

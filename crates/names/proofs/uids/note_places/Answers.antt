@@ -9,11 +9,11 @@ loop-e-init c = placing_begin c.requires c.first_calendar-e.ensures
 pub overflow_sub-result : goal.overflow_sub-result
 overflow_sub-result c = c.loop-e.invariant.few
 
-pub shape_of-words-in_default : goal.shape_of-words-in_default
-shape_of-words-in_default c = c.loop-e.invariant.stays.long
+pub shape_of-words : goal.shape_of-words
+shape_of-words c = c.loop-e.invariant.stays.long
 
-pub returns-in_default : goal.returns-in_default
-returns-in_default c = placing_end c.requires c.loop-e.invariant c.in_default.is
+pub returns : goal.returns
+returns c = placing_end c.requires c.loop-e.invariant c.in_default.is
 
 pub overflow_sub-left : goal.overflow_sub-left
 overflow_sub-left c = omega (arith, placing_more c.requires c.loop-e.invariant c.in-Some.is)

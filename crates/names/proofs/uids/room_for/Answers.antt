@@ -1,3 +1,5 @@
+use mathlib.Core.Path.{◌∙◌}
+use Rattle.std.proofs.Math.Nat.{max_comm}
 use native.Mathlib.Omega.{arith}
 use Rattle.tree.specs.Root.{root_at}
 use Rattle.names.proofs.Wording.{room_long, room_many, room_short, room_is}
@@ -10,7 +12,7 @@ pub returns-then-n-gt5000000 : goal.returns-then-n-gt5000000
 returns-then-n-gt5000000 c = let a = c.args in room_many a.s.now (root_at a.s.now a.root) a.len a.at (omega arith) c.count_calendars-n.ensures c.if-n-gt5000000.true
 
 pub returns-then-len-rows : goal.returns-then-len-rows
-returns-then-len-rows c = let a = c.args in room_short a.s.now (root_at a.s.now a.root) a.len a.at (omega arith) c.count_calendars-n.ensures c.if-n-gt5000000.false c.rows_for-rows.ensures c.if-len-rows.true
+returns-then-len-rows c = let a = c.args in room_short a.s.now (root_at a.s.now a.root) a.len a.at (omega arith) c.count_calendars-n.ensures c.if-n-gt5000000.false (c.max-rows.ensures ∙ max_comm _ 1) c.if-len-rows.true
 
 pub returns : goal.returns
-returns c = let a = c.args in room_is a.s.now (root_at a.s.now a.root) a.len a.at (omega arith) c.count_calendars-n.ensures c.if-n-gt5000000.false c.rows_for-rows.ensures c.table_at.ensures
+returns c = let a = c.args in room_is a.s.now (root_at a.s.now a.root) a.len a.at (omega arith) c.count_calendars-n.ensures c.if-n-gt5000000.false (c.max-rows.ensures ∙ max_comm _ 1) c.table_at.ensures

@@ -7,7 +7,7 @@ use Rattle.pack.proofs.record.put_link.Goals.{After-slice_known-8-1}
 
 pub returns : goal.returns
 returns c =
-    put_whole (put_link _ (put-⊗ c.put_count-a.ensures (put-⊗ c.put_count-b.ensures (put-⊗ (c.put_code-c.ensures 0 3) (put-⊗ (put_same (to_z-of_z {w = w64} (record { sfits = c.struct_told-1.given.0.1 })) c.put_number-d.ensures) (put-⊗ c.put_optional_number-e.ensures c.put_lag_kind-f.ensures)))))) c.pad.ensures
+    put_whole (put_link _ (put-⊗ c.put_count-a.ensures (put-⊗ c.put_count-b.ensures (put-⊗ (c.put_code-c.ensures 0 3) (put-⊗ (put_same (to_z-of_z {w = w64} (record { sfits = c.struct_told-1.given.0.1 })) c.put_number-d.ensures) (put-⊗ c.put_optional-e.ensures c.put_lag_kind-f.ensures)))))) c.pad.ensures
 
 pub shape_of-out : goal.shape_of-out
 shape_of-out c = (returns (goal.at.shape_of-out c).After-slice_known-8-1).step.same

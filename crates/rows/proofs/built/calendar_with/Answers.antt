@@ -1,4 +1,4 @@
-use Rattle.std.proofs.Common.{sym, ◌∙◌, arith, rules}
+use Rattle.std.proofs.Common.{sym, ◌∙◌, arith}
 use Rattle.rows.specs.Rows.{calendar_meaning}
 use Rattle.rows.specs.Turns.{order_end, order_at, order_some, order_next, order_less}
 use Rattle.rows.proofs.Lasts.{find_begin, find_end, find_here, find_on}
@@ -7,12 +7,9 @@ use Rattle.rows.proofs.built.calendar_with.Goals as goal
 pub loop-c-init : goal.loop-c-init
 loop-c-init c = (find_begin _ c.first_calendar-c.ensures.is, omega (arith, c.first_calendar-c.ensures.on))
 
-pub enum_told-1 : goal.enum_told-1
-enum_told-1 c = search rules
-
-pub returns-in_default : goal.returns-in_default
+pub returns : goal.returns
 unfolding calendar_meaning
-returns-in_default c = find_end c.loop-c.invariant.0 (order_end _ _ c.in_default.is)
+returns c = find_end c.loop-c.invariant.0 (order_end _ _ c.in_default.is)
 
 pub returns-then-text_is : goal.returns-then-text_is
 unfolding calendar_meaning

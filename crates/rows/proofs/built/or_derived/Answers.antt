@@ -1,17 +1,11 @@
+use Rattle.std.proofs.Common.{rules}
 use Rattle.definition.specs.Ascii.{bytes}
 use Rattle.tree.specs.Root.{in_calendars}
 use Rattle.rows.specs.Turns.{picks_same}
-use Rattle.rows.proofs.Walking.{after_plain, after_none}
-use Rattle.std.proofs.Common.{rules}
+use Rattle.rows.proofs.Walking.{after_either}
 use Rattle.rows.proofs.built.or_derived.Goals as goal
 
-pub enum_told-1 : goal.enum_told-1
-enum_told-1 c = search rules
-
-pub returns-in-Some : goal.returns-in-Some
-returns-in-Some c = after_plain _ c.in-Some.is
-
-pub returns-in-None : goal.returns-in-None
-returns-in-None c =
+pub returns : goal.returns
+returns c =
     let a = c.args in
-    after_none _ _ c.in-None.is (picks_same (in_calendars a.s.now a.root (bytes "Calendar")) c.first_which.ensures)
+    after_either _ a.plain a.root.calendars _ c.or_else.ensures (λ h. picks_same (in_calendars a.s.now a.root (bytes "Calendar")) (search rules))

@@ -1,4 +1,4 @@
-use Rattle.std.proofs.Common.{sym, refl, ap, ◌∙◌, arith, rules}
+use Rattle.std.proofs.Common.{sym, refl, ap, ◌∙◌, arith}
 use Rattle.definition.specs.Base.{some?}
 use Rattle.definition.specs.Task.{is_elapsed}
 use Rattle.rows.specs.Turns.{kept_end, kept_at, kept_less, any_begin, any_end, any_here, any_on}
@@ -7,8 +7,8 @@ use Rattle.rows.proofs.kept.any_elapsed.Goals as goal
 pub loop-task-init : goal.loop-task-init
 loop-task-init c = any_begin is_elapsed refl
 
-pub returns-in_default : goal.returns-in_default
-returns-in_default c =
+pub returns : goal.returns
+returns c =
     any_end c.loop-task.invariant (kept_end _ c.in_default.is) ∙ ap (some? is_elapsed) (sym c.first_kept-task.ensures.is)
 
 pub returns-then-is_elapsed : goal.returns-then-is_elapsed

@@ -1,4 +1,5 @@
-use Rattle.std.proofs.Common.{◌≡◌, ◌≤◌, List, length, sym, ap, ◌∙◌, arith, rules}
+use Rattle.std.proofs.Common.{Bool, true, false, refl, ◌≡◌, ◌≤◌, List, length, sym, ap, ◌∙◌, arith}
+use mir.Val.{bool_byte}
 use Rattle.definition.specs.Base.{keep}
 use Rattle.definition.specs.Tree.{Element}
 use Rattle.definition.specs.Task.{is_fractional, kept_tasks}
@@ -10,20 +11,24 @@ use Rattle.rows.proofs.kept.count_fractional.Goals as goal
 few : (root : Element) {l : List Element} → kept_tasks root ≡ l → length (keep is_fractional l) ≤ 100000
 few root {l} e = omega (arith, keep_most is_fractional l, ap length e, tasks_most root)
 
+counted : (b : Bool) → bool_byte b ≡ one_if b
+counted true = refl
+counted false = refl
+
 pub loop-task-init : goal.loop-task-init
 loop-task-init c = many_begin is_fractional _
 
-pub returns-in_default : goal.returns-in_default
-returns-in_default c =
+pub returns : goal.returns
+returns c =
     many_end c.loop-task.invariant (kept_end _ c.in_default.is) ∙ ap (λ (l : List Element). length (keep is_fractional l)) (sym c.first_kept-task.ensures.is)
 
 pub overflow_add-count : goal.overflow_add-count
 overflow_add-count c =
-    omega (arith, many_room c.loop-task.invariant (kept_at _ c.in-Some.is) (c.one_if-count.ensures ∙ ap one_if c.is_fractional.ensures), few _ c.first_kept-task.ensures.is)
+    omega (arith, many_room c.loop-task.invariant (kept_at _ c.in-Some.is) (c.from-count.ensures ∙ counted _ ∙ ap one_if c.is_fractional.ensures), few _ c.first_kept-task.ensures.is)
 
 pub loop-task-smaller : goal.loop-task-smaller
 loop-task-smaller c = kept_less c.in-Some.is c.next_kept-task.ensures (omega arith)
 
 pub loop-task-preserved : goal.loop-task-preserved
 loop-task-preserved c =
-    many_on c.loop-task.invariant (kept_at _ c.in-Some.is) (c.one_if-count.ensures ∙ ap one_if c.is_fractional.ensures) c.next_kept-task.ensures.is
+    many_on c.loop-task.invariant (kept_at _ c.in-Some.is) (c.from-count.ensures ∙ counted _ ∙ ap one_if c.is_fractional.ensures) c.next_kept-task.ensures.is

@@ -1,4 +1,4 @@
-use Rattle.std.proofs.Common.{sym, ◌∙◌, arith, rules}
+use Rattle.std.proofs.Common.{sym, ◌∙◌, arith}
 use Rattle.rows.specs.Turns.{ahead_less}
 use Rattle.rows.proofs.Walking.{tasks_all, tasks_later, kept_none, kept_out, kept_here}
 use Rattle.rows.proofs.kept.kept_from.Goals as goal
@@ -6,11 +6,8 @@ use Rattle.rows.proofs.kept.kept_from.Goals as goal
 pub loop-task-init : goal.loop-task-init
 loop-task-init c = tasks_all _ _ _
 
-pub enum_told-1 : goal.enum_told-1
-enum_told-1 c = search rules
-
-pub returns-in_default : goal.returns-in_default
-returns-in_default c = kept_none c.loop-task.invariant c.in_default.is
+pub returns : goal.returns
+returns c = kept_none c.loop-task.invariant c.in_default.is
 
 pub returns-then-left-eq0 : goal.returns-then-left-eq0
 returns-then-left-eq0 c = kept_out c.loop-task.invariant c.if-left-eq0.true

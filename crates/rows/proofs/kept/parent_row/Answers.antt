@@ -1,4 +1,4 @@
-use Rattle.std.proofs.Common.{◌-◌, ltb, List, map, take, sym, refl, ap, ◌∙◌, arith, rules}
+use Rattle.std.proofs.Common.{◌-◌, ltb, List, map, take, sym, refl, ap, ◌∙◌, arith}
 use Rattle.definition.specs.Task.{level_of, parent_of}
 use Rattle.definition.specs.Tree.{Element}
 use Rattle.rows.specs.Turns.{kept_end, kept_next, kept_less}
@@ -15,16 +15,13 @@ returns-in_default c =
     row_end c.loop-n.invariant (take_out (a.row - c.loop-n.n) (kept_end _ c.in_default.is))
     ∙ ap (λ (l : List Element). parent_of (map level_of (take a.row l)) a.level) (sym c.first_kept-task.ensures.is)
 
-pub overflow_add-n : goal.overflow_add-n
-overflow_add-n c = omega (arith, c.loop-n-test.true)
-
 pub loop-n-smaller : goal.loop-n-smaller
 loop-n-smaller c = kept_less c.in-Some.is c.next_kept-task.ensures (omega arith)
 
 pub loop-n-preserved : goal.loop-n-preserved
 loop-n-preserved c =
     let a = c.args in
-    row_turn c.loop-n.invariant (take_next a.row c.loop-n.n c.loop-n-test.true (kept_next c.in-Some.is c.next_kept-task.ensures)) (ap (λ n. ltb n a.level) c.level_of.ensures) c.row_when-lower.ensures c.or_row-found.ensures refl
+    row_turn c.loop-n.invariant (take_next a.row c.loop-n.n c.loop-n-test.true (kept_next c.in-Some.is c.next_kept-task.ensures)) (ap (λ n. ltb n a.level) c.level_of.ensures) c.then_some-lower.ensures c.or-found.ensures refl
 
 pub returns : goal.returns
 returns c =

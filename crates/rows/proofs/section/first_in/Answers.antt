@@ -1,18 +1,15 @@
 use Rattle.tree.specs.Place.{element_at}
 use Rattle.tree.specs.Answer.{found_child, none_child, found_on}
 use Rattle.rows.proofs.Walking.{section_none, section_found}
-use Rattle.std.proofs.Common.{arith, rules}
+use Rattle.std.proofs.Common.{arith}
 use Rattle.rows.proofs.section.first_in.Goals as goal
 
-pub enum_told-1 : goal.enum_told-1
-enum_told-1 c = search rules
-
-pub returns-in-None : goal.returns-in-None
-returns-in-None c =
+pub returns-in_err-p : goal.returns-in_err-p
+returns-in_err-p c =
     let a = c.args in
-    section_none (none_child (element_at a.s.now a.at) c.child.ensures c.in-None.is)
+    rw c.from_residual.ensures (section_none (none_child (element_at a.s.now a.at) c.child.ensures c.in_err-p.was))
 
-pub returns-in-Some : goal.returns-in-Some
-returns-in-Some c =
+pub returns : goal.returns
+returns c =
     let a = c.args in
-    section_found (found_child (element_at a.s.now a.at) c.child.ensures c.in-Some.is) (omega (arith, found_on c.child.ensures c.in-Some.is)) c.child-in-Some.ensures
+    section_found (found_child (element_at a.s.now a.at) c.child.ensures c.in_ok-p.was) (omega (arith, found_on c.child.ensures c.in_ok-p.was)) c.child-2.ensures

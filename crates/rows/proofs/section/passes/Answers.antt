@@ -1,9 +1,5 @@
 use Rattle.rows.proofs.Walking.{passes_work, passes_cost, passes_plain, passes_derived}
-use Rattle.std.proofs.Common.{rules}
 use Rattle.rows.proofs.section.passes.Goals as goal
-
-pub enum_told-1 : goal.enum_told-1
-enum_told-1 c = search rules
 
 pub returns-in-Work : goal.returns-in-Work
 returns-in-Work c = passes_work _ c.in-Work.is c.is_resource.ensures c.is_cost.ensures

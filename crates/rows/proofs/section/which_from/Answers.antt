@@ -1,4 +1,4 @@
-use Rattle.std.proofs.Common.{sym, ◌∙◌, rules}
+use Rattle.std.proofs.Common.{sym, ◌∙◌}
 use Rattle.rows.specs.Turns.{ahead_less}
 use Rattle.rows.proofs.Walking.{left_all, left_later, picks_none, picks_here}
 use Rattle.rows.proofs.section.which_from.Goals as goal
@@ -6,11 +6,8 @@ use Rattle.rows.proofs.section.which_from.Goals as goal
 pub loop-e-init : goal.loop-e-init
 loop-e-init c = left_all
 
-pub enum_told-1 : goal.enum_told-1
-enum_told-1 c = search rules
-
-pub returns-in_default : goal.returns-in_default
-returns-in_default c = picks_none c.loop-e.invariant c.in_default.is
+pub returns : goal.returns
+returns c = picks_none c.loop-e.invariant c.in_default.is
 
 pub returns-then-passes : goal.returns-then-passes
 returns-then-passes c =

@@ -1,4 +1,4 @@
-use Rattle.std.proofs.Common.{refl, ◌∙◌, arith, rules}
+use Rattle.std.proofs.Common.{refl, ◌∙◌, arith}
 use Rattle.rows.proofs.Listing.{lists_less}
 use Rattle.rows.proofs.Filling.{fill_begin, fill_end, fill_place, fill_row, fill_turn}
 use Rattle.rows.proofs.table.fill.Goals as goal
@@ -6,13 +6,13 @@ use Rattle.rows.proofs.table.fill.Goals as goal
 pub loop-e-init : goal.loop-e-init
 loop-e-init c = λ root w r h. h
 
-pub shape_of-words-in_default : goal.shape_of-words-in_default
-shape_of-words-in_default c =
+pub shape_of-words : goal.shape_of-words
+shape_of-words c =
     let p = c.requires in
     (c.loop-e.invariant _ _ p.0 (fill_begin p.0 c.clear.ensures p.1)).length_same ∙ c.clear.auto.words
 
-pub returns-in_default : goal.returns-in_default
-returns-in_default c =
+pub returns : goal.returns
+returns c =
     let p = c.requires in
     fill_end p.0 (c.loop-e.invariant _ _ p.0 (fill_begin p.0 c.clear.ensures p.1)) c.clear.ensures c.in_default.is
 

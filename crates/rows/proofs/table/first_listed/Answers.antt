@@ -2,11 +2,7 @@ use Rattle.definition.specs.Ascii.{bytes}
 use Rattle.tree.specs.Root.{in_resources}
 use Rattle.rows.specs.Turns.{picks_same}
 use Rattle.rows.proofs.Listing.{first_tasks, first_work, first_cost}
-use Rattle.std.proofs.Common.{rules}
 use Rattle.rows.proofs.table.first_listed.Goals as goal
-
-pub enum_told-1 : goal.enum_told-1
-enum_told-1 c = search rules
 
 pub returns-in-Tasks : goal.returns-in-Tasks
 returns-in-Tasks c = rw c.in-Tasks.is (first_tasks _ _ c.first_kept.ensures)

@@ -1,9 +1,5 @@
 use Rattle.rows.proofs.Listing.{next_tasks, next_work, next_cost}
-use Rattle.std.proofs.Common.{rules}
 use Rattle.rows.proofs.table.next_listed.Goals as goal
-
-pub enum_told-1 : goal.enum_told-1
-enum_told-1 c = search rules
 
 pub returns-in-Tasks : goal.returns-in-Tasks
 returns-in-Tasks c = rw c.in-Tasks.is (next_tasks _ _ _ c.next_kept.ensures)

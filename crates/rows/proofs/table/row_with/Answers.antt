@@ -1,9 +1,5 @@
 use Rattle.rows.specs.Tables.{row_in}
-use Rattle.std.proofs.Common.{rules}
 use Rattle.rows.proofs.table.row_with.Goals as goal
-
-pub enum_told-1 : goal.enum_told-1
-enum_told-1 c = search rules
 
 pub returns-in-Some : goal.returns-in-Some
 unfolding row_in

@@ -1,4 +1,4 @@
-use Rattle.std.proofs.Common.{◌%◌, ◌^◌, List, sym, refl, ap, ◌∙◌, rules}
+use Rattle.std.proofs.Common.{◌%◌, ◌^◌, List, sym, refl, ap, ◌∙◌}
 use Rattle.std.specs.Prelude.{Some}
 use Rattle.definition.specs.Base.{◌>>=◌}
 use Rattle.definition.specs.Tree.{Element}
@@ -10,8 +10,8 @@ use Rattle.rows.proofs.table.scan.Goals as goal
 pub loop-e-init : goal.loop-e-init
 loop-e-init c = within_begin (2 ^ 32) _ _ refl
 
-pub returns-in_default : goal.returns-in_default
-returns-in_default c =
+pub returns : goal.returns
+returns c =
     row_end c.loop-e.invariant (lists_end _ _ c.in_default.is)
     ∙ ap (λ (es : List Element). row_of es c.args.uid.now >>= λ n. Some (n % 2 ^ 32)) (sym c.first_listed-e.ensures.is)
 
@@ -20,4 +20,4 @@ loop-e-smaller c = lists_less c.in-Some.is c.next_listed-e.ensures refl
 
 pub loop-e-preserved : goal.loop-e-preserved
 loop-e-preserved c =
-    row_turn c.loop-e.invariant (lists_next c.in-Some.is c.next_listed-e.ensures) c.text_is.ensures c.row_when-named.ensures c.or_row-found.ensures c.wrapping_add_u32-row.ensures.value
+    row_turn c.loop-e.invariant (lists_next c.in-Some.is c.next_listed-e.ensures) c.text_is.ensures c.then_some-named.ensures c.or-found.ensures refl

@@ -1,16 +1,12 @@
 use Rattle.index.specs.Law.{next_less}
 use Rattle.rows.proofs.Seeking.{sought_first, sought_none, sought_here, sought_on}
-use Rattle.std.proofs.Common.{rules}
 use Rattle.rows.proofs.table.seek.Goals as goal
 
 pub loop-row-init : goal.loop-row-init
 loop-row-init c = sought_first _ _ c.hash_of.ensures c.first-row.ensures
 
-pub enum_told-1 : goal.enum_told-1
-enum_told-1 c = search rules
-
-pub returns-in_default : goal.returns-in_default
-returns-in_default c = sought_none _ _ c.loop-row.invariant c.in_default.is
+pub returns : goal.returns
+returns c = sought_none _ _ c.loop-row.invariant c.in_default.is
 
 pub returns-then-text_is : goal.returns-then-text_is
 returns-then-text_is c =

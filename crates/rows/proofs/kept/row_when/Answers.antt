@@ -1,7 +1,0 @@
-use Rattle.rows.proofs.kept.row_when.Goals as goal
-
-pub returns-then-test : goal.returns-then-test
-returns-then-test c = rw c.if-test.true
-
-pub returns-else-test : goal.returns-else-test
-returns-else-test c = rw c.if-test.false
