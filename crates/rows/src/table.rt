@@ -6,7 +6,7 @@ ghost use Rattle.rows.specs.Tables.{listed, row_in32, sought_in, row_in, cost_in
 
 use crate::kept::{first_kept, next_kept};
 use crate::resource::cost_resource;
-use crate::section::{Which, first_which, next_which};
+use crate::section::{Cost, Work, first_which, next_which};
 use index::Table;
 use tree::Root;
 
@@ -32,8 +32,8 @@ fn first_listed(s: &[u8], root: Root, list: Listed) -> Option<(usize, u32)>
 {
     match list {
         Listed::Tasks => first_kept(s, root),
-        Listed::Work => unbounded(first_which(s, root.resources, b"Resource", Which::Work)),
-        Listed::Cost => unbounded(first_which(s, root.resources, b"Resource", Which::Cost)),
+        Listed::Work => unbounded(first_which::<Work>(s, root.resources, b"Resource")),
+        Listed::Cost => unbounded(first_which::<Cost>(s, root.resources, b"Resource")),
     }
 }
 
@@ -42,8 +42,8 @@ fn next_listed(s: &[u8], list: Listed, at: usize, left: u32) -> Option<(usize, u
 {
     match list {
         Listed::Tasks => next_kept(s, at, left),
-        Listed::Work => unbounded(next_which(s, at, b"Resource", Which::Work)),
-        Listed::Cost => unbounded(next_which(s, at, b"Resource", Which::Cost)),
+        Listed::Work => unbounded(next_which::<Work>(s, at, b"Resource")),
+        Listed::Cost => unbounded(next_which::<Cost>(s, at, b"Resource")),
     }
 }
 
