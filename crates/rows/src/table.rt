@@ -11,6 +11,7 @@ use index::Table;
 use tree::Root;
 
 // The kept tasks, the work resources, the cost resources.
+// An enum, where `section` has a trait: it is a parameter of the public functions, whose callers pass a value.
 #[derive(Clone, Copy)]
 pub enum Listed {
     Tasks,
@@ -79,6 +80,7 @@ fn fill(
     let mut e = first;
     while let Some((at, left)) = e {
         let hash = index::hash_of(tree::text_of(s, at, b"UID"));
+        // `u32::try_from` would have an error that cannot occur: 32 bits hold each position.
         t.put(words, row, hash, at as u32);
         row += 1;
         e = next_listed(s, list, at, left);
