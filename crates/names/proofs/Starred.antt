@@ -51,15 +51,3 @@ not-true false e = refl
 pub not-false : (b : Bool) → not b ≡ false → b ≡ true
 not-false true e = refl
 not-false false e = sym e
-
--- ---- a byte
-
-pub byte_in : (s : Text) (i : ℕ) → i < length s → get_or s i 0 ≡ get_or s i 42
-byte_in [] i h = absurd (omega arith)
-byte_in (x ∷ s) zero h = refl
-byte_in (x ∷ s) (suc i) h = byte_in s i (omega arith)
-
-pub byte_behind : (s : Text) (i : ℕ) → length s ≤ i → 42 ≡ get_or s i 42
-byte_behind [] i h = refl
-byte_behind (x ∷ s) zero h = absurd (omega arith)
-byte_behind (x ∷ s) (suc i) h = byte_behind s i (omega arith)
