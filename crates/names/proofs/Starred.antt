@@ -1,6 +1,6 @@
 -- Texts with `*` behind them: their bytes. Assumes nothing.
 use mathlib.Core.Path.{◌≡◌, refl, sym, ap, ◌∙◌}
-use mathlib.Core.Bool.{Bool, true, false, not}
+use mathlib.Core.Bool.{Bool, true, false}
 use mathlib.Core.List.{[], ◌∷◌}
 use Prim.Native.Nat.{ℕ, zero, suc, ◌+◌, ◌≤◌, ◌<◌}
 use native.Mathlib.Omega.{arith}
@@ -43,11 +43,3 @@ module _ (a b : Text) (m n : ℕ) where
 -- a text with no `*` was compared
 pub seen_text : (t : Text) {x y z : Text} {r b : Bool} → r ≡ same t (starred_by x 0) → x ≡ y → y ≡ z → r ≡ b → same t z ≡ b
 seen_text t {x} e h i k = ap (same t) (sym (star_none x ∙ h ∙ i)) ∙ sym e ∙ k
-
-pub not-true : (b : Bool) → not b ≡ true → b ≡ false
-not-true true e = sym e
-not-true false e = refl
-
-pub not-false : (b : Bool) → not b ≡ false → b ≡ true
-not-false true e = refl
-not-false false e = sym e
