@@ -33,7 +33,7 @@ fn ids_at(len: usize, at: usize, rows: u32) -> Option<Ids>
     })
 }
 
-// One more, unless there are that many.
+// One more, unless there are that many; an `if` says that plainer than a sum with `u32::from`.
 fn behind(stars: u32, count: u32) -> u32
     ensures { result ≡ behind stars count }
 {
@@ -101,6 +101,7 @@ impl Ids {
         ensures { result ≡ free_in out.now words.now self count wanted.now }
     {
         let first = self.stars_from(out, words, count, wanted);
+        // `(first..count).find(..)` was tried: the search finds no way from the closure to the contract.
         for stars in first..count {
             if !self.is_taken(out, words, wanted, stars) {
                 return stars;
@@ -137,6 +138,7 @@ pub fn end_of_ids(ids: Option<Ids>, at: usize, len: usize) -> usize
 
 // How many `*` an id needs that is wanted for the row at p: by the tables, or by a look at all records where these have no words for so many. The section
 // begins at `start`. Once the room is spent nothing is tried.
+// The kind is a value, as the crates above hand it over.
 pub fn stars_for(
     out: &[u8],
     kind: Kind,
