@@ -178,7 +178,7 @@ pub fn calendar_in(
 ) -> CalendarName
     ensures { calendar_name s.now result ≡ named_in (context_at out.now c (root_at s.now root)) s.now words.now table uid.now }
 {
-    // Two ways to search that share no argument but the calendar's: a trait over both is no plainer.
+    // One way needs the words, the other the buffer: a trait over both is no plainer.
     match table {
         Some(t) => name_of(s, words, t, rows::seek(s, words, t, uid)),
         None => scan(out, c, s, root, uid),
