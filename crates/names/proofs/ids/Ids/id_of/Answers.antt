@@ -1,7 +1,7 @@
--- `names::ids::id_of` meets its contract. Assumes nothing.
+-- `names::ids::Ids::id_of` meets its contract. Assumes nothing.
 use mathlib.Core.Path.{ap, ◌∙◌}
 use Rattle.names.specs.Ids.{text_from}
-use Rattle.names.proofs.ids.id_of.Goals as goal
+use Rattle.names.proofs.ids.Ids.id_of.Goals as goal
 
 pub returns : goal.returns
 returns c =

@@ -6,12 +6,12 @@ use Rattle.index.specs.Law.{seeks_first, seeks_next, next_less}
 use Rattle.pack.specs.Value.{starred_by}
 use Rattle.names.specs.Ids.{taken_in}
 use Rattle.names.proofs.Chained.{not_given, is_given_lem, seen_id}
-use Rattle.names.proofs.ids.taken_in.Goals as goal
+use Rattle.names.proofs.ids.Ids.is_taken.Goals as goal
 
 pub loop-at-init : goal.loop-at-init
 loop-at-init c =
     let a = c.args in
-    seeks_first (hash_of (starred_by a.wanted.now a.stars)) (c.first-at.ensures ∙ ap (λ (h : ℕ). first_of a.words.now a.ids.ids h) c.hash_starred.ensures)
+    seeks_first (hash_of (starred_by a.wanted.now a.stars)) (c.first-at.ensures ∙ ap (λ (h : ℕ). first_of a.words.now a.self.ids h) c.hash_starred.ensures)
 
 pub returns : goal.returns
 unfolding taken_in
@@ -26,7 +26,7 @@ returns-then-same_starred c =
 pub loop-at-smaller : goal.loop-at-smaller
 loop-at-smaller c =
     let a = c.args in
-    next_less a.words.now a.ids.ids c.in-Some.is c.next-at.ensures
+    next_less a.words.now a.self.ids c.in-Some.is c.next-at.ensures
 
 pub loop-at-preserved : goal.loop-at-preserved
 loop-at-preserved c =
