@@ -16,10 +16,10 @@ ghost use Rattle.names.specs.Context.{context_at, calendars_before};
 ghost use Rattle.names.specs.Naming.{Finds};
 ghost use Rattle.activities.specs.Own.{OwnRoom};
 
-use index::Table;
 use crate::own::{Own, own_for};
 use crate::record::put_row;
 use bits::{PAST, Place};
+use index::Table;
 use pack::Records;
 use tree::Root;
 

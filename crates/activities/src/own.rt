@@ -7,10 +7,10 @@ ghost use Rattle.names.specs.Naming.{Finds};
 ghost use Rattle.tree.specs.Root.{root_at};
 ghost use Rattle.activities.specs.Own.{OwnRoom};
 
-use names::Ids;
-use index::Table;
 use crate::parents::{Columns, columns_for};
 use bits::Place;
+use index::Table;
+use names::Ids;
 use tree::Root;
 
 #[derive(Clone, Copy)]
