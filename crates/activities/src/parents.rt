@@ -10,7 +10,7 @@ ghost use Rattle.activities.specs.Parents.{lower, level_in, Climbs, noted, Room,
 use index::Table;
 use tree::Root;
 
-// Where the words begin, and for how many rows there are some.
+// Where the words begin, and for how many rows there are some. No Option where there are none: each row is compared with `rows`, and none is below 0.
 #[derive(Clone, Copy)]
 pub(crate) struct Columns {
     pub at: usize,
@@ -29,7 +29,7 @@ pub(crate) fn columns_for(tasks: Option<Table>, from: usize, len: usize, bytes: 
     Columns { at: from, rows }
 }
 
-// The last of the rows before a row that has a lower level, plus 1. The words begin at `first`.
+// The last of the rows before a row that has a lower level, plus 1. The words begin at `first`. No `for`: each word names the row to look at next.
 fn climb(s: &[u8], words: &[u32], first: usize, row: u32, level: u64) -> u32
     requires { Climbs s.now first row words.now }
     ensures { result ≡ word_of (last_below (lower (level_in s.now first words.now) level) row) }

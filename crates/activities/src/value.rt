@@ -69,7 +69,7 @@ pub(crate) fn day_of(elapsed: bool, per_day: u64) -> u64
     if elapsed { 1440 } else { per_day }
 }
 
-// 0 a task, 1 a start milestone, 2 a finish milestone: one that a kept link enters.
+// 0 a task, 1 a start milestone, 2 a finish milestone: one that a kept link enters. The code itself, as it is put: nothing matches on it.
 fn kind_of(s: &[u8], root: Root, at: usize, words: &[u32], tasks: Option<Table>) -> u32
     ensures { result ≡ kind_by (is_entered (task_in s.now root words.now tasks) (element_at s.now at)) (element_at s.now at) }
 {
