@@ -21,7 +21,7 @@ pub fn put_count(out: &mut [u8], p: Place, n: u32) -> Place
     bits::put(out, p, 32, u64::from(n))
 }
 
-// A code, whatever its range. No enum: the codes come from the file as numbers, and nothing matches on them.
+// A code, whatever its range.
 pub(crate) fn put_code(out: &mut [u8], p: Place, v: u32) -> Place
     ensures { (lo hi : ℕ) → Puts (code lo hi) v out.old p out.new result }
 {
