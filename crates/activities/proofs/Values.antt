@@ -10,6 +10,7 @@ use borrow.Author.Tests.{not-true, not-false}
 use lib.Dec.{eqb}
 use lib.ListN.{length}
 use Rattle.definition.specs.Ascii.{bytes}
+use Rattle.std.specs.Option.{unwrap_or}
 use Rattle.definition.specs.Base.{◌>>=◌, ◌or◌, ◌or_else◌, when, given, same, within}
 use Rattle.definition.specs.Calendar.{elapsed_name, name_of, free}
 use Rattle.definition.specs.Date.{Date}
@@ -37,7 +38,7 @@ use Rattle.pack.specs.declared.record.Plan.{Plan}
 use Rattle.pack.specs.declared.record.Dates.{Dates}
 use Rattle.pack.specs.declared.record.Progress.{Progress}
 use Rattle.tree.specs.Place.{element_at}
-use Rattle.activities.specs.Values.{day_by, names_calendar, calendar_by, calendar_in, name_found, PlanOf, DatesOf, ProgressOf, activity_planned}
+use Rattle.activities.specs.Values.{day_by, names_calendar, calendar_by, calendar_in, PlanOf, DatesOf, ProgressOf, activity_planned}
 
 -- ---- the first of three texts that is there
 
@@ -79,8 +80,8 @@ own_calendar None f h = absurd (true≢false (sym h))
 own_calendar (Some u) f h = rw h
 
 module _ (x : Context) (s : Text) (w : List ℕ) (k : Option Table) (t : Element) {e : Bool} where
-  pub by_elapsed : e ≡ true → (r : CalendarName) → name_meaning elapsed_name r.name ≡ elapsed_in x w k → name_found s e r ≡ calendar_in x s w k e t
-  by_elapsed i r h = rw i h
+  pub by_elapsed : e ≡ true → (name : Option ℕ) → name_meaning elapsed_name name ≡ elapsed_in x w k → name_meaning elapsed_name name ≡ calendar_in x s w k e t
+  by_elapsed i name h = rw i h
 
   module _ (i : e ≡ false) (u : Text) (j : u ≡ (text_in t "CalendarUID" or [])) {b : Bool} (l : b ≡ names_calendar u) where
     names_is : b ≡ (given (text_in t "CalendarUID") && not (same (text_in t "CalendarUID" or []) (bytes "-1")))
@@ -89,20 +90,13 @@ module _ (x : Context) (s : Text) (w : List ℕ) (k : Option Table) (t : Element
         ∙ ap (λ (u : Text). names_calendar u) j
         ∙ ap (λ (b : Bool). b && not (same (text_in t "CalendarUID" or []) (bytes "-1"))) (length_given t (bytes "CalendarUID"))
 
-    pub by_none : not b ≡ true → (p : ℕ) → name_found s e (record { at = p; name = None }) ≡ calendar_in x s w k e t
+    pub by_none : not b ≡ true → (text : Text) → name_meaning text None ≡ calendar_in x s w k e t
     unfolding name_meaning
-    by_none h p = rw (i, no_calendar (text_in t "CalendarUID") (named_in x s w k) (sym names_is ∙ not-true b h))
+    by_none h text = rw (i, no_calendar (text_in t "CalendarUID") (named_in x s w k) (sym names_is ∙ not-true b h))
 
-    pub by_own : not b ≡ false → (r : CalendarName) → calendar_name s r ≡ named_in x s w k u → name_found s e r ≡ calendar_in x s w k e t
-    by_own h r m = rw (i, own_calendar (text_in t "CalendarUID") (named_in x s w k) (sym names_is ∙ not-false b h)) (m ∙ ap (named_in x s w k) j)
-
--- beside its text
-module _ (s : Text) {e : Bool} (r : CalendarName) where
-  pub name_elapsed : e ≡ true → name_meaning elapsed_name r.name ≡ name_found s e r
-  name_elapsed i = rw i
-
-  pub name_own : e ≡ false → {text : Text} → text ≡ wanted_name (element_at s r.at) → name_meaning text r.name ≡ name_found s e r
-  name_own i h = rw (i, h)
+    pub by_own : not b ≡ false → (r : CalendarName) → calendar_name s r ≡ named_in x s w k u → {text : Text} → text ≡ wanted_name (element_at s r.at) → name_meaning text r.name ≡ calendar_in x s w k e t
+    by_own h r m l =
+        rw (i, own_calendar (text_in t "CalendarUID") (named_in x s w k) (sym names_is ∙ not-false b h)) (ap (λ (text : Text). name_meaning text r.name) l ∙ m ∙ ap (named_in x s w k) j)
 
 -- words that say the names give the calendar's
 pub calendar_found : {x : Context} {s : Text} {k : Option Table} {w : List ℕ} → Finds x s k w → (e : Bool) (t : Element) → calendar_in x s w k e t ≡ calendar_by x e t
@@ -116,6 +110,12 @@ calendar_found {x} {s} {k} {w} f false t = go (text_in t "CalendarUID")
     go : (o : Option Text) → (o >>= λ u. when (not (same u (bytes "-1"))) u >>= named_in x s w k) ≡ (o >>= λ u. when (not (same u (bytes "-1"))) u >>= name_of x.built) >>= unless_main x
     go None = refl
     go (Some u) = own (not (same u (bytes "-1"))) u
+
+-- ---- a number that may be missing
+
+pub or_unwrap : (o : Option ℕ) (n : ℕ) → unwrap_or o n ≡ (o or n)
+or_unwrap None n = refl
+or_unwrap (Some k) n = refl
 
 -- ---- dates
 

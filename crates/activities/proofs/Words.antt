@@ -1,9 +1,10 @@
 -- The columns of parents: a row of them. Assumes nothing.
-use Prim.Native.Nat.{ℕ, suc, ◌+◌, ◌-◌, ◌*◌, ◌^◌, ◌≤◌, ◌<◌}
+use Prim.Native.Nat.{ℕ, ◌+◌, ◌-◌, ◌*◌, ◌^◌, ◌≤◌, ◌<◌}
 use native.Mathlib.Omega.{arith}
 use mathlib.Core.Path.{◌≡◌, refl, sym, ap, ◌∙◌}
 use mathlib.Core.List.{List, map}
 use Rattle.std.specs.Prelude.{Option, Some, None}
+use Rattle.std.specs.Option.{SomeIff}
 use lib.ListN.{length, set, take}
 use Rattle.definition.specs.Task.{level_of, kept_tasks, parent_of}
 use Rattle.definition.specs.Text.{Text}
@@ -16,14 +17,9 @@ use Rattle.activities.specs.declared.parents.Columns.{Columns}
 
 -- ---- a row as a word
 
-pub word_none : (w : ℕ) → w ≡ 0 → {r : Option ℕ} → r ≡ None → word_of r ≡ w
-word_none w e i = rw i (sym e)
-
-pub word_some : (w : ℕ) → (w ≡ 0 → ⊥) → word_of (Some (w - 1)) ≡ w
-word_some w e = by w e
-  where
-    by : (w : ℕ) → (w ≡ 0 → ⊥) → suc (w - 1) ≡ w
-    by w e = omega arith
+pub word_back : (w : ℕ) (o : Option ℕ) → SomeIff o (1 ≤ w) (w - 1) → word_of o ≡ w
+word_back w None h = omega (arith, h)
+word_back w (Some r) h = omega (arith, h)
 
 word_same : (a b : Option ℕ) → word_of a ≡ word_of b → a ≡ b
 word_same None None e = refl

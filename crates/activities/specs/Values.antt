@@ -10,14 +10,11 @@ use Rattle.definition.specs.Model.{Activity}
 use Rattle.definition.specs.Task.{Context, duration_days, duration_minutes, duration_type_of, constraint_of, percent_of, remaining_of, unless_main}
 use Rattle.definition.specs.Text.{Text}
 use Rattle.definition.specs.Tree.{Element}
-use Rattle.names.specs.Context.{wanted_name}
 use Rattle.names.specs.Named.{named_in, elapsed_in}
-use Rattle.names.specs.declared.named.CalendarName.{CalendarName}
-use Rattle.pack.specs.Value.{date_given, constraint_given, name_meaning}
+use Rattle.pack.specs.Value.{date_given, constraint_given}
 use Rattle.pack.specs.declared.record.Plan.{Plan}
 use Rattle.pack.specs.declared.record.Dates.{Dates}
 use Rattle.pack.specs.declared.record.Progress.{Progress}
-use Rattle.tree.specs.Place.{element_at}
 
 -- 0 a task, 1 a start milestone, 2 a finish milestone: one that a kept link enters
 abbrev pub kind_by : Bool → Element → ℕ
@@ -60,10 +57,6 @@ calendar_by x elapsed t =
 abbrev pub calendar_in : Context → Text → List ℕ → Option Table → Bool → Element → Option Text
 calendar_in x s w k elapsed t =
     if elapsed then elapsed_in x w k else (text_in t "CalendarUID" >>= λ u. when (not (same u (bytes "-1"))) u >>= named_in x s w k)
-
--- what was found, beside its text
-abbrev pub name_found : Text → Bool → CalendarName → Option Text
-name_found s elapsed r = name_meaning (if elapsed then elapsed_name else wanted_name (element_at s r.at)) r.name
 
 -- ---- the whole, by the name of its calendar, its id and its plan
 

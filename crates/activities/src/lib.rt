@@ -46,16 +46,14 @@ fn put_tasks(
     let mut q = p;
     let mut row: u32 = 0;
     let mut task = rows::first_kept(s, root);
-    loop {
-        let Some((at, left)) = task else {
-            return Records {
-                count: row,
-                next: q,
-            };
-        };
+    while let Some((at, left)) = task {
         q = put_row(out, p, q, s, root, at, row, c, words, tasks, own, per_day);
         row += 1;
         task = rows::next_kept(s, at, left);
+    }
+    Records {
+        count: row,
+        next: q,
     }
 }
 

@@ -10,61 +10,39 @@ ghost use Rattle.activities.specs.Parents.{lower, level_in, Climbs, noted, Room,
 use index::Table;
 use tree::Root;
 
-// Where the words begin, and for how many rows there are some.
+// Where the words begin, and for how many rows there are some. No Option where there are none: each row is compared with `rows`, and none is below 0.
 #[derive(Clone, Copy)]
 pub(crate) struct Columns {
     pub at: usize,
     pub rows: u32,
 }
 
-const NONE: Columns = Columns { at: 0, rows: 0 };
-
 // From a place on, for as many rows as the table of the kept tasks has, where there is room and 32 bits hold each position in the tree.
 pub(crate) fn columns_for(tasks: Option<Table>, from: usize, len: usize, bytes: usize) -> Columns
     ensures { Room result len bytes × Behind result from }
 {
-    let Some(t) = tasks else {
-        return NONE;
-    };
-    if 4294967295 < bytes {
-        return NONE;
+    let rows = tasks.map_or(0, |t| t.rows);
+    let room = len.saturating_sub(from) / 2;
+    if 4294967295 < bytes || room < rows as usize {
+        return Columns { at: from, rows: 0 };
     }
-    if len <= from {
-        return NONE;
-    }
-    if (len - from) / 2 < t.rows as usize {
-        return NONE;
-    }
-    Columns {
-        at: from,
-        rows: t.rows,
-    }
+    Columns { at: from, rows }
 }
 
-// The last of the rows before a row that has a lower level, plus 1. The words begin at `first`.
+// The last of the rows before a row that has a lower level, plus 1. The words begin at `first`. No `for`: each word names the row to look at next.
 fn climb(s: &[u8], words: &[u32], first: usize, row: u32, level: u64) -> u32
     requires { Climbs s.now first row words.now }
     ensures { result ≡ word_of (last_below (lower (level_in s.now first words.now) level) row) }
 {
     let mut k = row;
-    while 0 < k {
-        let i = first + 2 * ((k - 1) as usize);
+    while let Some(r) = k.checked_sub(1) {
+        let i = first + 2 * (r as usize);
         if tasks::level_of(s, words[i] as usize) < level {
             return k;
         }
         k = words[i + 1];
     }
     0
-}
-
-// The row that a word names.
-fn row_of(word: u32) -> Option<u32>
-    ensures { word_of result ≡ word }
-{
-    if word == 0 {
-        return None;
-    }
-    Some(word - 1)
 }
 
 // The parent of the task at `at`, which has the row; noted where there are words for the row.
@@ -88,5 +66,5 @@ pub(crate) fn parent_of(
     let i = first + 2 * (row as usize);
     words[i] = at as u32;
     words[i + 1] = k;
-    row_of(k)
+    k.checked_sub(1)
 }

@@ -16,7 +16,7 @@ ghost use Rattle.tree.specs.Place.{element_at};
 ghost use Rattle.tree.specs.Root.{root_at};
 ghost use Rattle.activities.specs.Own.{IdsOpen, RowNoted};
 ghost use Rattle.activities.specs.Parents.{Ready};
-ghost use Rattle.activities.specs.Values.{name_found, activity_planned};
+ghost use Rattle.activities.specs.Values.{activity_planned};
 
 use crate::own::Own;
 use crate::parents::parent_of;
@@ -24,7 +24,6 @@ use crate::value::{calendar_for, dates_of, day_of, plan_of, progress_of, wanted_
 use bits::Place;
 use index::Table;
 use model::records::Kind;
-use names::CalendarName;
 use pack::Plan;
 use tree::Root;
 
@@ -52,28 +51,6 @@ fn put_named(
     )
 }
 
-// The task at `at` with its id, its plan and what was found of its calendar.
-fn put_task(
-    out: &mut [u8],
-    p: Place,
-    s: &[u8],
-    at: usize,
-    elapsed: bool,
-    found: CalendarName,
-    id: &[u8],
-    stars: u32,
-    plan: Plan,
-) -> Place
-    ensures { Puts (whole activity) (activity_planned (name_found s.now elapsed found) (starred_by id.now stars) plan (element_at s.now at)) out.old p out.new result }
-{
-    let named = found.name;
-    if elapsed {
-        return put_named(out, p, s, at, id, stars, plan, b"Elapsed (24 hours)", named);
-    }
-    let text = names::wanted_name(s, found.at, b"Calendar");
-    put_named(out, p, s, at, id, stars, plan, text, named)
-}
-
 // The task of a row. The section begins at `start`; the calendars stand at c.
 pub(crate) fn put_row(
     out: &mut [u8],
@@ -96,12 +73,12 @@ pub(crate) fn put_row(
     let columns = own.columns;
     let ids = own.ids;
     let elapsed = tasks::is_elapsed(s, at);
-    let found = calendar_for(out, c, s, root, at, words, calendars, elapsed);
+    let (calendar, named) = calendar_for(out, c, s, root, at, words, calendars, elapsed);
     let parent = parent_of(s, root, at, words, columns, row);
     let id = wanted_id(s, at);
     let stars = names::stars_for(out, Kind::Activities, start, p, words, ids, row, id);
     names::note_stars(words, ids, row, id, stars, p);
     let day = day_of(elapsed, per_day);
     let plan = plan_of(s, root, at, words, tasks, day, parent);
-    put_task(out, p, s, at, elapsed, found, id, stars, plan)
+    put_named(out, p, s, at, id, stars, plan, calendar, named)
 }

@@ -1,16 +1,15 @@
 // What an activity's record holds, each value from the task in the tree.
 ghost use Rattle.std.specs.Prelude.{◌≡◌};
-ghost use Rattle.definition.specs.Base.{◌or◌};
 ghost use Rattle.definition.specs.Task.{wanted_id};
 ghost use Rattle.links.specs.Fates.{task_in, is_entered};
 ghost use Rattle.names.specs.Context.{context_at};
+ghost use Rattle.pack.specs.Value.{name_meaning};
 ghost use Rattle.tree.specs.Place.{element_at};
 ghost use Rattle.tree.specs.Root.{root_at};
-ghost use Rattle.activities.specs.Values.{kind_by, day_by, names_calendar, name_found, calendar_in, PlanOf, DatesOf, ProgressOf};
+ghost use Rattle.activities.specs.Values.{kind_by, day_by, names_calendar, calendar_in, PlanOf, DatesOf, ProgressOf};
 
 use bits::Place;
 use index::Table;
-use names::CalendarName;
 use pack::{Dates, Plan, Progress};
 use tree::Root;
 
@@ -33,46 +32,35 @@ pub(crate) fn wanted_id(s: &[u8], at: usize) -> &[u8]
 fn names_calendar(uid: &[u8]) -> bool
     ensures { result ≡ names_calendar uid.now }
 {
-    (uid.len() != 0) & !text::same(uid, b"-1")
+    !uid.is_empty() & !text::same(uid, b"-1")
 }
 
-// What is found of the calendar of the task at `at`. The calendars stand at c.
-pub(crate) fn calendar_for(
+// The text of the name that the calendar of the task at `at` wants, and the `*` behind it, where it has a name. The calendars stand at c.
+pub(crate) fn calendar_for<'a>(
     out: &[u8],
     c: Place,
-    s: &[u8],
+    s: &'a [u8],
     root: Root,
     at: usize,
     words: &[u32],
     calendars: Option<Table>,
     elapsed: bool,
-) -> CalendarName
-    ensures { name_found s.now elapsed result ≡ calendar_in (context_at out.now c (root_at s.now root)) s.now words.now calendars elapsed (element_at s.now at) }
+) -> (&'a [u8], Option<u32>)
+    ensures { name_meaning result.0.now result.1 ≡ calendar_in (context_at out.now c (root_at s.now root)) s.now words.now calendars elapsed (element_at s.now at) }
 {
     if elapsed {
         let name = names::elapsed_in(out, c, s, root, words, calendars);
-        return CalendarName { at, name };
+        return (b"Elapsed (24 hours)", name);
     }
     let uid = tree::text_of(s, at, b"CalendarUID");
     if !names_calendar(uid) {
-        return CalendarName {
-            at: s.len(),
-            name: None,
-        };
+        return (b"", None);
     }
-    names::calendar_in(out, c, s, root, words, calendars, uid)
+    let found = names::calendar_in(out, c, s, root, words, calendars, uid);
+    (names::wanted_name(s, found.at, b"Calendar"), found.name)
 }
 
 // ---- what an activity is
-
-fn minutes_or_0(a: Option<u32>) -> u32
-    ensures { result ≡ a or 0 }
-{
-    match a {
-        Some(n) => n,
-        None => 0,
-    }
-}
 
 // The minutes of a day of the task.
 pub(crate) fn day_of(elapsed: bool, per_day: u64) -> u64
@@ -81,7 +69,7 @@ pub(crate) fn day_of(elapsed: bool, per_day: u64) -> u64
     if elapsed { 1440 } else { per_day }
 }
 
-// 0 a task, 1 a start milestone, 2 a finish milestone: one that a kept link enters.
+// 0 a task, 1 a start milestone, 2 a finish milestone: one that a kept link enters. The code itself, as it is put: nothing matches on it.
 fn kind_of(s: &[u8], root: Root, at: usize, words: &[u32], tasks: Option<Table>) -> u32
     ensures { result ≡ kind_by (is_entered (task_in s.now root words.now tasks) (element_at s.now at)) (element_at s.now at) }
 {
@@ -107,7 +95,7 @@ pub(crate) fn plan_of(
     ensures { PlanOf day parent (is_entered (task_in s.now root words.now tasks) (element_at s.now at)) (element_at s.now at) result }
 {
     let kind = kind_of(s, root, at, words, tasks);
-    let minutes = minutes_or_0(fields::minutes_in(s, at, b"Duration"));
+    let minutes = fields::minutes_in(s, at, b"Duration").unwrap_or(0);
     let duration = tasks::duration_parts(minutes, day);
     Plan {
         kind,

@@ -21,7 +21,8 @@ pub use texts::{put_bytes, put_text, take_text};
 pub use writing::{overwrite, pad, put, put_flag};
 pub use zeros::fill_from;
 
-// A place in a buffer: so many whole bytes and so many bits stand before it. A bit of 8 or more is past every end.
+// A place in a buffer: so many whole bytes and so many bits stand before it. A bit of 8 or more is past every end; the derived order is that
+// of places where both bits are below 8.
 #[derive(Clone, Copy, PartialEq, Eq, PartialOrd, Ord)]
 pub struct Place {
     pub byte: usize,

@@ -1,5 +1,5 @@
 -- What the answers stand for that several crates share. Assumes nothing.
-use Rattle.std.specs.Prelude.{ℕ, ℤ}
+use Rattle.std.specs.Prelude.{List, ℕ, ℤ, codes}
 use Rattle.definition.specs.declared.Date.{Date as DayNumber}
 use Rattle.std.specs.Prelude.{Option, Some, None, Result, Ok, Err}
 use Rattle.definition.specs.declared.Refusal.{Refusal}
@@ -26,6 +26,18 @@ refusal_number refusal.NoModel = 6
 refusal_number refusal.ListBroken = 7
 refusal_number refusal.Outside = 8
 refusal_number refusal.NoRoom = 9
+
+-- what is printed of it
+abbrev pub refusal_text : Refusal → List ℕ
+refusal_text refusal.Layout = codes "the tree breaks the layout"
+refusal_text refusal.Utf8 = codes "a name or a text is not UTF-8"
+refusal_text refusal.TooMany = codes "the tree has over 5,000,000 elements"
+refusal_text refusal.NoProject = codes "the root is not a Project"
+refusal_text refusal.TooLong = codes "a number is too long"
+refusal_text refusal.NoModel = codes "the model does not decode"
+refusal_text refusal.ListBroken = codes "the model does not keep the list of the check"
+refusal_text refusal.Outside = codes "a value is asked for outside its range"
+refusal_text refusal.NoRoom = codes "the result is longer than its buffer"
 
 -- the number that a call returns, 0 where there is a result; and how long that is
 abbrev pub answer_number : {A : Type 0} → Result A Refusal → ℕ

@@ -2,7 +2,8 @@
 #![tactic(auto)]
 
 ghost use Rattle.std.specs.Prelude.{◌≡◌};
-ghost use Rattle.definition.specs.Answer.{refusal_number};
+ghost use Rattle.std.specs.Prelude.{Some};
+ghost use Rattle.definition.specs.Answer.{refusal_number, refusal_text};
 
 use std::error::Error;
 use std::fmt;
@@ -76,6 +77,8 @@ impl From<Refusal> for u32 {
 }
 
 impl fmt::Display for Refusal {
+    ghost output = { λ e. Some (refusal_text e) };
+
     fn fmt<W: fmt::Write>(&self, f: &mut fmt::Formatter<W>) -> fmt::Result {
         f.write_str(match self {
             Refusal::Layout => "the tree breaks the layout",

@@ -50,7 +50,7 @@ fn iso(y: u32, m: u32, d: u32) -> [u8; 10]
 }
 
 fn weekday_name(w: u32) -> &'static str {
-    WEEKDAYS.get(w as usize).copied().unwrap_or("")
+    WEEKDAYS[(w % 7) as usize]
 }
 
 fn put_ymd(rt: &impl Print, c: Ymd) -> io::Result<()> {

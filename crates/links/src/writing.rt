@@ -11,7 +11,7 @@ ghost use Rattle.pack.specs.Writes.{Writes};
 ghost use Rattle.links.specs.Fates.{task_in, links_by, links_for, links_in};
 ghost use Rattle.links.specs.More.{More};
 
-use crate::fate::{LeftOut, fate_of};
+use crate::fate::fate_of;
 use bits::Place;
 use index::Table;
 use pack::Records;
@@ -38,23 +38,6 @@ fn put_kept(
     }
 }
 
-fn put_fate(
-    out: &mut [u8],
-    done: Records,
-    s: &[u8],
-    at: usize,
-    per_day: u64,
-    row: u32,
-    fate: Result<u32, LeftOut>,
-) -> Records
-    ensures { More (whole link_format) (links_for per_day row (element_at s.now at) fate) out.old done out.new result }
-{
-    match fate {
-        Ok(p) => put_kept(out, done, s, at, per_day, row, p),
-        Err(_) => done,
-    }
-}
-
 // Those of the task at `at`, which has the row.
 fn put_links_in(
     out: &mut [u8],
@@ -72,15 +55,9 @@ fn put_links_in(
     let mut r = done;
     let mut link = tree::child(s, at, b"PredecessorLink");
     while let Some(p) = link {
-        r = put_fate(
-            out,
-            r,
-            s,
-            p,
-            per_day,
-            row,
-            fate_of(s, root, p, words, tasks),
-        );
+        if let Ok(predecessor) = fate_of(s, root, p, words, tasks) {
+            r = put_kept(out, r, s, p, per_day, row, predecessor);
+        }
         link = tree::next_child(s, p, b"PredecessorLink");
     }
     r

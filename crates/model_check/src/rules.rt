@@ -46,14 +46,11 @@ fn calendar_known(s: &[u8], p: Place, x: Section, words: &[u32], names: Option<T
     is_calendar(s, x, words, names, &s[start..end])
 }
 
-// Whether a row is missing, or below another. A match, since the library's Option has no is_none_or.
+// Whether a row is missing, or below another.
 fn is_below(row: Option<u32>, own: u32) -> bool
     ensures { result ≡ if_given (λ (n : ℕ). ltb n own) row }
 {
-    match row {
-        Some(n) => n < own,
-        None => true,
-    }
+    row.is_none_or(|n| n < own)
 }
 
 // Whether an activity is right, or all of several are, and the place behind.

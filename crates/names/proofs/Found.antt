@@ -4,11 +4,11 @@ use mathlib.Core.Bool.{Bool, true, false, not, ◌&&◌}
 use Rattle.std.specs.Bool.{then_some}
 use mathlib.Core.List.{List, [], ◌∷◌}
 use Rattle.std.specs.Prelude.{Option, Some, None}
-use Prim.Native.Nat.{ℕ, ◌+◌, ◌*◌, ◌-◌, ◌/◌, ◌^◌, ◌≤◌, ◌<◌}
+use Prim.Native.Nat.{ℕ, ◌*◌, ◌-◌, ◌/◌, ◌^◌, ◌≤◌, ◌<◌}
 use native.Mathlib.Omega.{arith}
 use lib.Dec.{leb, ltb}
 use lib.ListN.{length}
-use borrow.Author.Tests.{lt-ltb, le-ltb, le-leb, lt-leb, ltb-true, leb-true, leb-false, eq-eqb, ne_eqb}
+use borrow.Author.Tests.{lt-ltb, le-leb, lt-leb, ltb-true, leb-true, leb-false}
 use Rattle.definition.specs.Base.{◌>>=◌, ◌or◌, when, same}
 use Rattle.definition.specs.Text.{Text, trim}
 use Rattle.definition.specs.Tree.{Element, child, non_empty, text_of}
@@ -105,16 +105,7 @@ module _ (d : List ℕ) (c : Place) (root : Element) where
   unfolding calendars_before
   few p r n e h k = k ∙ rw (order_length root, ← e, le-leb n most_elements h)
 
--- ---- places and rows
-
-pub section_main : (main row : ℕ) → row ≡ main → 0 ≡ section_row main row
-section_main main row h = rw (eq-eqb row main h)
-
-pub section_before : (main row : ℕ) → (row ≡ main → ⊥) → row < main → row + 1 ≡ section_row main row
-section_before main row n h = rw (ne_eqb row main n, lt-ltb row main h) (omega arith)
-
-pub section_behind : (main row : ℕ) → (row ≡ main → ⊥) → main ≤ row → row ≡ section_row main row
-section_behind main row n h = rw (ne_eqb row main n, le-ltb row main h)
+-- ---- places
 
 pub up_not : (p q : Place) → (p.bit < 8 → at q < at p) → false ≡ up_to p q
 unfolding up_to

@@ -1,6 +1,6 @@
 -- Texts with `*` behind them: their bytes. Assumes nothing.
 use mathlib.Core.Path.{◌≡◌, refl, sym, ap, ◌∙◌}
-use mathlib.Core.Bool.{Bool, true, false, not}
+use mathlib.Core.Bool.{Bool, true, false}
 use mathlib.Core.List.{[], ◌∷◌}
 use Prim.Native.Nat.{ℕ, zero, suc, ◌+◌, ◌≤◌, ◌<◌}
 use native.Mathlib.Omega.{arith}
@@ -43,23 +43,3 @@ module _ (a b : Text) (m n : ℕ) where
 -- a text with no `*` was compared
 pub seen_text : (t : Text) {x y z : Text} {r b : Bool} → r ≡ same t (starred_by x 0) → x ≡ y → y ≡ z → r ≡ b → same t z ≡ b
 seen_text t {x} e h i k = ap (same t) (sym (star_none x ∙ h ∙ i)) ∙ sym e ∙ k
-
-pub not-true : (b : Bool) → not b ≡ true → b ≡ false
-not-true true e = sym e
-not-true false e = refl
-
-pub not-false : (b : Bool) → not b ≡ false → b ≡ true
-not-false true e = refl
-not-false false e = sym e
-
--- ---- a byte
-
-pub byte_in : (s : Text) (i : ℕ) → i < length s → get_or s i 0 ≡ get_or s i 42
-byte_in [] i h = absurd (omega arith)
-byte_in (x ∷ s) zero h = refl
-byte_in (x ∷ s) (suc i) h = byte_in s i (omega arith)
-
-pub byte_behind : (s : Text) (i : ℕ) → length s ≤ i → 42 ≡ get_or s i 42
-byte_behind [] i h = refl
-byte_behind (x ∷ s) zero h = absurd (omega arith)
-byte_behind (x ∷ s) (suc i) h = byte_behind s i (omega arith)

@@ -45,7 +45,7 @@ pub fn count_calendars(s: &[u8], root: Root) -> usize
     }
 }
 
-// Whether a place is not behind another.
+// Whether a place is not behind another. No derived order says this: a bit may be past 7, so that two places differ and are the same bit.
 fn up_to(p: Place, q: Place) -> bool
     ensures { result ≡ up_to p q }
 {

@@ -33,79 +33,82 @@ fn ids_at(len: usize, at: usize, rows: u32) -> Option<Ids>
     })
 }
 
-// Empties both.
-fn clear_ids(words: &mut [u32], ids: Ids)
-    ensures { words.new ≡ no_ids words.old ids }
-{
-    ids.ids.clear(words);
-    ids.wanted.clear(words);
-}
-
-// Puts a row into both: its id is the wanted text with so many `*`, and stands at a byte.
-fn note_id(words: &mut [u32], ids: Ids, row: u32, wanted: &[u8], stars: u32, place: u32)
-    ensures { words.new ≡ noted words.old ids row wanted.now stars place }
-{
-    let id = index::hash_starred(wanted, stars);
-    ids.ids.put(words, row, id, place);
-    let hash = index::hash_of(wanted);
-    ids.wanted.put(words, row, hash, stars);
-}
-
-// The id of a row, as it stands in the buffer.
-fn id_of<'a>(out: &'a [u8], words: &[u32], ids: Ids, row: u32) -> &'a [u8]
-    ensures { result.now ≡ id_at out.now words.now ids row }
-{
-    let byte = ids.ids.place(words, row) as usize;
-    raw_text(out, Place { byte, bit: 0 })
-}
-
-// Whether a text with so many `*` is the id of a row.
-fn taken_in(out: &[u8], words: &[u32], ids: Ids, wanted: &[u8], stars: u32) -> bool
-    ensures { result ≡ taken_in out.now words.now ids wanted.now stars }
-{
-    let mut at = ids.ids.first(words, index::hash_starred(wanted, stars));
-    while let Some(r) = at {
-        if same_starred(wanted, stars, id_of(out, words, ids, r), 0) {
-            return true;
-        }
-        at = ids.ids.next(words, r);
-    }
-    false
-}
-
-// One more, unless there are that many.
+// One more, unless there are that many; an `if` says that plainer than a sum with `u32::from`.
 fn behind(stars: u32, count: u32) -> u32
     ensures { result ≡ behind stars count }
 {
     if stars < count { stars + 1 } else { stars }
 }
 
-// The stars behind those of the last row that wanted a text, none where no row did.
-fn stars_from(out: &[u8], words: &[u32], ids: Ids, count: u32, wanted: &[u8]) -> u32
-    ensures { result ≡ stars_from out.now words.now ids count wanted.now }
-{
-    let mut at = ids.wanted.first(words, index::hash_of(wanted));
-    while let Some(r) = at {
-        let stars = ids.wanted.place(words, r);
-        if same_starred(wanted, stars, id_of(out, words, ids, r), 0) {
-            return behind(stars, count);
-        }
-        at = ids.wanted.next(words, r);
+impl Ids {
+    // Empties both.
+    fn clear(self, words: &mut [u32])
+        ensures { words.new ≡ no_ids words.old self }
+    {
+        self.ids.clear(words);
+        self.wanted.clear(words);
     }
-    0
-}
 
-// How many `*` a text needs so that it is the id of none of so many rows.
-fn free_in(out: &[u8], words: &[u32], ids: Ids, count: u32, wanted: &[u8]) -> u32
-    ensures { result ≡ free_in out.now words.now ids count wanted.now }
-{
-    let first = stars_from(out, words, ids, count, wanted);
-    for stars in first..count {
-        if !taken_in(out, words, ids, wanted, stars) {
-            return stars;
-        }
+    // Puts a row into both: its id is the wanted text with so many `*`, and stands at a byte.
+    fn note(self, words: &mut [u32], row: u32, wanted: &[u8], stars: u32, place: u32)
+        ensures { words.new ≡ noted words.old self row wanted.now stars place }
+    {
+        let id = index::hash_starred(wanted, stars);
+        self.ids.put(words, row, id, place);
+        let hash = index::hash_of(wanted);
+        self.wanted.put(words, row, hash, stars);
     }
-    first.max(count)
+
+    // The id of a row, as it stands in the buffer.
+    fn id_of<'a>(self, out: &'a [u8], words: &[u32], row: u32) -> &'a [u8]
+        ensures { result.now ≡ id_at out.now words.now self row }
+    {
+        let byte = self.ids.place(words, row) as usize;
+        raw_text(out, Place { byte, bit: 0 })
+    }
+
+    // Whether a text with so many `*` is the id of a row.
+    fn is_taken(self, out: &[u8], words: &[u32], wanted: &[u8], stars: u32) -> bool
+        ensures { result ≡ taken_in out.now words.now self wanted.now stars }
+    {
+        let mut at = self.ids.first(words, index::hash_starred(wanted, stars));
+        while let Some(r) = at {
+            if same_starred(wanted, stars, self.id_of(out, words, r), 0) {
+                return true;
+            }
+            at = self.ids.next(words, r);
+        }
+        false
+    }
+
+    // The stars behind those of the last row that wanted a text, none where no row did.
+    fn stars_from(self, out: &[u8], words: &[u32], count: u32, wanted: &[u8]) -> u32
+        ensures { result ≡ stars_from out.now words.now self count wanted.now }
+    {
+        let mut at = self.wanted.first(words, index::hash_of(wanted));
+        while let Some(r) = at {
+            let stars = self.wanted.place(words, r);
+            if same_starred(wanted, stars, self.id_of(out, words, r), 0) {
+                return behind(stars, count);
+            }
+            at = self.wanted.next(words, r);
+        }
+        0
+    }
+
+    // How many `*` a text needs so that it is the id of none of so many rows.
+    fn free(self, out: &[u8], words: &[u32], count: u32, wanted: &[u8]) -> u32
+        ensures { result ≡ free_in out.now words.now self count wanted.now }
+    {
+        let first = self.stars_from(out, words, count, wanted);
+        // `(first..count).find(..)` was tried: the search finds no way from the closure to the contract.
+        for stars in first..count {
+            if !self.is_taken(out, words, wanted, stars) {
+                return stars;
+            }
+        }
+        first.max(count)
+    }
 }
 
 // ---- the ids of a section that is written, with tables or with none
@@ -119,7 +122,7 @@ pub fn ids_for(len: usize, p: Place, words: &mut [u32], at: usize, rows: u32) ->
         return None;
     }
     let ids = ids_at(words.len(), at, rows)?;
-    clear_ids(words, ids);
+    ids.clear(words);
     Some(ids)
 }
 
@@ -135,6 +138,7 @@ pub fn end_of_ids(ids: Option<Ids>, at: usize, len: usize) -> usize
 
 // How many `*` an id needs that is wanted for the row at p: by the tables, or by a look at all records where these have no words for so many. The section
 // begins at `start`. Once the room is spent nothing is tried.
+// The kind is a value, as the crates above hand it over.
 pub fn stars_for(
     out: &[u8],
     kind: Kind,
@@ -150,13 +154,10 @@ pub fn stars_for(
     if !bits::inside(out.len(), p) {
         return 0;
     }
-    let Some(t) = ids else {
-        return free_stars(out, start, kind, row, wanted);
-    };
-    if t.ids.rows < row {
-        return free_stars(out, start, kind, row, wanted);
+    match ids {
+        Some(t) if row <= t.ids.rows => t.free(out, words, row, wanted),
+        _ => free_stars(out, start, kind, row, wanted),
     }
-    free_in(out, words, t, row, wanted)
 }
 
 // Where the record of a row stands among so many, likewise.
@@ -171,15 +172,12 @@ pub fn place_in(
 ) -> Place
     ensures { result ≡ place_in kind out.now start words.now ids count row }
 {
-    let Some(t) = ids else {
-        return place_of_row(out, start, kind, row as usize);
-    };
-    if t.ids.rows < count {
-        return place_of_row(out, start, kind, row as usize);
-    }
-    Place {
-        byte: t.ids.place(words, row) as usize,
-        bit: 0,
+    match ids {
+        Some(t) if count <= t.ids.rows => Place {
+            byte: t.ids.place(words, row) as usize,
+            bit: 0,
+        },
+        _ => place_of_row(out, start, kind, row as usize),
     }
 }
 
@@ -195,6 +193,6 @@ pub fn note_stars(
     ensures { words.new ≡ noted_by words.old ids row wanted.now stars (p.byte % 2 ^ 32) }
 {
     if let Some(t) = ids {
-        note_id(words, t, row, wanted, stars, (p.byte % 4294967296) as u32);
+        t.note(words, row, wanted, stars, (p.byte % 4294967296) as u32);
     }
 }

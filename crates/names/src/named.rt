@@ -39,6 +39,7 @@ fn word_of(s: &[u8], text: &[u8], stars: u32, main: Main) -> u32
     stars + 1
 }
 
+// A function of its own: with the `if` at its call the proof has each way twice.
 fn either(test: bool, p: Place, q: Place) -> Place
     ensures { result ≡ (if «test» then p else q) }
 {
@@ -177,6 +178,7 @@ pub fn calendar_in(
 ) -> CalendarName
     ensures { calendar_name s.now result ≡ named_in (context_at out.now c (root_at s.now root)) s.now words.now table uid.now }
 {
+    // One way needs the words, the other the buffer: a trait over both is no plainer.
     match table {
         Some(t) => name_of(s, words, t, rows::seek(s, words, t, uid)),
         None => scan(out, c, s, root, uid),

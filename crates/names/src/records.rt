@@ -13,7 +13,7 @@ use crate::stars::same_starred;
 use bits::{PAST, Place};
 use model::records::{Kind, skip_record};
 
-// The place behind so many records.
+// The place behind so many records. Here and below the kind is a value, as the crates above hand it over.
 fn skip_rows(out: &[u8], p: Place, kind: Kind, row: usize) -> Place
     ensures { Passes (times row (record_of false kind)) out.now p result }
 {
@@ -66,6 +66,7 @@ fn taken(out: &[u8], p: Place, kind: Kind, count: u32, wanted: &[u8], stars: u32
 pub(crate) fn free_stars(out: &[u8], p: Place, kind: Kind, count: u32, wanted: &[u8]) -> u32
     ensures { starred_by wanted.now result ≡ free (texts_at kind out.now p count) wanted.now }
 {
+    // A loop as in `Ids::free`, where `find` was tried.
     for stars in 0..count {
         if !taken(out, p, kind, count, wanted, stars) {
             return stars;

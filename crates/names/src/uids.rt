@@ -37,6 +37,7 @@ fn note_places(s: &[u8], root: Root, words: &mut [u32], t: Table) -> u32
     requires { Ripe s.now (root_at s.now root) t (length words.old) }
     ensures { (result ≡ how_many (root_at s.now root)) × Stand s.now (root_at s.now root) t 0 words.new × Stays t.at (names_end t) words.old words.new }
 {
+    // The row is counted by hand: the calendars have no iterator, as each next one is asked of the tree.
     let mut left = t.rows;
     let mut e = rows::first_calendar(s, root);
     while let Some(at) = e {
@@ -76,8 +77,7 @@ pub struct CalendarTable {
 pub fn index_uids(s: &[u8], root: Root, words: &mut [u32], at: usize) -> CalendarTable
     ensures { MakesUids s.now (root_at s.now root) at words.old words.new result }
 {
-    let made = room_for(s, root, words.len(), at);
-    let Some(t) = made else {
+    let Some(t) = room_for(s, root, words.len(), at) else {
         return CalendarTable {
             table: None,
             end: at,

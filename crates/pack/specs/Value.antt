@@ -13,6 +13,10 @@ use Rattle.definition.specs.Text.{Text}
 use Rattle.definition.specs.Answer.{date_meaning, day_number_of}
 use Rattle.tasks.specs.Task.{code_and_day, constraint_means, day_numbered}
 
+-- what a value means, where there is one
+abbrev pub given_by : {A B : Type 0} → (A → B) → Option A → Option B
+given_by f o = o >>= λ x. Some (f x)
+
 -- the date of a day number; 0 outside the years
 abbrev pub date_by : ℤ → Date
 date_by z = from_days z or 0

@@ -147,6 +147,7 @@ pub fn put_project(
     bits::pad(out, h)
 }
 
+// Six fields of a struct by their names: an array to loop over would hold the same again.
 pub fn put_counts(out: &mut [u8], p: Place, n: Counts) -> Place
     ensures { Puts counts (counts_by n) out.old p out.new result }
 {

@@ -5,10 +5,8 @@ ghost use Rattle.std.specs.Prelude.{◌≡◌};
 ghost use Rattle.io.specs.Counts.{IsPrefixLen};
 ghost use Rattle.read_model.specs.Writes.{Writes};
 
-// The streams' numbers.
-const STDIN_FILENO: i32 = 0;
-
-const STDOUT_FILENO: i32 = 1;
+use std::io;
+use std::io::Cursor;
 
 const MOST: usize = 65536;
 
@@ -24,15 +22,19 @@ fn model_of(tree: &[u8], room: &mut [u8]) -> usize
     read::read(tree, room, &mut work).unwrap_or(0)
 }
 
-fn put_model(tree: &[u8]) {
-    let mut room = io::large_buffer();
+fn put_model(rt: &impl Print, tree: &[u8]) -> io::Result<()> {
+    let mut room = [0u8; MOST];
     let n = model_of(tree, &mut room);
-    io::write_all(STDOUT_FILENO, &room[..n]);
+    rt.write_all(&room[..n])
 }
 
-// One byte more than a tree may have.
-fn main() {
-    let mut buffer = [0u8; MOST + 1];
-    let n = io::read_full(STDIN_FILENO, &mut buffer);
-    put_model(&buffer[..n]);
+// One byte more than a tree may have. A read or a write that fails ends the program, which says nothing of it.
+fn main(rt: HostRuntime) {
+    let mut room = Cursor::new([0u8; MOST + 1]);
+    let Ok(n) = io::copy(&mut rt.reader(), &mut room) else {
+        return;
+    };
+    if let Some(tree) = room.get_ref().get(..n as usize) {
+        let _ = put_model(&rt, tree);
+    }
 }

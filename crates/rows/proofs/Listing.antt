@@ -10,9 +10,8 @@ use Rattle.definition.specs.Task.{own_uid, is_kept, most_tasks, kept_tasks}
 use Rattle.definition.specs.Resource.{work_resources, cost_resources}
 use Rattle.tree.specs.Place.{element_at, later_at, Past}
 use Rattle.rows.specs.Turns.{keep_head, work_picked, cost_picked}
-use Rattle.rows.specs.Walks.{kept_by, room, Kept, passes, picked_by, Picks}
+use Rattle.rows.specs.Walks.{kept_by, room, Kept, is_work, is_cost_resource, picked_by, Picks}
 use Rattle.rows.specs.Tables.{later_in, listed_by, most_in, room_in, Lists, unbounded_of}
-use Rattle.rows.specs.declared.section.Which.{Which}
 use Rattle.rows.specs.declared.table.Listed.{Listed}
 
 -- ---- an element with a UID stands in the tree
@@ -60,9 +59,9 @@ kept_lists {s} k {r = r} i h = record {
 }
 
 -- a position behind m has less ahead of it
-picks_lists : {s : Text} {l : Listed} {w : Which} {k es : List Element} {from : ℕ} (f : Option ℕ) (m n : ℕ) {r : Option (ℕ × ℕ)}
+picks_lists : {s : Text} {l : Listed} {w : Element → Bool} {k es : List Element} {from : ℕ} (f : Option ℕ) (m n : ℕ) {r : Option (ℕ × ℕ)}
     → ((p : ℕ) → picked_by s (bytes "Resource") w (Some p) ≡ listed_by s l (Some (p, 0))) → ((p : ℕ) → room_in s l (Some (p, 0)) ≡ suc (length s - p))
-    → keep (passes w) k ≡ es → m < from → length s - m < n → Picks s (bytes "Resource") w k from f → r ≡ unbounded_of f → Lists s l es n r
+    → keep w k ≡ es → m < from → length s - m < n → Picks s (bytes "Resource") w k from f → r ≡ unbounded_of f → Lists s l es n r
 unfolding picked_by listed_by room_in Past
 picks_lists None m n list room e y z h i =
     rw i (record { is = sym e ∙ h.is; on = omega arith; there = λ at left i. let y : ◌≡◌ {A = ℕ} 0 1 = cc in absurd (omega arith) })
@@ -85,11 +84,11 @@ module _ (s : Text) (root : Element) where
   first_tasks h = kept_lists _ refl h
 
   module _ (m : ℕ) {f : Option ℕ} {r : Option (ℕ × ℕ)} where
-    pub first_work : Picks s (bytes "Resource") Which.Work (resources_in root) (m + 1) f → r ≡ unbounded_of f → Lists s Listed.Work (work_resources root) (suc (length s)) r
+    pub first_work : Picks s (bytes "Resource") is_work (resources_in root) (m + 1) f → r ≡ unbounded_of f → Lists s Listed.Work (work_resources root) (suc (length s)) r
     unfolding picked_by listed_by later_in room_in
     first_work = picks_lists f 0 _ (λ p. refl) (λ p. refl) (work_picked root) (omega arith) (omega arith)
 
-    pub first_cost : Picks s (bytes "Resource") Which.Cost (resources_in root) (m + 1) f → r ≡ unbounded_of f → Lists s Listed.Cost (cost_resources root) (suc (length s)) r
+    pub first_cost : Picks s (bytes "Resource") is_cost_resource (resources_in root) (m + 1) f → r ≡ unbounded_of f → Lists s Listed.Cost (cost_resources root) (suc (length s)) r
     unfolding picked_by listed_by later_in room_in
     first_cost = picks_lists f 0 _ (λ p. refl) (λ p. refl) (cost_picked root) (omega arith) (omega arith)
 
@@ -102,12 +101,12 @@ module _ (s : Text) (at left : ℕ) where
   next_tasks h = kept_lists _ refl h
 
   module _ {f : Option ℕ} {r : Option (ℕ × ℕ)} where
-    pub next_work : Picks s (bytes "Resource") Which.Work (later_at s (bytes "Resource") at) (at + 1) f → r ≡ unbounded_of f
+    pub next_work : Picks s (bytes "Resource") is_work (later_at s (bytes "Resource") at) (at + 1) f → r ≡ unbounded_of f
         → Lists s Listed.Work (later_in s Listed.Work at left) (room_in s Listed.Work (Some (at, left))) r
     unfolding picked_by listed_by later_in room_in
     next_work = picks_lists f at _ (λ p. refl) (λ p. refl) refl (omega arith) (omega arith)
 
-    pub next_cost : Picks s (bytes "Resource") Which.Cost (later_at s (bytes "Resource") at) (at + 1) f → r ≡ unbounded_of f
+    pub next_cost : Picks s (bytes "Resource") is_cost_resource (later_at s (bytes "Resource") at) (at + 1) f → r ≡ unbounded_of f
         → Lists s Listed.Cost (later_in s Listed.Cost at left) (room_in s Listed.Cost (Some (at, left))) r
     unfolding picked_by listed_by later_in room_in
     next_cost = picks_lists f at _ (λ p. refl) (λ p. refl) refl (omega arith) (omega arith)

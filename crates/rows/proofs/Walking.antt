@@ -1,5 +1,5 @@
 -- The walks: each turn of the search for the next element that counts. Assumes nothing.
-use Rattle.std.proofs.Common.{◌≡◌, ℕ, zero, suc, ◌+◌, ◌-◌, ◌<◌, ◌≤◌, Bool, true, false, not, ◌&&◌, List, [], ◌∷◌, length, take, refl, ap, ◌∙◌, arith}
+use Rattle.std.proofs.Common.{◌≡◌, ℕ, zero, suc, ◌+◌, ◌-◌, ◌<◌, ◌≤◌, Bool, true, false, List, [], ◌∷◌, length, take, refl, ap, ◌∙◌, arith}
 use Rattle.std.specs.Prelude.{Option, Some, None, MatchOption}
 use lib.Seq.{take-nil}
 use borrow.Author.Tests.{not-true}
@@ -8,15 +8,12 @@ use Rattle.definition.specs.Ascii.{bytes}
 use Rattle.definition.specs.Text.{Text}
 use Rattle.definition.specs.Tree.{Element, child, all, all_in}
 use Rattle.definition.specs.Task.{is_kept, most_tasks, kept_tasks}
-use Rattle.definition.specs.Resource.{is_resource, is_cost}
 use Rattle.definition.specs.Calendar.{base_of, calendar_elements}
 use Rattle.laws.specs.Keep.{keep_yes, keep_no}
 use Rattle.tree.specs.Place.{element_at, later_at, list_of, Past, Starts}
 use Rattle.rows.specs.Rows.{in_order, calendar_meaning, row_zero}
 use Rattle.rows.specs.Turns.{list_at, list_end, keep_head}
-use Rattle.rows.specs.Walks.{kept_by, room, Kept, passes, picked_by, Picks, PicksFrom, later_in_order, order_by, order_room, Orders, OrdersAfter}
-use Rattle.rows.specs.declared.section.Which.{Which}
-use Rattle.rows.specs.declared.section.Which.TheVariants.{Work, Cost, Plain, Derived}
+use Rattle.rows.specs.Walks.{kept_by, room, Kept, is_plain, is_derived, picked_by, Picks, PicksFrom, later_in_order, order_by, order_room, Orders, OrdersAfter}
 
 -- ---- positions
 
@@ -85,50 +82,31 @@ kept_after {left = left} i h = record { is = ap (λ (l : List Element). keep is_
 -- ---- elements that pass a test
 
 -- the search from where a list starts: what is left of it
-pub record Left (s n : Text) (w : Which) (start e : Option ℕ) : Type 0 where
-  pub is : keep (passes w) (list_of s n start) ≡ keep (passes w) (list_of s n e)
+pub record Left (s n : Text) (w : Element → Bool) (start e : Option ℕ) : Type 0 where
+  pub is : keep w (list_of s n start) ≡ keep w (list_of s n e)
   pub on : (from : ℕ) → Past s from start → Past s from e
 
-pub left_all : {s n : Text} {w : Which} {e : Option ℕ} → Left s n w e e
+pub left_all : {s n : Text} {w : Element → Bool} {e : Option ℕ} → Left s n w e e
 left_all = record { is = refl; on = λ from h. h }
 
-module _ {s n : Text} {w : Which} {start e : Option ℕ} (h : Left s n w start e) where
+module _ {s n : Text} {w : Element → Bool} {start e : Option ℕ} (h : Left s n w start e) where
   pub picks_none : e ≡ None → PicksFrom s n w start None
   unfolding keep picked_by Past
-  picks_none i = record { go = λ from k. record { is = h.is ∙ ap (keep (passes w)) (list_end s n i); on = tt } }
+  picks_none i = record { go = λ from k. record { is = h.is ∙ ap (keep w) (list_end s n i); on = tt } }
 
   module _ {p : ℕ} (i : e ≡ Some p) where
-    pub picks_here : passes w (element_at s p) ≡ true → PicksFrom s n w start (Some p)
+    pub picks_here : w (element_at s p) ≡ true → PicksFrom s n w start (Some p)
     unfolding picked_by
-    picks_here j = record { go = λ from k. record { is = h.is ∙ ap (keep (passes w)) (list_at s n i) ∙ keep_yes (passes w) (element_at s p) _ j; on = rw i at (h.on from k) } }
+    picks_here j = record { go = λ from k. record { is = h.is ∙ ap (keep w) (list_at s n i) ∙ keep_yes w (element_at s p) _ j; on = rw i at (h.on from k) } }
 
-    pub left_later : passes w (element_at s p) ≡ false → {r : Option ℕ} → Starts s n (later_at s n p) (p + 1) r → Left s n w start r
+    pub left_later : w (element_at s p) ≡ false → {r : Option ℕ} → Starts s n (later_at s n p) (p + 1) r → Left s n w start r
     left_later j {r} k = record {
-      is = h.is ∙ ap (keep (passes w)) (list_at s n i) ∙ keep_no (passes w) (element_at s p) _ j ∙ ap (keep (passes w)) k.is;
+      is = h.is ∙ ap (keep w) (list_at s n i) ∙ keep_no w (element_at s p) _ j ∙ ap (keep w) k.is;
       on = λ from z. past_later s (before_next s from p (rw i at (h.on from z))) r k.on;
     }
 
-pub picks_of : {s n : Text} {w : Which} {l : List Element} {m : ℕ} {f r : Option ℕ} → Starts s n l m f → PicksFrom s n w f r → Picks s n w l m r
-picks_of {w = w} {m = m} i h = let k = h.go m i.on in record { is = ap (keep (passes w)) i.is ∙ k.is; on = k.on }
-
--- one of each kind
-module _ {w : Which} (x : Element) {a b : Bool} where
-  pub passes_work : w ≡ Work → a ≡ is_resource x → b ≡ is_cost x → (a && not b) ≡ passes w x
-  unfolding passes
-  passes_work e h i = rw (e, h, i)
-
-  pub passes_cost : w ≡ Cost → a ≡ is_resource x → b ≡ is_cost x → (a && b) ≡ passes w x
-  unfolding passes
-  passes_cost e h i = rw (e, h, i)
-
-module _ {w : Which} (x : Element) {a : Bool} where
-  pub passes_plain : w ≡ Plain → a ≡ given (base_of x) → not a ≡ passes w x
-  unfolding passes
-  passes_plain e h = rw (e, h)
-
-  pub passes_derived : w ≡ Derived → a ≡ given (base_of x) → a ≡ passes w x
-  unfolding passes
-  passes_derived e h = rw (e, h)
+pub picks_of : {s n : Text} {w : Element → Bool} {l : List Element} {m : ℕ} {f r : Option ℕ} → Starts s n l m f → PicksFrom s n w f r → Picks s n w l m r
+picks_of {w = w} {m = m} i h = let k = h.go m i.on in record { is = ap (keep w) i.is ∙ k.is; on = k.on }
 
 -- ---- a section
 
@@ -141,52 +119,52 @@ section_found {s} {r = r} e k h = record { is = rw e h.is; on = past_later s (om
 
 -- ---- the calendars in the order in which they are built
 
-derived_room : (s : Text) (l : List Element) {from : ℕ} (r : Option ℕ) → Picks s (bytes "Calendar") Derived l from r → order_room s r < suc (suc (length s) - from)
-unfolding picked_by order_room passes Past
+derived_room : (s : Text) (l : List Element) {from : ℕ} (r : Option ℕ) → Picks s (bytes "Calendar") is_derived l from r → order_room s r < suc (suc (length s) - from)
+unfolding picked_by order_room is_derived Past
 derived_room s l None h = omega arith
-derived_room s l (Some q) h = rw (keep_head (passes Derived) l h.is) (omega (arith, h.on))
+derived_room s l (Some q) h = rw (keep_head is_derived l h.is) (omega (arith, h.on))
 
 module _ {s : Text} (root : Element) where
-  derived_list : (l : List Element) {from : ℕ} (r : Option ℕ) → Picks s (bytes "Calendar") Derived l from r → keep (passes Derived) l ≡ order_by s root r
-  unfolding picked_by order_by later_in_order passes
+  derived_list : (l : List Element) {from : ℕ} (r : Option ℕ) → Picks s (bytes "Calendar") is_derived l from r → keep is_derived l ≡ order_by s root r
+  unfolding picked_by order_by later_in_order is_derived
   derived_list l None h = h.is
-  derived_list l (Some q) h = rw (keep_head (passes Derived) l h.is) h.is
+  derived_list l (Some q) h = rw (keep_head is_derived l h.is) h.is
 
-  pub order_derived : {l : List Element} {from : ℕ} {r : Option ℕ} → Picks s (bytes "Calendar") Derived l from r → {n : ℕ} → suc (suc (length s) - from) ≤ n → Orders s root (keep (passes Derived) l) n r
+  pub order_derived : {l : List Element} {from : ℕ} {r : Option ℕ} → Picks s (bytes "Calendar") is_derived l from r → {n : ℕ} → suc (suc (length s) - from) ≤ n → Orders s root (keep is_derived l) n r
   order_derived {l} {r = r} h k = record { is = derived_list l r h; on = omega (arith, derived_room s l r h) }
 
   pub after_plain : {f : Option ℕ} {p : ℕ} → f ≡ Some p → OrdersAfter s root f (Some p)
-  unfolding picked_by order_by order_room later_in_order passes Past
+  unfolding picked_by order_by order_room later_in_order is_plain Past
   after_plain {f} {p} e = record {
     go = λ l from h.
-        let i : Picks s (bytes "Calendar") Plain l from (Some p) = rw e at h in
-        let g : given (base_of (element_at s p)) ≡ false = not-true _ (keep_head (passes Plain) l i.is) in
+        let i : Picks s (bytes "Calendar") is_plain l from (Some p) = rw e at h in
+        let g : given (base_of (element_at s p)) ≡ false = not-true _ (keep_head is_plain l i.is) in
         record { is = rw (i.is, g); on = rw g (omega (arith, i.on)) };
   }
 
-  pub after_none : {f : Option ℕ} (m : ℕ) {r : Option ℕ} → f ≡ None → Picks s (bytes "Calendar") Derived (calendar_elements root) (m + 1) r → OrdersAfter s root f r
+  pub after_none : {f : Option ℕ} (m : ℕ) {r : Option ℕ} → f ≡ None → Picks s (bytes "Calendar") is_derived (calendar_elements root) (m + 1) r → OrdersAfter s root f r
   unfolding picked_by
   after_none {f} m {r} e d = record {
     go = λ l from h.
-        let i : keep (passes Plain) l ≡ [] = rw e at h.is in
-        let o : Orders s root (keep (passes Derived) (calendar_elements root)) (suc (length s + (suc (length s) - from))) r = order_derived d (omega arith) in
+        let i : keep is_plain l ≡ [] = rw e at h.is in
+        let o : Orders s root (keep is_derived (calendar_elements root)) (suc (length s + (suc (length s) - from))) r = order_derived d (omega arith) in
         record { is = rw i o.is; on = o.on };
   }
 
-  pub after_either : (f : Option ℕ) (m : ℕ) (r : Option ℕ) {P : Type 0} → MatchOption f P (λ p. r ≡ Some p) → (P → Picks s (bytes "Calendar") Derived (calendar_elements root) (m + 1) r) → OrdersAfter s root f r
+  pub after_either : (f : Option ℕ) (m : ℕ) (r : Option ℕ) {P : Type 0} → MatchOption f P (λ p. r ≡ Some p) → (P → Picks s (bytes "Calendar") is_derived (calendar_elements root) (m + 1) r) → OrdersAfter s root f r
   after_either None m r h d = after_none m refl (d h)
   after_either (Some p) m r h d = rw h (after_plain refl)
 
-  pub order_first : (m : ℕ) {f r : Option ℕ} → Picks s (bytes "Calendar") Plain (calendar_elements root) (m + 1) f → OrdersAfter s root f r → Orders s root (in_order root) (suc (length s + length s)) r
-  unfolding in_order passes
+  pub order_first : (m : ℕ) {f r : Option ℕ} → Picks s (bytes "Calendar") is_plain (calendar_elements root) (m + 1) f → OrdersAfter s root f r → Orders s root (in_order root) (suc (length s + length s)) r
+  unfolding in_order is_plain is_derived
   order_first m h a = let o = a.go (calendar_elements root) (m + 1) h in record { is = o.is; on = omega (arith, o.on) }
 
   module _ (p : ℕ) where
-    pub order_over : {r : Option ℕ} → given (base_of (element_at s p)) ≡ true → Picks s (bytes "Calendar") Derived (later_at s (bytes "Calendar") p) (p + 1) r → Orders s root (later_in_order s root p) (order_room s (Some p)) r
+    pub order_over : {r : Option ℕ} → given (base_of (element_at s p)) ≡ true → Picks s (bytes "Calendar") is_derived (later_at s (bytes "Calendar") p) (p + 1) r → Orders s root (later_in_order s root p) (order_room s (Some p)) r
     unfolding later_in_order order_room
     order_over g h = rw g (order_derived h (omega arith))
 
-    pub order_plain : {f r : Option ℕ} → given (base_of (element_at s p)) ≡ false → Picks s (bytes "Calendar") Plain (later_at s (bytes "Calendar") p) (p + 1) f → OrdersAfter s root f r → Orders s root (later_in_order s root p) (order_room s (Some p)) r
+    pub order_plain : {f r : Option ℕ} → given (base_of (element_at s p)) ≡ false → Picks s (bytes "Calendar") is_plain (later_at s (bytes "Calendar") p) (p + 1) f → OrdersAfter s root f r → Orders s root (later_in_order s root p) (order_room s (Some p)) r
     unfolding later_in_order order_room
     order_plain g h a = let o = a.go (later_at s (bytes "Calendar") p) (p + 1) h in rw g (record { is = o.is; on = omega (arith, o.on) })
 

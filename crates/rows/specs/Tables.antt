@@ -15,8 +15,7 @@ use Rattle.index.specs.Frame.{Outside}
 use Rattle.index.specs.Law.{Fits, Indexed}
 use Rattle.tree.specs.Place.{element_at, later_at}
 use Rattle.rows.specs.Rows.{has_uid}
-use Rattle.rows.specs.Walks.{passes}
-use Rattle.rows.specs.declared.section.Which.{Which}
+use Rattle.rows.specs.Walks.{is_work, is_cost_resource}
 use Rattle.rows.specs.declared.table.Listed.{Listed}
 
 -- the elements of a list
@@ -56,8 +55,8 @@ found_in w t (Some r) = Some (place_of w t r)
 -- those that follow the one at a position, in the list of tasks among so many later ones
 unfoldable pub later_in : Text → Listed → ℕ → ℕ → List Element
 later_in s Listed.Tasks at left = keep is_kept (take left (later_at s (bytes "Task") at))
-later_in s Listed.Work at left = keep (passes Which.Work) (later_at s (bytes "Resource") at)
-later_in s Listed.Cost at left = keep (passes Which.Cost) (later_at s (bytes "Resource") at)
+later_in s Listed.Work at left = keep is_work (later_at s (bytes "Resource") at)
+later_in s Listed.Cost at left = keep is_cost_resource (later_at s (bytes "Resource") at)
 
 -- none, or the one at a position and those that follow it
 unfoldable pub listed_by : Text → Listed → Option (ℕ × ℕ) → List Element

@@ -15,9 +15,7 @@ use Rattle.definition.specs.Resource.{is_resource, is_cost, work_resources, cost
 use Rattle.laws.specs.Keep.{one_if, keep_more}
 use Rattle.tree.specs.Place.{element_at, later_at, list_of, Past, Starts}
 use Rattle.tree.specs.Root.{own_text}
-use Rattle.rows.specs.Walks.{ahead, kept_by, room, Kept, passes, picked_by, Picks, later_in_order, order_by, order_room, Orders}
-use Rattle.rows.specs.declared.section.Which.{Which}
-use Rattle.rows.specs.declared.section.Which.TheVariants.{Work, Cost}
+use Rattle.rows.specs.Walks.{ahead, kept_by, room, Kept, is_work, is_cost_resource, picked_by, Picks, later_in_order, order_by, order_room, Orders}
 
 -- ---- all elements of a name
 
@@ -60,11 +58,11 @@ module _ {s : Text} {task : Option (ℕ × ℕ)} {at left : ℕ} (e : task ≡ S
 
 -- ---- elements that pass a test
 
-pub picked_end : (s n : Text) (w : Which) {e : Option ℕ} → e ≡ None → picked_by s n w e ≡ []
+pub picked_end : (s n : Text) (w : Element → Bool) {e : Option ℕ} → e ≡ None → picked_by s n w e ≡ []
 unfolding picked_by
 picked_end s n w i = rw i
 
-pub picked_next : {s n : Text} {w : Which} {e : Option ℕ} {p : ℕ} → e ≡ Some p → {from : ℕ} {r : Option ℕ} → Picks s n w (later_at s n p) from r → picked_by s n w e ≡ element_at s p ∷ picked_by s n w r
+pub picked_next : {s n : Text} {w : Element → Bool} {e : Option ℕ} {p : ℕ} → e ≡ Some p → {from : ℕ} {r : Option ℕ} → Picks s n w (later_at s n p) from r → picked_by s n w e ≡ element_at s p ∷ picked_by s n w r
 unfolding picked_by
 picked_next {s} {n} {w} {p = p} i h = ap (picked_by s n w) i ∙ ap (λ (l : List Element). element_at s p ∷ l) h.is
 
@@ -91,12 +89,12 @@ keep_both p q (x ∷ l) = by (p x) (q x) refl (keep_both p q l)
     by false true i h = h
     by false false i h = h
 
-pub work_picked : (root : Element) → keep (passes Work) (all_in (child root (bytes "Resources")) (bytes "Resource")) ≡ work_resources root
-unfolding passes
+pub work_picked : (root : Element) → keep is_work (all_in (child root (bytes "Resources")) (bytes "Resource")) ≡ work_resources root
+unfolding is_work
 work_picked root = keep_both is_resource (λ r. not (is_cost r)) _
 
-pub cost_picked : (root : Element) → keep (passes Cost) (all_in (child root (bytes "Resources")) (bytes "Resource")) ≡ cost_resources root
-unfolding passes
+pub cost_picked : (root : Element) → keep is_cost_resource (all_in (child root (bytes "Resources")) (bytes "Resource")) ≡ cost_resources root
+unfolding is_cost_resource
 cost_picked root = keep_both is_resource is_cost _
 
 -- ---- the calendars in the order in which they are built
@@ -199,5 +197,5 @@ own_missing e {t} h k = by (trim e.text) h
 pub starts_same : {s n : Text} {l k : List Element} {m : ℕ} {r : Option ℕ} → k ≡ l → Starts s n l m r → Starts s n k m r
 starts_same e h = record { is = e ∙ h.is; on = h.on }
 
-pub picks_same : {s n : Text} {w : Which} {l k : List Element} {m : ℕ} {r : Option ℕ} → k ≡ l → Picks s n w l m r → Picks s n w k m r
-picks_same {w = w} e h = record { is = ap (keep (passes w)) e ∙ h.is; on = h.on }
+pub picks_same : {s n : Text} {w : Element → Bool} {l k : List Element} {m : ℕ} {r : Option ℕ} → k ≡ l → Picks s n w l m r → Picks s n w k m r
+picks_same {w = w} e h = record { is = ap (keep w) e ∙ h.is; on = h.on }

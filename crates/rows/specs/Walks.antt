@@ -9,8 +9,6 @@ use Rattle.definition.specs.Task.{is_kept}
 use Rattle.definition.specs.Resource.{is_resource, is_cost}
 use Rattle.definition.specs.Calendar.{base_of, calendar_elements}
 use Rattle.tree.specs.Place.{element_at, later_at, list_of, Past}
-use Rattle.rows.specs.declared.section.Which.{Which}
-use Rattle.rows.specs.declared.section.Which.TheVariants.{Work, Cost, Plain, Derived}
 
 -- how far it is to the end
 unfoldable pub ahead : Text → Option ℕ → ℕ
@@ -36,24 +34,32 @@ pub record Kept (s : Text) (l : List Element) (n : ℕ) (r : Option (ℕ × ℕ)
 
 -- ---- elements that pass a test
 
-unfoldable pub passes : Which → Element → Bool
-passes Work r = is_resource r && not (is_cost r)
-passes Cost r = is_resource r && is_cost r
-passes Plain e = not (given (base_of e))
-passes Derived e = given (base_of e)
+-- work and cost resources
+unfoldable pub is_work : Element → Bool
+is_work r = is_resource r && not (is_cost r)
+
+unfoldable pub is_cost_resource : Element → Bool
+is_cost_resource r = is_resource r && is_cost r
+
+-- calendars without a base and over one
+unfoldable pub is_plain : Element → Bool
+is_plain e = not (given (base_of e))
+
+unfoldable pub is_derived : Element → Bool
+is_derived e = given (base_of e)
 
 -- none, or the one at a position and its later siblings that pass
-unfoldable pub picked_by : Text → Text → Which → Option ℕ → List Element
+unfoldable pub picked_by : Text → Text → (Element → Bool) → Option ℕ → List Element
 picked_by s n w None = []
-picked_by s n w (Some p) = element_at s p ∷ keep (passes w) (later_at s n p)
+picked_by s n w (Some p) = element_at s p ∷ keep w (later_at s n p)
 
 -- r stands for those of l that pass, from a position on
-pub record Picks (s n : Text) (w : Which) (l : List Element) (from : ℕ) (r : Option ℕ) : Type 0 where
-  pub is : keep (passes w) l ≡ picked_by s n w r
+pub record Picks (s n : Text) (w : Element → Bool) (l : List Element) (from : ℕ) (r : Option ℕ) : Type 0 where
+  pub is : keep w l ≡ picked_by s n w r
   pub on : Past s from r
 
 -- from where a list of elements starts
-pub record PicksFrom (s n : Text) (w : Which) (start r : Option ℕ) : Type 0 where
+pub record PicksFrom (s n : Text) (w : Element → Bool) (start r : Option ℕ) : Type 0 where
   pub go : (from : ℕ) → Past s from start → Picks s n w (list_of s n start) from r
 
 -- ---- the calendars in the order in which they are built
@@ -61,8 +67,8 @@ pub record PicksFrom (s n : Text) (w : Which) (start r : Option ℕ) : Type 0 wh
 -- those that follow the one at a position
 unfoldable pub later_in_order : Text → Element → ℕ → List Element
 later_in_order s root p =
-    if given (base_of (element_at s p)) then keep (passes Derived) (later_at s (bytes "Calendar") p) else
-    keep (passes Plain) (later_at s (bytes "Calendar") p) ++ keep (passes Derived) (calendar_elements root)
+    if given (base_of (element_at s p)) then keep is_derived (later_at s (bytes "Calendar") p) else
+    keep is_plain (later_at s (bytes "Calendar") p) ++ keep is_derived (calendar_elements root)
 
 -- none, or the one at a position and those that follow it
 unfoldable pub order_by : Text → Element → Option ℕ → List Element
@@ -81,5 +87,5 @@ pub record Orders (s : Text) (root : Element) (l : List Element) (n : ℕ) (r : 
 
 -- after those without a base
 pub record OrdersAfter (s : Text) (root : Element) (plain r : Option ℕ) : Type 0 where
-  pub go : (l : List Element) (from : ℕ) → Picks s (bytes "Calendar") Plain l from plain
-      → Orders s root (keep (passes Plain) l ++ keep (passes Derived) (calendar_elements root)) (suc (length s + (suc (length s) - from))) r
+  pub go : (l : List Element) (from : ℕ) → Picks s (bytes "Calendar") is_plain l from plain
+      → Orders s root (keep is_plain l ++ keep is_derived (calendar_elements root)) (suc (length s + (suc (length s) - from))) r

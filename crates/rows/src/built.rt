@@ -6,14 +6,14 @@ ghost use Rattle.tree.specs.Root.{root_at};
 ghost use Rattle.rows.specs.Rows.{in_order, with_uid_in, main_in, calendar_meaning};
 ghost use Rattle.rows.specs.Walks.{later_in_order, order_room, Orders, OrdersAfter};
 
-use crate::section::{Which, first_which, next_which};
+use crate::section::{Derived, Plain, first_which, next_which};
 use tree::Root;
 
 // After those without a base, the first over one.
 fn or_derived(s: &[u8], root: Root, plain: Option<usize>) -> Option<usize>
     ensures { OrdersAfter s.now (root_at s.now root) plain result }
 {
-    plain.or_else(|| first_which(s, root.calendars, b"Calendar", Which::Derived))
+    plain.or_else(|| first_which::<Derived>(s, root.calendars, b"Calendar"))
 }
 
 // The first calendar to be built.
@@ -23,7 +23,7 @@ pub fn first_calendar(s: &[u8], root: Root) -> Option<usize>
     or_derived(
         s,
         root,
-        first_which(s, root.calendars, b"Calendar", Which::Plain),
+        first_which::<Plain>(s, root.calendars, b"Calendar"),
     )
 }
 
@@ -32,9 +32,9 @@ pub fn next_calendar(s: &[u8], root: Root, at: usize) -> Option<usize>
     ensures { Orders s.now (root_at s.now root) (later_in_order s.now (root_at s.now root) at) (order_room s.now (Some at)) result }
 {
     if calendar::has_base(s, at) {
-        return next_which(s, at, b"Calendar", Which::Derived);
+        return next_which::<Derived>(s, at, b"Calendar");
     }
-    or_derived(s, root, next_which(s, at, b"Calendar", Which::Plain))
+    or_derived(s, root, next_which::<Plain>(s, at, b"Calendar"))
 }
 
 // The first calendar with a UID, in the order in which calendars are built.

@@ -6,11 +6,12 @@ ghost use Rattle.rows.specs.Tables.{listed, row_in32, sought_in, row_in, cost_in
 
 use crate::kept::{first_kept, next_kept};
 use crate::resource::cost_resource;
-use crate::section::{Which, first_which, next_which};
+use crate::section::{Cost, Work, first_which, next_which};
 use index::Table;
 use tree::Root;
 
 // The kept tasks, the work resources, the cost resources.
+// An enum, where `section` has a trait: it is a parameter of the public functions, whose callers pass a value.
 #[derive(Clone, Copy)]
 pub enum Listed {
     Tasks,
@@ -32,8 +33,8 @@ fn first_listed(s: &[u8], root: Root, list: Listed) -> Option<(usize, u32)>
 {
     match list {
         Listed::Tasks => first_kept(s, root),
-        Listed::Work => unbounded(first_which(s, root.resources, b"Resource", Which::Work)),
-        Listed::Cost => unbounded(first_which(s, root.resources, b"Resource", Which::Cost)),
+        Listed::Work => unbounded(first_which::<Work>(s, root.resources, b"Resource")),
+        Listed::Cost => unbounded(first_which::<Cost>(s, root.resources, b"Resource")),
     }
 }
 
@@ -42,8 +43,8 @@ fn next_listed(s: &[u8], list: Listed, at: usize, left: u32) -> Option<(usize, u
 {
     match list {
         Listed::Tasks => next_kept(s, at, left),
-        Listed::Work => unbounded(next_which(s, at, b"Resource", Which::Work)),
-        Listed::Cost => unbounded(next_which(s, at, b"Resource", Which::Cost)),
+        Listed::Work => unbounded(next_which::<Work>(s, at, b"Resource")),
+        Listed::Cost => unbounded(next_which::<Cost>(s, at, b"Resource")),
     }
 }
 
@@ -79,6 +80,7 @@ fn fill(
     let mut e = first;
     while let Some((at, left)) = e {
         let hash = index::hash_of(tree::text_of(s, at, b"UID"));
+        // `u32::try_from` would have an error that cannot occur: 32 bits hold each position.
         t.put(words, row, hash, at as u32);
         row += 1;
         e = next_listed(s, list, at, left);

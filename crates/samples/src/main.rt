@@ -4,143 +4,141 @@
 #![tactic(auto)]
 
 mod bit_fields;
-mod floats;
 mod models;
 mod parts;
 mod rules;
 mod texts;
 mod trees;
 
-// The streams' numbers.
-const STDIN_FILENO: i32 = 0;
+use std::io;
+use std::io::Read;
 
-const STDOUT_FILENO: i32 = 1;
+// No list has more cases, and no case a longer body.
+const CASES: u32 = 100000;
 
-// No list has more cases.
-const CASES: u64 = 100000;
+const MOST: usize = 65536;
 
-const KINDS: usize = 256;
+// ---- kinds
+
+#[derive(Clone, Copy)]
+enum Kind {
+    Date,
+    Time,
+    Duration,
+    Number,
+    I64,
+    U64,
+    U32,
+    U16,
+    I32,
+    Trim,
+    Utf8,
+    Tree,
+    Rule,
+    Model,
+    Field,
+}
+
+// By their numbers.
+const KINDS: [(Kind, &str); 15] = [
+    (Kind::Date, "date"),
+    (Kind::Time, "time"),
+    (Kind::Duration, "duration"),
+    (Kind::Number, "number"),
+    (Kind::I64, "i64"),
+    (Kind::U64, "u64"),
+    (Kind::U32, "u32"),
+    (Kind::U16, "u16"),
+    (Kind::I32, "i32"),
+    (Kind::Trim, "trim"),
+    (Kind::Utf8, "utf8"),
+    (Kind::Tree, "tree"),
+    (Kind::Rule, "rule"),
+    (Kind::Model, "model"),
+    (Kind::Field, "field"),
+];
 
 // ---- taking a case
 
-// What stands next on standard input: a case with a body of so many bytes, one that is cut or too long, nothing.
+// A case is cut, or longer than the room.
 #[derive(Clone, Copy)]
-enum Next {
-    Case(u8, usize),
-    Cut,
-    End,
-}
+struct Cut;
 
-// Takes the case whose head was read. Its body goes to the front of the room.
-fn take_body(head: &[u8], room: &mut [u8]) -> Next {
-    let length = parts::number(parts::behind(head, 1)) as usize;
-    if room.len() < length {
-        return Next::Cut;
+// The next case's kind, and its body, which goes to the front of the room.
+fn take_case<'a, R: Read>(
+    input: &mut R,
+    room: &'a mut [u8],
+) -> Result<Option<(u8, &'a [u8])>, Cut> {
+    let mut kind = [0u8; 1];
+    if input.read(&mut kind).unwrap_or(0) == 0 {
+        return Ok(None);
     }
-    if io::read_full(STDIN_FILENO, &mut room[0..length]) < length {
-        return Next::Cut;
-    }
-    Next::Case(text::byte_at(head, 0), length)
-}
-
-fn take_case(room: &mut [u8]) -> Next {
-    let mut head = [0u8; 5];
-    let got = io::read_full(STDIN_FILENO, &mut head);
-    if got == 0 {
-        return Next::End;
-    }
-    if got < 5 {
-        return Next::Cut;
-    }
-    take_body(&head, room)
+    let mut length = [0u8; 4];
+    input.read_exact(&mut length).map_err(|_| Cut)?;
+    let n = u32::from_be_bytes(length) as usize;
+    let body = room.get_mut(..n).ok_or(Cut)?;
+    input.read_exact(body).map_err(|_| Cut)?;
+    Ok(Some((kind[0], body)))
 }
 
 // ---- replaying it
 
-fn agrees(kind: u8, body: &[u8]) -> bool {
+fn agrees(number: u8, body: &[u8]) -> bool {
+    let Some((kind, _)) = KINDS.get(usize::from(number)) else {
+        return false;
+    };
     match kind {
-        11 => trees::agrees(body),
-        12 => rules::agrees(body),
-        13 => models::agrees(body),
-        14 => bit_fields::agrees(body),
-        _ => texts::agrees(kind, body),
+        Kind::Tree => trees::agrees(body),
+        Kind::Rule => rules::agrees(body),
+        Kind::Model => models::agrees(body),
+        Kind::Field => bit_fields::agrees(body),
+        _ => texts::agrees(*kind, body),
     }
 }
 
-// One more of a kind.
-fn count(counts: &mut [u64], kind: u8) {
-    let k = kind as usize;
-    if k < counts.len() {
-        let n = counts[k];
-        if n < CASES {
-            counts[k] = n + 1;
-        }
-    }
+// How many cases of a kind agree, and how many there are.
+#[derive(Clone, Copy, Default)]
+struct Tally {
+    agreed: u32,
+    all: u32,
 }
 
-// Takes and replays one case; whether there may be more.
-fn replay_next(room: &mut [u8], agreed: &mut [u64], all: &mut [u64]) -> bool {
-    match take_case(room) {
-        Next::Case(kind, length) => {
-            count(all, kind);
-            if agrees(kind, parts::first(room, length)) {
-                count(agreed, kind);
-            }
-            true
-        }
-        Next::Cut => {
-            io::write_all(STDOUT_FILENO, b"a case is cut\n");
-            false
-        }
-        Next::End => false,
+fn replay<R: Read>(input: &mut R, tallies: &mut [Tally; 256]) -> Result<(), Cut> {
+    let mut room = [0u8; MOST];
+    for _ in 0..CASES {
+        let Some((kind, body)) = take_case(input, &mut room)? else {
+            break;
+        };
+        let t = &mut tallies[usize::from(kind)];
+        t.all = t.all.saturating_add(1);
+        t.agreed = t.agreed.saturating_add(u32::from(agrees(kind, body)));
     }
-}
-
-fn replay(room: &mut [u8], agreed: &mut [u64], all: &mut [u64]) {
-    let mut turns: u64 = 0;
-    while turns < CASES {
-        if !replay_next(room, agreed, all) {
-            return;
-        }
-        turns += 1;
-    }
+    Ok(())
 }
 
 // ---- the tally
 
-// The name of a kind, in nine bytes.
-fn put_name(kind: usize) {
-    let names =
-        b"date     time     duration number   i64      u64      u32      u16      i32      trim     utf8     tree     rule     model    field    no kind  ";
-    let from = 9 * parts::least(kind, 15);
-    io::write_all(STDOUT_FILENO, parts::first(parts::behind(names, from), 9));
-}
-
-fn put_tally(kind: usize, agreed: u64, all: u64) {
-    if all == 0 {
-        return;
+fn name_of(number: usize) -> &'static str {
+    match KINDS.get(number) {
+        Some((_, name)) => name,
+        None => "no kind",
     }
-    put_name(kind);
-    io::print_decimal(STDOUT_FILENO, agreed);
-    io::write_all(STDOUT_FILENO, b" of ");
-    io::print_decimal(STDOUT_FILENO, all);
-    io::write_all(STDOUT_FILENO, b" agree\n");
 }
 
-fn put_tallies(agreed: &[u64], all: &[u64]) {
-    let mut kind = 0;
-    while kind < all.len() {
-        if kind < agreed.len() {
-            put_tally(kind, agreed[kind], all[kind]);
+fn put_tallies(rt: &impl Print, tallies: &[Tally; 256]) -> io::Result<()> {
+    for (number, t) in tallies.iter().enumerate() {
+        if t.all > 0 {
+            println!(rt; "{:<9}{} of {} agree", name_of(number), t.agreed, t.all)?;
         }
-        kind += 1;
     }
+    Ok(())
 }
 
-fn main() {
-    let mut room = io::large_buffer();
-    let mut agreed = [0u64; KINDS];
-    let mut all = [0u64; KINDS];
-    replay(&mut room, &mut agreed, &mut all);
-    put_tallies(&agreed, &all);
+// A write that fails ends the program, which says nothing of it.
+fn main(rt: HostRuntime) {
+    let mut tallies = [Tally::default(); 256];
+    if replay(&mut rt.reader(), &mut tallies).is_err() {
+        let _ = println!(rt; "a case is cut");
+    }
+    let _ = put_tallies(&rt, &tallies);
 }

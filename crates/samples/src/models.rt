@@ -4,13 +4,14 @@
 ghost use Rattle.std.specs.Prelude.{◌≤◌};
 
 use crate::parts;
+use definition::Refusal;
 
 // ---- the check
 
 fn check_agrees(model: &[u8], answer: u32) -> bool {
     let mut work = [0xFFFF_FFFF; 3];
     let a = mspdi::mspdi_check(model, &mut work);
-    (a == answer) & parts::words_are(&work, parts::first(model, 0))
+    (a == answer) & parts::words_are(&work, &[])
 }
 
 // ---- the outline
@@ -30,15 +31,15 @@ fn outline_into(model: &[u8], rows: &mut [u32], work: &mut [u32], answer: u32, s
     if count != (s.len() / 8) as u64 {
         return false;
     }
-    parts::words_are(rows, s) & parts::words_are(work, parts::first(s, 0))
+    parts::words_are(rows, s) & parts::words_are(work, &[])
 }
 
 // The same in so many words that are not zeros.
 fn outline_is(model: &[u8], rows: usize, work: usize, answer: u32, s: &[u8]) -> bool {
     let mut row_words = [0xFFFF_FFFF; ROWS];
     let mut work_words = [0xFFFF_FFFF; WORK];
-    let r = parts::least(rows, ROWS);
-    let w = parts::least(work, WORK);
+    let r = rows.min(ROWS);
+    let w = work.min(WORK);
     outline_into(
         model,
         &mut row_words[0..r],
@@ -51,19 +52,19 @@ fn outline_is(model: &[u8], rows: usize, work: usize, answer: u32, s: &[u8]) -> 
 // In just the words that are needed, in more, and in one word less of either.
 fn outline_fits(model: &[u8], s: &[u8]) -> bool {
     let n = parts::number(parts::behind(model, 4)) as usize;
-    let none = parts::first(s, 0);
+    let no_room = u32::from(Refusal::NoRoom);
     let right = outline_is(model, 2 * n, 4 * n, 0, s) & outline_is(model, ROWS, WORK, 0, s);
     if n == 0 {
         return right;
     }
     right
-        & outline_is(model, 2 * n - 1, 4 * n, 9, none)
-        & outline_is(model, 2 * n, 4 * n - 1, 9, none)
+        & outline_is(model, 2 * n - 1, 4 * n, no_room, &[])
+        & outline_is(model, 2 * n, 4 * n - 1, no_room, &[])
 }
 
 fn outline_agrees(model: &[u8], checked: u32, s: &[u8]) -> bool {
-    if checked == 6 {
-        return outline_is(model, ROWS, WORK, 6, s);
+    if checked == u32::from(Refusal::NoModel) {
+        return outline_is(model, ROWS, WORK, checked, s);
     }
     outline_fits(model, s)
 }
@@ -90,7 +91,7 @@ fn sheet_into(model: &[u8], asked: &[u8], sheet: &mut [u8], answer: u32, s: &[u8
 // The same in so many bytes that are not zeros.
 fn sheet_is(model: &[u8], asked: &[u8], room: usize, answer: u32, s: &[u8]) -> bool {
     let mut sheet = [0xAA; SHEET];
-    let n = parts::least(room, SHEET);
+    let n = room.min(SHEET);
     sheet_into(model, asked, &mut sheet[0..n], answer, s)
 }
 
@@ -103,7 +104,9 @@ fn sheet_agrees(model: &[u8], asked: &[u8]) -> bool {
     if n == 0 {
         return right;
     }
-    right & sheet_is(model, asked, n, 0, s) & sheet_is(model, asked, n - 1, 9, parts::first(s, 0))
+    right
+        & sheet_is(model, asked, n, 0, s)
+        & sheet_is(model, asked, n - 1, u32::from(Refusal::NoRoom), &[])
 }
 
 fn sheet_end(s: &[u8]) -> usize
@@ -112,6 +115,7 @@ fn sheet_end(s: &[u8]) -> usize
     10 + parts::byte(parts::behind(s, 9)) as usize
 }
 
+// A loop by hand, since sheets have different lengths.
 fn sheets_agree(model: &[u8], s: &[u8]) -> bool {
     let mut at = 0;
     while at < s.len() {
@@ -129,11 +133,10 @@ fn sheets_agree(model: &[u8], s: &[u8]) -> bool {
 }
 
 pub fn agrees(body: &[u8]) -> bool {
-    let model = parts::piece(body);
-    let answers = parts::behind_piece(body);
+    let (model, answers) = parts::piece(body);
     let checked = parts::byte(answers);
-    let outlined = parts::behind(answers, 1);
+    let (rows, sheets) = parts::piece(parts::behind(answers, 1));
     check_agrees(model, checked)
-        & outline_agrees(model, checked, parts::piece(outlined))
-        & sheets_agree(model, parts::behind_piece(outlined))
+        & outline_agrees(model, checked, rows)
+        & sheets_agree(model, sheets)
 }

@@ -1,6 +1,7 @@
 // A tree and what the Rust reads from it: the refusal or 0 (one byte), the tree behind its length (four bytes), the model, none where the tree is
 // refused. A model that was read passes the check.
 use crate::parts;
+use definition::Refusal;
 
 // ---- the read
 
@@ -17,13 +18,13 @@ fn read_into(s: &[u8], out: &mut [u8], answer: u32, model: &[u8]) -> bool {
     if written != model.len() as u64 {
         return false;
     }
-    parts::bytes_are(out, model) & parts::words_are(&work, parts::first(s, 0))
+    parts::bytes_are(out, model) & parts::words_are(&work, &[])
 }
 
 // The same in so many bytes that are not zeros.
 fn read_is(s: &[u8], room: usize, answer: u32, model: &[u8]) -> bool {
     let mut out = [0xAA; ROOM];
-    let n = parts::least(room, ROOM);
+    let n = room.min(ROOM);
     read_into(s, &mut out[0..n], answer, model)
 }
 
@@ -34,14 +35,18 @@ fn read_agrees(s: &[u8], answer: u32, model: &[u8]) -> bool {
     if n == 0 {
         return right;
     }
-    right & read_is(s, n, 0, model) & read_is(s, n - 1, 9, parts::first(s, 0))
+    right & read_is(s, n, 0, model) & read_is(s, n - 1, u32::from(Refusal::NoRoom), &[])
 }
 
 // ---- the check
 
 // What the check answers for the model of a tree: no bytes are no model.
 fn check_number(refusal: u32) -> u32 {
-    if refusal == 0 { 0 } else { 6 }
+    if refusal == 0 {
+        0
+    } else {
+        u32::from(Refusal::NoModel)
+    }
 }
 
 fn check_agrees(model: &[u8], answer: u32) -> bool {
@@ -51,7 +56,6 @@ fn check_agrees(model: &[u8], answer: u32) -> bool {
 
 pub fn agrees(body: &[u8]) -> bool {
     let refusal = parts::byte(body);
-    let rest = parts::behind(body, 1);
-    let model = parts::behind_piece(rest);
-    read_agrees(parts::piece(rest), refusal, model) & check_agrees(model, check_number(refusal))
+    let (tree, model) = parts::piece(parts::behind(body, 1));
+    read_agrees(tree, refusal, model) & check_agrees(model, check_number(refusal))
 }

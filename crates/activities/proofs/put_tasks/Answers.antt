@@ -18,14 +18,8 @@ loop-task-init c =
     let a = c.args in
     (refl, omega (arith, c.first_kept-task.ensures.on), written_none c.first_kept-task.ensures.is, stays_begin c.requires.1 (first_tasks a.s.now (root_at a.s.now a.root) c.first_kept-task.ensures).there)
 
-pub shape_of-out-in_default : goal.shape_of-out-in_default
-shape_of-out-in_default c = c.loop-task.invariant.0
-
-pub shape_of-words-in_default : goal.shape_of-words-in_default
-shape_of-words-in_default c = c.loop-task.invariant.3.same.long
-
-pub returns-in_default : goal.returns-in_default
-returns-in_default c =
+pub returns : goal.returns
+returns c =
     (written_all refl refl (omega (arith, c.loop-task.invariant.1)) (kept_end _ c.in_default.is) c.loop-task.invariant.2, c.loop-task.invariant.3.same)
 
 pub put_row-q-requires : goal.put_row-q-requires

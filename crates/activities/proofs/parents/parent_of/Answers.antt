@@ -1,7 +1,7 @@
 use Prim.Native.Nat.{◌+◌, ◌*◌}
 use native.Mathlib.Omega.{arith}
 use lib.ListN.{length-set}
-use Rattle.activities.proofs.Words.{parent_scanned, words_there, short_at, ready_climbs, parent_climbed}
+use Rattle.activities.proofs.Words.{parent_scanned, words_there, short_at, ready_climbs, parent_climbed, word_back}
 use Rattle.activities.proofs.parents.parent_of.Goals as goal
 
 pub returns-then-own-row : goal.returns-then-own-row
@@ -42,4 +42,4 @@ bounds-words-i-2 c =
 
 pub returns : goal.returns
 returns c =
-    parent_climbed c.requires c.if-own-row.false c.level_of-level.ensures c.climb-k.ensures _ c.row_of.ensures
+    parent_climbed c.requires c.if-own-row.false c.level_of-level.ensures c.climb-k.ensures _ (word_back _ _ c.checked_sub.ensures)

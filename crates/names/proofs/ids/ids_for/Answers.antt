@@ -14,4 +14,4 @@ pub returns-in_err-ids : goal.returns-in_err-ids
 returns-in_err-ids c = rw c.from_residual.ensures (tables_refused _ _ _ _ _ (omega arith) (omega arith) c.ids_at.ensures c.in_err-ids.was)
 
 pub returns : goal.returns
-returns c = tables_ready _ _ _ _ _ (omega arith) (omega arith) c.ids_at.ensures c.in_ok-ids.was c.clear_ids.ensures
+returns c = tables_ready _ _ _ _ _ (omega arith) (omega arith) c.ids_at.ensures c.in_ok-ids.was c.clear.ensures

@@ -3,7 +3,6 @@ use Prim.Native.Nat.{ℕ}
 use Rattle.definition.specs.Calendar.{starred}
 use Rattle.names.specs.Texts.{texts_at}
 use Rattle.names.specs.Stars.{tried_none, tried_more, tried_free, tried_all}
-use Rattle.names.proofs.Starred.{not-true, not-false}
 use Rattle.names.specs.Seen.{texts_length}
 use native.Mathlib.Omega.{arith}
 use Rattle.names.proofs.records.free_stars.Goals as goal
@@ -18,7 +17,7 @@ returns-then-not-taken c =
     let a = c.args in
     let l = c.loop-stars in
     let ns = texts_at a.kind a.out.now a.p a.count in
-    tried_free ns a.wanted.now a.count l.stars l.invariant.1 (omega arith) (sym c.taken.ensures ∙ not-true c.taken.result c.if-not-taken.true-raw)
+    tried_free ns a.wanted.now a.count l.stars l.invariant.1 (omega arith) (sym c.taken.ensures ∙ c.if-not-taken.true)
     ∙ ap (λ (k : ℕ). starred k ns a.wanted.now) (sym (texts_length a.kind a.out.now a.p a.count))
 
 pub loop-stars-preserved : goal.loop-stars-preserved
@@ -26,7 +25,7 @@ loop-stars-preserved c =
     let a = c.args in
     let l = c.loop-stars in
     let ns = texts_at a.kind a.out.now a.p a.count in
-    (omega arith, tried_more ns a.wanted.now a.count l.stars l.invariant.1 (omega arith) (sym c.taken.ensures ∙ not-false c.taken.result c.if-not-taken.false-raw))
+    (omega arith, tried_more ns a.wanted.now a.count l.stars l.invariant.1 (omega arith) (sym c.taken.ensures ∙ c.if-not-taken.false))
 
 pub returns : goal.returns
 returns c =
