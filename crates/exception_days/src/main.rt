@@ -31,7 +31,7 @@ fn digit(n: u32) -> u8
     b'0' + (n % 10) as u8
 }
 
-// Its bytes, since a Display's text has no clause that says which they are.
+// Byte by byte, as the definition says them: of `{:04}-{:02}-{:02}` the same clause would need the lemmas on printed integers.
 fn iso(y: u32, m: u32, d: u32) -> [u8; 10]
     ensures { result ≡ iso_of y m d }
 {
