@@ -1,8 +1,0 @@
--- `model_check::rules::is_below` meets its contract. Assumes nothing.
-use Rattle.model_check.proofs.rules.is_below.Goals as goal
-
-pub returns-in-Some : goal.returns-in-Some
-returns-in-Some c = rw c.in-Some.is
-
-pub returns-in-None : goal.returns-in-None
-returns-in-None c = rw c.in-None.is
