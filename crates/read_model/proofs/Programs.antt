@@ -1,4 +1,5 @@
 -- What is written, from what the read answers. Assumes nothing.
+use Rattle.std.specs.Result.{result_unwrap_or}
 use Rattle.definition.specs.Answer.{answer_length}
 use mathlib.Core.Path.{◌≡◌, refl, sym, ap, ◌∙◌}
 use mathlib.Core.List.{List}
@@ -29,6 +30,11 @@ fronts n (gives l) {out} e =
     let z : List ℕ = replicate (n - length l) 0 in
     let m : length out ≡ length l + length z = ap length e ∙ length-append l z in
     (omega arith, ap (take (length l)) e ∙ take_at l z (length l) refl)
+
+-- the length of what a read answers
+pub length_is : (a : Result ℕ Refusal) → result_unwrap_or a 0 ≡ answer_length a
+length_is (Ok n) = refl
+length_is (Err e) = refl
 
 pub writes : {tree : Text} {room work room' work' : List ℕ} {a : Result ℕ Refusal} (n : ℕ) → length tree ≤ most_program_bytes → Gives tree room work room' work' a → n ≡ answer_length a → IsPrefixLen n room' × Writes tree room room' n
 unfolding program_writes

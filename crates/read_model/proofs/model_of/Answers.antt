@@ -1,4 +1,5 @@
-use Rattle.read_model.proofs.Programs.{too_long, writes}
+use Rattle.std.proofs.Common.{◌∙◌}
+use Rattle.read_model.proofs.Programs.{too_long, length_is, writes}
 use Rattle.read_model.proofs.model_of.Goals as goal
 
 pub returns-then-tree-gt-MOST : goal.returns-then-tree-gt-MOST
@@ -8,5 +9,5 @@ returns-then-tree-gt-MOST c =
 
 pub returns : goal.returns
 returns c =
-    let (counted, said) = writes c.length_of.result c.if-tree-gt-MOST.false c.read.ensures c.length_of.ensures in
+    let (counted, said) = writes c.unwrap_or.result c.if-tree-gt-MOST.false c.read.ensures (c.unwrap_or.ensures ∙ length_is c.read.result) in
     record { prefix_len = counted; writes = said }
