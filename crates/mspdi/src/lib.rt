@@ -80,8 +80,8 @@ pub fn mspdi_day_sheet(
 ) -> u32
     ensures { (result, sheet.new, written.new) ≡ leaves (length sheet.old) (day_sheet_answer model.now calendar date (length sheet.old)) }
 {
-    let a = day_sheet::day_sheet(model, calendar, Date(date), sheet);
-    told(a, written)
+    let day = day_sheet::day_sheet(model, calendar, Date(date), sheet);
+    told(day, written)
 }
 
 // The model of a tree: 0, or 1 to 5 or 9. The work slice may have any length; it is zeros at exit.

@@ -13,8 +13,8 @@ pub returns : goal.returns
 returns c =
     let a = c.args in
     let room = length a.sheet.now in
-    let out = c.day_sheet-a.new.sheet in
+    let out = c.day_sheet-day.new.sheet in
     ap (λ (n : ℕ). (n, out, c.told.new.written)) c.told.ensures.0
-    ∙ ap (λ (n : ℕ). (answer_number c.day_sheet-a.result, out, n)) c.told.ensures.1
-    ∙ c.day_sheet-a.ensures
+    ∙ ap (λ (n : ℕ). (answer_number c.day_sheet-day.result, out, n)) c.told.ensures.1
+    ∙ c.day_sheet-day.ensures
     ∙ ap (λ (z : ℤ). leaves room (day_sheet_answer a.model.now a.calendar z room)) (to_z-of_z w32 a.date c.ranges.date)
