@@ -1,9 +1,8 @@
-use mathlib.Core.Path.{ap, ◌∙◌}
-use Prim.Native.Nat.{ℕ}
+use mathlib.Core.Path.{◌∙◌}
 use Rattle.definition.specs.Field.{int_in}
-use Rattle.definition.specs.Task.{elapsed_format, is_elapsed}
+use Rattle.definition.specs.Task.{is_elapsed}
 use Rattle.tasks.proofs.task.is_elapsed.Goals as goal
 
 pub returns : goal.returns
 unfolding is_elapsed int_in
-returns c = c.elapsed_format.ensures ∙ ap (λ (n : ℕ). elapsed_format n) c.format_of.ensures
+returns c = c.is_elapsed.ensures ∙ c.format_of.ensures.elapsed
