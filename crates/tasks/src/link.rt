@@ -97,6 +97,7 @@ pub fn link_kind(s: &[u8], at: usize) -> LinkKind
 }
 
 // Across projects.
+#[tactic(auto, unfolding(definition::specs::Field::yes_in))]
 pub fn is_across(s: &[u8], at: usize) -> bool
     ensures { result ≡ yes_in (element_at s.now at) "CrossProject" }
 {

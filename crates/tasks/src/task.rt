@@ -88,6 +88,7 @@ pub struct Parts {
 // ---- the kept tasks
 
 // OutlineLevel, 1 where none is read and 0 for one below 0.
+#[tactic(auto, using(fields::specs::Answers::unsigned_or_0), unfolding(definition::specs::Task::level_of, definition::specs::Field::int_in))]
 pub fn level_of(s: &[u8], at: usize) -> u64
     ensures { result ≡ level_of (element_at s.now at) }
 {
@@ -104,6 +105,7 @@ pub fn is_kept(s: &[u8], at: usize) -> bool
 // ---- the duration as it is told
 
 // Elapsed time, where a day has 1440 minutes.
+#[tactic(auto, unfolding(definition::specs::Task::is_elapsed, definition::specs::Field::int_in))]
 pub fn is_elapsed(s: &[u8], at: usize) -> bool
     ensures { result ≡ is_elapsed (element_at s.now at) }
 {
@@ -111,6 +113,7 @@ pub fn is_elapsed(s: &[u8], at: usize) -> bool
 }
 
 // A Duration that gives minutes and was not whole.
+#[tactic(auto, unfolding(definition::specs::Task::is_fractional))]
 pub fn is_fractional(s: &[u8], at: usize) -> bool
     ensures { result ≡ is_fractional (element_at s.now at) }
 {
@@ -202,6 +205,7 @@ fn under_way(s: &[u8], at: usize) -> bool
 }
 
 // The minutes left, of a task that is under way.
+#[tactic(auto, unfolding(definition::specs::Field::minutes_in, definition::specs::Field::date_in))]
 pub fn remaining_of(s: &[u8], at: usize) -> Option<i64>
     ensures { result ≡ remaining_of (element_at s.now at) }
 {
@@ -218,13 +222,13 @@ fn percent_from(p: f64) -> Option<i64>
 }
 
 // Hundredths of PhysicalPercentComplete, of one above 0 and up to 100.
-#[tactic(auto, unfolding(definition::specs::Field::number_in))]
 pub fn percent_of(s: &[u8], at: usize) -> Option<i64>
     ensures { result ≡ percent_of (element_at s.now at) }
 {
     fields::number_in(s, at, b"PhysicalPercentComplete").and_then(percent_from)
 }
 
+#[tactic(auto, unfolding(definition::specs::Field::yes_in))]
 pub fn milestone(s: &[u8], at: usize) -> bool
     ensures { result ≡ yes_in (element_at s.now at) "Milestone" }
 {
