@@ -32,7 +32,7 @@ fn has_date(s: &[u8], p: Place, day: Date) -> bool
     let mut q = n.next;
     for _ in 0..n.value {
         let t = take_date(s, q);
-        if t.date == Some(day) {
+        if t.value == Some(day) {
             return true;
         }
         q = t.next;
@@ -48,7 +48,7 @@ fn exception_place(s: &[u8], p: Place, day: Date) -> Place
     let mut q = n.next;
     for _ in 0..n.value {
         let t = take_date(s, q);
-        if t.date == Some(day) {
+        if t.value == Some(day) {
             return t.next;
         }
         q = skip_periods(s, t.next);
@@ -148,7 +148,7 @@ fn copy_periods(s: &[u8], from: Place, count: u64, out: &mut [u8], p: Place) -> 
     let mut at = p;
     for _ in 0..count {
         let t = take_period(s, q);
-        at = put_taken(out, at, t.period);
+        at = put_taken(out, at, t.value);
         q = t.next;
     }
     at

@@ -39,7 +39,7 @@ fn is_calendar(s: &[u8], x: Section, words: &[u32], names: Option<Table>, name: 
 fn calendar_known(s: &[u8], p: Place, x: Section, words: &[u32], names: Option<Table>) -> bool
     ensures { (m : Model) (end : ℕ) → Holds calendar s.now x m.calendars end → NamesIn s.now m names words.now → (o : Option Text) → Stands (optional text) s.now p o → result ≡ if_given (is_calendar m) o }
 {
-    let Some((start, len)) = take_name(s, p).name else {
+    let Some((start, len)) = take_name(s, p).value else {
         return true;
     };
     let end = start + len;
@@ -72,7 +72,7 @@ pub(crate) fn judge_activity(
     ensures { JudgedAt s.now p own calendars names words.now result }
 {
     let parent = take_row(s, parent_place_by::<true>(s, p));
-    let row = parent.row;
+    let row = parent.value;
     let calendar = bits::take_text(s, parent.next).next;
     let known = calendar_known(s, calendar, calendars, words, names);
     let end = skip_from_notes::<true>(s, parent.next);
@@ -88,7 +88,7 @@ fn rows_below(s: &[u8], p: Place, first: u32, second: u32) -> bool
     ensures { result ≡ rows_below (rows_at s.now p).0 first second }
 {
     let r = take_rows(s, p);
-    r.first < first && r.second < second
+    r.value.0 < first && r.value.1 < second
 }
 
 // Whether the row at a place is below a count.

@@ -28,7 +28,7 @@ fn take_parent(s: &[u8], p: Place) -> Parent
 {
     let at = parent_place_by::<true>(s, p);
     let parent = take_row(s, at);
-    let row = parent.row;
+    let row = parent.value;
     let end = skip_from_notes::<true>(s, parent.next);
     let next = take_pad(s, end);
     Parent {
