@@ -14,6 +14,7 @@ use Rattle.definition.specs.Check.{if_given, is_calendar, link_right, assignment
 use Rattle.laws.specs.Tests.{some_map}
 use Rattle.laws.specs.FitNames.{same_turned}
 use Rattle.bits.specs.declared.Place.{Place}
+use Rattle.bits.specs.declared.Field.{Field}
 use Rattle.model.specs.Splits.{Stands, stands_or}
 use Rattle.model.specs.Sections.{Decoded}
 use Rattle.model.specs.Answers.{row_at, rows_at}

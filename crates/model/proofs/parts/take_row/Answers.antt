@@ -6,7 +6,7 @@ pub returns-then-not-f : goal.returns-then-not-f
 returns-then-not-f c = let a = c.args in row_missing a.s.now a.p c.take_flag-f.ensures (not-true _ c.if-not-f.true)
 
 pub returns-then-next-gt7 : goal.returns-then-next-gt7
-returns-then-next-gt7 c = let a = c.args in row_cut a.s.now a.p c.take_flag-f.ensures (not-false _ c.if-not-f.false) c.take_u32.ensures c.if-next-gt7.true
+returns-then-next-gt7 c = let a = c.args in row_cut a.s.now a.p c.take_flag-f.ensures (not-false _ c.if-not-f.false) c.take_u32-value.ensures c.if-next-gt7.true
 
 pub returns : goal.returns
-returns c = let a = c.args in row_given a.s.now a.p c.take_flag-f.ensures (not-false _ c.if-not-f.false) c.take_u32.ensures c.if-next-gt7.false
+returns c = let a = c.args in row_given a.s.now a.p c.take_flag-f.ensures (not-false _ c.if-not-f.false) c.take_u32-value.ensures c.if-next-gt7.false
