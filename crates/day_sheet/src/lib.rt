@@ -19,7 +19,9 @@ ghost use Rattle.day_sheet.specs.Answer.{start, Found, Finished, leaves, left_by
 
 use bits::{PAST, Place};
 use definition::{Date, Refusal};
-use model::parts::{Period, calendar_places, hours_place, skip_periods, take_date, take_period};
+use model::parts::{
+    Period, calendar_places, hours_place, put_period, skip_periods, take_date, take_period,
+};
 use model::records::{Kind, skip_records};
 
 // ---- what a calendar says of a date
@@ -113,13 +115,6 @@ fn find_day(s: &[u8], calendar: u32, date: Date) -> Result<Day, Refusal>
 }
 
 // ---- the sheet written
-
-fn put_period(out: &mut [u8], p: Place, from: u64, to: u64) -> Place
-    ensures { Puts period (from, to) out.old p out.new result }
-{
-    let q = bits::put(out, p, 11, from);
-    bits::put(out, q, 11, to)
-}
 
 // The hours of a working day that names none.
 fn put_default(out: &mut [u8], p: Place) -> Place

@@ -5,6 +5,7 @@ ghost use Rattle.definition.specs.Base.{given};
 ghost use Rattle.definition.specs.Date.{from_days};
 ghost use Rattle.definition.specs.Answer.{date_meaning};
 ghost use Rattle.definition.specs.Format.{row, times, period, periods};
+ghost use Rattle.bits.specs.Steps.{Puts};
 ghost use Rattle.model.specs.Passes.{Passes};
 ghost use Rattle.model.specs.Parts.{text_by, activity_head, resource_head};
 ghost use Rattle.model.specs.Answers.{read_at, row_at, rows_at, date_at, period_meaning};
@@ -140,6 +141,14 @@ pub fn take_period(s: &[u8], p: Place) -> Field<Option<Period>>
         }),
         next,
     }
+}
+
+// A period written, by its two minutes: a day sheet holds periods as a model does.
+pub fn put_period(out: &mut [u8], p: Place, from: u64, to: u64) -> Place
+    ensures { Puts period (from, to) out.old p out.new result }
+{
+    let q = bits::put(out, p, 11, from);
+    bits::put(out, q, 11, to)
 }
 
 // The place behind a list of periods.
