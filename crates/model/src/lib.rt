@@ -15,15 +15,17 @@ use crate::records::{Kind, skip_project, skip_records};
 use bits::{PAST, Place};
 use reader::Reader;
 
-// A section: how many records it has, and the byte at which the first stands.
-#[derive(Clone, Copy)]
+// A section: how many records it has, and the byte at which the first stands. The model goes beside it, and no slice of it: its records have no
+// common size, and callers keep the places of some.
+#[derive(Clone, Copy, Debug, PartialEq, Eq)]
 pub struct Section {
     pub count: u32,
     pub at: usize,
 }
 
-// A model's sections.
-#[derive(Clone, Copy)]
+// A model's sections. Counts and Places have the same six and a place more: over one type for the six, each would need a struct around it, and each
+// use a longer path.
+#[derive(Clone, Copy, Debug, PartialEq, Eq)]
 pub struct Sections {
     pub calendars: Section,
     pub activities: Section,
@@ -56,7 +58,8 @@ const NO_COUNTS: Counts = Counts {
     next: PAST,
 };
 
-// Six counts that were read, and the place behind them.
+// Six counts that were read, and the place behind them. A function of its own: what a reader gives is proved apart from what becomes of it. The
+// counts are fields of 32 bits.
 fn counts_of(
     calendars: u64,
     activities: u64,
@@ -183,6 +186,7 @@ pub fn walk_behind(s: &[u8], n: Counts, head: Head, links: Place) -> Places
     }
 }
 
+// The walk as a whole. The check and the outline have one of their own, with more at each activity: what all three share are the two functions above.
 fn walk(s: &[u8], n: Counts) -> Places
     ensures { Walks s.now n result }
 {

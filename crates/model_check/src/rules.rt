@@ -91,7 +91,8 @@ fn row_below(s: &[u8], p: Place, count: u32) -> bool
     bits::take(s, p, 32).value < u64::from(count)
 }
 
-// Whether the record at a place, the one of a row, keeps its rules. The kind is matched, since each has a rule of its own.
+// Whether the record at a place, the one of a row, keeps its rules. The kind is matched, since each has a rule of its own. That these are the sections of
+// a decoded model is said here and in the two callers alone; the tables go beside the sections, as they change from call to call.
 fn is_right(
     s: &[u8],
     p: Place,

@@ -33,6 +33,7 @@ fn judge_activities(
     let mut right = true;
     for i in 0..count {
         let hash = hash_at::<Activities>(s, q);
+        // A table's place is a word; a model of more bytes has no table.
         t.put(words, i, hash, (q.byte % 4294967296) as u32);
         let a = judge_activity(s, q, i, calendars, words, names);
         right &= a.value;
@@ -50,7 +51,8 @@ fn judge_activities(
     }
 }
 
-// The places between the sections, as model::open finds them; the tables of names and of ids; whether all activities are right.
+// The places between the sections, as model::open finds them; the tables of names and of ids; whether all activities are right, which says nothing of
+// the other three.
 #[derive(Clone, Copy)]
 pub(crate) struct Walked {
     pub(crate) places: Places,
