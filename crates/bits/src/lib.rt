@@ -23,7 +23,7 @@ pub use zeros::fill_from;
 
 // A place in a buffer: so many whole bytes and so many bits stand before it. A bit of 8 or more is past every end; the derived order is that
 // of places where both bits are below 8. The buffer goes beside it, as places are kept while others are written; the crate reader has the two in one.
-#[derive(Clone, Copy, PartialEq, Eq, PartialOrd, Ord)]
+#[derive(Clone, Copy, Debug, PartialEq, Eq, PartialOrd, Ord)]
 pub struct Place {
     pub byte: usize,
     pub bit: usize,
@@ -42,7 +42,7 @@ pub struct Field<T, P = Place> {
 
 // Where the bytes of a text stand, and the place behind them. No slice, as the buffer may be lent for writing next; and no Field of a pair, whose two
 // numbers would have no names.
-#[derive(Clone, Copy)]
+#[derive(Clone, Copy, Debug, PartialEq, Eq)]
 pub struct Span {
     pub start: usize,
     pub len: usize,

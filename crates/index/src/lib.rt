@@ -11,7 +11,7 @@ ghost use Rattle.laws.specs.Stars.{starred_by};
 ghost use Rattle.index.specs.Chains.{zeros, added, first_of, next_of, place_of, table_of, row_below, end_in};
 
 // Where its words begin, and how many rows there may be. A span of marks and a section of a model are numbers of the same kinds and mean others.
-#[derive(Clone, Copy)]
+#[derive(Clone, Copy, Debug, PartialEq, Eq)]
 pub struct Table {
     pub at: usize,
     pub rows: u32,

@@ -36,7 +36,7 @@ pub struct Sections {
 }
 
 // The six counts, and the place behind them; where they cannot be read, zeros and a place past every end.
-#[derive(Clone, Copy)]
+#[derive(Clone, Copy, Debug, PartialEq, Eq)]
 pub struct Counts {
     pub calendars: u32,
     pub activities: u32,
@@ -108,7 +108,7 @@ pub fn take_counts(s: &[u8]) -> Counts
 }
 
 // Where each section begins, and where the last one ends.
-#[derive(Clone, Copy)]
+#[derive(Clone, Copy, Debug, PartialEq, Eq)]
 pub struct Places {
     pub calendars: Place,
     pub activities: Place,
@@ -120,7 +120,7 @@ pub struct Places {
 }
 
 // Where the first two sections begin.
-#[derive(Clone, Copy)]
+#[derive(Clone, Copy, Debug, PartialEq, Eq)]
 pub struct Head {
     pub calendars: Place,
     pub activities: Place,

@@ -192,7 +192,7 @@ pub fn resource_calendar_place(s: &[u8], p: Place) -> Place
 }
 
 // A calendar's parts.
-#[derive(Clone, Copy)]
+#[derive(Clone, Copy, Debug, PartialEq, Eq)]
 pub struct CalendarPlaces {
     pub week: Place,
     pub hours: Place,
