@@ -54,6 +54,6 @@ pub(crate) fn walk_model(s: &[u8], n: Counts, work: &mut [u32]) -> Places
 {
     let head = walk_head(s, n);
     let activities = head.activities;
-    let links = fill(s, activities, n.activities, work);
+    let links = fill(s, activities, n.value.activities, work);
     walk_behind(s, n, head, links)
 }
