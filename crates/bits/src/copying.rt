@@ -10,7 +10,8 @@ use crate::reading::take;
 use crate::writing::overwrite;
 use crate::{PAST, Place};
 
-// Writes the bits from one place to another again at p, 64 at a time.
+// Writes the bits from one place to another again at p, 64 at a time and then what is left: from the front, as they do not overlap; `shift_up` goes
+// from the end, as they do.
 fn copy_all(out: &mut [u8], from: Place, to: Place, p: Place) -> Place
     requires { Order (length out.old) from to p }
     ensures { Step out.old p (λ b. b ▷ bits_from (at from) (at to) out.old) out.new result }

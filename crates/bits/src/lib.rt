@@ -22,14 +22,15 @@ pub use writing::{overwrite, pad, put, put_flag};
 pub use zeros::fill_from;
 
 // A place in a buffer: so many whole bytes and so many bits stand before it. A bit of 8 or more is past every end; the derived order is that
-// of places where both bits are below 8.
-#[derive(Clone, Copy, PartialEq, Eq, PartialOrd, Ord)]
+// of places where both bits are below 8. The buffer goes beside it, as places are kept while others are written; the crate reader has the two in one.
+#[derive(Clone, Copy, Debug, PartialEq, Eq, PartialOrd, Ord)]
 pub struct Place {
     pub byte: usize,
     pub bit: usize,
 }
 
-// The place of what does not fit. Each later field does not fit there either.
+// The place of what does not fit. Each later field does not fit there either, so that a chain of fields is tested once, at its end: with an Option
+// for a place, each field of a record would be tested.
 pub const PAST: Place = Place { byte: 0, bit: 8 };
 
 // A field that was read, and where the next one is read: from a place, or by a reader.
@@ -39,8 +40,9 @@ pub struct Field<T, P = Place> {
     pub next: P,
 }
 
-// Where the bytes of a text stand, and the place behind them.
-#[derive(Clone, Copy)]
+// Where the bytes of a text stand, and the place behind them. No slice, as the buffer may be lent for writing next; and no Field of a pair, whose two
+// numbers would have no names.
+#[derive(Clone, Copy, Debug, PartialEq, Eq)]
 pub struct Span {
     pub start: usize,
     pub len: usize,

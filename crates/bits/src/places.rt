@@ -4,7 +4,6 @@ ghost use Rattle.bits.specs.Places.{at, room, inside, up_to};
 ghost use Rattle.bits.specs.Moves.{ordered};
 
 use crate::Place;
-use crate::shifts::offset;
 
 // Whether n bytes have `width` bits from a place on.
 pub(crate) fn room(n: usize, p: Place, width: usize) -> bool
@@ -14,7 +13,7 @@ pub(crate) fn room(n: usize, p: Place, width: usize) -> bool
     p.bit < 8 && p.byte <= n && (p.bit + width + 7) >> 3 <= n - p.byte
 }
 
-// Whether a place stands in n bytes or at their end: what was written up to it fitted.
+// Whether a place stands in n bytes or at their end: what was written up to it fitted. A length, as the bytes may be lent for writing.
 pub fn inside(n: usize, p: Place) -> bool
     ensures { result ≡ inside n p }
 {
@@ -61,7 +60,7 @@ pub(crate) fn place_after(p: Place, k: usize) -> Place
 {
     Place {
         byte: p.byte + ((p.bit + k) >> 3),
-        bit: offset(p.bit + k),
+        bit: (p.bit + k) % 8,
     }
 }
 

@@ -4,7 +4,7 @@ ghost use Rattle.bits.specs.Reads.{taken_at, flag_at, pad_at};
 ghost use Rattle.bits.specs.Window.{Read};
 
 use crate::places::room;
-use crate::shifts::{joined, offset, part, to_byte};
+use crate::shifts::{joined, part, to_byte};
 use crate::{Field, PAST, Place};
 
 // The field of `width` bits at a place of s.
@@ -26,7 +26,7 @@ pub fn take(s: &[u8], p: Place, width: usize) -> Field<u64>
         let k = left.min(8 - r);
         acc = joined(acc, k, part(u64::from(s[q]), 8 - r - k, k));
         q += (r + k) >> 3;
-        r = offset(r + k);
+        r = (r + k) % 8;
         left -= k;
     }
     Field {

@@ -1,4 +1,4 @@
-// Two runs of bits that stand side by side change places.
+// Two runs of bits that stand side by side change places. The loops here go from the end, 64 bits at a time and then what is left: places, and no range.
 ghost use Rattle.std.specs.Prelude.{◌≡◌, ◌+◌, ◌-◌, ◌*◌, ◌<◌, ◌≤◌, length};
 ghost use Rattle.definition.specs.Bits.{bits_of};
 ghost use Rattle.bits.specs.Places.{at};

@@ -1,13 +1,6 @@
 // Some bits of a number, by shifts and masks.
 ghost use Rattle.std.specs.Prelude.{◌≡◌, ◌+◌, ◌-◌, ◌*◌, ◌/◌, ◌%◌, ◌^◌, ◌<◌};
 
-// The place of a bit in its byte.
-pub(crate) fn offset(n: usize) -> usize
-    ensures { result ≡ n % 8 }
-{
-    n & 7
-}
-
 // k bits of v, above the `skip` low ones.
 pub(crate) fn part(v: u64, skip: usize, k: usize) -> u64
     requires { (skip < 64) × (k < 64) }
@@ -28,5 +21,5 @@ pub(crate) fn joined(hi: u64, k: usize, lo: u64) -> u64
 pub(crate) fn to_byte(bit: usize) -> usize
     ensures { result ≡ (8 - bit) % 8 }
 {
-    if bit < 8 { offset(8 - bit) } else { 0 }
+    if bit < 8 { (8 - bit) % 8 } else { 0 }
 }

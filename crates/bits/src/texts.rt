@@ -1,4 +1,4 @@
-// Bytes and texts. A text is a count of 32 bits, zero bits up to a whole byte, the bytes.
+// Bytes and texts. A text is a count of 32 bits, zero bits up to a whole byte, the bytes; whether they are UTF-8 is for the callers, so no `&str`.
 ghost use Rattle.std.specs.Prelude.{◌≡◌};
 ghost use Rattle.definition.specs.Bits.{bits_of};
 ghost use Rattle.definition.specs.Format.{text};
@@ -10,7 +10,7 @@ use crate::reading::{take_pad, take_u32};
 use crate::writing::{pad, put};
 use crate::{PAST, Place, Span};
 
-// No text: it is cut, or a bit before it is not zero.
+// No text: it is cut, or a bit before it is not zero. Past every end, as any field that is not there.
 const NO_SPAN: Span = Span {
     start: 0,
     len: 0,

@@ -5,7 +5,7 @@ ghost use Rattle.definition.specs.Format.{field, flag};
 ghost use Rattle.bits.specs.Steps.{Laid, Puts, Pads};
 
 use crate::places::room;
-use crate::shifts::{joined, offset, part, to_byte};
+use crate::shifts::{joined, part, to_byte};
 use crate::{PAST, Place};
 
 // The byte whose r first bits are those of old, the next k those of x, the rest those of old.
@@ -15,6 +15,7 @@ fn mix(old: u64, r: usize, k: usize, x: u64) -> u8
 {
     let low = part(old, 0, 8 - r - k);
     let top = joined(old >> (8 - r), k, x);
+    // Below 256, so that `try_from` would need a case for what never is.
     joined(top, 8 - r - k, low) as u8
 }
 
@@ -36,7 +37,7 @@ pub fn overwrite(out: &mut [u8], p: Place, width: usize, v: u64) -> Place
         let b = mix(u64::from(out[q]), r, k, part(v, left - k, k));
         out[q] = b;
         q += (r + k) >> 3;
-        r = offset(r + k);
+        r = (r + k) % 8;
         left -= k;
     }
     Place { byte: q, bit: r }

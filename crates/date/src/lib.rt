@@ -73,6 +73,7 @@ fn march_of(d: u32) -> March
     let k = n % 146097 / 4 * 4 + 3;
     let year = century * 100 + k / 1461 - 399;
     March {
+        // Both fit: 2^32 days are fewer than 12 million years.
         year: year as u32,
         day: (k % 1461 / 4) as u32,
     }

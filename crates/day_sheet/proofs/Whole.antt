@@ -43,7 +43,7 @@ use Rattle.model.specs.Lists.{stands_rest, ahead_later, ahead_item}
 use Rattle.model.specs.Places.{CalendarAt, calendar_is}
 use Rattle.model.specs.Sections.{byte_at, byte_rest, Opens}
 use Rattle.model.specs.declared.parts.CalendarPlaces.{CalendarPlaces}
-use Rattle.model.specs.declared.Sections.{Sections}
+use Rattle.model.specs.PerKind.{Sections}
 use Rattle.model.specs.declared.records.Kind.TheVariants.{Calendars}
 use Rattle.day_sheet.specs.Days.{exceptions, Listed, DayIs, day_value}
 use Rattle.day_sheet.specs.Answer.{start, leaves, left_by, Found}

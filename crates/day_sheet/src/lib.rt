@@ -69,7 +69,7 @@ fn first_given(s: &[u8], p: Place, q: Place) -> Place
     p
 }
 
-// A day in a calendar: where the periods stand that it or its weekday has.
+// A day in a calendar: where the periods stand that it or its weekday has. The weekday is a number, as the sheet holds it and weeks count with it.
 #[derive(Clone, Copy)]
 struct Day {
     weekday: u32,
@@ -86,6 +86,7 @@ fn day_of(s: &[u8], p: Place, day: Date, weekday: u32) -> Day
     let holiday = has_date(s, c.holidays, day);
     let extra = has_date(s, c.extra, day);
     let own = exception_place(s, c.exceptions, day);
+    // There is no From from u32 to usize.
     let usual = hours_place(s, c.hours, weekday as usize);
     let hours = first_given(s, own, usual);
     Day {

@@ -1,7 +1,8 @@
 // Chains of rows by bucket in lent words, so that the last row with a key is found without a look at all rows. A table of n rows is 3n words: a
 // head for each of n buckets, then for each row the one before it in its chain, then for each row a place, where what it stands for is found. A head
 // names the last row of its bucket: 0 for none, else the row plus 1, as does the word of a row. Words past the end read as 0 and store nothing.
-// What the words mean is said in specs/.
+// What the words mean is said in specs/. The words are lent, as there is no heap for a map, and a column of heads, of rows and of places stands in
+// them. A number of 32 bits becomes an index by `as`, as there is no From from it to usize.
 #![tactic(auto)]
 
 ghost use Rattle.std.specs.Prelude.{◌≡◌, ◌+◌, ◌-◌, ◌*◌, ◌%◌, ◌^◌, ◌≤◌, ◌<◌, min, ◌++◌, length, get_or, set, replicate};
@@ -9,8 +10,8 @@ ghost use Rattle.index.specs.Hash.{quad_at, mixed, hash_after, hash_of};
 ghost use Rattle.laws.specs.Stars.{starred_by};
 ghost use Rattle.index.specs.Chains.{zeros, added, first_of, next_of, place_of, table_of, row_below, end_in};
 
-// Where its words begin, and how many rows there may be.
-#[derive(Clone, Copy)]
+// Where its words begin, and how many rows there may be. A span of marks and a section of a model are numbers of the same kinds and mean others.
+#[derive(Clone, Copy, Debug, PartialEq, Eq)]
 pub struct Table {
     pub at: usize,
     pub rows: u32,
@@ -30,13 +31,11 @@ fn quad(s: &[u8], i: usize) -> u32
 fn starred(s: &[u8], stars: u32, i: usize) -> u8
     ensures { result ≡ get_or (starred_by s.now stars) i 0 }
 {
-    if i < s.len() {
-        return s[i];
+    match s.get(i) {
+        Some(b) => *b,
+        None if i - s.len() < stars as usize => b'*',
+        None => 0,
     }
-    if i - s.len() < stars as usize {
-        return b'*';
-    }
-    0
 }
 
 // Four of its bytes.

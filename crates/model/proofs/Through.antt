@@ -12,7 +12,7 @@ use Rattle.model.specs.Parts.{strict_calendars, strict_links, strict_resources, 
 use Rattle.model.specs.Sections.{start, counts_by, PassesProject, PassesRecords, Heads, Behind}
 use Rattle.model.specs.Answers.{counts_at}
 use Rattle.model.proofs.Single.{counts_are}
-use Rattle.model.specs.declared.Counts.{Counts}
+use Rattle.model.specs.PerKind.{Counts}
 use Rattle.model.specs.declared.Head.{Head}
 use Rattle.model.specs.declared.records.Kind.TheVariants.{Calendars, Links, Resources, Assignments, Expenses}
 
@@ -90,11 +90,11 @@ module _ (s : List ℕ) (r : Reader) (e : r.model.now ≡ s) (p : r.place ≡ st
 
 -- ---- what the places make
 
-pub heads : {s : List ℕ} {n : Counts} {p q : Place} → PassesProject s n.next p → PassesRecords Calendars n.calendars s p q → Heads s n (record { calendars = p; activities = q })
+pub heads : {s : List ℕ} {n : Counts} {p q : Place} → PassesProject s n.next p → PassesRecords Calendars n.value.calendars s p q → Heads s n (record { calendars = p; activities = q })
 heads h k = record { project = h; calendars = pass_like (like_times _ strict_calendars) k }
 
-pub behind : {s : List ℕ} {n : Counts} {h : Head} {l p q r end : Place} → PassesRecords Links n.links s l p → PassesRecords Resources n.resources s p q → PassesRecords Assignments n.assignments s q r → PassesRecords Expenses n.expenses s r end
-    → Behind s n h l (record { calendars = h.calendars; activities = h.activities; links = l; resources = p; assignments = q; expenses = r; end = end })
+pub behind : {s : List ℕ} {n : Counts} {h : Head} {l p q r end : Place} → PassesRecords Links n.value.links s l p → PassesRecords Resources n.value.resources s p q → PassesRecords Assignments n.value.assignments s q r → PassesRecords Expenses n.value.expenses s r end
+    → Behind s n h l (record { value = record { calendars = h.calendars; activities = h.activities; links = l; resources = p; assignments = q; expenses = r }; next = end })
 behind a b c d = record {
   calendars_at = refl;
   activities_at = refl;

@@ -4,6 +4,7 @@ pub mod Answers
 pub mod Rising
 pub mod Parts
 pub mod Splits
+pub mod PerKind
 pub mod Sections
 pub mod Places
 pub mod Lists

@@ -13,9 +13,9 @@ use Rattle.definition.specs.Pack.{Counts as CountsOf, Body, counts, body, model_
 use Rattle.bits.specs.Places.{at, Fits}
 use Rattle.bits.specs.Reads.{rest, Reads, rest_in, length_rest, chain}
 use Rattle.bits.specs.declared.Place.{Place}
-use Rattle.model.specs.declared.Sections.{Sections}
-use Rattle.model.specs.declared.Counts.{Counts}
-use Rattle.model.specs.declared.Places.{Places}
+use Rattle.model.specs.PerKind.{Sections}
+use Rattle.model.specs.PerKind.{Counts}
+use Rattle.model.specs.PerKind.{Places}
 use Rattle.model.specs.Passes.{Passes, Bytewise, Told, refusing, reading, told, stood, bytewise, bytewise_all, ◌⨾◌}
 use Rattle.model.specs.Answers.{counts_at, tails_counts, or_reads, rest_fits}
 use Rattle.model.specs.Splits.{split-⊗, read_length}
@@ -68,25 +68,25 @@ module _ {s : List ℕ} {n : Counts} {w : Places} (k : (counts_in n, n.next) ≡
   c : Reads counts s start (counts_in n) n.next
   c = or_reads tails_counts _ s start k
 
-  passes_body : Passes (body (counts_in n)) s n.next w.end
+  passes_body : Passes (body (counts_in n)) s n.next w.next
   unfolding body
   passes_body = h.project ⨾ h.calendars ⨾ h.activities ⨾ h.links ⨾ h.resources ⨾ h.assignments ⨾ h.expenses
 
   -- ---- it does not end where the bytes end
 
-  unended : (rest s w.end ≡ Some [] → ⊥) → decode s ≡ None
+  unended : (rest s w.next ≡ Some [] → ⊥) → decode s ≡ None
   unended n-end = decode_on c ∙ by_body (told passes_body)
     where
-      left_over : (b : Body) (l : Bits) → rest s w.end ≡ Some l → at_end {A = Model} (Some (model_from b, l)) ≡ None
+      left_over : (b : Body) (l : Bits) → rest s w.next ≡ Some l → at_end {A = Model} (Some (model_from b, l)) ≡ None
       left_over b [] e = absurd (n-end e)
       left_over b (x ∷ l) e = refl
 
-      by_body : Told (body (counts_in n)) s n.next w.end → at_end (rest s n.next >>= λ l. (body (counts_in n)).get l >>= to_model) ≡ None
+      by_body : Told (body (counts_in n)) s n.next w.next → at_end (rest s n.next >>= λ l. (body (counts_in n)).get l >>= to_model) ≡ None
       by_body (refusing r z) = ap at_end (sym (bind_assoc (rest s n.next) (body (counts_in n)).get to_model) ∙ ap (λ (o : Option (Body × Bits)). o >>= to_model) r.gives)
       by_body (reading b l e r) =
           ap at_end (chain {f = body (counts_in n)} to_model r ∙ ap (λ (o : Option Bits). o >>= λ m. to_model (b, m)) e) ∙ left_over b l e
 
-  open_refused : (rest s w.end ≡ Some [] → ⊥) → Opens s None
+  open_refused : (rest s w.next ≡ Some [] → ⊥) → Opens s None
   open_refused n-end =
       let e = unended n-end in
       record { number = rw e; model = λ r z. absurd (never_model z); refused = λ z. e }
@@ -96,26 +96,26 @@ module _ {s : List ℕ} {n : Counts} {w : Places} (k : (counts_in n, n.next) ≡
 
   -- ---- it does
 
-  bytes_calendars : Bytewise s w.calendars
+  bytes_calendars : Bytewise s w.value.calendars
   bytes_calendars = bytewise project h.project
 
-  bytes_activities : Bytewise s w.activities
-  bytes_activities = bytewise_all calendar n.calendars bytes_calendars h.calendars
+  bytes_activities : Bytewise s w.value.activities
+  bytes_activities = bytewise_all calendar n.value.calendars bytes_calendars h.calendars
 
-  bytes_links : Bytewise s w.links
-  bytes_links = bytewise_all activity n.activities bytes_activities h.activities
+  bytes_links : Bytewise s w.value.links
+  bytes_links = bytewise_all activity n.value.activities bytes_activities h.activities
 
-  bytes_resources : Bytewise s w.resources
-  bytes_resources = bytewise_all link n.links bytes_links h.links
+  bytes_resources : Bytewise s w.value.resources
+  bytes_resources = bytewise_all link n.value.links bytes_links h.links
 
-  bytes_assignments : Bytewise s w.assignments
-  bytes_assignments = bytewise_all resource n.resources bytes_resources h.resources
+  bytes_assignments : Bytewise s w.value.assignments
+  bytes_assignments = bytewise_all resource n.value.resources bytes_resources h.resources
 
   holds : {A : Type 0} (f : Format A) {p q : Place} {l : Bits} {xs : List A} (k : ℕ) → rest s q ≡ Some l → p ≡ byte_at p.byte → q ≡ byte_at q.byte
       → Reads (times k (whole f)) s p xs q → Holds f s (record { count = k; at = p.byte }) xs q.byte
   holds f {q = q} k e ep eq r = record { count = read_length (whole f) k e r; reads = rw (← ep, ← eq) r; ends = omega (arith, (rest_fits s q e).ends) }
 
-  parts : (b : Body) → rest s w.end ≡ Some [] → Reads (body (counts_in n)) s n.next b w.end → Decoded s (model_from b) (sections_of n w)
+  parts : (b : Body) → rest s w.next ≡ Some [] → Reads (body (counts_in n)) s n.next b w.next → Decoded s (model_from b) (sections_of n w)
   unfolding body
   parts b e r =
       let t0 = split-⊗ e r h.project in
@@ -130,33 +130,33 @@ module _ {s : List ℕ} {n : Counts} {w : Places} (k : (counts_in n, n.next) ≡
       let l = stood o.1 h.links in
       let v = stood l.1 h.activities in
       let k = stood v.1 h.calendars in
-      let pk = bytewise_place s w.calendars k.1 bytes_calendars in
-      let pv = bytewise_place s w.activities v.1 bytes_activities in
-      let pl = bytewise_place s w.links l.1 bytes_links in
-      let po = bytewise_place s w.resources o.1 bytes_resources in
-      let pa = bytewise_place s w.assignments a.1 bytes_assignments in
-      let px = bytewise_place s w.expenses x.1 (bytewise_all assignment n.assignments bytes_assignments h.assignments) in
-      let pe : w.end ≡ byte_at w.end.byte = byte_place s w.end e (ap (λ (b : ℕ). b % 8) (end_bit s w.end e)) in
-      let pn = end_byte s w.end e in
+      let pk = bytewise_place s w.value.calendars k.1 bytes_calendars in
+      let pv = bytewise_place s w.value.activities v.1 bytes_activities in
+      let pl = bytewise_place s w.value.links l.1 bytes_links in
+      let po = bytewise_place s w.value.resources o.1 bytes_resources in
+      let pa = bytewise_place s w.value.assignments a.1 bytes_assignments in
+      let px = bytewise_place s w.value.expenses x.1 (bytewise_all assignment n.value.assignments bytes_assignments h.assignments) in
+      let pe : w.next ≡ byte_at w.next.byte = byte_place s w.next e (ap (λ (b : ℕ). b % 8) (end_bit s w.next e)) in
+      let pn = end_byte s w.next e in
       record {
-        calendars = holds calendar n.calendars v.1 pk pv t1.0;
-        activities = holds activity n.activities l.1 pv pl t2.0;
-        links = holds link n.links o.1 pl po t3.0;
-        resources = holds resource n.resources a.1 po pa t4.0;
-        assignments = holds assignment n.assignments x.1 pa px t5.0;
-        expenses = rw (← pn) (holds expense n.expenses e px pe t5.1);
+        calendars = holds calendar n.value.calendars v.1 pk pv t1.0;
+        activities = holds activity n.value.activities l.1 pv pl t2.0;
+        links = holds link n.value.links o.1 pl po t3.0;
+        resources = holds resource n.value.resources a.1 po pa t4.0;
+        assignments = holds assignment n.value.assignments x.1 pa px t5.0;
+        expenses = rw (← pn) (holds expense n.value.expenses e px pe t5.1);
       }
 
-  open_done : w.end.bit ≡ 0 → w.end.byte ≡ length s → Opens s (Some (sections_of n w))
+  open_done : w.next.bit ≡ 0 → w.next.byte ≡ length s → Opens s (Some (sections_of n w))
   open_done b y = by_body (told passes_body)
     where
-      e : rest s w.end ≡ Some []
-      e = at_end_lem s w.end b y
+      e : rest s w.next ≡ Some []
+      e = at_end_lem s w.next b y
 
       never_none : Some (sections_of n w) ≡ None → ⊥
       never_none z = let y : ◌≡◌ {A = ℕ} 0 1 = cc in omega arith
 
-      by_body : Told (body (counts_in n)) s n.next w.end → Opens s (Some (sections_of n w))
+      by_body : Told (body (counts_in n)) s n.next w.next → Opens s (Some (sections_of n w))
       by_body (refusing r z) = absurd (never (sym z ∙ e))
       by_body (reading b l z r) =
           let d : decode s ≡ Some (model_from b) =
@@ -169,29 +169,29 @@ module _ {s : List ℕ} {n : Counts} {w : Places} (k : (counts_in n, n.next) ≡
 
   -- ---- either way
 
-  ended : (eqb w.end.bit 0 && eqb w.end.byte (length s)) ≡ true → rest s w.end ≡ Some []
+  ended : (eqb w.next.bit 0 && eqb w.next.byte (length s)) ≡ true → rest s w.next ≡ Some []
   ended e =
-      let k = both (eqb w.end.bit 0) (eqb w.end.byte (length s)) e in
-      at_end_lem s w.end (eqb-true w.end.bit 0 k.0) (eqb-true w.end.byte (length s) k.1)
+      let k = both (eqb w.next.bit 0) (eqb w.next.byte (length s)) e in
+      at_end_lem s w.next (eqb-true w.next.bit 0 k.0) (eqb-true w.next.byte (length s) k.1)
 
   pub opened : Opens s (sections_by (length s) n w)
-  opened = by_end (eqb w.end.bit 0 && eqb w.end.byte (length s)) refl
+  opened = by_end (eqb w.next.bit 0 && eqb w.next.byte (length s)) refl
     where
-      by_end : (t : Bool) → (eqb w.end.bit 0 && eqb w.end.byte (length s)) ≡ t → Opens s (if t then Some (sections_of n w) else None)
+      by_end : (t : Bool) → (eqb w.next.bit 0 && eqb w.next.byte (length s)) ≡ t → Opens s (if t then Some (sections_of n w) else None)
       by_end true e =
-          let k = both (eqb w.end.bit 0) (eqb w.end.byte (length s)) e in
-          open_done (eqb-true w.end.bit 0 k.0) (eqb-true w.end.byte (length s) k.1)
-      by_end false e = open_refused (λ z. false≢true (sym e ∙ rw (eq-eqb w.end.bit 0 (end_bit s w.end z), eq-eqb w.end.byte (length s) (end_byte s w.end z))))
+          let k = both (eqb w.next.bit 0) (eqb w.next.byte (length s)) e in
+          open_done (eqb-true w.next.bit 0 k.0) (eqb-true w.next.byte (length s) k.1)
+      by_end false e = open_refused (λ z. false≢true (sym e ∙ rw (eq-eqb w.next.bit 0 (end_bit s w.next z), eq-eqb w.next.byte (length s) (end_byte s w.next z))))
 
   -- the sections of a model that was opened are those between the places, and the activities begin at a whole byte
-  pub opened_at : {m : Sections} → Some m ≡ sections_by (length s) n w → (m ≡ sections_of n w) × (w.activities ≡ byte_at w.activities.byte)
-  opened_at {m} = by_end (eqb w.end.bit 0 && eqb w.end.byte (length s)) refl
+  pub opened_at : {m : Sections} → Some m ≡ sections_by (length s) n w → (m ≡ sections_of n w) × (w.value.activities ≡ byte_at w.value.activities.byte)
+  opened_at {m} = by_end (eqb w.next.bit 0 && eqb w.next.byte (length s)) refl
     where
       never_model : Some m ≡ None → ⊥
       never_model z = let y : ◌≡◌ {A = ℕ} 0 1 = cc in omega arith
 
-      by_end : (t : Bool) → (eqb w.end.bit 0 && eqb w.end.byte (length s)) ≡ t → Some m ≡ (if t then Some (sections_of n w) else None)
-          → (m ≡ sections_of n w) × (w.activities ≡ byte_at w.activities.byte)
+      by_end : (t : Bool) → (eqb w.next.bit 0 && eqb w.next.byte (length s)) ≡ t → Some m ≡ (if t then Some (sections_of n w) else None)
+          → (m ≡ sections_of n w) × (w.value.activities ≡ byte_at w.value.activities.byte)
       by_end false e k = absurd (never_model k)
       by_end true e k =
           let x = stood (ended e) h.expenses in
@@ -200,4 +200,4 @@ module _ {s : List ℕ} {n : Counts} {w : Places} (k : (counts_in n, n.next) ≡
           let l = stood o.1 h.links in
           let v = stood l.1 h.activities in
           let z : m ≡ sections_of n w = cc in
-          (z, bytewise_place s w.activities v.1 bytes_activities)
+          (z, bytewise_place s w.value.activities v.1 bytes_activities)

@@ -20,9 +20,9 @@ use Rattle.model.specs.Splits.{Step, step}
 use Rattle.model.specs.declared.records.Kind.{Kind}
 use Rattle.model.specs.declared.Head.{Head}
 use Rattle.model.specs.declared.Section.{Section}
-use Rattle.model.specs.declared.Sections.{Sections}
-use Rattle.model.specs.declared.Counts.{Counts}
-use Rattle.model.specs.declared.Places.{Places}
+use Rattle.model.specs.PerKind.{Sections}
+use Rattle.model.specs.PerKind.{Counts}
+use Rattle.model.specs.PerKind.{Places}
 
 -- the place of a whole byte
 abbrev pub byte_at : ℕ → Place
@@ -32,7 +32,7 @@ abbrev pub start : Place
 start = byte_at 0
 
 abbrev pub counts_in : Counts → CountsOf
-counts_in n = (n.calendars, (n.activities, (n.links, (n.resources, (n.assignments, n.expenses)))))
+counts_in n = (n.value.calendars, (n.value.activities, (n.value.links, (n.value.resources, (n.value.assignments, n.value.expenses)))))
 
 -- six counts that were read, if the place behind them is one; else zeros
 abbrev pub counts_by : CountsOf → Place → CountsOf × Place
@@ -48,30 +48,30 @@ PassesRecords kind count = Passes (times count (record_of true kind))
 -- the places of the first two sections
 pub record Heads (s : List ℕ) (n : Counts) (h : Head) : Type 0 where
   pub project : Passes (whole project) s n.next h.calendars
-  pub calendars : Passes (times n.calendars (whole calendar)) s h.calendars h.activities
+  pub calendars : Passes (times n.value.calendars (whole calendar)) s h.calendars h.activities
 
 -- the places of the sections behind the activities, which end at a place
 pub record Behind (s : List ℕ) (n : Counts) (h : Head) (end : Place) (w : Places) : Type 0 where
-  pub calendars_at : w.calendars ≡ h.calendars
-  pub activities_at : w.activities ≡ h.activities
-  pub links_at : w.links ≡ end
-  pub links : Passes (times n.links (whole link)) s end w.resources
-  pub resources : Passes (times n.resources (whole resource)) s w.resources w.assignments
-  pub assignments : Passes (times n.assignments (whole assignment)) s w.assignments w.expenses
-  pub expenses : Passes (times n.expenses (whole expense)) s w.expenses w.end
+  pub calendars_at : w.value.calendars ≡ h.calendars
+  pub activities_at : w.value.activities ≡ h.activities
+  pub links_at : w.value.links ≡ end
+  pub links : Passes (times n.value.links (whole link)) s end w.value.resources
+  pub resources : Passes (times n.value.resources (whole resource)) s w.value.resources w.value.assignments
+  pub assignments : Passes (times n.value.assignments (whole assignment)) s w.value.assignments w.value.expenses
+  pub expenses : Passes (times n.value.expenses (whole expense)) s w.value.expenses w.next
 
 -- the places between the sections
 pub record Walks (s : List ℕ) (n : Counts) (w : Places) : Type 0 where
-  pub project : Passes (whole project) s n.next w.calendars
-  pub calendars : Passes (times n.calendars (whole calendar)) s w.calendars w.activities
-  pub activities : Passes (times n.activities (whole activity)) s w.activities w.links
-  pub links : Passes (times n.links (whole link)) s w.links w.resources
-  pub resources : Passes (times n.resources (whole resource)) s w.resources w.assignments
-  pub assignments : Passes (times n.assignments (whole assignment)) s w.assignments w.expenses
-  pub expenses : Passes (times n.expenses (whole expense)) s w.expenses w.end
+  pub project : Passes (whole project) s n.next w.value.calendars
+  pub calendars : Passes (times n.value.calendars (whole calendar)) s w.value.calendars w.value.activities
+  pub activities : Passes (times n.value.activities (whole activity)) s w.value.activities w.value.links
+  pub links : Passes (times n.value.links (whole link)) s w.value.links w.value.resources
+  pub resources : Passes (times n.value.resources (whole resource)) s w.value.resources w.value.assignments
+  pub assignments : Passes (times n.value.assignments (whole assignment)) s w.value.assignments w.value.expenses
+  pub expenses : Passes (times n.value.expenses (whole expense)) s w.value.expenses w.next
 
 -- whoever passes over the activities between the two has walked over all
-pub walks : {s : List ℕ} {n : Counts} {h : Head} {end : Place} {w : Places} → Heads s n h → Passes (times n.activities (whole activity)) s h.activities end → Behind s n h end w → Walks s n w
+pub walks : {s : List ℕ} {n : Counts} {h : Head} {end : Place} {w : Places} → Heads s n h → Passes (times n.value.activities (whole activity)) s h.activities end → Behind s n h end w → Walks s n w
 walks a p b = record {
   project = rw b.calendars_at a.project;
   calendars = rw (b.calendars_at, b.activities_at) a.calendars;
@@ -100,16 +100,16 @@ pub record Decoded (s : List ℕ) (m : Model) (r : Sections) : Type 0 where
 -- the sections between these places, if the last one ends where so many bytes end
 abbrev pub sections_of : Counts → Places → Sections
 sections_of n w = record {
-  calendars = record { count = n.calendars; at = w.calendars.byte };
-  activities = record { count = n.activities; at = w.activities.byte };
-  links = record { count = n.links; at = w.links.byte };
-  resources = record { count = n.resources; at = w.resources.byte };
-  assignments = record { count = n.assignments; at = w.assignments.byte };
-  expenses = record { count = n.expenses; at = w.expenses.byte };
+  calendars = record { count = n.value.calendars; at = w.value.calendars.byte };
+  activities = record { count = n.value.activities; at = w.value.activities.byte };
+  links = record { count = n.value.links; at = w.value.links.byte };
+  resources = record { count = n.value.resources; at = w.value.resources.byte };
+  assignments = record { count = n.value.assignments; at = w.value.assignments.byte };
+  expenses = record { count = n.value.expenses; at = w.value.expenses.byte };
 }
 
 abbrev pub sections_by : ℕ → Counts → Places → Option Sections
-sections_by len n w = if eqb w.end.bit 0 && eqb w.end.byte len then Some (sections_of n w) else None
+sections_by len n w = if eqb w.next.bit 0 && eqb w.next.byte len then Some (sections_of n w) else None
 
 -- document 01's number
 abbrev pub opened_number : Option Sections → ℕ

@@ -18,7 +18,7 @@ const NOTHING: Field<u64> = Field {
     next: PAST,
 };
 
-// The place behind so many bits.
+// The place behind so many bits. Both ends are tested, before the sum and after it, so `bits::take` is not needed, which reads the bits too.
 pub(crate) fn skip(s: &[u8], p: Place, width: usize) -> Place
     requires { width ≤ 64 }
     ensures { Passes (field width) s.now p result }
@@ -85,7 +85,7 @@ fn date_of(v: u64) -> Option<u64>
     in_years((v + 4371953).checked_sub(0x1_0000_0000)?)
 }
 
-// A date by its number, counted from the year -10000; 0, and a place past every end, where it is outside the years.
+// A date by its number, counted from the year -10000; 0, and a place past every end, where it is outside the years. `take_date` gives the day number.
 pub(crate) fn take_date_key(s: &[u8], p: Place) -> Field<u64>
     ensures { Finds date (DayKey false) s.now p result }
 {

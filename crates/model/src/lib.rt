@@ -12,73 +12,68 @@ ghost use Rattle.model.specs.Answers.{counts_at};
 ghost use Rattle.model.specs.Sections.{start, counts_in, counts_by, sections_by, PassesProject, PassesRecords, Heads, Behind, Walks, Opens};
 
 use crate::records::{Kind, skip_project, skip_records};
-use bits::{PAST, Place};
+use bits::{Field, PAST, Place};
 use reader::Reader;
 
-// A section: how many records it has, and the byte at which the first stands.
-#[derive(Clone, Copy)]
+// A section: how many records it has, and the byte at which the first stands. The model goes beside it, and no slice of it: its records have no
+// common size, and callers keep the places of some.
+#[derive(Clone, Copy, Debug, PartialEq, Eq)]
 pub struct Section {
     pub count: u32,
     pub at: usize,
 }
 
-// A model's sections.
-#[derive(Clone, Copy)]
-pub struct Sections {
-    pub calendars: Section,
-    pub activities: Section,
-    pub links: Section,
-    pub resources: Section,
-    pub assignments: Section,
-    pub expenses: Section,
+// One value for each kind of records.
+#[derive(Clone, Copy, Debug, PartialEq, Eq)]
+pub struct PerKind<T> {
+    pub calendars: T,
+    pub activities: T,
+    pub links: T,
+    pub resources: T,
+    pub assignments: T,
+    pub expenses: T,
 }
+
+// A model's sections.
+pub type Sections = PerKind<Section>;
 
 // The six counts, and the place behind them; where they cannot be read, zeros and a place past every end.
-#[derive(Clone, Copy)]
-pub struct Counts {
-    pub calendars: u32,
-    pub activities: u32,
-    pub links: u32,
-    pub resources: u32,
-    pub assignments: u32,
-    pub expenses: u32,
-    pub next: Place,
-}
+pub type Counts = Field<PerKind<u32>>;
+
+// Where each section begins, and the place behind the last.
+pub type Places = Field<PerKind<Place>>;
 
 // No Option: a walk goes on from a place past every end, as behind any field that is refused, and the callers test its end alone.
-const NO_COUNTS: Counts = Counts {
-    calendars: 0,
-    activities: 0,
-    links: 0,
-    resources: 0,
-    assignments: 0,
-    expenses: 0,
+const NO_COUNTS: Counts = Field {
+    value: PerKind {
+        calendars: 0,
+        activities: 0,
+        links: 0,
+        resources: 0,
+        assignments: 0,
+        expenses: 0,
+    },
     next: PAST,
 };
 
-// Six counts that were read, and the place behind them.
-fn counts_of(
-    calendars: u64,
-    activities: u64,
-    links: u64,
-    resources: u64,
-    assignments: u64,
-    expenses: u64,
-    next: Place,
-) -> Counts
-    requires { (calendars < 2 ^ 32) × (activities < 2 ^ 32) × (links < 2 ^ 32) × (resources < 2 ^ 32) × (assignments < 2 ^ 32) × (expenses < 2 ^ 32) }
-    ensures { (counts_in result, result.next) ≡ counts_by (calendars, (activities, (links, (resources, (assignments, expenses))))) next }
+// Six counts that were read, fields of 32 bits, and the place behind them. A function of its own: what a reader gives is proved apart from what
+// becomes of it.
+fn counts_of(n: PerKind<u64>, next: Place) -> Counts
+    requires { (n.calendars < 2 ^ 32) × (n.activities < 2 ^ 32) × (n.links < 2 ^ 32) × (n.resources < 2 ^ 32) × (n.assignments < 2 ^ 32) × (n.expenses < 2 ^ 32) }
+    ensures { (counts_in result, result.next) ≡ counts_by (n.calendars, (n.activities, (n.links, (n.resources, (n.assignments, n.expenses))))) next }
 {
     if 7 < next.bit {
         return NO_COUNTS;
     }
-    Counts {
-        calendars: calendars as u32,
-        activities: activities as u32,
-        links: links as u32,
-        resources: resources as u32,
-        assignments: assignments as u32,
-        expenses: expenses as u32,
+    Field {
+        value: PerKind {
+            calendars: n.calendars as u32,
+            activities: n.activities as u32,
+            links: n.links as u32,
+            resources: n.resources as u32,
+            assignments: n.assignments as u32,
+            expenses: n.expenses as u32,
+        },
         next,
     }
 }
@@ -93,31 +88,19 @@ pub fn take_counts(s: &[u8]) -> Counts
     let resources = links.next.take(32);
     let assignments = resources.next.take(32);
     let expenses = assignments.next.take(32);
-    counts_of(
-        calendars.value,
-        activities.value,
-        links.value,
-        resources.value,
-        assignments.value,
-        expenses.value,
-        expenses.next.place,
-    )
-}
-
-// Where each section begins, and where the last one ends.
-#[derive(Clone, Copy)]
-pub struct Places {
-    pub calendars: Place,
-    pub activities: Place,
-    pub links: Place,
-    pub resources: Place,
-    pub assignments: Place,
-    pub expenses: Place,
-    pub end: Place,
+    let counts = PerKind {
+        calendars: calendars.value,
+        activities: activities.value,
+        links: links.value,
+        resources: resources.value,
+        assignments: assignments.value,
+        expenses: expenses.value,
+    };
+    counts_of(counts, expenses.next.place)
 }
 
 // Where the first two sections begin.
-#[derive(Clone, Copy)]
+#[derive(Clone, Copy, Debug, PartialEq, Eq)]
 pub struct Head {
     pub calendars: Place,
     pub activities: Place,
@@ -153,7 +136,7 @@ pub fn walk_head(s: &[u8], n: Counts) -> Head
         place: n.next,
     };
     let calendars = past_project(project);
-    let activities = past_records(calendars, Kind::Calendars, n.calendars);
+    let activities = past_records(calendars, Kind::Calendars, n.value.calendars);
     Head {
         calendars: calendars.place,
         activities: activities.place,
@@ -168,21 +151,24 @@ pub fn walk_behind(s: &[u8], n: Counts, head: Head, links: Place) -> Places
         model: s,
         place: links,
     };
-    let resources = past_records(first, Kind::Links, n.links);
-    let assignments = past_records(resources, Kind::Resources, n.resources);
-    let expenses = past_records(assignments, Kind::Assignments, n.assignments);
-    let end = past_records(expenses, Kind::Expenses, n.expenses);
-    Places {
-        calendars: head.calendars,
-        activities: head.activities,
-        links,
-        resources: resources.place,
-        assignments: assignments.place,
-        expenses: expenses.place,
-        end: end.place,
+    let resources = past_records(first, Kind::Links, n.value.links);
+    let assignments = past_records(resources, Kind::Resources, n.value.resources);
+    let expenses = past_records(assignments, Kind::Assignments, n.value.assignments);
+    let end = past_records(expenses, Kind::Expenses, n.value.expenses);
+    Field {
+        value: PerKind {
+            calendars: head.calendars,
+            activities: head.activities,
+            links,
+            resources: resources.place,
+            assignments: assignments.place,
+            expenses: expenses.place,
+        },
+        next: end.place,
     }
 }
 
+// The walk as a whole. The check and the outline have one of their own, with more at each activity: what all three share are the two functions above.
 fn walk(s: &[u8], n: Counts) -> Places
     ensures { Walks s.now n result }
 {
@@ -191,7 +177,7 @@ fn walk(s: &[u8], n: Counts) -> Places
         model: s,
         place: head.activities,
     };
-    let links = past_records(activities, Kind::Activities, n.activities);
+    let links = past_records(activities, Kind::Activities, n.value.activities);
     walk_behind(s, n, head, links.place)
 }
 
@@ -199,32 +185,32 @@ fn walk(s: &[u8], n: Counts) -> Places
 pub fn sections_of(len: usize, n: Counts, w: Places) -> Option<Sections>
     ensures { result ≡ sections_by len n w }
 {
-    let end = w.end;
+    let end = w.next;
     if (end.bit == 0) & (end.byte == len) {
-        return Some(Sections {
+        return Some(PerKind {
             calendars: Section {
-                count: n.calendars,
-                at: w.calendars.byte,
+                count: n.value.calendars,
+                at: w.value.calendars.byte,
             },
             activities: Section {
-                count: n.activities,
-                at: w.activities.byte,
+                count: n.value.activities,
+                at: w.value.activities.byte,
             },
             links: Section {
-                count: n.links,
-                at: w.links.byte,
+                count: n.value.links,
+                at: w.value.links.byte,
             },
             resources: Section {
-                count: n.resources,
-                at: w.resources.byte,
+                count: n.value.resources,
+                at: w.value.resources.byte,
             },
             assignments: Section {
-                count: n.assignments,
-                at: w.assignments.byte,
+                count: n.value.assignments,
+                at: w.value.assignments.byte,
             },
             expenses: Section {
-                count: n.expenses,
-                at: w.expenses.byte,
+                count: n.value.expenses,
+                at: w.value.expenses.byte,
             },
         });
     }

@@ -83,6 +83,7 @@ impl Item for WorkingDay {
     ghost keys = { by_day_lem true };
 }
 
+// The items stand in bits one behind the other, so there is no slice for `is_sorted`.
 fn skip_list<T: Item>(s: &[u8], p: Place) -> Place
     ensures { Passes (list_of T.before T.format) s.now p result }
 {

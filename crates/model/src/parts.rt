@@ -16,7 +16,8 @@ use crate::lists::{skip_dates, skip_hours};
 use bits::{Field, PAST, Place};
 use definition::Date;
 
-// ---- what stands at a place. Where nothing can be read, a value is missing or 0, and the next place is past every end
+// ---- what stands at a place. Where nothing can be read, a value is missing or 0, and the next place is past every end. A row and a name are two
+// functions: one over what is taken behind the flag would be no shorter
 
 // An optional row.
 pub fn take_row(s: &[u8], p: Place) -> Field<Option<u32>>
@@ -114,7 +115,7 @@ pub fn take_date(s: &[u8], p: Place) -> Field<Option<Date>>
     }
 }
 
-// From a minute of the day to another.
+// From a minute of the day to another. A WorkingTime of the crate calendar is what a plan says, which need not be in order.
 #[derive(Clone, Copy, Debug, PartialEq, Eq)]
 pub struct Period {
     pub from: u16,
@@ -135,6 +136,7 @@ pub fn take_period(s: &[u8], p: Place) -> Field<Option<Period>>
         };
     }
     Field {
+        // Both fit, as they are at most 1440.
         value: Some(Period {
             from: from.value as u16,
             to: to.value as u16,
@@ -182,6 +184,7 @@ pub(crate) fn resource_calendar_place_by<const CHECK: bool>(s: &[u8], p: Place) 
     skip(s, d, 64)
 }
 
+// In a model that was opened.
 pub fn resource_calendar_place(s: &[u8], p: Place) -> Place
     ensures { Passes (resource_head (text_by false)) s.now p result }
 {
@@ -189,7 +192,7 @@ pub fn resource_calendar_place(s: &[u8], p: Place) -> Place
 }
 
 // A calendar's parts.
-#[derive(Clone, Copy)]
+#[derive(Clone, Copy, Debug, PartialEq, Eq)]
 pub struct CalendarPlaces {
     pub week: Place,
     pub hours: Place,

@@ -26,6 +26,7 @@ pub(crate) fn skip_project(s: &[u8], p: Place) -> Place
     bits::take_pad(s, skip_optional_date(s, g))
 }
 
+// A function for each kind of record, a line for each field, in the order in which they stand.
 fn skip_calendar<const CHECK: bool>(s: &[u8], p: Place) -> Place
     ensures { Passes (whole (calendar_parts (text_by CHECK))) s.now p result × (result.bit % 8 ≡ 0) }
 {

@@ -19,7 +19,7 @@ use Rattle.model.specs.Splits.{Stands, stands_or}
 use Rattle.model.specs.Sections.{Decoded}
 use Rattle.model.specs.Answers.{row_at, rows_at}
 use Rattle.model.specs.Places.{NameTaken, text_in, link_rows, assignment_rows}
-use Rattle.model.specs.declared.Sections.{Sections}
+use Rattle.model.specs.PerKind.{Sections}
 use Rattle.model.specs.declared.records.Kind.{Kind}
 use Rattle.model_check.specs.Kinds.{Item}
 use Rattle.model_check.specs.Keys.{same_key}

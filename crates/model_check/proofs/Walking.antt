@@ -32,11 +32,11 @@ use Rattle.model.specs.Parts.{text_by, activity_head, record_of, regroup_five, l
 use Rattle.model.specs.Splits.{Stands, Step, step, not_refused, stands_first, stands_next, stands_pass, stands_named, stands_whole, stands_regroup}
 use Rattle.model.specs.Sections.{Holds, Decoded, Heads, Behind, Opens, walks, start, counts_in, sections_of, sections_by, byte_at, byte_rest}
 use Rattle.model.specs.Opening.{opened, opened_at}
-use Rattle.model.specs.declared.Counts.{Counts}
+use Rattle.model.specs.PerKind.{Counts}
 use Rattle.model.specs.declared.Head.{Head}
-use Rattle.model.specs.declared.Places.{Places}
+use Rattle.model.specs.PerKind.{Places}
 use Rattle.model.specs.declared.Section.{Section}
-use Rattle.model.specs.declared.Sections.{Sections}
+use Rattle.model.specs.PerKind.{Sections}
 use Rattle.model.specs.declared.records.Kind.TheVariants.{Calendars, Activities}
 use Rattle.model_check.specs.declared.walk.Walked.{Walked}
 use Rattle.model_check.specs.Keys.{Key, Keyed}
@@ -156,23 +156,23 @@ module _ {s : List ℕ} {at n : ℕ} {w w₂ : List ℕ} where
 -- ---- the walk
 
 pub walked : {s : List ℕ} {n : Counts} {head : Head} {at : ℕ} {names ids : Option Table} {t : Table} {w w₁ w₂ w₃ : List ℕ} {r : Field Bool Place} {places : Places} → Heads s n head
-    → ((key : Calendar → Key) → Keyed Calendars s key → (xs : List Calendar) (end : ℕ) → Holds calendar s (record { count = n.calendars; at = head.calendars.byte }) xs end → TableFor 0 s (map key xs) names w₁)
-    → at ≡ min (end_in names) (length w₁) → EmptyAt s at n.activities w₁ w₂ ids → t ≡ table_in ids
-    → JudgedAll s head.activities n.activities (record { count = n.calendars; at = head.calendars.byte }) names t w₂ w₃ r → Behind s n head r.next places
+    → ((key : Calendar → Key) → Keyed Calendars s key → (xs : List Calendar) (end : ℕ) → Holds calendar s (record { count = n.value.calendars; at = head.calendars.byte }) xs end → TableFor 0 s (map key xs) names w₁)
+    → at ≡ min (end_in names) (length w₁) → EmptyAt s at n.value.activities w₁ w₂ ids → t ≡ table_in ids
+    → JudgedAll s head.activities n.value.activities (record { count = n.value.calendars; at = head.calendars.byte }) names t w₂ w₃ r → Behind s n head r.next places
     → ModelWalked s n w w₃ (record { places = places; names = names; ids = ids; right = r.value })
 walked {s} {n} {head} {at} {names} {ids} {t} {w} {w₁} {w₂} {w₃} {r} {places} h i f e g k b =
     record { walks = walks h (pass_like (like_times _ strict_activities) k.passes) b; looked = looks }
   where
-    j : JudgedAll s head.activities n.activities (record { count = n.calendars; at = head.calendars.byte }) names (table_in ids) w₂ w₃ r
-    j = subst (λ (t : Table). JudgedAll s head.activities n.activities (record { count = n.calendars; at = head.calendars.byte }) names t w₂ w₃ r) g k
+    j : JudgedAll s head.activities n.value.activities (record { count = n.value.calendars; at = head.calendars.byte }) names (table_in ids) w₂ w₃ r
+    j = subst (λ (t : Table). JudgedAll s head.activities n.value.activities (record { count = n.value.calendars; at = head.calendars.byte }) names t w₂ w₃ r) g k
 
-    looks : (m : Model) → Decoded s m (sections_of n places) → places.activities ≡ byte_at places.activities.byte → Looked s m names ids r.value w₃
+    looks : (m : Model) → Decoded s m (sections_of n places) → places.value.activities ≡ byte_at places.value.activities.byte → Looked s m names ids r.value w₃
     looks m d z =
         let ks : List Key = map (λ (c : Calendar). (0, c.name)) m.calendars in
-        let c : Holds calendar s (record { count = n.calendars; at = head.calendars.byte }) m.calendars places.activities.byte =
-        subst (λ (p : Place). Holds calendar s (record { count = n.calendars; at = p.byte }) m.calendars places.activities.byte) b.calendars_at d.calendars in
-        let u : Run Activities s head.activities n.activities m.activities places.links.byte =
-        subst (λ (p : Place). Run Activities s p n.activities m.activities places.links.byte) (sym z ∙ b.activities_at) (run Activities d.activities) in
+        let c : Holds calendar s (record { count = n.value.calendars; at = head.calendars.byte }) m.calendars places.value.activities.byte =
+        subst (λ (p : Place). Holds calendar s (record { count = n.value.calendars; at = p.byte }) m.calendars places.value.activities.byte) b.calendars_at d.calendars in
+        let u : Run Activities s head.activities n.value.activities m.activities places.value.links.byte =
+        subst (λ (p : Place). Run Activities s p n.value.activities m.activities places.value.links.byte) (sym z ∙ b.activities_at) (run Activities d.activities) in
         let x : TableFor 0 s ks names w₁ = i (λ (c : Calendar). (0, c.name)) calendar_key m.calendars _ c in
         let a : ApartFrom names (table_in ids) = made_behind names ids e f (table_fits 0 s ks names w₁ x) in
         let y : TableFor 0 s ks names w₂ = table_kept 0 s ks names (made_kept names ids e a) x in

@@ -12,7 +12,7 @@ use Rattle.definition.specs.Check.{distinct, keeps_list}
 use Rattle.definition.specs.Refusal.{check_answer}
 use Rattle.laws.specs.Tests.{some_map}
 use Rattle.model.specs.Sections.{Decoded, Opens}
-use Rattle.model.specs.declared.Sections.{Sections}
+use Rattle.model.specs.PerKind.{Sections}
 
 pub both : {a b c d : Bool} → a ≡ b → c ≡ d → a && c ≡ b && d
 both e f = rw (e, f)

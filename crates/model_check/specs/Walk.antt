@@ -14,7 +14,7 @@ use Rattle.model.specs.Passes.{Passes}
 use Rattle.model.specs.Parts.{record_of}
 use Rattle.model.specs.Splits.{Stands}
 use Rattle.model.specs.Sections.{Holds, Decoded, Walks, byte_at, sections_of}
-use Rattle.model.specs.declared.Counts.{Counts}
+use Rattle.model.specs.PerKind.{Counts}
 use Rattle.model.specs.declared.Section.{Section}
 use Rattle.model.specs.declared.records.Kind.TheVariants.{Activities}
 use Rattle.model_check.specs.declared.walk.Walked.{Walked}
@@ -66,4 +66,4 @@ pub record Looked (s : List ℕ) (m : Model) (n i : Option Table) (activities : 
 
 pub record ModelWalked (s : List ℕ) (n : Counts) (w w' : List ℕ) (r : Walked) : Type 0 where
   pub walks : Walks s n r.places
-  pub looked : (m : Model) → Decoded s m (sections_of n r.places) → r.places.activities ≡ byte_at r.places.activities.byte → Looked s m r.names r.ids r.right w'
+  pub looked : (m : Model) → Decoded s m (sections_of n r.places) → r.places.value.activities ≡ byte_at r.places.value.activities.byte → Looked s m r.names r.ids r.right w'

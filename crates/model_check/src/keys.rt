@@ -63,7 +63,7 @@ pub(crate) struct KeyBytes<'a> {
     pub(crate) name: &'a [u8],
 }
 
-// The bytes of the text at a place.
+// The bytes of the text at a place. names::raw_text is this with a promise for bytes that are no text, and stands above.
 pub(crate) fn text_at(s: &[u8], p: Place) -> &[u8]
     ensures { (t : Text) → Stands text s.now p t → result.now ≡ t }
 {

@@ -16,7 +16,7 @@ ghost use Rattle.model.specs.Sections.{Decoded};
 ghost use Rattle.model_check.specs.Walk.{Looked};
 
 use crate::keys::{Activities, Expenses, Resources};
-use crate::rules::every_right;
+use crate::rules::{Names, every_right};
 use crate::tables::{all_distinct, distinct_in};
 use crate::walk::walk_model;
 use definition::Refusal;
@@ -35,10 +35,14 @@ fn keeps_list(
 ) -> bool
     ensures { (m : Model) → Decoded s.now m w → Looked s.now m names ids activities words.old → result ≡ keeps_list m }
 {
-    let resources = every_right(s, Kind::Resources, w.resources, w, words, names);
-    let links = every_right(s, Kind::Links, w.links, w, words, names);
-    let assignments = every_right(s, Kind::Assignments, w.assignments, w, words, names);
-    let expenses = every_right(s, Kind::Expenses, w.expenses, w, words, names);
+    let calendars = Names {
+        table: names,
+        words,
+    };
+    let resources = every_right(s, Kind::Resources, w.resources, w, calendars);
+    let links = every_right(s, Kind::Links, w.links, w, calendars);
+    let assignments = every_right(s, Kind::Assignments, w.assignments, w, calendars);
+    let expenses = every_right(s, Kind::Expenses, w.expenses, w, calendars);
     let ids_differ = distinct_in::<Activities>(s, w.activities, words, ids);
     let resource_ids = all_distinct::<Resources>(s, w.resources, words);
     let expenses_differ = all_distinct::<Expenses>(s, w.expenses, words);

@@ -23,27 +23,34 @@ use model::parts::{parent_place_by, resource_calendar_place, take_name, take_row
 use model::records::{Kind, skip_from_notes, skip_record};
 use model::{Section, Sections};
 
+// The names of the calendars: their table, if there is one, in the words that hold it.
+#[derive(Clone, Copy)]
+pub(crate) struct Names<'a> {
+    pub(crate) table: Option<Table>,
+    pub(crate) words: &'a [u32],
+}
+
 // Whether some calendar has a name, by the table of the calendars; by a scan where there is none.
-fn is_calendar(s: &[u8], x: Section, words: &[u32], names: Option<Table>, name: &[u8]) -> bool
-    ensures { (m : Model) (end : ℕ) → Holds calendar s.now x m.calendars end → NamesIn s.now m names words.now → result ≡ is_calendar m name.now }
+fn is_calendar(s: &[u8], x: Section, names: Names<'_>, name: &[u8]) -> bool
+    ensures { (m : Model) (end : ℕ) → Holds calendar s.now x m.calendars end → NamesIn s.now m names.entry.table names.entry.words.now → result ≡ is_calendar m name.now }
 {
     let first = Place { byte: x.at, bit: 0 };
     let key = KeyBytes { row: 0, name };
-    match names {
-        Some(t) => table_has_key::<Calendars>(s, words, t, key),
+    match names.table {
+        Some(t) => table_has_key::<Calendars>(s, names.words, t, key),
         None => some_has_key::<Calendars>(s, first, x.count, key),
     }
 }
 
 // Whether the optional name at a place is missing, or some calendar's.
-fn calendar_known(s: &[u8], p: Place, x: Section, words: &[u32], names: Option<Table>) -> bool
-    ensures { (m : Model) (end : ℕ) → Holds calendar s.now x m.calendars end → NamesIn s.now m names words.now → (o : Option Text) → Stands (optional text) s.now p o → result ≡ if_given (is_calendar m) o }
+fn calendar_known(s: &[u8], p: Place, x: Section, names: Names<'_>) -> bool
+    ensures { (m : Model) (end : ℕ) → Holds calendar s.now x m.calendars end → NamesIn s.now m names.entry.table names.entry.words.now → (o : Option Text) → Stands (optional text) s.now p o → result ≡ if_given (is_calendar m) o }
 {
     let Some((start, len)) = take_name(s, p).value else {
         return true;
     };
     let end = start + len;
-    is_calendar(s, x, words, names, &s[start..end])
+    is_calendar(s, x, names, &s[start..end])
 }
 
 // Whether a row is missing, or below another.
@@ -59,15 +66,14 @@ pub(crate) fn judge_activity(
     p: Place,
     own: u32,
     calendars: Section,
-    words: &[u32],
-    names: Option<Table>,
+    names: Names<'_>,
 ) -> Field<bool>
-    ensures { JudgedAt s.now p own calendars names words.now result }
+    ensures { JudgedAt s.now p own calendars names.entry.table names.entry.words.now result }
 {
     let parent = take_row(s, parent_place_by::<true>(s, p));
     let row = parent.value;
     let calendar = bits::take_text(s, parent.next).next;
-    let known = calendar_known(s, calendar, calendars, words, names);
+    let known = calendar_known(s, calendar, calendars, names);
     let end = skip_from_notes::<true>(s, parent.next);
     let next = bits::take_pad(s, end);
     Field {
@@ -88,30 +94,30 @@ fn rows_below(s: &[u8], p: Place, first: u32, second: u32) -> bool
 fn row_below(s: &[u8], p: Place, count: u32) -> bool
     ensures { (n : ℕ) → Stands row s.now p n → result ≡ ltb n count }
 {
-    bits::take(s, p, 32).value < u64::from(count)
+    bits::take_u32(s, p).value < count
 }
 
-// Whether the record at a place, the one of a row, keeps its rules. The kind is matched, since each has a rule of its own.
+// Whether the record at a place, the one of a row, keeps its rules. The kind is matched, since each has a rule of its own. That these are the sections of
+// a decoded model is said here and in the two callers alone; the names go beside the sections, as
+// their words are lent for these tests alone.
 fn is_right(
     s: &[u8],
     p: Place,
     kind: Kind,
     own: u32,
     w: Sections,
-    words: &[u32],
-    names: Option<Table>,
+    names: Names<'_>,
 ) -> bool
-    ensures { (m : Model) → Decoded s.now m w → NamesIn s.now m names words.now → (a : Item kind) → Stands (whole (format_of kind)) s.now p a → result ≡ right_of m kind (own, a) }
+    ensures { (m : Model) → Decoded s.now m w → NamesIn s.now m names.entry.table names.entry.words.now → (a : Item kind) → Stands (whole (format_of kind)) s.now p a → result ≡ right_of m kind (own, a) }
 {
     match kind {
         Kind::Calendars => true,
-        Kind::Activities => judge_activity(s, p, own, w.calendars, words, names).value,
+        Kind::Activities => judge_activity(s, p, own, w.calendars, names).value,
         Kind::Links => rows_below(s, p, w.activities.count, w.activities.count),
         Kind::Resources => calendar_known(
             s,
             resource_calendar_place(s, p),
             w.calendars,
-            words,
             names,
         ),
         Kind::Assignments => rows_below(s, p, w.activities.count, w.resources.count),
@@ -125,14 +131,13 @@ pub(crate) fn every_right(
     kind: Kind,
     x: Section,
     w: Sections,
-    words: &[u32],
-    names: Option<Table>,
+    names: Names<'_>,
 ) -> bool
-    ensures { (m : Model) → Decoded s.now m w → NamesIn s.now m names words.now → (xs : List (Item kind)) (end : ℕ) → Holds (format_of kind) s.now x xs end → result ≡ every? (right_of m kind) (numbered 0 xs) }
+    ensures { (m : Model) → Decoded s.now m w → NamesIn s.now m names.entry.table names.entry.words.now → (xs : List (Item kind)) (end : ℕ) → Holds (format_of kind) s.now x xs end → result ≡ every? (right_of m kind) (numbered 0 xs) }
 {
     let mut q = Place { byte: x.at, bit: 0 };
     for i in 0..x.count {
-        if !is_right(s, q, kind, i, w, words, names) {
+        if !is_right(s, q, kind, i, w, names) {
             return false;
         }
         q = skip_record::<false>(s, q, kind);

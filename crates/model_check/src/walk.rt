@@ -3,7 +3,7 @@ ghost use Rattle.std.specs.Prelude.{◌≡◌};
 ghost use Rattle.model_check.specs.Walk.{table_in, JudgedAll, ModelWalked};
 
 use crate::keys::{Activities, Calendars};
-use crate::rules::judge_activity;
+use crate::rules::{Names, judge_activity};
 use crate::tables::{empty_table, hash_at, index_keys};
 use bits::{Field, Place};
 use index::Table;
@@ -33,8 +33,9 @@ fn judge_activities(
     let mut right = true;
     for i in 0..count {
         let hash = hash_at::<Activities>(s, q);
+        // A table's place is a word; a model of more bytes has no table.
         t.put(words, i, hash, (q.byte % 4294967296) as u32);
-        let a = judge_activity(s, q, i, calendars, words, names);
+        let a = judge_activity(s, q, i, calendars, Names { table: names, words });
         right &= a.value;
         q = a.next;
         if 7 < q.bit {
@@ -50,7 +51,8 @@ fn judge_activities(
     }
 }
 
-// The places between the sections, as model::open finds them; the tables of names and of ids; whether all activities are right.
+// The places between the sections, as model::open finds them; the tables of names and of ids; whether all activities are right, which says nothing of
+// the other three.
 #[derive(Clone, Copy)]
 pub(crate) struct Walked {
     pub(crate) places: Places,
@@ -64,15 +66,15 @@ pub(crate) fn walk_model(s: &[u8], n: Counts, words: &mut [u32]) -> Walked
 {
     let head = walk_head(s, n);
     let calendars = Section {
-        count: n.calendars,
+        count: n.value.calendars,
         at: head.calendars.byte,
     };
     let names = index_keys::<Calendars>(s, calendars, words);
-    let ids = empty_table(s, words, index::end_of(names, words.len()), n.activities);
+    let ids = empty_table(s, words, index::end_of(names, words.len()), n.value.activities);
     let a = judge_activities(
         s,
         head.activities,
-        n.activities,
+        n.value.activities,
         calendars,
         words,
         names,

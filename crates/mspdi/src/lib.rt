@@ -1,4 +1,5 @@
 // The entries that a host calls; mspdi_c exports them to C. Each returns 0, or the number of the refusal; on a refusal all that is lent is zeros.
+// Numbers and lent results, and no Result, for C.
 #![tactic(auto)]
 
 ghost use Rattle.std.specs.Prelude.{◌≡◌, List, ℕ, length, replicate};
@@ -14,10 +15,7 @@ use definition::{Date, Refusal};
 fn from_zero(n: i64) -> u64
     ensures { result ≡ from_zero n }
 {
-    if n < 0 {
-        return 18_446_744_073_709_551_615;
-    }
-    n as u64
+    u64::try_from(n).unwrap_or(u64::MAX)
 }
 
 // The number of an answer.
@@ -50,7 +48,7 @@ pub fn mspdi_duration(minutes: i64, text: &mut [u8], written: &mut u64) -> u32
 pub fn mspdi_time(minutes: u32, text: &mut [u8], written: &mut u64) -> u32
     ensures { (result, text.new, written.new) ≡ leaves (length text.old) (time_answer minutes (length text.old)) }
 {
-    let a = number::time_text(minutes as u64, text);
+    let a = number::time_text(u64::from(minutes), text);
     told(a, written)
 }
 

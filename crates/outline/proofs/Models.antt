@@ -20,10 +20,10 @@ use Rattle.definition.specs.Refusal.{refused, gives, result, left, row_count, ro
 use Rattle.model.specs.Answers.{counts_at}
 use Rattle.model.specs.Sections.{Opens, Sectioned, Holds, start, counts_in, sections_by}
 use Rattle.model.specs.Opening.{opened, opened_at}
-use Rattle.model.specs.declared.Counts.{Counts}
-use Rattle.model.specs.declared.Places.{Places}
+use Rattle.model.specs.PerKind.{Counts}
+use Rattle.model.specs.PerKind.{Places}
 use Rattle.model.specs.declared.Section.{Section}
-use Rattle.model.specs.declared.Sections.{Sections}
+use Rattle.model.specs.PerKind.{Sections}
 use Rattle.outline.specs.Words.{no_row, parents_in, outline_words, Outlined}
 use Rattle.outline.proofs.ParentLaws.{outline_filled}
 use Rattle.outline.specs.Filled.{parents, Names, ModelWalked}

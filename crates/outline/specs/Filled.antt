@@ -10,8 +10,8 @@ use Rattle.model.specs.Passes.{Passes}
 use Rattle.model.specs.Parts.{record_of}
 use Rattle.model.specs.Splits.{Stands}
 use Rattle.model.specs.Sections.{Holds, Walks, byte_at}
-use Rattle.model.specs.declared.Counts.{Counts}
-use Rattle.model.specs.declared.Places.{Places}
+use Rattle.model.specs.PerKind.{Counts}
+use Rattle.model.specs.PerKind.{Places}
 use Rattle.model.specs.declared.records.Kind.TheVariants.{Activities}
 use Rattle.outline.specs.Steps.{word_of}
 
@@ -36,4 +36,4 @@ pub record Filled (s : List ℕ) (p : Place) (n : ℕ) (w w' : List ℕ) (r : Pl
 -- the walk over the sections, with the activities' parents in the words
 pub record ModelWalked (s : List ℕ) (n : Counts) (w w' : List ℕ) (r : Places) : Type 0 where
   pub walks : Walks s n r
-  pub filled : Filled s r.activities n.activities w w' r.links
+  pub filled : Filled s r.value.activities n.value.activities w w' r.value.links

@@ -17,7 +17,8 @@ use model::{sections_of, take_counts};
 // A word that names no row, as the lent words hold it: a word has no room for an Option, so `climb`, `step` and `walk` test for it.
 const NONE: u32 = 0xFFFF_FFFF;
 
-// The words of a row in the lent slice. Rows name each other by number there: no heap holds nodes.
+// The words of a row in the lent slice. Rows name each other by number there: no heap holds nodes. A row becomes an index by `as`, as there is no
+// From from u32 to usize.
 const PARENT: u32 = 0;
 
 const CHILD: u32 = 1;
@@ -130,7 +131,7 @@ fn step(n: u32, work: &[u32], row: u32, depth: u32) -> Visit
     climb(work, row, depth)
 }
 
-// Writes row k.
+// Writes row k: two words, as a C host reads them.
 fn put_row(rows: &mut [u32], k: u32, row: u32, level: u32)
     requires { 2 * k + 1 < length rows.old }
     ensures { rows.new ≡ set (set rows.old (2 * k) row) (2 * k + 1) level }

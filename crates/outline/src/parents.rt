@@ -47,12 +47,13 @@ fn fill(s: &[u8], p: Place, count: u32, work: &mut [u32]) -> Place
     q
 }
 
-// The places between the sections, as model::open finds them, with the parents in the words.
+// The places between the sections, as model::open finds them, with the parents in the words. The check's walk has tables to fill at the same step, and
+// shares walk_head and walk_behind.
 pub(crate) fn walk_model(s: &[u8], n: Counts, work: &mut [u32]) -> Places
     ensures { ModelWalked s.now n work.old work.new result }
 {
     let head = walk_head(s, n);
     let activities = head.activities;
-    let links = fill(s, activities, n.activities, work);
+    let links = fill(s, activities, n.value.activities, work);
     walk_behind(s, n, head, links)
 }

@@ -1,6 +1,6 @@
 // Leaves that the boundary does not export, for compare/ alone, to which probe_c exports them: each beside the Rust, on the same texts. The answer of a leaf is 0 where
 // there is a value, which `out` then holds, 1 where there is none and 2 where document 01 refuses a number as too long, with 0 in `out`. A duration has two
-// values, its minutes and 1 where the sum was whole.
+// values, its minutes and 1 where the sum was whole. Numbers and lent results, and no Option, for C.
 #![tactic(auto)]
 
 use definition::{Date, Duration, Unread};

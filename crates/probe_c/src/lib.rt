@@ -1,4 +1,5 @@
-// What a C host links to compare the parts with the Rust: each export is the function of probe of that name, with its contract.
+// What a C host links to compare the parts with the Rust: each export is the function of probe of that name, with its contract. C takes numbers and
+// pointers, and a name for each function, so that each of probe's stands here again, with as many parameters as it has results.
 #![tactic(auto)]
 
 mod days; // rules and their days

@@ -8,7 +8,8 @@ use definition::Refusal;
 
 // ---- the check
 
-fn check_agrees(model: &[u8], answer: u32) -> bool {
+// Whether the check answers a number, and leaves zeros in work.
+pub fn check_agrees(model: &[u8], answer: u32) -> bool {
     let mut work = [0xFFFF_FFFF; 3];
     let a = mspdi::mspdi_check(model, &mut work);
     (a == answer) & parts::words_are(&work, &[])
@@ -25,13 +26,9 @@ const WORK: usize = 1024;
 fn outline_into(model: &[u8], rows: &mut [u32], work: &mut [u32], answer: u32, s: &[u8]) -> bool {
     let mut count: u64 = 0xFFFF_FFFF;
     let a = mspdi::mspdi_outline(model, rows, work, &mut count);
-    if a != answer {
-        return false;
-    }
-    if count != (s.len() / 8) as u64 {
-        return false;
-    }
-    parts::words_are(rows, s) & parts::words_are(work, &[])
+    parts::told(a, count, answer, s.len() / 8)
+        & parts::words_are(rows, s)
+        & parts::words_are(work, &[])
 }
 
 // The same in so many words that are not zeros.
@@ -79,13 +76,7 @@ fn sheet_into(model: &[u8], asked: &[u8], sheet: &mut [u8], answer: u32, s: &[u8
     let date = parts::signed(parts::behind(asked, 4));
     let mut written: u64 = 0xFFFF_FFFF;
     let a = mspdi::mspdi_day_sheet(model, calendar, date, sheet, &mut written);
-    if a != answer {
-        return false;
-    }
-    if written != s.len() as u64 {
-        return false;
-    }
-    parts::bytes_are(sheet, s)
+    parts::told(a, written, answer, s.len()) & parts::bytes_are(sheet, s)
 }
 
 // The same in so many bytes that are not zeros.

@@ -1,4 +1,5 @@
-// Parts of a case: its numbers, and its pieces behind their lengths. Past the end of a case there are zeros.
+// Parts of a case: its numbers, and its pieces behind their lengths. Past the end of a case there are zeros, so `split_at` does not serve. A length becomes
+// an index by `as`, here and in the other files, as there is no From between usize and u32 or u64.
 
 // At most so many bytes, from the first on.
 pub fn first(s: &[u8], n: usize) -> &[u8] {
@@ -36,6 +37,11 @@ pub fn piece(s: &[u8]) -> (&[u8], &[u8]) {
     let rest = behind(s, 4);
     let n = number(s) as usize;
     (first(rest, n), behind(rest, n))
+}
+
+// Whether an entry answered a number and so long a result.
+pub fn told(a: u32, written: u64, answer: u32, len: usize) -> bool {
+    (a == answer) & (written == len as u64)
 }
 
 // Whether the bytes are these, and zeros behind.

@@ -11,6 +11,7 @@ struct Sum {
     check: u64,
 }
 
+// As the cases have it.
 const SKIPPED: Sum = Sum {
     days: 4294967295,
     check: 0,

@@ -1,6 +1,6 @@
 // A tree and what the Rust reads from it: the refusal or 0 (one byte), the tree behind its length (four bytes), the model, none where the tree is
 // refused. A model that was read passes the check.
-use crate::parts;
+use crate::{models, parts};
 use definition::Refusal;
 
 // ---- the read
@@ -12,13 +12,9 @@ fn read_into(s: &[u8], out: &mut [u8], answer: u32, model: &[u8]) -> bool {
     let mut work = [0xFFFF_FFFF; 3];
     let mut written: u64 = 0xFFFF_FFFF;
     let a = mspdi::mspdi_read(s, out, &mut work, &mut written);
-    if a != answer {
-        return false;
-    }
-    if written != model.len() as u64 {
-        return false;
-    }
-    parts::bytes_are(out, model) & parts::words_are(&work, &[])
+    parts::told(a, written, answer, model.len())
+        & parts::bytes_are(out, model)
+        & parts::words_are(&work, &[])
 }
 
 // The same in so many bytes that are not zeros.
@@ -49,13 +45,8 @@ fn check_number(refusal: u32) -> u32 {
     }
 }
 
-fn check_agrees(model: &[u8], answer: u32) -> bool {
-    let mut work = [0u32; 1];
-    mspdi::mspdi_check(model, &mut work) == answer
-}
-
 pub fn agrees(body: &[u8]) -> bool {
     let refusal = parts::byte(body);
     let (tree, model) = parts::piece(parts::behind(body, 1));
-    read_agrees(tree, refusal, model) & check_agrees(model, check_number(refusal))
+    read_agrees(tree, refusal, model) & models::check_agrees(model, check_number(refusal))
 }

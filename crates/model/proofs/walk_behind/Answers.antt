@@ -14,10 +14,10 @@ returns c =
     let b = c.past_records-assignments in
     let d = c.past_records-expenses in
     let e = c.past_records-end in
-    let ea : a.result.model.now ≡ s = same_bytes (PassesRecords Links n.links) s (record { model = c.args.s; place = c.args.links }) a.result a.ensures refl in
-    let eb : b.result.model.now ≡ s = same_bytes (PassesRecords Resources n.resources) s a.result b.result b.ensures ea in
-    let ed : d.result.model.now ≡ s = same_bytes (PassesRecords Assignments n.assignments) s b.result d.result d.ensures eb in
+    let ea : a.result.model.now ≡ s = same_bytes (PassesRecords Links n.value.links) s (record { model = c.args.s; place = c.args.links }) a.result a.ensures refl in
+    let eb : b.result.model.now ≡ s = same_bytes (PassesRecords Resources n.value.resources) s a.result b.result b.ensures ea in
+    let ed : d.result.model.now ≡ s = same_bytes (PassesRecords Assignments n.value.assignments) s b.result d.result d.ensures eb in
     behind {n = n} {h = c.args.head} a.ensures.1
-    (passed (PassesRecords Resources n.resources) s a.result b.result b.ensures ea)
-    (passed (PassesRecords Assignments n.assignments) s b.result d.result d.ensures eb)
-    (passed (PassesRecords Expenses n.expenses) s d.result e.result e.ensures ed)
+    (passed (PassesRecords Resources n.value.resources) s a.result b.result b.ensures ea)
+    (passed (PassesRecords Assignments n.value.assignments) s b.result d.result d.ensures eb)
+    (passed (PassesRecords Expenses n.value.expenses) s d.result e.result e.ensures ed)

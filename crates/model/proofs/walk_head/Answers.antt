@@ -11,4 +11,4 @@ returns c =
     let n = c.args.n in
     let a = c.past_project-calendars in
     let b = c.past_records-activities in
-    heads {n = n} a.ensures.1 (passed (PassesRecords Calendars n.calendars) s a.result b.result b.ensures (same_bytes PassesProject s (record { model = c.args.s; place = n.next }) a.result a.ensures refl))
+    heads {n = n} a.ensures.1 (passed (PassesRecords Calendars n.value.calendars) s a.result b.result b.ensures (same_bytes PassesProject s (record { model = c.args.s; place = n.next }) a.result a.ensures refl))

@@ -11,4 +11,4 @@ use Rattle.model_check.proofs.Right.{wrong}
 use Rattle.model_check.proofs.rules.every_right.Given as goal
 
 abbrev pub invariant-loop-i : goal.invariant-loop-i
-invariant-loop-i l = (m : Model) → Decoded l.s m l.w → NamesIn l.s m l.names l.words → (xs : List (Item l.kind)) (end : ℕ) → Run l.kind l.s l.initial.q l.i-end xs end → Along l.kind l.s l.i-end xs end (wrong m l.kind) true l.i l.q
+invariant-loop-i l = (m : Model) → Decoded l.s m l.w → NamesIn l.s m l.names.table l.names.words.now → (xs : List (Item l.kind)) (end : ℕ) → Run l.kind l.s l.initial.q l.i-end xs end → Along l.kind l.s l.i-end xs end (wrong m l.kind) true l.i l.q

@@ -1,5 +1,5 @@
 -- `model_check::rules::row_below` meets its contract. Assumes nothing.
-use mathlib.Core.Path.{ap, ◌∙◌}
+use mathlib.Core.Path.{ap}
 use lib.Dec.{ltb}
 use Prim.Native.Nat.{ℕ}
 use Rattle.bits.specs.Reads.{read_field}
@@ -9,4 +9,4 @@ use Rattle.model_check.proofs.rules.row_below.Goals as goal
 pub returns : goal.returns
 returns c =
     let a = c.args in
-    λ n h. ap (ltb c.take.result.value) c.from.ensures ∙ ap (λ (v : ℕ). ltb v a.count) (stands_is h (read_field a.s.now a.p 32 c.take.ensures))
+    λ n h. ap (λ (v : ℕ). ltb v a.count) (stands_is h (read_field a.s.now a.p 32 c.take_u32.ensures))
