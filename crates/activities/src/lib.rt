@@ -33,6 +33,7 @@ fn put_tasks(out: &mut [u8], words: &mut [u32], section: Section<'_>) -> Records
     ensures { Writes (whole activity) (activities_of (context_at out.old section.entry.calendars (root_at section.entry.root)) (entered (links_by (task_in section.entry.root words.old section.entry.tasks) (context_of (root_at section.entry.root))))) out.old section.entry.start out.new result × SameBelow (end_in section.entry.tasks) words.old words.new }
 {
     let mut q = section.start;
+    // Counted by hand: `enumerate` counts in usize.
     let mut row: u32 = 0;
     for task in rows::kept_tasks(section.root) {
         q = put_row(out, q, words, section, task, row);
