@@ -97,7 +97,7 @@ pub fn link_kind(link: Element<'_>) -> LinkKind
     }
 }
 
-// Across projects.
+// Across projects. A name for a yes under another name, like `milestone`: what they share is `fields::yes_in`.
 #[tactic(auto, unfolding(definition::specs::Field::yes_in))]
 pub fn is_across(link: Element<'_>) -> bool
     ensures { result ≡ yes_in (meaning link.entry) "CrossProject" }
