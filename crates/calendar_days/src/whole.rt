@@ -47,6 +47,7 @@ pub fn put_days(
     ensures fact_2 { cleared from words.new ≡ cleared from words.old }
 {
     let found = base_at(out, base, p);
-    let own = reach_in(s, at, from);
-    put_lists(out, p, s, at, week, found, words, own)
+    let own = reach_in(s, at, 0);
+    let free = from.min(words.len());
+    put_lists(out, p, s, at, week, found, &mut words[free..], own)
 }
