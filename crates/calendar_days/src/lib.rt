@@ -11,6 +11,7 @@ mod notes;
 mod own;
 mod pass;
 mod reach;
+mod wanted;
 mod whole;
 
 pub use hours::put_periods;
