@@ -1,4 +1,6 @@
 // The lists of days of the calendar that another one is based on.
+ghost use Rattle.std.specs.Prelude.{◌≡◌};
+ghost use Rattle.calendar_days.specs.Days.{holidays_in, extra_days_in};
 ghost use Rattle.calendar_days.specs.Lists.{lists_at, BaseLists};
 
 use bits::Place;
@@ -9,6 +11,33 @@ pub(crate) struct Lists {
     pub(crate) holidays: Place,
     pub(crate) extra: Place,
     pub(crate) exceptions: Place,
+}
+
+// Where a list of dates stands: from a place to another.
+#[derive(Clone, Copy)]
+pub(crate) struct Stretch {
+    pub(crate) from: Place,
+    pub(crate) to: Place,
+}
+
+impl Lists {
+    pub(crate) fn holidays(self) -> Stretch
+        ensures { result ≡ holidays_in self }
+    {
+        Stretch {
+            from: self.holidays,
+            to: self.extra,
+        }
+    }
+
+    pub(crate) fn extra_days(self) -> Stretch
+        ensures { result ≡ extra_days_in self }
+    {
+        Stretch {
+            from: self.extra,
+            to: self.exceptions,
+        }
+    }
 }
 
 // The lists that stand from a place on, if they end before p.
