@@ -1,6 +1,6 @@
 -- The exceptions of a calendar by its elements: WeekDays, of which those of DayType 0 are exceptions in the old form, or Exceptions. Assumes
 -- nothing: these are definitions.
-use Rattle.std.specs.Prelude.{if◌then◌else◌, ◌≡◌, Bool, true, false, not, ◌&&◌, List, [], ◌∷◌, ◌++◌, drop, pos, ◌==◌}
+use Rattle.std.specs.Prelude.{if◌then◌else◌, Bool, true, false, not, ◌&&◌, List, [], ◌++◌, drop, pos, ◌==◌}
 use Rattle.std.specs.Prelude.{None, Option, Some, ℕ}
 use mathlib.Core.List.{flat_map}
 use Rattle.definition.specs.Base.{◌or◌, given, keep}

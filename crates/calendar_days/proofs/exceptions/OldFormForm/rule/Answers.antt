@@ -1,4 +1,4 @@
-use borrow.Author.Tests.{not-true, not-false}
+use borrow.Author.Tests.{not-true}
 use Rattle.calendar_days.specs.Exceptions.{daily}
 use Rattle.calendar_days.proofs.RuleDays.{mapped}
 use Rattle.calendar_days.proofs.Elements.{not_old, old_days}
