@@ -2,19 +2,21 @@
 use Rattle.std.proofs.Common.{◌≡◌, ℕ, ◌+◌, ◌<◌, ◌≤◌, Bool, true, false, not, eqb, List, [], ◌∷◌, length, drop, sym, refl, ap, ◌∙◌, subst, arith, drop-drop}
 use Rattle.recurrence.specs.declared.Range.{Range}
 use Rattle.recurrence.specs.declared.Rule.{Rule}
-use Rattle.std.specs.Prelude.{None, Some}
+use Rattle.std.specs.Prelude.{None, Some, is_some}
+use Rattle.calendar.specs.declared.hours.WorkingTime.{WorkingTime}
+use Rattle.calendar.specs.Hours.{working_meaning}
 use Rattle.std.specs.Prelude.{Option}
 use Rattle.definition.specs.Base.{◌or◌, given, some?}
 use Rattle.definition.specs.Ascii.{bytes}
 use Rattle.definition.specs.Text.{Text}
 use Rattle.definition.specs.Tree.{Element, all_in, child}
-use Rattle.definition.specs.Format.{Period}
 use Rattle.definition.specs.Calendar.{week_days, recurring, periods_of, is_empty, day_type, working_time}
 use Rattle.tree.specs.Place.{later_at, list_of, Past, Starts}
 use Rattle.tree.specs.Answer.{found_list, none_list, found_on}
 use Rattle.recurrence.specs.Element.{rule_days, RuleRead, RangeRead}
-use Rattle.calendar_days.specs.Exceptions.{name_of, items_of, On, days_at, days_in, Ruled, is_time}
+use Rattle.calendar_days.specs.Exceptions.{name_of, items_of, On, days_at, days_in, is_time}
 use Rattle.calendar_days.proofs.Changes.{names_hours}
+use Rattle.calendar_days.proofs.RuleDays.{ruled_by, ruled}
 
 past_less : (s : Text) (m k : ℕ) → k ≤ m → (r : Option ℕ) → Past s m r → Past s k r
 unfolding Past
@@ -64,24 +66,24 @@ module _ {s n : Text} where
       all = omega (arith, h.all, ap length (found_list h.starts e));
     }
 
--- ---- by the kind of element
+-- ---- by the form of element
 
-module _ {s : Text} {o : Bool} where
-  pub old_first : (e : Element) {m : ℕ} {r : Option ℕ} → o ≡ true → Starts s (bytes "WeekDay") (week_days e) m r → Starts s (name_of o) (items_of o e) 0 r
+module _ {s : Text} where
+  pub old_first : (e : Element) {m : ℕ} {r : Option ℕ} → Starts s (bytes "WeekDay") (week_days e) m r → Starts s (name_of true) (items_of true e) 0 r
   unfolding name_of items_of
-  old_first e h x = rw h (starts_from 0 (omega arith) x)
+  old_first e x = starts_from 0 (omega arith) x
 
-  pub new_first : (e : Element) {m : ℕ} {r : Option ℕ} → o ≡ false → Starts s (bytes "Exception") (recurring e) m r → Starts s (name_of o) (items_of o e) 0 r
+  pub new_first : (e : Element) {m : ℕ} {r : Option ℕ} → Starts s (bytes "Exception") (recurring e) m r → Starts s (name_of false) (items_of false e) 0 r
   unfolding name_of items_of
-  new_first e h x = rw h (starts_from 0 (omega arith) x)
+  new_first e x = starts_from 0 (omega arith) x
 
-  pub old_next : (p : ℕ) {m : ℕ} {r : Option ℕ} → o ≡ true → Starts s (bytes "WeekDay") (later_at s (bytes "WeekDay") p) m r → Starts s (name_of o) (later_at s (name_of o) p) m r
+  pub old_next : (p : ℕ) {m : ℕ} {r : Option ℕ} → Starts s (bytes "WeekDay") (later_at s (bytes "WeekDay") p) m r → Starts s (name_of true) (later_at s (name_of true) p) m r
   unfolding name_of
-  old_next p h x = rw h x
+  old_next p x = x
 
-  pub new_next : (p : ℕ) {m : ℕ} {r : Option ℕ} → o ≡ false → Starts s (bytes "Exception") (later_at s (bytes "Exception") p) m r → Starts s (name_of o) (later_at s (name_of o) p) m r
+  pub new_next : (p : ℕ) {m : ℕ} {r : Option ℕ} → Starts s (bytes "Exception") (later_at s (bytes "Exception") p) m r → Starts s (name_of false) (later_at s (name_of false) p) m r
   unfolding name_of
-  new_next p h x = rw h x
+  new_next p x = x
 
 -- ---- working times
 
@@ -106,8 +108,13 @@ hours_none e h = sym (no_times h) ∙ names_hours e
 pub hours_some : (e : Element) {l : List Element} → all_in (child e (bytes "WorkingTimes")) (bytes "WorkingTime") ≡ l → some? is_time l ≡ not (is_empty (periods_of e))
 hours_some e h = ap (some? is_time) (sym h) ∙ names_hours e
 
-pub time_is : {r : Bool} {o : Option Period} (t : Element) → r ≡ given o → o ≡ working_time t → is_time t ≡ r
-time_is t e h = sym (e ∙ ap given h)
+given_some : (o : Option WorkingTime) → given (working_meaning o) ≡ is_some o
+unfolding working_meaning
+given_some None = refl
+given_some (Some t) = refl
+
+pub time_is : {r : Bool} (o : Option WorkingTime) (t : Element) → r ≡ is_some o → working_meaning o ≡ working_time t → is_time t ≡ r
+time_is o t e h = sym (e ∙ sym (given_some o) ∙ ap given h)
 
 -- the one behind the first
 module _ {s n : Text} (l : List Element) where
@@ -119,15 +126,15 @@ module _ {s n : Text} (l : List Element) where
 
 -- ---- their days
 
-module _ {o : Bool} (x : Element) where
-  pub new_days : {r : Option Rule} → o ≡ false → RuleRead x r → days_in r ≡ days_at o x
+module _ (x : Element) where
+  pub new_days : {r : Option Rule} → RuleRead x r → days_in r ≡ days_at false x
   unfolding days_in days_at
-  new_days e h = rw (e, h.days)
+  new_days h = rw h.days
 
-  pub not_old : {t : Bool} → o ≡ true → t ≡ eqb (day_type x or 1) 0 → t ≡ false → days_in None ≡ days_at o x
+  pub not_old : {t : Bool} → t ≡ eqb (day_type x or 1) 0 → t ≡ false → days_in None ≡ days_at true x
   unfolding days_in days_at rule_days
-  not_old e h k = let z : eqb (day_type x or 1) 0 ≡ false = sym h ∙ k in rw (e, z)
+  not_old h k = let z : eqb (day_type x or 1) 0 ≡ false = sym h ∙ k in rw z
 
-  pub old_days : {t : Bool} {a : Option Range} {r : Option Rule} → o ≡ true → t ≡ eqb (day_type x or 1) 0 → t ≡ true → RangeRead x a → Ruled a r → days_in r ≡ days_at o x
+  pub old_days : {t : Bool} {a : Option Range} {r : Option Rule} → t ≡ eqb (day_type x or 1) 0 → t ≡ true → RangeRead x a → r ≡ ruled_by a → days_in r ≡ days_at true x
   unfolding days_at
-  old_days e h k i j = let z : eqb (day_type x or 1) 0 ≡ true = sym h ∙ k in rw (e, z) (j.days x i)
+  old_days h k i j = let z : eqb (day_type x or 1) 0 ≡ true = sym h ∙ k in rw (j, z) (ruled x i)

@@ -1,25 +1,27 @@
 -- The exceptions of a calendar by its elements: WeekDays, of which those of DayType 0 are exceptions in the old form, or Exceptions. Assumes
 -- nothing: these are definitions.
-use Rattle.std.specs.Prelude.{if◌then◌else◌, ◌≡◌, ◌<◌, Bool, true, false, not, List, [], ◌∷◌, drop, pos, ◌==◌}
+use Rattle.std.specs.Prelude.{if◌then◌else◌, Bool, true, false, not, ◌&&◌, List, [], ◌++◌, drop, pos, ◌==◌}
 use Rattle.std.specs.Prelude.{None, Option, Some, ℕ}
-use Rattle.definition.specs.Base.{◌or◌, given}
+use mathlib.Core.List.{flat_map}
+use Rattle.definition.specs.Base.{◌or◌, given, keep}
 use Rattle.definition.specs.Ascii.{bytes}
 use Rattle.definition.specs.Text.{Text}
 use Rattle.definition.specs.Date.{Date}
 use Rattle.definition.specs.Format.{Period}
 use Rattle.definition.specs.Tree.{Element}
+use Rattle.definition.specs.Field.{yes_in}
 use Rattle.definition.specs.Recurrence.{recurrence_days, days_of}
 use Rattle.definition.specs.Calendar as C
-use Rattle.definition.specs.Calendar.{Exception, exception_on, day_type, week_days, recurring, working_time, works}
-use Rattle.laws.specs.Fields.{InYears}
+use Rattle.definition.specs.Calendar.{Exception, exception_on, day_type, week_days, recurring, working_time, periods_of, is_empty}
 use Rattle.pack.specs.Value.{date_by}
 use Rattle.definition.specs.declared.Date.{Date as DateIs}
 use Rattle.tree.specs.Place.{Starts}
-use Rattle.recurrence.specs.Element.{rule_days, RangeRead}
+use Rattle.recurrence.specs.Element.{rule_days}
 use Rattle.recurrence.specs.Meaning.{to_come}
 use Rattle.recurrence.specs.declared.Cursor.{Cursor}
 use Rattle.recurrence.specs.declared.Rule.{Rule}
 use Rattle.recurrence.specs.declared.Range.{Range}
+use Rattle.calendar_days.specs.declared.exceptions.Days.{Days}
 
 -- ---- the elements
 
@@ -64,36 +66,48 @@ daily r =
       weekdays = 0;
     }
 
-pub record Ruled (r : Option Range) (a : Option Rule) : Type 0 where
-  pub days : (w : Element) → RangeRead w r → days_in a ≡ days_of w
-
 -- the days of a rule that are still to come
 abbrev pub coming : Rule → Cursor → List Date
 coming r c = to_come r c or []
 
--- the next of them, and those behind it
-pub record Next (r : Rule) (c : Cursor) (d : DateIs) (c' : Cursor) : Type 0 where
-  pub is : coming r c ≡ date_by d.0 ∷ coming r c'
-  pub years : InYears (date_by d.0)
-  pub less : c'.left < c.left
+-- those that are left to an iterator over a rule's days
+unfoldable pub coming_by : Option (Rule × Cursor) → List Date
+coming_by None = []
+coming_by (Some (r, c)) = coming r c
 
-pub record Follows (r : Rule) (c : Cursor) (a : Option (DateIs × Cursor)) : Type 0 where
-  pub day : (d : DateIs) (c' : Cursor) → a ≡ Some (d, c') → Next r c d c'
-  pub none : a ≡ None → coming r c ≡ []
+abbrev pub days_left : Days → List Date
+days_left d = coming_by d.left
+
+-- a day by its date
+abbrev pub day_of : DateIs → Date
+day_of d = date_by d.0
 
 abbrev pub is_time : Element → Bool
 is_time t = given (working_time t)
 
--- ---- what they say of a list of dates: extra days or holidays
+-- ---- which of them a list wants
 
--- the days that count
-unfoldable pub wanted : Bool → List Bool → Date → Bool
-wanted true week d = not (works week d)
-wanted false week d = works week d
+-- an element's days are holidays, extra days or days with hours
+unfoldable pub such_off : Element → Bool
+such_off x = not (yes_in x "DayWorking")
 
-unfoldable pub dates_of : Bool → List Bool → Exception → List Date
-dates_of true week x = C.days_on week x
-dates_of false week x = C.days_off week x
+unfoldable pub such_on : Element → Bool
+such_on x = yes_in x "DayWorking" && is_empty (periods_of x)
+
+unfoldable pub such_hours : Element → Bool
+such_hours x = yes_in x "DayWorking" && not (is_empty (periods_of x))
+
+-- the days of an element, if they are such
+unfoldable pub such_days : (Element → Bool) → Bool → Element → List Date
+such_days such old x = if such x then days_at old x else []
+
+-- those that count
+abbrev pub wanted_days : (Element → Bool) → (Date → Bool) → Bool → Element → List Date
+wanted_days such test old x = keep test (such_days such old x)
+
+-- those of a calendar
+abbrev pub own_days : (Element → Bool) → (Date → Bool) → Element → List Date
+own_days such test e = flat_map (wanted_days such test true) (items_of true e) ++ flat_map (wanted_days such test false) (items_of false e)
 
 -- the days with hours
 unfoldable pub hours_of : Bool → Element → List (Date × List Period)

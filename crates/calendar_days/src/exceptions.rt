@@ -1,75 +1,112 @@
 // The exceptions of a calendar, one by one: its WeekDays, of which those of DayType 0 are exceptions in the old form, or its Exceptions. What
 // is right is said in the crate definition, specs/Calendar.antt.
-ghost use Rattle.std.specs.Prelude.{◌≡◌, ◌+◌, not, ◌∷◌, length, drop};
+ghost use Rattle.std.specs.Prelude.{◌≡◌, ◌+◌, not, Bool, true, false, ◌∷◌, length, drop};
+ghost use Rattle.std.specs.Iterator.{YieldsFirstBy, item_count};
 ghost use Rattle.definition.specs.Base.{given, some?};
 ghost use Rattle.definition.specs.Ascii.{bytes};
 ghost use Rattle.definition.specs.Calendar.{periods_of, is_empty};
 ghost use Rattle.tree.specs.Place.{element_at, later_at, Starts};
 ghost use Rattle.calendar.specs.Hours.{working_meaning};
-ghost use Rattle.calendar_days.specs.Exceptions.{name_of, items_of, days_at, days_in, daily as daily_by, Ruled, Follows, is_time, On};
+ghost use Rattle.pack.specs.Value.{date_by};
+ghost use Rattle.calendar_days.specs.Exceptions.{name_of, items_of, days_at, days_in, daily as daily_by, days_left, day_of, such_days, is_time, On};
 
-use calendar::WorkingTime;
+use crate::wanted::Wanted;
 use definition::Date;
 use recurrence::{Cursor, Range, Rule, Step};
 
 // ---- the elements
 
-// The first WeekDay or Exception of a Calendar.
-pub(crate) fn first_of(s: &[u8], at: usize, old: bool) -> Option<usize>
-    ensures { Starts s.now (name_of «old») (items_of «old» (element_at s.now at)) 0 result }
-{
-    if old {
-        return rows::first_in(s, at, b"WeekDays", b"WeekDay");
-    }
-    rows::first_in(s, at, b"Exceptions", b"Exception")
+// The form of a calendar's exceptions.
+pub(crate) trait Form {
+    ghost old: { Bool };
+
+    // The first WeekDay or Exception of a Calendar.
+    fn first(s: &[u8], at: usize) -> Option<usize>
+        ensures { Starts s.now (name_of old) (items_of old (element_at s.now at)) 0 result };
+
+    // The next one.
+    fn next(s: &[u8], at: usize) -> Option<usize>
+        ensures { Starts s.now (name_of old) (later_at s.now (name_of old) at) (at + 1) result };
+
+    // The rule of the days of one; none where there are no days.
+    fn rule(s: &[u8], at: usize) -> Option<Rule>
+        ensures { days_in result ≡ days_at old (element_at s.now at) };
 }
 
-pub(crate) fn next_of(s: &[u8], at: usize, old: bool) -> Option<usize>
-    ensures { Starts s.now (name_of «old») (later_at s.now (name_of «old») at) (at + 1) result }
-{
-    if old {
-        return tree::next_child(s, at, b"WeekDay");
+// WeekDays, of which those of DayType 0 have days.
+pub(crate) struct OldForm;
+
+// Exceptions.
+pub(crate) struct NewForm;
+
+impl Form for OldForm {
+    ghost old = { true };
+
+    fn first(s: &[u8], at: usize) -> Option<usize> {
+        rows::first_in(s, at, b"WeekDays", b"WeekDay")
     }
-    tree::next_child(s, at, b"Exception")
+
+    fn next(s: &[u8], at: usize) -> Option<usize> {
+        tree::next_child(s, at, b"WeekDay")
+    }
+
+    fn rule(s: &[u8], at: usize) -> Option<Rule> {
+        if !calendar::is_old_exception(s, at) {
+            return None;
+        }
+        recurrence::days_of(s, at).map(daily)
+    }
 }
 
-fn after(s: &[u8], f: Option<usize>, old: bool) -> Option<usize>
-    ensures { On s.now (name_of «old») f result }
-{
-    match f {
-        Some(p) => next_of(s, p, old),
-        None => None,
+impl Form for NewForm {
+    ghost old = { false };
+
+    fn first(s: &[u8], at: usize) -> Option<usize> {
+        rows::first_in(s, at, b"Exceptions", b"Exception")
     }
+
+    fn next(s: &[u8], at: usize) -> Option<usize> {
+        tree::next_child(s, at, b"Exception")
+    }
+
+    fn rule(s: &[u8], at: usize) -> Option<Rule> {
+        recurrence::rule_of(s, at)
+    }
+}
+
+fn after<F: Form>(s: &[u8], f: Option<usize>) -> Option<usize>
+    ensures { On s.now (name_of F.old) f result }
+{
+    F::next(s, f?)
 }
 
 // The one behind the first n.
-pub(crate) fn nth_of(s: &[u8], at: usize, old: bool, n: usize) -> Option<usize>
-    ensures { Starts s.now (name_of «old») (drop n (items_of «old» (element_at s.now at))) 0 result }
+pub(crate) fn nth_of<F: Form>(s: &[u8], at: usize, n: usize) -> Option<usize>
+    ensures { Starts s.now (name_of F.old) (drop n (items_of F.old (element_at s.now at))) 0 result }
 {
-    let mut f = first_of(s, at, old);
-    let mut i = 0;
-    while i < n {
-        f = after(s, f, old);
-        i += 1;
+    let mut f = F::first(s, at);
+    for _ in 0..n {
+        f = after::<F>(s, f);
     }
     f
 }
 
-pub(crate) fn count_of(s: &[u8], at: usize, old: bool) -> usize
-    ensures { result ≡ length (items_of «old» (element_at s.now at)) }
+pub(crate) fn count_of<F: Form>(s: &[u8], at: usize) -> usize
+    ensures { result ≡ length (items_of F.old (element_at s.now at)) }
 {
-    let mut f = first_of(s, at, old);
+    let mut f = F::first(s, at);
     let mut n = 0;
-    loop {
-        let Some(p) = f else {
-            return n;
-        };
-        f = next_of(s, p, old);
+    while let Some(p) = f {
+        f = F::next(s, p);
         n += 1;
     }
+    n
 }
 
 // ---- the days
+
+// The kind of a daily rule.
+pub(crate) const DAILY: u32 = 1;
 
 // Days in a row, as a rule.
 fn daily(r: Range) -> Rule
@@ -77,7 +114,7 @@ fn daily(r: Range) -> Rule
 {
     let from = r.first;
     Rule {
-        kind: 1,
+        kind: DAILY,
         from,
         last: Date(2932896),
         most: r.count,
@@ -90,48 +127,52 @@ fn daily(r: Range) -> Rule
     }
 }
 
-fn rule_by(r: Option<Range>) -> Option<Rule>
-    ensures { Ruled r result }
-{
-    match r {
-        Some(r) => Some(daily(r)),
-        None => None,
+// The days of a rule, one after another; none where there is no rule.
+#[derive(Clone, Copy)]
+pub(crate) struct Days {
+    left: Option<(Rule, Cursor)>,
+}
+
+impl Days {
+    pub(crate) fn of(rule: Option<Rule>) -> Days
+        ensures { days_left result ≡ days_in rule }
+    {
+        Days {
+            left: rule.map(|r| (r, recurrence::start(r))),
+        }
     }
 }
 
-// The rule of the days of a WeekDay or an Exception; none where there are no days.
-pub(crate) fn rule_at(s: &[u8], at: usize, old: bool) -> Option<Rule>
-    ensures { days_in result ≡ days_at «old» (element_at s.now at) }
-{
-    if !old {
-        return recurrence::rule_of(s, at);
+impl Iterator for Days {
+    type Item = Date;
+
+    ghost next_gives = { YieldsFirstBy day_of days_left };
+
+    ghost remaining = { item_count days_left };
+
+    fn next(&mut self) -> Option<Date> {
+        let (rule, cursor) = self.left?;
+        match recurrence::next(rule, cursor) {
+            Step::Day(day, after) => {
+                self.left = Some((rule, after));
+                Some(day)
+            }
+            Step::Done | Step::Skipped => None,
+        }
     }
-    if !calendar::is_old_exception(s, at) {
-        return None;
-    }
-    rule_by(recurrence::days_of(s, at))
 }
 
-pub(crate) fn day_after(r: Rule, c: Cursor) -> Option<(Date, Cursor)>
-    ensures { Follows r c result }
+// The days of a WeekDay or an Exception, if they are such; else none.
+pub(crate) fn such_days<F: Form, W: Wanted>(s: &[u8], at: usize) -> Days
+    ensures { days_left result ≡ such_days W.such F.old (element_at s.now at) }
 {
-    match recurrence::next(r, c) {
-        Step::Day(d, after) => Some((d, after)),
-        Step::Done => None,
-        Step::Skipped => None,
+    if !W::are_such(s, at) {
+        return Days::of(None);
     }
+    Days::of(F::rule(s, at))
 }
 
 // ---- the hours
-
-fn is_time(t: Option<WorkingTime>) -> bool
-    ensures { result ≡ given (working_meaning t) }
-{
-    match t {
-        Some(_) => true,
-        None => false,
-    }
-}
 
 // Whether a WorkingTime or one of its later siblings is one.
 fn any_time(s: &[u8], first: usize) -> bool
@@ -139,7 +180,7 @@ fn any_time(s: &[u8], first: usize) -> bool
 {
     let mut at = first;
     loop {
-        if is_time(calendar::working_time(s, at)) {
+        if calendar::working_time(s, at).is_some() {
             return true;
         }
         let Some(next) = tree::next_child(s, at, b"WorkingTime") else {
