@@ -1,6 +1,7 @@
 #!/usr/bin/env python3
 """What became of the places of docs/design/PLACES.md: a place counts as changed where the item that it names is gone, or reads otherwise than at the beginning of the pass
-(brought to today's spelling by tools/design_spell.py), signature and clauses included; else it stands. usage: docs/design/state.py OLD [NEW [--list]]"""
+(brought to today's spelling by tools/design_spell.py), signature and clauses included; else it stands. A place that stands is kept where docs/design/KEPT.md has a line for it,
+`- POINT crate/file.rt name | a, b, c or d | reason`; the others are still to do. usage: docs/design/state.py OLD [NEW [--list]]"""
 import glob, os, re, sys
 from collections import OrderedDict
 old = sys.argv[1]
@@ -34,11 +35,16 @@ a, b = items(old), items(new)
 here = os.path.dirname(os.path.abspath(__file__))
 rows = OrderedDict()
 part = None
+kept = {}
+for l in open(os.path.join(here, 'KEPT.md')) if os.path.exists(os.path.join(here, 'KEPT.md')) else []:
+    m = re.match(r'- (\w+) (\S+) (\w+) \| ([abcd]) \|', l)
+    if m:
+        kept[(m.group(1), m.group(2), m.group(3))] = m.group(4)
 for l in open(os.path.join(here, 'PLACES.md')):
     m = re.match(r'### (\w+)\.', l)
     if m:
         part = m.group(1)
-        rows[part] = [0, 0, 0, []]
+        rows[part] = [0, 0, 0, 0, []]
         continue
     if l.startswith('## '):
         part = None
@@ -48,15 +54,18 @@ for l in open(os.path.join(here, 'PLACES.md')):
         key = (m.group(1), m.group(3))
         rows[part][0] += 1
         if key in b and any(t in b[key] for t in a.get(key, [])):
-            rows[part][2] += 1
-            rows[part][3].append('%s/%s %s' % (m.group(1), m.group(2), m.group(3)))
+            if (part, '%s/%s' % (m.group(1), m.group(2)), m.group(3)) in kept:
+                rows[part][2] += 1
+                continue
+            rows[part][3] += 1
+            rows[part][4].append('%s/%s %s' % (m.group(1), m.group(2), m.group(3)))
         else:
             rows[part][1] += 1
-for p, (n, c, s, xs) in rows.items():
-    print('%-4s named %4d  changed %4d  stands %4d' % (p, n, c, s))
+for p, (n, c, k, s, xs) in rows.items():
+    print('%-4s named %4d  changed %4d  kept %4d  to do %4d' % (p, n, c, k, s))
     if full:
         for x in xs:
             print('      ' + x)
 for k in '1234567':
     r = [v for p, v in rows.items() if p.startswith(k)]
-    print('point %s: named %d, changed %d, stands %d' % (k, sum(v[0] for v in r), sum(v[1] for v in r), sum(v[2] for v in r)))
+    print('point %s: named %d, changed %d, kept %d, to do %d' % ((k,) + tuple(sum(v[i] for v in r) for i in range(4))))
