@@ -39,12 +39,9 @@ pub(crate) fn unsigned_or(a: Option<i64>, below: u64, absent: u64) -> u64
     }
 }
 
-// x × 100, to the nearest whole number, where x is kept. Each caller writes its own test: a range or a closure handed in is no plainer.
+// x × 100, to the nearest whole number, where x is kept. The test is a flag, which each caller writes: a range or a closure handed in is no plainer.
 pub fn hundredths_when(keep: bool, x: f64) -> Option<i64>
     ensures { result ≡ when «keep» (whole_within (mul binary64 x (float 100))) }
 {
-    if keep {
-        return Some(number::hundredths(x));
-    }
-    None
+    keep.then(|| number::hundredths(x))
 }
