@@ -1,0 +1,13 @@
+-- `model_check::tables::distinct_in` meets its contract. Assumes nothing.
+use mathlib.Core.Path.{sym, ◌∙◌}
+use mathlib.Core.List.{map}
+use Rattle.model_check.specs.Keys.{same_key}
+use Rattle.model_check.proofs.Whole.{distinct_map}
+use Rattle.model_check.proofs.tables.distinct_in.Goals as goal
+
+pub returns-in-Some : goal.returns-in-Some
+returns-in-Some g c =
+    λ key k xs end h x. c.table_distinct.ensures (map key xs) (rw c.in-Some.is at x) ∙ sym (distinct_map same_key key xs)
+
+pub returns-in-None : goal.returns-in-None
+returns-in-None g c = λ key k xs end h x. c.all_distinct.ensures key k xs end h
