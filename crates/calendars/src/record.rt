@@ -89,7 +89,7 @@ fn put_own_hours(out: &mut [u8], p: Place, s: &[u8], at: usize) -> Place
 fn copy_hours(out: &mut [u8], p: Place, hours: Place, day: usize) -> Place
     ensures { CopiesHours day hours out.old p out.new result }
 {
-    let from = model::parts::hours_place(out, hours, day);
+    let from = model::parts::skip_hours(out, hours, day);
     let to = model::parts::skip_periods(out, from);
     bits::copy_bits(out, from, to, p)
 }

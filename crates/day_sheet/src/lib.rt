@@ -20,7 +20,7 @@ ghost use Rattle.day_sheet.specs.Answer.{start, Found, Finished, leaves, left_by
 use bits::{PAST, Place};
 use definition::{Date, Refusal};
 use model::parts::{
-    Period, calendar_places, hours_place, put_period, skip_periods, take_date, take_period,
+    Period, calendar_places, put_period, skip_hours, skip_periods, take_date, take_period,
 };
 use model::records::{Kind, skip_records};
 
@@ -30,7 +30,7 @@ use model::records::{Kind, skip_records};
 fn has_date(s: &[u8], p: Place, day: Date) -> bool
     ensures { (d : DateOf) → from_days day.0 ≡ Some d → (l : List DateOf) → Stands dates s.now p l → result ≡ some? (eqb d) l }
 {
-    let n = bits::take(s, p, 32);
+    let n = bits::take_u32(s, p);
     let mut q = n.next;
     for _ in 0..n.value {
         let t = take_date(s, q);
@@ -46,7 +46,7 @@ fn has_date(s: &[u8], p: Place, day: Date) -> bool
 fn exception_place(s: &[u8], p: Place, day: Date) -> Place
     ensures { (d : DateOf) → from_days day.0 ≡ Some d → (l : List (DateOf × List PeriodOf)) → Stands exceptions s.now p l → Listed s.now result (hours_on l d) }
 {
-    let n = bits::take(s, p, 32);
+    let n = bits::take_u32(s, p);
     let mut q = n.next;
     for _ in 0..n.value {
         let t = take_date(s, q);
@@ -62,7 +62,7 @@ fn exception_place(s: &[u8], p: Place, day: Date) -> Place
 fn first_given(s: &[u8], p: Place, q: Place) -> Place
     ensures { (a b : List PeriodOf) → Listed s.now p a → Listed s.now q b → Listed s.now result (or_hours a b) }
 {
-    let n = bits::take(s, p, 32);
+    let n = bits::take_u32(s, p);
     if n.value == 0 {
         return q;
     }
@@ -87,7 +87,7 @@ fn day_of(s: &[u8], p: Place, day: Date, weekday: u32) -> Day
     let extra = has_date(s, c.extra, day);
     let own = exception_place(s, c.exceptions, day);
     // There is no From from u32 to usize.
-    let usual = hours_place(s, c.hours, weekday as usize);
+    let usual = skip_hours(s, c.hours, weekday as usize);
     let hours = first_given(s, own, usual);
     Day {
         weekday,
@@ -137,7 +137,7 @@ fn put_taken(out: &mut [u8], p: Place, t: Option<Period>) -> Place
 }
 
 // So many periods of the model, one after another.
-fn copy_periods(s: &[u8], from: Place, count: u64, out: &mut [u8], p: Place) -> Place
+fn copy_periods(s: &[u8], from: Place, count: u32, out: &mut [u8], p: Place) -> Place
     ensures { (l : List PeriodOf) → Ahead period s.now from count 0 l → Puts (times count period) l out.old p out.new result }
 {
     let mut q = from;
@@ -154,11 +154,11 @@ fn copy_periods(s: &[u8], from: Place, count: u64, out: &mut [u8], p: Place) -> 
 fn put_periods(s: &[u8], q: Place, out: &mut [u8], p: Place) -> Place
     ensures { (l : List PeriodOf) → Listed s.now q l → Puts periods (or_hours l default_periods) out.old p out.new result }
 {
-    let n = bits::take(s, q, 32);
+    let n = bits::take_u32(s, q);
     if n.value == 0 {
         return put_default(out, p);
     }
-    let a = bits::put(out, p, 32, n.value);
+    let a = bits::put(out, p, 32, u64::from(n.value));
     copy_periods(s, n.next, n.value, out, a)
 }
 

@@ -28,6 +28,7 @@ const WEEKDAYS: [&str; 7] = [
 fn digit(n: u32) -> u8
     ensures { result ≡ digit_of n }
 {
+    // Below 10.
     b'0' + (n % 10) as u8
 }
 
@@ -50,6 +51,7 @@ fn iso(y: u32, m: u32, d: u32) -> [u8; 10]
 }
 
 fn weekday_name(w: u32) -> &'static str {
+    // There is no From from u32 to usize.
     WEEKDAYS[(w % 7) as usize]
 }
 
@@ -101,6 +103,7 @@ fn main(rt: HostRuntime) {
     let Ok(n) = io::copy(&mut rt.reader(), &mut room) else {
         return;
     };
+    // It fits, as the room's length bounds it.
     if let Some(s) = room.get_ref().get(..n as usize) {
         let _ = put_tree(&rt, s);
     }

@@ -2,7 +2,7 @@
 // head for each of n buckets, then for each row the one before it in its chain, then for each row a place, where what it stands for is found. A head
 // names the last row of its bucket: 0 for none, else the row plus 1, as does the word of a row. Words past the end read as 0 and store nothing.
 // What the words mean is said in specs/. The words are lent, as there is no heap for a map, and a column of heads, of rows and of places stands in
-// them. A number of 32 bits becomes an index by `as`, as there is no From from it to usize.
+// them. Casts by `as`: 32 bits to an index and a length to 64, for which there is no From, and the low 32 bits of a hash.
 #![tactic(auto)]
 
 ghost use Rattle.std.specs.Prelude.{◌≡◌, ◌+◌, ◌-◌, ◌*◌, ◌%◌, ◌^◌, ◌≤◌, ◌<◌, min, ◌++◌, length, get_or, set, replicate};

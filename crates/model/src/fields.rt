@@ -75,21 +75,21 @@ fn in_years(d: u64) -> Option<u64>
 }
 
 // The date of a day number of 32 bits, counted from the year -10000, if it lies in the years.
-fn date_of(v: u64) -> Option<u64>
-    requires { v < 2 ^ 32 }
+fn date_of(v: u32) -> Option<u64>
     ensures { result ≡ from_days (signed 32 v) }
 {
+    let n = u64::from(v) + 4371953;
     if v < 0x8000_0000 {
-        return in_years(v + 4371953);
+        return in_years(n);
     }
-    in_years((v + 4371953).checked_sub(0x1_0000_0000)?)
+    in_years(n.checked_sub(0x1_0000_0000)?)
 }
 
 // A date by its number, counted from the year -10000; 0, and a place past every end, where it is outside the years. `take_date` gives the day number.
 pub fn take_date_key(s: &[u8], p: Place) -> Field<u64>
     ensures { Finds date (DayKey false) s.now p result }
 {
-    let f = bits::take(s, p, 32);
+    let f = bits::take_u32(s, p);
     let Some(value) = date_of(f.value) else {
         return NOTHING;
     };

@@ -87,7 +87,7 @@ impl Item for WorkingDay {
 fn skip_list<T: Item>(s: &[u8], p: Place) -> Place
     ensures { Passes (list_of T.before T.format) s.now p result }
 {
-    let n = bits::take(s, p, 32);
+    let n = bits::take_u32(s, p);
     let mut q = n.next;
     let mut last = 0;
     for _ in 0..n.value {
@@ -101,7 +101,8 @@ fn skip_list<T: Item>(s: &[u8], p: Place) -> Place
     q
 }
 
-pub(crate) fn skip_periods(s: &[u8], p: Place) -> Place
+// Periods.
+pub fn skip_periods(s: &[u8], p: Place) -> Place
     ensures { Passes periods s.now p result }
 {
     skip_list::<Hours>(s, p)
@@ -121,8 +122,8 @@ pub fn skip_days(s: &[u8], p: Place) -> Place
     skip_list::<WorkingDay>(s, p)
 }
 
-// So many lists of periods.
-pub(crate) fn skip_hours(s: &[u8], p: Place, count: usize) -> Place
+// So many lists of periods: a week's, or those of the days before one.
+pub fn skip_hours(s: &[u8], p: Place, count: usize) -> Place
     ensures { Passes (times count periods) s.now p result }
 {
     let mut q = p;

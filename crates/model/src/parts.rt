@@ -4,7 +4,7 @@ ghost use Rattle.std.specs.Prelude.{◌≡◌, false};
 ghost use Rattle.definition.specs.Base.{given};
 ghost use Rattle.definition.specs.Date.{from_days};
 ghost use Rattle.definition.specs.Answer.{date_meaning};
-ghost use Rattle.definition.specs.Format.{row, times, period, periods};
+ghost use Rattle.definition.specs.Format.{period};
 ghost use Rattle.bits.specs.Steps.{Puts};
 ghost use Rattle.model.specs.Passes.{Passes};
 ghost use Rattle.model.specs.Parts.{text_by, activity_head, resource_head};
@@ -12,7 +12,8 @@ ghost use Rattle.model.specs.Answers.{read_at, row_at, rows_at, date_at, period_
 ghost use Rattle.model.specs.Places.{NameTaken, CalendarAt};
 
 use crate::fields::{skip, skip_code, skip_optional, skip_text};
-use crate::lists::{skip_dates, skip_hours};
+use crate::lists::skip_dates;
+pub use crate::lists::{skip_hours, skip_periods};
 use bits::{Field, PAST, Place};
 use definition::Date;
 
@@ -153,13 +154,6 @@ pub fn put_period(out: &mut [u8], p: Place, from: u64, to: u64) -> Place
     bits::put(out, q, 11, to)
 }
 
-// The place behind a list of periods.
-pub fn skip_periods(s: &[u8], p: Place) -> Place
-    ensures { Passes periods s.now p result }
-{
-    crate::lists::skip_periods(s, p)
-}
-
 // ---- where a part of a record stands, from the record's place
 
 // An activity's parent. The texts before it are tested where CHECK says so.
@@ -216,11 +210,4 @@ pub fn calendar_places(s: &[u8], p: Place) -> CalendarPlaces
         extra,
         exceptions,
     }
-}
-
-// The periods of a day, 0 for Monday, from the place of a calendar's hours.
-pub fn hours_place(s: &[u8], p: Place, day: usize) -> Place
-    ensures { Passes (times day periods) s.now p result }
-{
-    skip_hours(s, p, day)
 }

@@ -1,4 +1,5 @@
-// Keys in tables of lent words: each row's key by its hash, and the byte at which its record stands.
+// Keys in tables of lent words: each row's key by its hash, and the byte at which its record stands. Casts by `as`: the low 32 bits of a hash, a byte's
+// place that fits a word, and a word to an index, for which there is no From.
 ghost use Rattle.std.specs.Prelude.{◌≡◌, List, map, ℕ, ◌<◌, ◌≤◌, ◌^◌, length, get_or, take};
 ghost use Rattle.definition.specs.Base.{given, find, some?};
 ghost use Rattle.definition.specs.Check.{distinct};

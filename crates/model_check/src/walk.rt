@@ -33,7 +33,7 @@ fn judge_activities(
     let mut right = true;
     for i in 0..count {
         let hash = hash_at::<Activities>(s, q);
-        // A table's place is a word; a model of more bytes has no table.
+        // It fits where there is a table: a model of more bytes has none.
         t.put(words, i, hash, (q.byte % 4294967296) as u32);
         let a = judge_activity(s, q, i, calendars, Names { table: names, words });
         right &= a.value;

@@ -32,6 +32,7 @@ fn number_of<T: Copy>(a: Result<T, Refusal>) -> u32
 fn told(a: Result<usize, Refusal>, written: &mut u64) -> u32
     ensures { (result ≡ answer_number a) × (written.new ≡ answer_length a) }
 {
+    // There is no From from usize to u64.
     *written = a.unwrap_or(0) as u64;
     number_of(a)
 }

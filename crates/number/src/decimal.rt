@@ -22,7 +22,7 @@ struct Passed {
     end: usize,
 }
 
-// What a number begins with: its digits, how many, how many of them after the dot, and the place behind them.
+// What a number begins with: its digits, how many, how many of them after the dot, and the place behind them, at which the exponent is looked for.
 #[derive(Clone, Copy)]
 struct Mantissa {
     value: usize,
@@ -121,6 +121,7 @@ fn short(v: usize, up: usize, down: usize) -> f64
     requires not_low { down ≤ 22 + up }
     ensures { result ≡ round binary64 false (v * 10 ^ up) (10 ^ down) }
 {
+    // There is no From from usize to f64; below 10^15 the float is exact.
     let x = v as f64;
     if down <= up {
         x * ten(up - down)

@@ -105,6 +105,7 @@ fn duration_from(f: Figures) -> Result<Duration, Unread>
 {
     let total = total_of(f);
     if total <= 1e9 {
+        // It fits, as the total is at most 10^9.
         let minutes = crate::whole::half_away(total) as u32;
         let rounded = f64::from(minutes);
         return Ok(Duration {

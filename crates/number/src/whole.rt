@@ -20,9 +20,9 @@ pub fn nearest_whole(x: f64) -> i64
     ensures { result ≡ whole_within x }
 {
     if x < 0.0 {
-        return -(half_away(-x) as i64);
+        return -half_away(-x).cast_signed();
     }
-    half_away(x) as i64
+    half_away(x).cast_signed()
 }
 
 // x × 100, to the nearest whole number.

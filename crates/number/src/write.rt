@@ -22,6 +22,7 @@ fn put(out: &mut [u8], at: usize, b: u8) -> Option<usize>
 fn digit(n: u64) -> u8
     ensures { result ≡ n % 10 + 48 }
 {
+    // Below 10.
     b'0' + (n % 10) as u8
 }
 
@@ -96,7 +97,8 @@ fn put_time(out: &mut [u8], t: u64) -> Option<usize>
     put(out, e, b'0')
 }
 
-// The text of a time of day up to 1440 minutes. One body for both, given the bound and what puts the text, would be no plainer.
+// The text of a time of day up to 1440 minutes. `duration_text` is these lines with another bound and another text: a function over both would take a
+// number and a closure, and leave two functions that call it.
 pub fn time_text(minutes: u64, out: &mut [u8]) -> Result<usize, Refusal>
     ensures { Gives (time_answer minutes (length out.old)) (length out.old) result out.new }
 {

@@ -34,6 +34,7 @@ fn main(rt: HostRuntime) {
     let Ok(n) = io::copy(&mut rt.reader(), &mut room) else {
         return;
     };
+    // It fits, as the room's length bounds it.
     if let Some(tree) = room.get_ref().get(..n as usize) {
         let _ = put_model(&rt, tree);
     }

@@ -9,5 +9,5 @@ returns c =
       weekday = w;
       holiday = c.has_date-holiday.ensures d e k.holidays t.holidays;
       extra = c.has_date-extra.ensures d e k.extra_days t.extra;
-      hours = c.first_given-hours.ensures _ _ (c.exception_place-own.ensures d e k.exceptions t.exceptions) (t.usual d c.hours_place-usual.result (rw w at c.hours_place-usual.ensures));
+      hours = c.first_given-hours.ensures _ _ (c.exception_place-own.ensures d e k.exceptions t.exceptions) (t.usual d c.skip_hours-usual.result (rw w at c.skip_hours-usual.ensures));
     }

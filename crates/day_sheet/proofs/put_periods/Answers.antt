@@ -4,9 +4,9 @@ use Rattle.day_sheet.proofs.put_periods.Goals as goal
 pub returns-then-n-eq0 : goal.returns-then-n-eq0
 returns-then-n-eq0 c =
     let a = c.args in
-    λ l h. default_counts a.s.now a.q c.take-n.ensures c.if-n-eq0.true h c.put_default.ensures
+    λ l h. default_counts a.s.now a.q c.take_u32-n.ensures c.if-n-eq0.true h c.put_default.ensures
 
 pub returns : goal.returns
 returns c =
     let a = c.args in
-    λ l h. list_counts a.s.now a.q c.take-n.ensures c.if-n-eq0.false h c.put-a.ensures c.copy_periods.ensures
+    λ l h. list_counts a.s.now a.q c.take_u32-n.ensures c.if-n-eq0.false h (rw c.from.ensures at c.put-a.ensures) c.copy_periods.ensures

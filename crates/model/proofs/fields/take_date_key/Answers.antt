@@ -1,13 +1,9 @@
 use mathlib.Core.Path.{sym, ◌∙◌}
-use Rattle.bits.specs.Reads.{field_lt}
 use Rattle.model.proofs.Single.{date_refused, date_found}
 use Rattle.model.proofs.fields.take_date_key.Goals as goal
 
-pub date_of-requires : goal.date_of-requires
-date_of-requires c = field_lt c.args.s.now c.args.p 32 c.take-f.ensures
-
 pub returns-in_default : goal.returns-in_default
-returns-in_default c = date_refused c.args.s.now c.args.p c.take-f.ensures (sym c.date_of.ensures ∙ c.in_default.is)
+returns-in_default c = date_refused c.args.s.now c.args.p c.take_u32-f.ensures (sym c.date_of.ensures ∙ c.in_default.is)
 
 pub returns : goal.returns
-returns c = date_found c.args.s.now c.args.p c.take-f.ensures (sym c.date_of.ensures ∙ c.in-Some.is)
+returns c = date_found c.args.s.now c.args.p c.take_u32-f.ensures (sym c.date_of.ensures ∙ c.in-Some.is)
