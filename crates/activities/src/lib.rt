@@ -15,7 +15,7 @@ ghost use Rattle.pack.specs.Writes.{Writes, WritesIf};
 ghost use Rattle.names.specs.Context.{context_at, calendars_before};
 ghost use Rattle.activities.specs.Own.{SectionRoom};
 
-use crate::own::{Section, section_for};
+use crate::own::{Section, own_for};
 use crate::record::put_row;
 use bits::{PAST, Place};
 use index::Table;
@@ -65,7 +65,14 @@ pub fn put_activities(
             next: PAST,
         };
     }
-    let section = section_for(out, p, root, c, words, tasks);
+    let section = Section {
+        root,
+        start: p,
+        calendars: c,
+        tasks,
+        own: own_for(out, p, root, c, words, tasks),
+        per_day: tasks::per_day(root),
+    };
     let r = put_tasks(out, words, section);
     bits::fill_from(words, end, 0);
     r
