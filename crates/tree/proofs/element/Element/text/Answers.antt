@@ -2,7 +2,7 @@ use mathlib.Core.Path.{sym, ◌∙◌}
 use Rattle.tree.proofs.Heads.{bounds}
 use Rattle.tree.proofs.Rows.{text_cut, text_whole}
 use native.Mathlib.Omega.{arith}
-use Rattle.tree.proofs.text.Goals as goal
+use Rattle.tree.proofs.element.Element.text.Goals as goal
 
 pub slice_bounds-result-count : goal.slice_bounds-result-count
 slice_bounds-result-count c = (bounds _ _ (sym c.read_head.ensures ∙ c.in-Some.is)).text

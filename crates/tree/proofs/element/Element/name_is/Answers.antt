@@ -2,7 +2,7 @@ use mathlib.Core.Path.{sym, ◌∙◌}
 use Rattle.tree.proofs.Heads.{bounds}
 use Rattle.tree.proofs.Rows.{empty_is, name_is}
 use native.Mathlib.Omega.{arith}
-use Rattle.tree.proofs.name_is.Goals as goal
+use Rattle.tree.proofs.element.Element.name_is.Goals as goal
 
 pub slice_bounds-same-count : goal.slice_bounds-same-count
 slice_bounds-same-count c = (bounds _ _ (sym c.read_head.ensures ∙ c.in-Some.is)).name

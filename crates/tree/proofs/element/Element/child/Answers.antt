@@ -2,7 +2,7 @@ use mathlib.Core.Path.{sym, ◌∙◌}
 use Rattle.tree.proofs.Heads.{bounds}
 use Rattle.tree.proofs.Rows.{all_cut, all_whole}
 use native.Mathlib.Omega.{arith}
-use Rattle.tree.proofs.child.Goals as goal
+use Rattle.tree.proofs.element.Element.child.Goals as goal
 
 pub overflow_add-h : goal.overflow_add-h
 overflow_add-h c = omega (arith, bounds _ _ (sym c.read_head.ensures ∙ c.in_ok-h.was))
