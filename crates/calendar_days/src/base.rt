@@ -1,7 +1,7 @@
 // The lists of days of the calendar that another one is based on.
 ghost use Rattle.std.specs.Prelude.{◌≡◌};
 ghost use Rattle.calendar_days.specs.Days.{holidays_in, extra_days_in};
-ghost use Rattle.calendar_days.specs.Lists.{not_behind, lists_at, BaseLists};
+ghost use Rattle.calendar_days.specs.Lists.{lists_at, BaseLists};
 
 use bits::Place;
 
@@ -40,13 +40,6 @@ impl Lists {
     }
 }
 
-// Whether a place is not behind another.
-fn not_behind(p: Place, q: Place) -> bool
-    ensures { result ≡ not_behind p q }
-{
-    (p.byte < q.byte) | ((p.byte == q.byte) & (p.bit <= q.bit))
-}
-
 // The lists that stand from a place on, if they end before p.
 pub(crate) fn base_at(s: &[u8], from: Place, p: Place) -> Option<Lists>
     ensures { BaseLists result s.now p (lists_at s.now from p) }
@@ -54,10 +47,7 @@ pub(crate) fn base_at(s: &[u8], from: Place, p: Place) -> Option<Lists>
     let extra = model::lists::skip_dates(s, from);
     let exceptions = model::lists::skip_dates(s, extra);
     let end = model::lists::skip_days(s, exceptions);
-    if !bits::inside(s.len(), end) {
-        return None;
-    }
-    if !not_behind(end, p) {
+    if !bits::inside(s.len(), end) || p < end {
         return None;
     }
     Some(Lists {

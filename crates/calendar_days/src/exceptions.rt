@@ -90,13 +90,16 @@ impl<'a> Iterator for Exceptions<'a> {
 
 // ---- the days
 
+// The kind of a daily rule.
+pub(crate) const DAILY: u32 = 1;
+
 // Days in a row, as a rule.
 fn daily(r: Range) -> Rule
     ensures { result ≡ daily_by r }
 {
     let from = r.first;
     Rule {
-        kind: 1,
+        kind: DAILY,
         from,
         last: Date(2932896),
         most: r.count,

@@ -11,6 +11,7 @@ mod notes;
 mod own;
 mod pass;
 mod reach;
+mod span;
 mod wanted;
 mod whole;
 

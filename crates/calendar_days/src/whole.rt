@@ -10,7 +10,7 @@ ghost use Rattle.calendar_days.specs.Lists.{day_lists, days_over, lists_at, Base
 use crate::base::{Lists, base_at};
 use crate::dates::{put_extra_days, put_holidays};
 use crate::days::put_exceptions;
-use crate::reach::{Reach, reach_in};
+use crate::reach::Reach;
 use bits::Place;
 
 // Holidays, extra days and days with hours of a Calendar, whose week is given, over its base's.
@@ -24,8 +24,7 @@ fn put_lists(
     words: &mut [u32],
     own: Reach,
 ) -> Place
-    ensures fact_1 { Over day_lists (BaseLists base) (days_over (element_at s.now at) (flags_in week)) out.old p out.new result }
-    ensures fact_2 { cleared own.at words.new ≡ cleared own.at words.old }
+    ensures { Over day_lists (BaseLists base) (days_over (element_at s.now at) (flags_in week)) out.old p out.new result }
 {
     let a = put_holidays(out, p, s, at, week, base, words, own);
     let b = put_extra_days(out, a, s, at, week, base, words, own);
@@ -43,10 +42,11 @@ pub fn put_days(
     words: &mut [u32],
     from: usize,
 ) -> Place
-    ensures fact_1 { Puts day_lists (days_over (element_at s.now at) (flags_in week) (lists_at out.old base p)) out.old p out.new result }
-    ensures fact_2 { cleared from words.new ≡ cleared from words.old }
+    ensures puts { Puts day_lists (days_over (element_at s.now at) (flags_in week) (lists_at out.old base p)) out.old p out.new result }
+    ensures kept { cleared from words.new ≡ cleared from words.old }
 {
     let found = base_at(out, base, p);
-    let own = reach_in(s, at, from);
-    put_lists(out, p, s, at, week, found, words, own)
+    let own = Reach::of(s, at);
+    let free = from.min(words.len());
+    put_lists(out, p, s, at, week, found, &mut words[free..], own)
 }

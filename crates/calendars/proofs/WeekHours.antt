@@ -35,7 +35,7 @@ use Rattle.model.specs.declared.parts.CalendarPlaces.{CalendarPlaces}
 use Rattle.pack.specs.Value.{starred_by}
 use Rattle.names.specs.Kept.{reads_there}
 use Rattle.calendar_days.proofs.Copies.{copy_out, copied, standing}
-use Rattle.calendar_days.proofs.Items.{free_periods}
+use Rattle.calendar_days.specs.Items.{free_periods}
 use Rattle.calendars.proofs.PlainCalendars.{put_calendar}
 use Rattle.calendar_days.proofs.Times.{begun}
 use Rattle.calendar_days.proofs.Overs.{read_from, lasts_put, over_plain, over_as, over-⊗, over_whole}
