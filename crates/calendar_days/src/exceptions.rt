@@ -7,7 +7,7 @@ ghost use Rattle.definition.specs.Ascii.{bytes};
 ghost use Rattle.definition.specs.Tree.{all};
 ghost use Rattle.definition.specs.Calendar.{periods_of, is_empty};
 ghost use Rattle.tree.specs.Place.{meaning};
-ghost use Rattle.calendar_days.specs.Exceptions.{item_of, items_of, items_left, old_days, days_at, days_in, daily as daily_by, days_left, day_of, such_days, is_time};
+ghost use Rattle.calendar_days.specs.Exceptions.{placed, item_of, items_of, items_left, ItemsOf, GivesItems, old_days, days_at, days_in, daily as daily_by, days_left, day_of, such_days, is_time};
 
 use crate::wanted::Wanted;
 use definition::Date;
@@ -25,7 +25,7 @@ pub(crate) enum Exception<'a> {
 
 impl<'a> Exception<'a> {
     pub(crate) fn element(self) -> Element<'a>
-        ensures { meaning result ≡ (item_of self.entry).1 }
+        ensures { result ≡ placed self.entry }
     {
         match self {
             Exception::WeekDay(e) => e,
@@ -62,7 +62,8 @@ pub(crate) struct Exceptions<'a> {
 }
 
 pub(crate) fn exceptions(calendar: Element<'_>) -> Exceptions<'_>
-    ensures { items_left result ≡ items_of (meaning calendar.entry) }
+    ensures are { items_left result ≡ items_of (meaning calendar.entry) }
+    ensures of { ItemsOf result calendar.entry.tree.now }
 {
     Exceptions {
         week_day: rows::first_in(calendar, b"WeekDays", b"WeekDay"),
@@ -73,7 +74,7 @@ pub(crate) fn exceptions(calendar: Element<'_>) -> Exceptions<'_>
 impl<'a> Iterator for Exceptions<'a> {
     type Item = Exception<'a>;
 
-    ghost next_gives = { YieldsFirstBy item_of items_left };
+    ghost next_gives = { GivesItems };
 
     ghost remaining = { item_count items_left };
 
