@@ -14,6 +14,7 @@ use Rattle.tree.specs.Place.{meaning, later, list_of, Past, Starts}
 use Rattle.tree.specs.declared.element.Element.{Element as Place}
 use Rattle.recurrence.specs.Element.{rule_days, RuleRead, RangeRead}
 use Rattle.calendar_days.specs.declared.exceptions.Exceptions.{Exceptions}
+use Rattle.calendar_days.specs.declared.exceptions.Exception.{Exception as Given}
 use Rattle.calendar_days.specs.declared.exceptions.Exception.TheVariants.{WeekDay, Recurring}
 use Rattle.calendar_days.specs.Exceptions.{Item, item_of, items_of, items_by, items_left, ItemsOf, placed, is_old, old_days, days_at, days_in, is_time}
 use Rattle.calendar_days.proofs.Changes.{names_hours}
@@ -36,7 +37,7 @@ items_begun e {w = w} {x} h i =
     ap (λ (l : List Element). map (λ w. (true, w)) l ++ map (λ x. (false, x)) (list_of (bytes "Exception") x)) (sym h.is) ∙ ap (λ (l : List Element). map (λ w. (true, w)) (week_days e) ++ map (λ x. (false, x)) l) (sym i.is)
 
 -- a WeekDay more
-module _ {w x w' : Option Place} {e : Place} {m : ℕ} (i : w ≡ Some e) (h : Starts e.tree.now (bytes "WeekDay") (later (bytes "WeekDay") e) m w') where
+module _ {w : Option Place} (x : Option Place) {w' : Option Place} {e : Place} {m : ℕ} (i : w ≡ Some e) (h : Starts e.tree.now (bytes "WeekDay") (later (bytes "WeekDay") e) m w') where
   pub week_day_more : items_by w x ≡ item_of (WeekDay e) ∷ items_by w' x
   unfolding items_by list_of is_old placed
   week_day_more = rw i (ap (λ (l : List Element). (true, meaning e) ∷ (map (λ w. (true, w)) l ++ map (λ x. (false, x)) (list_of (bytes "Exception") x))) h.is)
@@ -88,9 +89,11 @@ times_in : Option Element → Bool
 times_in o = some? is_time (all_in o (bytes "WorkingTime"))
 
 pub hours_none : (e : Element) → child e (bytes "WorkingTimes") ≡ None → false ≡ not (is_empty (periods_of e))
+unfolding times_in some?
 hours_none e h = sym no_time ∙ sym (ap times_in h) ∙ names_hours e
 
 pub hours_some : (e : Element) {c : Element} → child e (bytes "WorkingTimes") ≡ Some c → some? is_time (all c (bytes "WorkingTime")) ≡ not (is_empty (periods_of e))
+unfolding times_in some?
 hours_some e h = sym (ap times_in h) ∙ names_hours e
 
 given_some : (o : Option WorkingTime) → given (working_meaning o) ≡ is_some o
@@ -108,10 +111,6 @@ module _ (x : Element) where
   unfolding days_in days_at
   new_days h = rw h.days
 
-  pub week_days_are : {r : Option Rule} → days_in r ≡ old_days x → days_in r ≡ days_at (true, x)
-  unfolding days_at
-  week_days_are h = h
-
   pub not_old : {t : Bool} → t ≡ eqb (day_type x or 1) 0 → t ≡ false → days_in None ≡ old_days x
   unfolding days_in old_days rule_days
   not_old h k = let z : eqb (day_type x or 1) 0 ≡ false = sym h ∙ k in rw z
@@ -119,3 +118,11 @@ module _ (x : Element) where
   pub are_old : {t : Bool} {a : Option Range} {r : Option Rule} → t ≡ eqb (day_type x or 1) 0 → t ≡ true → RangeRead x a → r ≡ ruled_by a → days_in r ≡ old_days x
   unfolding old_days
   are_old h k i j = let z : eqb (day_type x or 1) 0 ≡ true = sym h ∙ k in rw (j, z) (ruled x i)
+
+pub of_week_day : {y : Given} {e : Place} → y ≡ WeekDay e → old_days (meaning e) ≡ days_at (item_of y)
+unfolding days_at is_old placed
+of_week_day i = rw i
+
+pub of_recurring : {y : Given} {e : Place} → y ≡ Recurring e → days_at (false, meaning e) ≡ days_at (item_of y)
+unfolding days_at is_old placed
+of_recurring i = rw i

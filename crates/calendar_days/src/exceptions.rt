@@ -61,13 +61,15 @@ pub(crate) struct Exceptions<'a> {
     recurring: Option<Element<'a>>,
 }
 
-pub(crate) fn exceptions(calendar: Element<'_>) -> Exceptions<'_>
-    ensures are { items_left result ≡ items_of (meaning calendar.entry) }
-    ensures of { ItemsOf result calendar.entry.tree.now }
-{
-    Exceptions {
-        week_day: rows::first_in(calendar, b"WeekDays", b"WeekDay"),
-        recurring: rows::first_in(calendar, b"Exceptions", b"Exception"),
+impl<'a> Exceptions<'a> {
+    pub(crate) fn of(calendar: Element<'a>) -> Exceptions<'a>
+        ensures are { items_left result ≡ items_of (meaning calendar.entry) }
+        ensures of { ItemsOf result calendar.entry.tree.now }
+    {
+        Exceptions {
+            week_day: rows::first_in(calendar, b"WeekDays", b"WeekDay"),
+            recurring: rows::first_in(calendar, b"Exceptions", b"Exception"),
+        }
     }
 }
 
