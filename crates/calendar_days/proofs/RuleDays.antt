@@ -17,7 +17,7 @@ use Rattle.definition.specs.Recurrence.{is_rule, fits, days_of_rule, days_of, re
 use Rattle.laws.specs.Bools.{within_is, is_within, both}
 use Rattle.laws.specs.Each.{Each, empty, next, each_take}
 use Rattle.laws.specs.Fields.{InYears, days_day}
-use Rattle.laws.specs.Options.{Some-injective, never}
+use Rattle.laws.specs.Options.{never}
 use Rattle.date.specs.Scale.{day_count, count_of_number}
 use Rattle.pack.specs.Value.{date_by}
 use Rattle.recurrence.proofs.Rules.{field_in}

@@ -5,7 +5,8 @@ ghost use Rattle.calendar_days.specs.Lists.{lists_at, BaseLists};
 
 use bits::Place;
 
-// Where its holidays, its extra days and its days with hours stand.
+// Where its holidays, its extra days and its days with hours stand. Not model's CalendarPlaces, which has a calendar's week and hours too: these are
+// read alone, behind those.
 #[derive(Clone, Copy)]
 pub(crate) struct Lists {
     pub(crate) holidays: Place,

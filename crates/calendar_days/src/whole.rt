@@ -14,7 +14,8 @@ use crate::reach::Reach;
 use bits::Place;
 use tree::Element;
 
-// Holidays, extra days and days with hours of a Calendar, whose week is given, over its base's.
+// Holidays, extra days and days with hours of a Calendar, whose week is given, over its base's. The buffer, the tree and the words are parameters of
+// their own in this crate: they are lent apart, and a struct of them would be lent as a whole to each call.
 fn put_lists(
     out: &mut [u8],
     p: Place,
