@@ -1,22 +1,30 @@
 -- The exceptions of a calendar, found one by one; whether an element names hours. Assumes nothing.
-use Rattle.std.proofs.Common.{◌≡◌, ℕ, ◌≤◌, Bool, true, false, not, eqb, List, [], ◌∷◌, ◌++◌, length, map, sym, refl, ap, ◌∙◌, subst, arith}
+use Rattle.std.proofs.Common.{◌≡◌, ℕ, zero, suc, ◌+◌, ◌≤◌, Bool, true, false, not, eqb, List, [], ◌∷◌, ◌++◌, length, map, take, drop, sym, refl, ap, ◌∙◌, subst, append-nil, arith}
 use Rattle.recurrence.specs.declared.Range.{Range}
 use Rattle.recurrence.specs.declared.Rule.{Rule}
 use Rattle.calendar.specs.declared.hours.WorkingTime.{WorkingTime}
 use Rattle.calendar.specs.Hours.{working_meaning}
-use Rattle.std.specs.Prelude.{Option, None, Some, is_some}
-use Rattle.definition.specs.Base.{◌or◌, given, some?}
+use Rattle.std.specs.Prelude.{Option, None, Some, is_some, MatchOption, slice_get}
+use Rattle.std.specs.Option.{option_map}
+use Rattle.std.proofs.lemmas.List.{length-append, length-map}
+use Rattle.std.proofs.lemmas.Iterator.{YieldsList}
+use Rattle.std.proofs.lemmas.Iterator.Consumers.{YieldsList-from_shown, count_from_yields_List, nth_from_yields_List}
+use Rattle.std.specs.Iterator.{Drains, SkipsThenYields}
+use mathlib.Core.List.{flat_map}
+use Rattle.definition.specs.Base.{◌or◌, given, some?, present}
 use Rattle.definition.specs.Ascii.{bytes}
 use Rattle.definition.specs.Text.{Text}
 use Rattle.definition.specs.Tree.{Element, all, all_in, child}
 use Rattle.definition.specs.Calendar.{week_days, recurring, periods_of, is_empty, day_type, working_time}
 use Rattle.tree.specs.Place.{meaning, later, list_of, Past, Starts}
+use Rattle.tree.specs.Answer.{found_child, none_child, found_on}
+use Rattle.tree.specs.Few.{children_few}
 use Rattle.tree.specs.declared.element.Element.{Element as Place}
 use Rattle.recurrence.specs.Element.{rule_days, RuleRead, RangeRead}
 use Rattle.calendar_days.specs.declared.exceptions.Exceptions.{Exceptions}
 use Rattle.calendar_days.specs.declared.exceptions.Exception.{Exception as Given}
 use Rattle.calendar_days.specs.declared.exceptions.Exception.TheVariants.{WeekDay, Recurring}
-use Rattle.calendar_days.specs.Exceptions.{Item, item_of, items_of, items_by, items_left, ItemsOf, placed, is_old, old_days, days_at, days_in, is_time}
+use Rattle.calendar_days.specs.Exceptions.{Item, item_of, items_of, items_by, items_left, ItemsOf, GivesItems, placed, is_old, old_days, days_at, days_in, is_time}
 use Rattle.calendar_days.proofs.Changes.{names_hours}
 use Rattle.calendar_days.proofs.RuleDays.{ruled_by, ruled}
 
@@ -27,14 +35,45 @@ unfolding Past
 past_all s m (Some p) o = record { tree = o.tree; after = omega arith; inside = o.inside }
 past_all s m None o = tt
 
-module _ {s : Text} {n : Text} {l : List Element} {m : ℕ} {r : Option Place} (h : Starts s n l m r) where
-  pub there : Past s 0 r
-  there = past_all s m r h.on
+-- the elements of a name in a section, from the first on
+abbrev In : Text → Option Place → Option Place → Type 0
+In n o r = MatchOption o (r ≡ None) (λ x. Starts x.tree.now n (all (meaning x) n) (x.at + 1) r)
 
-pub items_begun : (e : Element) {s t : Text} {m k : ℕ} {w x : Option Place} → Starts s (bytes "WeekDay") (week_days e) m w → Starts t (bytes "Exception") (recurring e) k x → items_by w x ≡ items_of e
-unfolding items_by items_of
-items_begun e {w = w} {x} h i =
-    ap (λ (l : List Element). map (λ w. (true, w)) l ++ map (λ x. (false, x)) (list_of (bytes "Exception") x)) (sym h.is) ∙ ap (λ (l : List Element). map (λ w. (true, w)) (week_days e) ++ map (λ x. (false, x)) l) (sym i.is)
+record Found (s n : Text) (l : List Element) (r : Option Place) : Type 0 where
+  is : list_of n r ≡ l
+  there : Past s 0 r
+  few : length (list_of n r) ≤ length s
+
+found_in : (n : Text) (e : Element) {s section : Text} {m : ℕ} {o r : Option Place} → Starts s section (all e section) m o → In n o r → Found s n (all_in (child e section) n) r
+unfolding Past list_of
+found_in n e {o = None} h k = rw (k, none_child e h refl) (record { is = refl; there = tt; few = omega arith })
+found_in n e {s} {o = Some x} {r} h k =
+    let t : x.tree.now ≡ s = (found_on h refl).tree in
+    let f : length (all (meaning x) n) ≤ length s = subst (λ (u : Text). length (all (meaning x) n) ≤ length u) t (children_few x.tree.now x.at n) in
+    rw (found_child e h refl) (record { is = sym k.is; there = rw t at (past_all x.tree.now (x.at + 1) r k.on); few = rw (sym k.is) f })
+
+pub in_by : (n : Text) (o r : Option Place) {φ : Place → Type 0} → MatchOption o (r ≡ None) φ → ((x : Place) → φ x → Starts x.tree.now n (all (meaning x) n) (x.at + 1) r) → In n o r
+in_by n None r h k = h
+in_by n (Some x) r h k = k x h
+
+module _ (e : Element) {s : Text} {m k : ℕ} {o p : Option Place} (w x : Option Place) (h : Starts s (bytes "WeekDays") (all e (bytes "WeekDays")) m o) (i : In (bytes "WeekDay") o w)
+    (j : Starts s (bytes "Exceptions") (all e (bytes "Exceptions")) k p) (l : In (bytes "Exception") p x) where
+  both : Found s (bytes "WeekDay") (week_days e) w × Found s (bytes "Exception") (recurring e) x
+  both = (found_in (bytes "WeekDay") e h i, found_in (bytes "Exception") e j l)
+
+  pub items_begun : items_by w x ≡ items_of e
+  unfolding items_by items_of
+  items_begun = let (a, b) = both in
+      ap (λ (l : List Element). map (λ w. (true, w)) l ++ map (λ x. (false, x)) (list_of (bytes "Exception") x)) a.is
+      ∙ ap (λ (l : List Element). map (λ w. (true, w)) (week_days e) ++ map (λ x. (false, x)) l) b.is
+
+  pub items_there : Past s 0 w × Past s 0 x
+  items_there = let (a, b) = both in (a.there, b.there)
+
+  pub items_few : length (items_by w x) ≤ length s + length s
+  unfolding items_by
+  items_few = let (a, b) = both in
+      omega (arith, a.few, b.few, length-append {A = Item} (map (λ w. (true, w)) (list_of (bytes "WeekDay") w)) (map (λ x. (false, x)) (list_of (bytes "Exception") x)), length-map {B = Item} (list_of (bytes "WeekDay") w) (λ w. (true, w)), length-map {B = Item} (list_of (bytes "Exception") x) (λ x. (false, x)))
 
 -- a WeekDay more
 module _ {w : Option Place} (x : Option Place) {w' : Option Place} {e : Place} {m : ℕ} (i : w ≡ Some e) (h : Starts e.tree.now (bytes "WeekDay") (later (bytes "WeekDay") e) m w') where
@@ -67,6 +106,34 @@ module _ {d items : Exceptions} (is : d ≡ items) where
 
   pub all_items_of : (u : Text) → ItemsOf items u → ItemsOf d u
   all_items_of u h = subst (λ (x : Exceptions). ItemsOf x u) (sym is) h
+
+-- what it gives are those
+pub all_given : (s : Exceptions) → YieldsList GivesItems item_of s (items_left s)
+all_given s = YieldsList-from_shown GivesItems item_of items_left (λ s t h. ap length h.0) (λ s x t h. h.0) s
+
+-- the one behind the first i
+nth_take : {X B : Type 0} (g : X → List B) (l : List X) (i : ℕ) → flat_map g (take 1 (drop i l)) ≡ flat_map g (present (slice_get l i ∷ []))
+unfolding flat_map present
+nth_take g [] zero = refl
+nth_take g [] (suc i) = refl
+nth_take g (x ∷ l) zero = refl
+nth_take g (x ∷ l) (suc i) = nth_take g l i
+
+module _ {items : Exceptions} {l : List Item} (are : items_left items ≡ l) where
+  pub counted : (n : ℕ) → ((xs : List Given) × Drains GivesItems items xs × (n ≡ length xs)) → n ≡ length l
+  counted n h = count_from_yields_List items n h (all_given items) ∙ ap length are
+
+  module _ {B : Type 0} (g : Item → List B) (i : ℕ) (r : Option Given) (u : Exceptions) (h : SkipsThenYields GivesItems items i r u) where
+    nth_is : option_map item_of r ≡ slice_get l i
+    nth_is = nth_from_yields_List r u i h (all_given items) ∙ ap (λ (m : List Item). slice_get m i) are
+
+    pub nth_none : r ≡ None → flat_map g (take 1 (drop i l)) ≡ []
+    unfolding flat_map present
+    nth_none e = nth_take g l i ∙ ap (λ (o : Option Item). flat_map g (present (o ∷ []))) (sym nth_is ∙ ap (option_map item_of) e)
+
+    pub nth_some : {x : Given} → r ≡ Some x → g (item_of x) ≡ flat_map g (take 1 (drop i l))
+    unfolding flat_map present
+    nth_some {x} e = sym (nth_take g l i ∙ ap (λ (o : Option Item). flat_map g (present (o ∷ []))) (sym nth_is ∙ ap (option_map item_of) e) ∙ append-nil (g (item_of x)))
 
 -- ---- working times
 
@@ -126,3 +193,9 @@ of_week_day i = rw i
 pub of_recurring : {y : Given} {e : Place} → y ≡ Recurring e → days_at (false, meaning e) ≡ days_at (item_of y)
 unfolding days_at is_old placed
 of_recurring i = rw i
+
+-- whether a WorkingTimes, if there is one, has a time
+pub times_if : (e : Element) {s : Text} {m : ℕ} {o : Option Place} {r : Bool} → Starts s (bytes "WorkingTimes") (all e (bytes "WorkingTimes")) m o
+    → MatchOption o (r ≡ false) (λ x. r ≡ some? is_time (all (meaning x) (bytes "WorkingTime"))) → r ≡ not (is_empty (periods_of e))
+times_if e {o = None} h k = k ∙ hours_none e (none_child e h refl)
+times_if e {o = Some x} h k = k ∙ hours_some e (found_child e h refl)

@@ -1,6 +1,6 @@
 // The exceptions of a calendar, one by one: its WeekDays, of which those of DayType 0 are exceptions in the old form, and its Exceptions. What
 // is right is said in the crate definition, specs/Calendar.antt.
-ghost use Rattle.std.specs.Prelude.{◌≡◌, not};
+ghost use Rattle.std.specs.Prelude.{◌≡◌, ◌+◌, ◌≤◌, not, length};
 ghost use Rattle.std.specs.Iterator.{YieldsFirstBy, item_count};
 ghost use Rattle.definition.specs.Base.{some?};
 ghost use Rattle.definition.specs.Ascii.{bytes};
@@ -65,10 +65,13 @@ impl<'a> Exceptions<'a> {
     pub(crate) fn of(calendar: Element<'a>) -> Exceptions<'a>
         ensures are { items_left result ≡ items_of (meaning calendar.entry) }
         ensures of { ItemsOf result calendar.entry.tree.now }
+        ensures few { length (items_left result) ≤ length calendar.entry.tree.now + length calendar.entry.tree.now }
     {
+        let week_days = calendar.child(b"WeekDays");
+        let all = calendar.child(b"Exceptions");
         Exceptions {
-            week_day: rows::first_in(calendar, b"WeekDays", b"WeekDay"),
-            recurring: rows::first_in(calendar, b"Exceptions", b"Exception"),
+            week_day: week_days.and_then(|w| w.child(b"WeekDay")),
+            recurring: all.and_then(|x| x.child(b"Exception")),
         }
     }
 }

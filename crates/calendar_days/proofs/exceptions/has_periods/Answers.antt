@@ -1,4 +1,6 @@
+use Rattle.tree.specs.Place.{meaning}
+use Rattle.calendar_days.proofs.Elements.{times_if}
 use Rattle.calendar_days.proofs.exceptions.has_periods.Goals as goal
 
 pub returns : goal.returns
-returns c = ?
+returns c = times_if (meaning c.args.e) c.child.ensures c.is_some_and.ensures
