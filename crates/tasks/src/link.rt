@@ -2,11 +2,12 @@
 ghost use Rattle.std.specs.Prelude.{◌≡◌, ◌^◌, ◌<◌, nat_abs};
 ghost use Rattle.definition.specs.Field.{yes_in};
 ghost use Rattle.definition.specs.Link.{working_lag, lag_of, link_lag, link_kind};
-ghost use Rattle.tree.specs.Place.{element_at};
+ghost use Rattle.tree.specs.Place.{meaning};
 ghost use Rattle.tasks.specs.Link.{lag_means};
 
 use crate::task::{elapsed_format, format_of, percent_format};
 use crate::value::quotient;
+use tree::Element;
 
 // Working time, elapsed time, or a share of the predecessor's duration in hundredths of a percent.
 #[derive(Clone, Copy)]
@@ -68,13 +69,13 @@ fn lag_of(per_day: u64, format: u64, tenths: i64) -> Lag
 }
 
 // The lag of a link, with so many minutes a day. LinkLag is held to -100,000,000,000 to 100,000,000,000, and 0 where there is none.
-pub fn link_lag(s: &[u8], at: usize, per_day: u64) -> Lag
-    ensures { lag_means result ≡ link_lag per_day (element_at s.now at) }
+pub fn link_lag(e: Element<'_>, per_day: u64) -> Lag
+    ensures { lag_means result ≡ link_lag per_day (meaning e.entry) }
 {
-    let tenths = fields::int_in(s, at, b"LinkLag")
+    let tenths = fields::int_in(e, b"LinkLag")
         .unwrap_or(0)
         .clamp(-100000000000, 100000000000);
-    let format = format_of(s, at, b"LagFormat");
+    let format = format_of(e, b"LagFormat");
     lag_of(per_day, format, tenths)
 }
 
@@ -82,10 +83,10 @@ pub fn link_lag(s: &[u8], at: usize, per_day: u64) -> Lag
 
 // The model's code, which its writer takes as it is: 0 finish to start, 1 start to start, 2 finish to finish, 3 start to finish.
 #[tactic(auto, unfolding(definition::specs::Field::int_in))]
-pub fn link_kind(s: &[u8], at: usize) -> u32
-    ensures { result ≡ link_kind (element_at s.now at) }
+pub fn link_kind(e: Element<'_>) -> u32
+    ensures { result ≡ link_kind (meaning e.entry) }
 {
-    match fields::int_in(s, at, b"Type") {
+    match fields::int_in(e, b"Type") {
         Some(0) => 2,
         Some(2) => 3,
         Some(3) => 1,
@@ -94,8 +95,8 @@ pub fn link_kind(s: &[u8], at: usize) -> u32
 }
 
 // Across projects.
-pub fn is_across(s: &[u8], at: usize) -> bool
-    ensures { result ≡ yes_in (element_at s.now at) "CrossProject" }
+pub fn is_across(e: Element<'_>) -> bool
+    ensures { result ≡ yes_in (meaning e.entry) "CrossProject" }
 {
-    fields::yes_in(s, at, b"CrossProject")
+    fields::yes_in(e, b"CrossProject")
 }

@@ -6,14 +6,14 @@ ghost use Rattle.definition.specs.Answer.{date_meaning};
 ghost use Rattle.definition.specs.Task.{not_below0, level_of, is_kept, unmarked, percent_format, elapsed_format, is_elapsed, is_fractional, per_day_from, per_day_of};
 ghost use Rattle.definition.specs.Task.{constraint_from, constraint_of, duration_type_of, duration_days, duration_minutes};
 ghost use Rattle.definition.specs.Task.{under_way, remaining_of, percent_of};
-ghost use Rattle.tree.specs.Place.{element_at};
+ghost use Rattle.tree.specs.Place.{meaning};
 ghost use Rattle.tree.specs.Root.{root_at};
 ghost use Rattle.fields.specs.Said.{whole_said};
 ghost use Rattle.tasks.specs.Task.{constraint_means, day_numbered};
 
 use crate::value::quotient;
 use definition::Date;
-use tree::Root;
+use tree::{Element, Root};
 
 // MSPDI's codes 1 to 7.
 #[derive(Clone, Copy)]
@@ -37,17 +37,17 @@ pub struct Parts {
 // ---- the kept tasks
 
 // OutlineLevel, 1 where none is read and 0 for one below 0.
-pub fn level_of(s: &[u8], at: usize) -> u64
-    ensures { result ≡ level_of (element_at s.now at) }
+pub fn level_of(e: Element<'_>) -> u64
+    ensures { result ≡ level_of (meaning e.entry) }
 {
-    fields::unsigned_in(s, at, b"OutlineLevel", 0, 1)
+    fields::unsigned_in(e, b"OutlineLevel", 0, 1)
 }
 
 // A UID other than `0`, and a level of at least 1.
-pub fn is_kept(s: &[u8], at: usize) -> bool
-    ensures { result ≡ is_kept (element_at s.now at) }
+pub fn is_kept(e: Element<'_>) -> bool
+    ensures { result ≡ is_kept (meaning e.entry) }
 {
-    fields::own_uid(s, at) & (1 <= level_of(s, at))
+    fields::own_uid(e) & (1 <= level_of(e))
 }
 
 // ---- formats of durations and lags
@@ -62,10 +62,10 @@ fn without_mark(code: u64) -> u64
     code
 }
 
-pub(crate) fn format_of(s: &[u8], at: usize, name: &[u8]) -> u64
-    ensures { result ≡ unmarked (not_below0 (whole_said (element_at s.now at) name.now or pos 0)) }
+pub(crate) fn format_of(e: Element<'_>, name: &[u8]) -> u64
+    ensures { result ≡ unmarked (not_below0 (whole_said (meaning e.entry) name.now or pos 0)) }
 {
-    without_mark(fields::unsigned_in(s, at, name, 0, 0))
+    without_mark(fields::unsigned_in(e, name, 0, 0))
 }
 
 pub(crate) fn percent_format(format: u64) -> bool
@@ -81,17 +81,17 @@ pub(crate) fn elapsed_format(format: u64) -> bool
 }
 
 // Elapsed time, where a day has 1440 minutes.
-pub fn is_elapsed(s: &[u8], at: usize) -> bool
-    ensures { result ≡ is_elapsed (element_at s.now at) }
+pub fn is_elapsed(e: Element<'_>) -> bool
+    ensures { result ≡ is_elapsed (meaning e.entry) }
 {
-    elapsed_format(format_of(s, at, b"DurationFormat"))
+    elapsed_format(format_of(e, b"DurationFormat"))
 }
 
 // A Duration that gives minutes and was not whole.
-pub fn is_fractional(s: &[u8], at: usize) -> bool
-    ensures { result ≡ is_fractional (element_at s.now at) }
+pub fn is_fractional(e: Element<'_>) -> bool
+    ensures { result ≡ is_fractional (meaning e.entry) }
 {
-    fields::fraction_in(s, at, b"Duration")
+    fields::fraction_in(e, b"Duration")
 }
 
 // ---- the day
@@ -106,10 +106,10 @@ fn day_from(m: f64) -> Option<u64>
 }
 
 // MinutesPerDay of the root, from 1 to 1440; else 480.
-pub fn per_day(s: &[u8], root: Root) -> u64
-    ensures { result ≡ per_day_of (root_at s.now root) }
+pub fn per_day(root: Root<'_>) -> u64
+    ensures { result ≡ per_day_of (root_at root.entry) }
 {
-    fields::number_at(s, root.minutes)
+    fields::number_at(root.part(root.minutes))
         .and_then(day_from)
         .unwrap_or(480)
 }
@@ -133,21 +133,21 @@ fn constraint_by(kind: u64, a: Option<Date>) -> Option<Constraint>
 }
 
 // 1 is as late as possible and has no date; 2 to 7 need theirs.
-pub fn constraint_of(s: &[u8], at: usize) -> Option<Constraint>
-    ensures { constraint_means result ≡ day_numbered (constraint_of (element_at s.now at)) }
+pub fn constraint_of(e: Element<'_>) -> Option<Constraint>
+    ensures { constraint_means result ≡ day_numbered (constraint_of (meaning e.entry)) }
 {
-    let kind = fields::unsigned_in(s, at, b"ConstraintType", 0, 0);
-    constraint_by(kind, fields::date_in(s, at, b"ConstraintDate"))
+    let kind = fields::unsigned_in(e, b"ConstraintType", 0, 0);
+    constraint_by(kind, fields::date_in(e, b"ConstraintDate"))
 }
 
 // ---- the duration
 
 // The model's code, which its writer takes as it is: 0 fixed duration and rate, 2 fixed rate, 3 fixed units.
 #[tactic(auto, unfolding(definition::specs::Field::int_in))]
-pub fn duration_type(s: &[u8], at: usize) -> u32
-    ensures { result ≡ duration_type_of (element_at s.now at) }
+pub fn duration_type(e: Element<'_>) -> u32
+    ensures { result ≡ duration_type_of (meaning e.entry) }
 {
-    match fields::int_in(s, at, b"Type") {
+    match fields::int_in(e, b"Type") {
         Some(0) => 2,
         Some(2) => 3,
         _ => 0,
@@ -174,34 +174,34 @@ pub fn duration_parts(minutes: u32, day: u64) -> Parts
 // ---- progress
 
 // Begun and not ended.
-fn under_way(s: &[u8], at: usize) -> bool
-    ensures { result ≡ under_way (element_at s.now at) }
+fn under_way(e: Element<'_>) -> bool
+    ensures { result ≡ under_way (meaning e.entry) }
 {
-    let begun = fields::date_in(s, at, b"ActualStart").is_some();
-    let ended = fields::date_in(s, at, b"ActualFinish").is_some();
+    let begun = fields::date_in(e, b"ActualStart").is_some();
+    let ended = fields::date_in(e, b"ActualFinish").is_some();
     begun & !ended
 }
 
 // The minutes left, of a task that is under way.
-pub fn remaining_of(s: &[u8], at: usize) -> Option<i64>
-    ensures { result ≡ remaining_of (element_at s.now at) }
+pub fn remaining_of(e: Element<'_>) -> Option<i64>
+    ensures { result ≡ remaining_of (meaning e.entry) }
 {
-    if !under_way(s, at) {
+    if !under_way(e) {
         return None;
     }
-    fields::minutes_in(s, at, b"RemainingDuration").map(i64::from)
+    fields::minutes_in(e, b"RemainingDuration").map(i64::from)
 }
 
 // Hundredths of PhysicalPercentComplete, of one above 0 and up to 100.
-pub fn percent_of(s: &[u8], at: usize) -> Option<i64>
-    ensures { result ≡ percent_of (element_at s.now at) }
+pub fn percent_of(e: Element<'_>) -> Option<i64>
+    ensures { result ≡ percent_of (meaning e.entry) }
 {
-    let p = fields::number_in(s, at, b"PhysicalPercentComplete")?;
+    let p = fields::number_in(e, b"PhysicalPercentComplete")?;
     fields::hundredths_when((0.0 < p) & (p <= 100.0), p)
 }
 
-pub fn milestone(s: &[u8], at: usize) -> bool
-    ensures { result ≡ yes_in (element_at s.now at) "Milestone" }
+pub fn milestone(e: Element<'_>) -> bool
+    ensures { result ≡ yes_in (meaning e.entry) "Milestone" }
 {
-    fields::yes_in(s, at, b"Milestone")
+    fields::yes_in(e, b"Milestone")
 }
