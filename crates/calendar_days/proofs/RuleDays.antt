@@ -31,7 +31,7 @@ use Rattle.recurrence.specs.declared.Cursor.{Cursor}
 use Rattle.recurrence.specs.declared.Step.{Step}
 use Rattle.recurrence.specs.declared.Step.TheVariants.{Day, Done, Skipped}
 use Rattle.calendar_days.specs.declared.exceptions.Days.{Days}
-use Rattle.calendar_days.specs.Exceptions.{days_at, days_in, daily, coming, coming_by, days_left}
+use Rattle.calendar_days.specs.Exceptions.{Item, old_days, days_at, days_in, daily, coming, coming_by, days_left}
 use Rattle.calendar_days.proofs.Runs.{each_count, each_kept, kept_length, count_length, rises_count, rises_keep, rises_take, first_run}
 
 -- ---- the days to come
@@ -263,14 +263,14 @@ ruled w {a = None} h = h.days
 
 -- ---- the days of an element rise
 
-pub days_rise : (old : Bool) (x : Element) → rises ltb (days_at old x) ≡ true
-unfolding days_at rises recurrence_days days_of_rule
-days_rise true w = by_type (eqb (day_type w or 1) 0)
+pub days_rise : (y : Item) → rises ltb (days_at y) ≡ true
+unfolding days_at old_days rises recurrence_days days_of_rule
+days_rise (true, w) = by_type (eqb (day_type w or 1) 0)
   where
     by_type : (t : Bool) → rises ltb (if t then days_of w else []) ≡ true
     by_type true = (old_run w).rise
     by_type false = refl
-days_rise false x = by_rule (rule_of x)
+days_rise (false, x) = by_rule (rule_of x)
   where
     by_rule : (o : Option D.Rule) → rises ltb ((o >>= λ r. Some (take r.most (keep (fits r) (count r.from (suc r.last - r.from))))) or []) ≡ true
     by_rule None = refl

@@ -1,106 +1,97 @@
-// The exceptions of a calendar, one by one: its WeekDays, of which those of DayType 0 are exceptions in the old form, or its Exceptions. What
+// The exceptions of a calendar, one by one: its WeekDays, of which those of DayType 0 are exceptions in the old form, and its Exceptions. What
 // is right is said in the crate definition, specs/Calendar.antt.
-ghost use Rattle.std.specs.Prelude.{◌≡◌, ◌+◌, not, Bool, true, false, ◌∷◌, length, drop};
+ghost use Rattle.std.specs.Prelude.{◌≡◌, ◌+◌, ◌≤◌, not, length};
 ghost use Rattle.std.specs.Iterator.{YieldsFirstBy, item_count};
-ghost use Rattle.definition.specs.Base.{given, some?};
+ghost use Rattle.definition.specs.Base.{some?};
 ghost use Rattle.definition.specs.Ascii.{bytes};
+ghost use Rattle.definition.specs.Tree.{all};
 ghost use Rattle.definition.specs.Calendar.{periods_of, is_empty};
-ghost use Rattle.tree.specs.Place.{element_at, later_at, Starts};
-ghost use Rattle.calendar.specs.Hours.{working_meaning};
-ghost use Rattle.pack.specs.Value.{date_by};
-ghost use Rattle.calendar_days.specs.Exceptions.{name_of, items_of, days_at, days_in, daily as daily_by, days_left, day_of, such_days, is_time, On};
+ghost use Rattle.tree.specs.Place.{meaning};
+ghost use Rattle.calendar_days.specs.Exceptions.{placed, item_of, items_of, items_left, ItemsOf, GivesItems, old_days, days_at, days_in, daily as daily_by, days_left, day_of, such_days, is_time};
 
 use crate::wanted::Wanted;
 use definition::Date;
 use recurrence::{Cursor, Range, Rule, Step};
+use tree::Element;
 
 // ---- the elements
 
-// The form of a calendar's exceptions.
-pub(crate) trait Form {
-    ghost old: { Bool };
-
-    // The first WeekDay or Exception of a Calendar.
-    fn first(s: &[u8], at: usize) -> Option<usize>
-        ensures { Starts s.now (name_of old) (items_of old (element_at s.now at)) 0 result };
-
-    // The next one.
-    fn next(s: &[u8], at: usize) -> Option<usize>
-        ensures { Starts s.now (name_of old) (later_at s.now (name_of old) at) (at + 1) result };
-
-    // The rule of the days of one; none where there are no days.
-    fn rule(s: &[u8], at: usize) -> Option<Rule>
-        ensures { days_in result ≡ days_at old (element_at s.now at) };
+// An exception of a calendar: a WeekDay, which has days where it is of DayType 0, or an Exception.
+#[derive(Clone, Copy)]
+pub(crate) enum Exception<'a> {
+    WeekDay(Element<'a>),
+    Recurring(Element<'a>),
 }
 
-// WeekDays, of which those of DayType 0 have days.
-pub(crate) struct OldForm;
-
-// Exceptions.
-pub(crate) struct NewForm;
-
-impl Form for OldForm {
-    ghost old = { true };
-
-    fn first(s: &[u8], at: usize) -> Option<usize> {
-        rows::first_in(s, at, b"WeekDays", b"WeekDay")
-    }
-
-    fn next(s: &[u8], at: usize) -> Option<usize> {
-        tree::next_child(s, at, b"WeekDay")
-    }
-
-    fn rule(s: &[u8], at: usize) -> Option<Rule> {
-        if !calendar::is_old_exception(s, at) {
-            return None;
+impl<'a> Exception<'a> {
+    pub(crate) fn element(self) -> Element<'a>
+        ensures { result ≡ placed self.entry }
+    {
+        match self {
+            Exception::WeekDay(e) => e,
+            Exception::Recurring(e) => e,
         }
-        recurrence::days_of(s, at).map(daily)
+    }
+
+    // The rule of its days; none where there are no days.
+    pub(crate) fn rule(self) -> Option<Rule>
+        ensures { days_in result ≡ days_at (item_of self.entry) }
+    {
+        match self {
+            Exception::WeekDay(e) => old_rule(e),
+            Exception::Recurring(e) => recurrence::rule_of(e),
+        }
     }
 }
 
-impl Form for NewForm {
-    ghost old = { false };
-
-    fn first(s: &[u8], at: usize) -> Option<usize> {
-        rows::first_in(s, at, b"Exceptions", b"Exception")
-    }
-
-    fn next(s: &[u8], at: usize) -> Option<usize> {
-        tree::next_child(s, at, b"Exception")
-    }
-
-    fn rule(s: &[u8], at: usize) -> Option<Rule> {
-        recurrence::rule_of(s, at)
-    }
-}
-
-fn after<F: Form>(s: &[u8], f: Option<usize>) -> Option<usize>
-    ensures { On s.now (name_of F.old) f result }
+// The rule of a WeekDay's days.
+fn old_rule(e: Element<'_>) -> Option<Rule>
+    ensures { days_in result ≡ old_days (meaning e.entry) }
 {
-    F::next(s, f?)
+    if !calendar::is_old_exception(e) {
+        return None;
+    }
+    recurrence::days_of(e).map(daily)
 }
 
-// The one behind the first n.
-pub(crate) fn nth_of<F: Form>(s: &[u8], at: usize, n: usize) -> Option<usize>
-    ensures { Starts s.now (name_of F.old) (drop n (items_of F.old (element_at s.now at))) 0 result }
-{
-    let mut f = F::first(s, at);
-    for _ in 0..n {
-        f = after::<F>(s, f);
-    }
-    f
+// The exceptions of a calendar, the WeekDays first.
+#[derive(Clone, Copy)]
+pub(crate) struct Exceptions<'a> {
+    week_day: Option<Element<'a>>,
+    recurring: Option<Element<'a>>,
 }
 
-pub(crate) fn count_of<F: Form>(s: &[u8], at: usize) -> usize
-    ensures { result ≡ length (items_of F.old (element_at s.now at)) }
-{
-    let mut f = F::first(s, at);
-    let mut n = 0;
-    while let Some(p) = f {
-        f = F::next(s, p);
-        n += 1;
+impl<'a> Exceptions<'a> {
+    pub(crate) fn of(calendar: Element<'a>) -> Exceptions<'a>
+        ensures are { items_left result ≡ items_of (meaning calendar.entry) }
+        ensures of { ItemsOf result calendar.entry.tree.now }
+        ensures few { length (items_left result) ≤ length calendar.entry.tree.now + length calendar.entry.tree.now }
+    {
+        let week_days = calendar.child(b"WeekDays");
+        let all = calendar.child(b"Exceptions");
+        Exceptions {
+            week_day: week_days.and_then(|w| w.child(b"WeekDay")),
+            recurring: all.and_then(|x| x.child(b"Exception")),
+        }
     }
-    n
+}
+
+impl<'a> Iterator for Exceptions<'a> {
+    type Item = Exception<'a>;
+
+    ghost next_gives = { GivesItems };
+
+    ghost remaining = { item_count items_left };
+
+    fn next(&mut self) -> Option<Exception<'a>> {
+        if let Some(e) = self.week_day {
+            self.week_day = e.next(b"WeekDay");
+            return Some(Exception::WeekDay(e));
+        }
+        let e = self.recurring?;
+        self.recurring = e.next(b"Exception");
+        Some(Exception::Recurring(e))
+    }
 }
 
 // ---- the days
@@ -162,40 +153,33 @@ impl Iterator for Days {
     }
 }
 
-// The days of a WeekDay or an Exception, if they are such; else none.
-pub(crate) fn such_days<F: Form, W: Wanted>(s: &[u8], at: usize) -> Days
-    ensures { days_left result ≡ such_days W.such F.old (element_at s.now at) }
+// The days of an exception, if they are such; else none.
+pub(crate) fn such_days<W: Wanted>(x: Exception<'_>) -> Days
+    ensures { days_left result ≡ such_days W.such (item_of x.entry) }
 {
-    if !W::are_such(s, at) {
+    if !W::are_such(x.element()) {
         return Days::of(None);
     }
-    Days::of(F::rule(s, at))
+    Days::of(x.rule())
 }
 
 // ---- the hours
 
-// Whether a WorkingTime or one of its later siblings is one.
-fn any_time(s: &[u8], first: usize) -> bool
-    ensures { result ≡ some? is_time (element_at s.now first ∷ later_at s.now (bytes "WorkingTime") first) }
+// Whether a WorkingTimes has a time.
+fn any_time(times: Element<'_>) -> bool
+    ensures { result ≡ some? is_time (all (meaning times.entry) (bytes "WorkingTime")) }
 {
-    let mut at = first;
-    loop {
-        if calendar::working_time(s, at).is_some() {
+    for t in times.children(b"WorkingTime") {
+        if calendar::working_time(t).is_some() {
             return true;
         }
-        let Some(next) = tree::next_child(s, at, b"WorkingTime") else {
-            return false;
-        };
-        at = next;
     }
+    false
 }
 
 // Whether a WeekDay or an Exception names hours.
-pub(crate) fn has_periods(s: &[u8], at: usize) -> bool
-    ensures { result ≡ not (is_empty (periods_of (element_at s.now at))) }
+pub(crate) fn has_periods(e: Element<'_>) -> bool
+    ensures { result ≡ not (is_empty (periods_of (meaning e.entry))) }
 {
-    match rows::first_in(s, at, b"WorkingTimes", b"WorkingTime") {
-        None => false,
-        Some(first) => any_time(s, first),
-    }
+    e.child(b"WorkingTimes").is_some_and(any_time)
 }

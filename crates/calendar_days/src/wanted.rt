@@ -1,9 +1,9 @@
 // Which days of a calendar's exceptions are wanted for a list: holidays, extra days or days with hours.
 ghost use Rattle.std.specs.Prelude.{◌≡◌, Bool, true, not};
-ghost use Rattle.definition.specs.Tree.{Element};
+ghost use Rattle.definition.specs.Tree.{Element as Said};
 ghost use Rattle.definition.specs.Date.{Date as DateOf};
 ghost use Rattle.definition.specs.Calendar.{works};
-ghost use Rattle.tree.specs.Place.{element_at};
+ghost use Rattle.tree.specs.Place.{meaning};
 ghost use Rattle.calendar.specs.Week.{flags_in};
 ghost use Rattle.laws.specs.Fields.{InYears};
 ghost use Rattle.pack.specs.Value.{date_by};
@@ -11,16 +11,17 @@ ghost use Rattle.calendar_days.specs.Exceptions.{such_off, such_on, such_hours};
 
 use crate::exceptions::has_periods;
 use definition::Date;
+use tree::Element;
 
 // What a list wants.
 pub(crate) trait Wanted: Copy {
-    ghost such: { Element → Bool };
+    ghost such: { Said → Bool };
 
     ghost test: { Self → DateOf → Bool };
 
     // Whether the days of a WeekDay or an Exception are such.
-    fn are_such(s: &[u8], at: usize) -> bool
-        ensures { result ≡ such (element_at s.now at) };
+    fn are_such(e: Element<'_>) -> bool
+        ensures { result ≡ such (meaning e.entry) };
 
     // Whether one of them counts, by its weekday.
     fn counts(self, d: Date) -> bool
@@ -48,8 +49,8 @@ impl Wanted for Holidays {
 
     ghost test = { λ h. works (flags_in h.week) };
 
-    fn are_such(s: &[u8], at: usize) -> bool {
-        !calendar::day_working(s, at)
+    fn are_such(e: Element<'_>) -> bool {
+        !calendar::day_working(e)
     }
 
     fn counts(self, d: Date) -> bool {
@@ -62,8 +63,8 @@ impl Wanted for ExtraDays {
 
     ghost test = { λ h d. not (works (flags_in h.week) d) };
 
-    fn are_such(s: &[u8], at: usize) -> bool {
-        calendar::day_working(s, at) && !has_periods(s, at)
+    fn are_such(e: Element<'_>) -> bool {
+        calendar::day_working(e) && !has_periods(e)
     }
 
     fn counts(self, d: Date) -> bool {
@@ -76,8 +77,8 @@ impl Wanted for WithHours {
 
     ghost test = { λ h d. true };
 
-    fn are_such(s: &[u8], at: usize) -> bool {
-        calendar::day_working(s, at) && has_periods(s, at)
+    fn are_such(e: Element<'_>) -> bool {
+        calendar::day_working(e) && has_periods(e)
     }
 
     fn counts(self, _d: Date) -> bool {
