@@ -1,6 +1,5 @@
 // White_Space, taken away at both ends of a text. A text is bytes that need not be UTF-8, so that `char::is_whitespace` and `str::trim` do not
-// serve: white space is told by its one, two or three bytes, and from either end, a function for each, as only the byte that is read first tells
-// where the others stand.
+// serve: white space is told by its one, two or three bytes. From the front and from the back they are read in another order, by a function each.
 ghost use Rattle.std.specs.Prelude.{◌≡◌, reverse, ◌≤◌, ◌<◌, length, get_or, take, drop};
 ghost use Rattle.definition.specs.Base.{within};
 ghost use Rattle.definition.specs.Text.{white1 as is_white1, white2 as is_white2, white3 as is_white3, trim_front, trim_back, trim as trimmed};

@@ -64,8 +64,8 @@ fn size_to(s: &[u8], most: u64) -> Option<u64>
     }
 }
 
-// A type of whole numbers: what a text is in it, the largest size behind a `-` or none, which no `-` has in an unsigned type, and what a
-// size is.
+// A type of whole numbers: what a text is in it, the largest size behind a `-` and without one, and what a size is there. An unsigned type has no size
+// behind a `-`.
 pub trait Whole: Sized {
     ghost means: { Text → Option Self };
 
