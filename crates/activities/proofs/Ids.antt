@@ -19,7 +19,6 @@ use Rattle.bits.specs.Places.{inside}
 use Rattle.bits.specs.declared.Place.{Place}
 use Rattle.index.specs.Below.{SameBelow, below_then}
 use Rattle.index.specs.Chains.{end_in}
-use Rattle.index.specs.Last.{last_below}
 use Rattle.model.specs.declared.records.Kind.TheVariants.{Activities}
 use Rattle.names.specs.Cleared.{below_cap}
 use Rattle.names.specs.Context.{context_at}
@@ -35,7 +34,7 @@ use Rattle.pack.specs.Value.{starred_by}
 use Rattle.tree.specs.Place.{element_at}
 use Rattle.activities.specs.Climbing.{parents_are, held_kept, held_more, noted_below, noted_in}
 use Rattle.activities.specs.Own.{IdsOpen, OwnRoom, RowNoted}
-use Rattle.activities.specs.Parents.{end_of, noted, Room, Behind, lower, task_at, level_at, Held}
+use Rattle.activities.specs.Parents.{end_of, noted, Room, Behind, task_at, Held}
 use Rattle.activities.specs.declared.own.Own.{Own}
 use Rattle.activities.specs.declared.parents.Columns.{Columns}
 

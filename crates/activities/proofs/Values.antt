@@ -30,15 +30,11 @@ use Rattle.links.specs.Given.{given_none, given_some}
 use Rattle.pack.specs.Record.{activity_by, activity_kind_code}
 use Rattle.pack.specs.Value.{given_by, starred, starred_by, name_meaning}
 use Rattle.pack.specs.Writes.{put_any}
-use Rattle.names.specs.Context.{wanted_name}
 use Rattle.names.specs.Named.{named_in, elapsed_in, calendar_name}
 use Rattle.names.specs.Naming.{Finds}
 use Rattle.names.specs.declared.named.CalendarName.{CalendarName}
 use Rattle.pack.specs.declared.record.Activity.{Activity}
 use Rattle.pack.specs.declared.record.Plan.{Plan}
-use Rattle.pack.specs.declared.record.Dates.{Dates}
-use Rattle.pack.specs.declared.record.Progress.{Progress}
-use Rattle.tree.specs.Place.{element_at}
 use Rattle.activities.specs.Values.{day_by, names_calendar, calendar_by, calendar_in, PlanOf, DatesOf, ProgressOf, activity_planned}
 
 -- ---- the first of three texts that is there

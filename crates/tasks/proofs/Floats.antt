@@ -10,7 +10,6 @@ use lib.Ieee.Fits.{and_l, and_r, down_pos}
 use mir.Syntax.{w64}
 use mir.Val.{to_z, of_z, SFits}
 use mir.ValLaws.{to_z-of_z}
-use Rattle.std.specs.Prelude.{Some, None}
 use Rattle.definition.specs.Base.{when}
 use Rattle.definition.specs.Number.{float, zero_float, between, half_away, nearest_whole}
 use Rattle.definition.specs.Task.{per_day_from, percent_from}

@@ -1,12 +1,12 @@
-use mathlib.Core.Path.{refl, sym, ◌∙◌}
+use mathlib.Core.Path.{sym, ◌∙◌}
 use Rattle.definition.specs.Format.{whole}
 use Rattle.definition.specs.Pack.{activity}
-use Rattle.index.specs.Below.{below_refl, below_then}
-use Rattle.pack.specs.Writes.{writes_if, writes_not}
+use Rattle.index.specs.Below.{below_then}
+use Rattle.pack.specs.Writes.{writes_if}
 use Rattle.tree.specs.Root.{root_at}
 use Rattle.activities.proofs.Ids.{cleared_behind}
 use Rattle.activities.proofs.Turn.{found_same, writes_found}
-use borrow.Author.Tests.{not-true, not-false}
+use borrow.Author.Tests.{not-false}
 use Rattle.activities.proofs.put_activities.Goals as goal
 
 pub returns : goal.returns

@@ -9,7 +9,7 @@ use Rattle.laws.specs.FitTrees.{Small, tasks_most}
 use Rattle.index.specs.Below.{below_then}
 use Rattle.names.specs.Context.{context_at}
 use Rattle.rows.specs.Small.{small_at, small_root}
-use Rattle.rows.specs.Walks.{kept_left, KeptOf}
+use Rattle.rows.specs.Walks.{kept_left}
 use Rattle.rows.specs.declared.kept.KeptTasks.{KeptTasks}
 use Rattle.tree.specs.Place.{element_at}
 use Rattle.tree.specs.Root.{root_at}

@@ -1,5 +1,4 @@
-use native.Mathlib.Omega.{arith}
-use Rattle.activities.proofs.Ids.{end_small, own_begun}
+use Rattle.activities.proofs.Ids.{own_begun}
 use Rattle.activities.proofs.own.own_for.Goals as goal
 
 pub returns : goal.returns

@@ -1,7 +1,4 @@
-use Prim.Native.Nat.{◌+◌, ◌*◌}
-use native.Mathlib.Omega.{arith}
-use lib.ListN.{length-set}
-use Rattle.activities.proofs.Words.{parent_scanned, words_there, short_at, ready_climbs, parent_climbed, word_back}
+use Rattle.activities.proofs.Words.{parent_scanned, ready_climbs, parent_climbed, word_back}
 use Rattle.activities.proofs.parents.parent_of.Goals as goal
 
 pub returns-then-own-row : goal.returns-then-own-row

@@ -3,7 +3,7 @@ use mathlib.Core.Path.{◌∙◌}
 use Rattle.names.specs.Context.{context_at}
 use Rattle.tree.specs.Place.{meaning}
 use Rattle.tree.specs.Root.{root_at}
-use Rattle.activities.proofs.Values.{by_elapsed, by_none, by_own}
+use Rattle.activities.proofs.Values.{by_none, by_own}
 use Rattle.activities.proofs.value.calendar_for.Goals as goal
 
 pub returns-then-not-names_calendar : goal.returns-then-not-names_calendar

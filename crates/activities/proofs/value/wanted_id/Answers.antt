@@ -1,5 +1,5 @@
 use Rattle.tree.specs.Place.{meaning}
-use Rattle.activities.proofs.Values.{first_id, second_id, third_id}
+use Rattle.activities.proofs.Values.{second_id, third_id}
 use Rattle.activities.proofs.value.wanted_id.Goals as goal
 
 pub returns-then-not-is_empty-2 : goal.returns-then-not-is_empty-2

@@ -1,11 +1,5 @@
-use Rattle.std.proofs.Common.{◌≡◌, length, refl, sym, ap, ◌∙◌}
-use Rattle.definition.specs.Format.{whole}
-use Rattle.definition.specs.Pack.{link as link_format}
-use Rattle.tree.specs.Place.{meaning, left}
-use Rattle.tree.specs.declared.element.Children.{Children}
-use Rattle.links.specs.Fates.{links_for}
-use Rattle.links.specs.More.{More}
-use Rattle.links.proofs.Links.{in_begin, in_next, in_end, put_none, put_fate}
+use Rattle.std.proofs.Common.{◌∙◌}
+use Rattle.links.proofs.Links.{in_next, in_end, put_none, put_fate}
 use Rattle.links.proofs.writing.put_links_in.Goals as goal
 
 pub returns : goal.returns

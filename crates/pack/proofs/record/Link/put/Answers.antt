@@ -1,4 +1,3 @@
-use Rattle.std.proofs.Common.{rules}
 use Rattle.bits.specs.Steps.{put-⊗, put_whole, put_same}
 use Rattle.pack.proofs.RecordBits.{put_link}
 use Rattle.pack.proofs.record.Link.put.Goals as goal

@@ -1,5 +1,4 @@
-use Rattle.std.proofs.Common.{rules}
-use Rattle.bits.specs.Steps.{put-⊗, put_whole, put_same}
+use Rattle.bits.specs.Steps.{put-⊗, put_whole}
 use Rattle.pack.proofs.RecordBits.{put_project}
 use Rattle.pack.proofs.record.Project.put.Goals as goal
 

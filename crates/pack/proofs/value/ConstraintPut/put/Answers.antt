@@ -1,8 +1,6 @@
 use mathlib.Core.Bool.{not}
-use mathlib.Core.Path.{ap}
 use lib.Dec.{eqb}
-use lib.IntN.{ℤ}
-use Rattle.std.specs.Prelude.{Option, Some}
+use Rattle.std.specs.Prelude.{Some}
 use Rattle.definition.specs.Base.{◌>>=◌}
 use Rattle.definition.specs.Pack.{constraint}
 use Rattle.bits.specs.Steps.{put_same}
