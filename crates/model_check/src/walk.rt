@@ -35,7 +35,16 @@ fn judge_activities(
         let hash = hash_at::<Activities>(s, q);
         // It fits where there is a table: a model of more bytes has none.
         t.put(words, i, hash, (q.byte % 4294967296) as u32);
-        let a = judge_activity(s, q, i, calendars, Names { table: names, words });
+        let a = judge_activity(
+            s,
+            q,
+            i,
+            calendars,
+            Names {
+                table: names,
+                words,
+            },
+        );
         right &= a.value;
         q = a.next;
         if 7 < q.bit {
@@ -70,7 +79,12 @@ pub(crate) fn walk_model(s: &[u8], n: Counts, words: &mut [u32]) -> Walked
         at: head.calendars.byte,
     };
     let names = index_keys::<Calendars>(s, calendars, words);
-    let ids = empty_table(s, words, index::end_of(names, words.len()), n.value.activities);
+    let ids = empty_table(
+        s,
+        words,
+        index::end_of(names, words.len()),
+        n.value.activities,
+    );
     let a = judge_activities(
         s,
         head.activities,
