@@ -16,7 +16,7 @@ use Rattle.definition.specs.Base.{◌or◌, given, some?, present}
 use Rattle.definition.specs.Ascii.{bytes}
 use Rattle.definition.specs.Text.{Text}
 use Rattle.definition.specs.Tree.{Element, all, all_in, child}
-use Rattle.definition.specs.Calendar.{week_days, recurring, periods_of, is_empty, day_type, working_time}
+use Rattle.definition.specs.Calendar.{week_days, recurring, periods_of, is_empty, day_type}
 use Rattle.tree.specs.declared.element.Children.{Children}
 use Rattle.tree.specs.Place.{left, meaning, later, list_of, Past, Starts}
 use Rattle.tree.specs.Answer.{found_child, none_child, found_on}

@@ -1,7 +1,6 @@
 use Rattle.std.proofs.Common.{rules, tests, ◌∙◌, ap}
 use Rattle.std.proofs.lemmas.Iterator.Search.{any_from_yields_List}
 use Rattle.definition.specs.Base.{some?}
-use Rattle.tree.specs.Place.{meaning, left}
 use Rattle.calendar_days.specs.Exceptions.{is_time}
 use Rattle.calendar_days.proofs.Elements.{any_is, children_given}
 use Rattle.calendar_days.proofs.exceptions.any_time.Goals as goal
