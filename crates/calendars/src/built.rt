@@ -12,7 +12,7 @@ ghost use Rattle.tree.specs.Root.{root_at};
 ghost use Rattle.pack.specs.Writes.{WritesIf};
 ghost use Rattle.calendars.specs.Built.{Begins, AtRow, BaseFound, BaseIn, Adds, AddsAll, AddsDefault, PutsBuilt, Turns, TurnsMain, AddsElapsed};
 
-use crate::plain::{put_default_calendar, put_elapsed_calendar};
+use crate::plain::{EVERY_DAY, WHOLE_DAY, WORKDAYS, put_plain_calendar};
 use crate::record::put_calendar;
 use bits::{PAST, Place};
 use index::Table;
@@ -82,10 +82,8 @@ fn base_by(
 ) -> Option<CalendarPlaces>
     ensures { BaseFound found names start count out.now words.now result }
 {
-    match found {
-        Some((row, _)) => base_at(out, start, count, words, names, row),
-        None => None,
-    }
+    let (row, _) = found?;
+    base_at(out, start, count, words, names, row)
 }
 
 // The first calendar with a UID that is built.
@@ -133,7 +131,7 @@ fn put_next(
     let next = put_calendar(out, p, s, at, stars, base, words, tables.from);
     names::note_stars(words, ids, count, name, stars, p);
     Records {
-        count: std::num::wrapping_add_u32(count, 1),
+        count: count.wrapping_add(1),
         next,
     }
 }
@@ -156,13 +154,11 @@ fn put_each(
         next: start,
     };
     let mut found = rows::first_calendar(s, root);
-    loop {
-        let Some(at) = found else {
-            return built;
-        };
+    while let Some(at) = found {
         built = put_next(out, start, built, s, root, at, words, tables);
         found = rows::next_calendar(s, root, at);
     }
+    built
 }
 
 // The default calendar where none was built.
@@ -172,7 +168,7 @@ fn or_default(out: &mut [u8], done: Records) -> Records
     if done.count == 0 {
         return Records {
             count: 1,
-            next: put_default_calendar(out, done.next),
+            next: put_plain_calendar(out, done.next, b"Standard", WORKDAYS, None),
         };
     }
     done
@@ -187,8 +183,8 @@ fn put_built(
     at: usize,
     rows: u32,
 ) -> Records
-    ensures fact_1 { PutsBuilt (root_at s.now root) out.old p out.new result }
-    ensures fact_2 { cleared at words.new ≡ cleared at words.old }
+    ensures built { PutsBuilt (root_at s.now root) out.old p out.new result }
+    ensures clears { cleared at words.new ≡ cleared at words.old }
 {
     let tables = tables_for(out, p, s, root, words, at, rows);
     let done = put_each(out, p, s, root, words, tables);
@@ -212,9 +208,8 @@ fn turn(out: &mut [u8], start: Place, row: usize)
 fn turn_main(out: &mut [u8], start: Place, found: Option<(usize, usize)>)
     ensures { TurnsMain found start out.old out.new }
 {
-    match found {
-        Some((row, _)) => turn(out, start, row),
-        None => (),
+    if let Some((row, _)) = found {
+        turn(out, start, row);
     }
 }
 
@@ -223,8 +218,14 @@ fn put_elapsed(out: &mut [u8], done: Records, s: &[u8], root: Root) -> Records
 {
     if rows::any_elapsed(s, root) {
         return Records {
-            count: std::num::wrapping_add_u32(done.count, 1),
-            next: put_elapsed_calendar(out, done.next),
+            count: done.count.wrapping_add(1),
+            next: put_plain_calendar(
+                out,
+                done.next,
+                b"Elapsed (24 hours)",
+                EVERY_DAY,
+                Some(WHOLE_DAY),
+            ),
         };
     }
     done
@@ -240,8 +241,8 @@ pub fn put_calendars(
     words: &mut [u32],
     at: usize,
 ) -> Records
-    ensures fact_1 { WritesIf (nat_le (length (calendar_elements (root_at s.now root))) most_elements && p.bit % 8 == 0) (whole calendar) (calendars_of (context_of (root_at s.now root))) out.old p out.new result }
-    ensures fact_2 { words.new ≡ cleared at words.old }
+    ensures written { WritesIf (nat_le (length (calendar_elements (root_at s.now root))) most_elements && p.bit % 8 == 0) (whole calendar) (calendars_of (context_of (root_at s.now root))) out.old p out.new result }
+    ensures clears { words.new ≡ cleared at words.old }
 {
     let n = names::count_calendars(s, root);
     if !((n <= 5_000_000) & (p.bit % 8 == 0)) {

@@ -11,7 +11,7 @@ ghost use Rattle.rows.specs.Rows.{found_meaning};
 ghost use Rattle.calendars.specs.Base.{days_place};
 ghost use Rattle.calendars.specs.Record.{is_place, on_place, later_found, hours_of, WeekRead, CopiesHours, BaseHours, PutsHours, PutsWeekHours, PutsCalendar};
 
-use crate::plain::put_week;
+use crate::plain::{WORKDAYS, put_week};
 use bits::{PAST, Place};
 use calendar_days::{put_days, put_periods};
 use model::parts::CalendarPlaces;
@@ -23,56 +23,34 @@ use pack::put_count;
 fn base_week(out: &[u8], base: Option<CalendarPlaces>) -> u32
     ensures { WeekRead base out.now result }
 {
+    // `map_or` was tried: the proof learns too little of what the closure gives. `u32::try_from` would have an error that cannot occur.
     match base {
         Some(c) => bits::take(out, c.week, 7).value as u32,
-        None => 0b1111100,
+        None => WORKDAYS,
     }
 }
 
 // ---- the hours: of each day the last WeekDay of its place decides
 
-fn is_place(a: Option<u32>, day: usize) -> bool
-    ensures { result ≡ is_place day a }
+// Whether a WeekDay is of a day, 0 for Monday.
+fn is_of(s: &[u8], at: usize, day: u32) -> bool
+    ensures { result ≡ on_place day (element_at s.now at) }
 {
-    match a {
-        Some(k) => k as usize == day,
-        None => false,
-    }
+    calendar::day_place(s, at) == Some(day)
 }
 
-// This WeekDay if it is of the place, else the one that was found before it.
-fn later_day(s: &[u8], at: usize, day: usize, found: Option<usize>) -> Option<usize>
-    ensures { found_meaning s.now result ≡ later_found (on_place day (element_at s.now at)) (element_at s.now at) (found_meaning s.now found) }
-{
-    if is_place(calendar::day_place(s, at), day) {
-        return Some(at);
-    }
-    found
-}
-
-// The last of a WeekDay and its later siblings.
-fn last_day_from(s: &[u8], first: usize, day: usize) -> Option<usize>
-    ensures { found_meaning s.now result ≡ find_last (on_place day) (element_at s.now first ∷ later_at s.now (bytes "WeekDay") first) }
-{
-    let mut at = first;
-    let mut found = None;
-    loop {
-        found = later_day(s, at, day, found);
-        let Some(next) = tree::next_child(s, at, b"WeekDay") else {
-            return found;
-        };
-        at = next;
-    }
-}
-
-// The last WeekDay of a Calendar for a day, 0 for Monday.
-fn last_day(s: &[u8], at: usize, day: usize) -> Option<usize>
+// The last WeekDay of a Calendar for a day.
+fn last_day(s: &[u8], at: usize, day: u32) -> Option<usize>
     ensures { found_meaning s.now result ≡ find_last (on_place day) (week_days (element_at s.now at)) }
 {
-    match rows::first_in(s, at, b"WeekDays", b"WeekDay") {
-        None => None,
-        Some(first) => last_day_from(s, first, day),
+    let mut found = None;
+    let mut next = rows::first_in(s, at, b"WeekDays", b"WeekDay");
+    while let Some(at) = next {
+        let named = is_of(s, at, day).then_some(at);
+        found = named.or(found);
+        next = tree::next_child(s, at, b"WeekDay");
     }
+    found
 }
 
 // The hours of a WeekDay, none where it is not worked.
@@ -80,21 +58,22 @@ fn put_own_hours(out: &mut [u8], p: Place, s: &[u8], at: usize) -> Place
     ensures { Puts periods (hours_of (element_at s.now at)) out.old p out.new result }
 {
     if calendar::day_working(s, at) {
-        return put_periods(out, p, s, at);
+        put_periods(out, p, s, at)
+    } else {
+        put_count(out, p, 0)
     }
-    put_count(out, p, 0)
 }
 
 // The base's hours of a day, from the place of its hours, written again.
-fn copy_hours(out: &mut [u8], p: Place, hours: Place, day: usize) -> Place
+fn copy_hours(out: &mut [u8], p: Place, hours: Place, day: u32) -> Place
     ensures { CopiesHours day hours out.old p out.new result }
 {
-    let from = model::parts::hours_place(out, hours, day);
+    let from = model::parts::hours_place(out, hours, day as usize);
     let to = model::parts::skip_periods(out, from);
     bits::copy_bits(out, from, to, p)
 }
 
-fn put_base_hours(out: &mut [u8], p: Place, base: Option<CalendarPlaces>, day: usize) -> Place
+fn put_base_hours(out: &mut [u8], p: Place, base: Option<CalendarPlaces>, day: u32) -> Place
     ensures { BaseHours base day out.old p out.new result }
 {
     match base {
@@ -108,7 +87,7 @@ fn put_hours_of(
     p: Place,
     s: &[u8],
     at: usize,
-    day: usize,
+    day: u32,
     base: Option<CalendarPlaces>,
 ) -> Place
     ensures { PutsHours (week_days (element_at s.now at)) day base out.old p out.new result }
@@ -123,10 +102,8 @@ fn put_hours(out: &mut [u8], p: Place, s: &[u8], at: usize, base: Option<Calenda
     ensures { PutsWeekHours (week_days (element_at s.now at)) base out.old p out.new result }
 {
     let mut q = p;
-    let mut day: usize = 0;
-    while day < 7 {
+    for day in 0..7 {
         q = put_hours_of(out, q, s, at, day, base);
-        day += 1;
     }
     q
 }
@@ -134,13 +111,11 @@ fn put_hours(out: &mut [u8], p: Place, s: &[u8], at: usize, base: Option<Calenda
 // ---- the whole
 
 // Where the base's lists of days stand; those of the default one, which are empty, nowhere.
+#[tactic(auto, unfolding(crate::specs::Base::days_place))]
 fn days_place(base: Option<CalendarPlaces>) -> Place
     ensures { result ≡ days_place base }
 {
-    match base {
-        Some(c) => c.holidays,
-        None => PAST,
-    }
+    base.map_or(PAST, |c| c.holidays)
 }
 
 // A Calendar over its base, its name with so many `*` behind it; the words from `from` on are free.
@@ -154,8 +129,8 @@ pub(crate) fn put_calendar(
     words: &mut [u32],
     from: usize,
 ) -> Place
-    ensures fact_1 { PutsCalendar (element_at s.now at) stars base out.old p out.new result }
-    ensures fact_2 { cleared from words.new ≡ cleared from words.old }
+    ensures written { PutsCalendar (element_at s.now at) stars base out.old p out.new result }
+    ensures clears { cleared from words.new ≡ cleared from words.old }
 {
     let a = pack::put_starred(out, p, names::wanted_name(s, at, b"Calendar"), stars);
     let week = calendar::week_of(s, at, base_week(out, base));

@@ -1,8 +1,5 @@
 use Rattle.calendars.proofs.Builts.{base_absent}
 use Rattle.calendars.proofs.built.base_by.Goals as goal
 
-pub returns-in-Some : goal.returns-in-Some
-returns-in-Some c = rw c.in-Some.is c.base_at.ensures
-
-pub returns-in-None : goal.returns-in-None
-returns-in-None c = rw c.in-None.is base_absent
+pub returns-in_err-row : goal.returns-in_err-row
+returns-in_err-row c = rw (c.from_residual.ensures, c.in_err-row.was) base_absent

@@ -7,14 +7,8 @@ use Rattle.calendars.proofs.built.put_each.Goals as goal
 pub loop-found-init : goal.loop-found-init
 loop-found-init c = ((refl, refl), sofar_none c.first_calendar-found.ensures.is)
 
-pub shape_of-out-in_default : goal.shape_of-out-in_default
-shape_of-out-in_default c = c.loop-found.invariant.0.0
-
-pub shape_of-words-in_default : goal.shape_of-words-in_default
-shape_of-words-in_default c = c.loop-found.invariant.0.1
-
-pub returns-in_default : goal.returns-in_default
-returns-in_default c =
+pub returns : goal.returns
+returns c =
     let a = c.args in
     sofar_all (order_end a.s.now (root_at a.s.now a.root) c.in_default.is) c.loop-found.invariant.1
 

@@ -5,6 +5,6 @@ pub returns-in-Some : goal.returns-in-Some
 unfolding TurnsMain
 returns-in-Some c = rw c.in-Some.is c.turn.ensures
 
-pub returns-in-None : goal.returns-in-None
+pub returns-in_default : goal.returns-in_default
 unfolding TurnsMain
-returns-in-None c = rw c.in-None.is
+returns-in_default c = rw c.in_default.is

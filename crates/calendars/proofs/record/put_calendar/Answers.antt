@@ -21,6 +21,6 @@ returns c =
     let a = c.args in
     let e = element_at a.s.now a.at in
     record {
-      fact_1 = calendar_over e a.stars (put_same (ap (λ (t : Text). starred_by t a.stars) c.wanted_name.ensures) c.put_starred-a.ensures) c.base_week.ensures c.week_of-week.ensures c.put_week-b.ensures c.put_hours-c.ensures (over_days a.base (days_over e (flags_in _)) c.days_place.ensures c.put_days-d.ensures.fact_1) c.pad.ensures;
-      fact_2 = c.put_days-d.ensures.fact_2;
+      written = calendar_over e a.stars (put_same (ap (λ (t : Text). starred_by t a.stars) c.wanted_name.ensures) c.put_starred-a.ensures) c.base_week.ensures c.week_of-week.ensures c.put_week-b.ensures c.put_hours-c.ensures (over_days a.base (days_over e (flags_in _)) c.days_place.ensures c.put_days-d.ensures.fact_1) c.pad.ensures;
+      clears = c.put_days-d.ensures.fact_2;
     }

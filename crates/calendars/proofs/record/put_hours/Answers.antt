@@ -1,23 +1,17 @@
-use Rattle.std.proofs.Common.{refl, ◌∙◌, arith}
+use Rattle.std.proofs.Common.{refl, ◌∙◌, ◌<◌, arith}
 use Rattle.definition.specs.Calendar.{week_days}
 use Rattle.tree.specs.Place.{element_at}
 use Rattle.calendars.proofs.WeekHours.{hours_none, hours_more, hours_all}
 use Rattle.calendars.proofs.record.put_hours.Goals as goal
 
 pub loop-day-init : goal.loop-day-init
-loop-day-init c = let a = c.args in (refl, (omega arith, hours_none (week_days (element_at a.s.now a.at)) a.base a.out.now a.p))
-
-pub overflow_add-day : goal.overflow_add-day
-overflow_add-day c = omega (arith, c.loop-day-test.true)
-
-pub loop-day-smaller : goal.loop-day-smaller
-loop-day-smaller c = omega (arith, c.loop-day-test.true)
+loop-day-init c = let a = c.args in (refl, hours_none (week_days (element_at a.s.now a.at)) a.base a.out.now a.p)
 
 pub loop-day-preserved : goal.loop-day-preserved
-loop-day-preserved c = let a = c.args in (c.put_hours_of-q.auto.out ∙ c.loop-day.invariant.0, (omega (arith, c.loop-day-test.true), hours_more (week_days (element_at a.s.now a.at)) c.loop-day-test.true c.loop-day.invariant.1.1 c.put_hours_of-q.ensures))
-
-pub shape_of-out : goal.shape_of-out
-shape_of-out c = c.loop-day.invariant.0
+loop-day-preserved c =
+    let a = c.args in
+    let lt : c.loop-day.day < 7 = omega arith in
+    (c.put_hours_of-q.auto.out ∙ c.loop-day.invariant.0, hours_more (week_days (element_at a.s.now a.at)) lt c.loop-day.invariant.1 c.put_hours_of-q.ensures)
 
 pub returns : goal.returns
-returns c = let a = c.args in hours_all (week_days (element_at a.s.now a.at)) a.base {day = c.loop-day.day} (omega (arith, c.loop-day-test.false)) c.loop-day.invariant.1.1
+returns c = let a = c.args in hours_all (week_days (element_at a.s.now a.at)) a.base {day = c.loop-day.day} (omega arith) c.loop-day.invariant.1

@@ -5,5 +5,5 @@ use Rattle.calendars.proofs.record.put_own_hours.Goals as goal
 pub returns-then-day_working : goal.returns-then-day_working
 returns-then-day_working c = own_worked (element_at c.args.s.now c.args.at) c.day_working.ensures c.if-day_working.true c.put_periods.ensures
 
-pub returns : goal.returns
-returns c = own_free (element_at c.args.s.now c.args.at) c.day_working.ensures c.if-day_working.false c.put_count.ensures
+pub returns-else-day_working : goal.returns-else-day_working
+returns-else-day_working c = own_free (element_at c.args.s.now c.args.at) c.day_working.ensures c.if-day_working.false c.put_count.ensures
