@@ -1,3 +1,3 @@
 pub mod Puts
-pub mod Starred
+pub mod TextBits
 pub mod RecordBits

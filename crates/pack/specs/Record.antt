@@ -1,91 +1,101 @@
 -- The records of the values that are written. Assumes nothing.
 use Rattle.std.specs.Prelude.{ℕ, ℤ}
-use Rattle.definition.specs.declared.Date.{Date as DayNumber}
 use Rattle.std.specs.Prelude.{Option}
 use Rattle.definition.specs.Date.{Date}
 use Rattle.definition.specs.Text.{Text}
-use Rattle.definition.specs.Model.{Project, Activity, Link, Resource, Assignment, Expense}
+use Rattle.definition.specs.Model as M
 use Rattle.definition.specs.Format.{Format, ◌⊗◌, code, number, date, text, optional}
 use Rattle.definition.specs.Pack.{constraint}
 use Rattle.definition.specs.Pack as P
-use Rattle.tasks.specs.Link.{lag_kind_means}
-use Rattle.tasks.specs.declared.link.Lag.{Lag}
-use Rattle.resources.specs.declared.assignment.Amounts.{Amounts}
-use Rattle.pack.specs.Value.{date_by, date_given, constraint_given, starred_by, name_meaning}
-use Rattle.pack.specs.declared.record.Skips.{Skips}
+use Rattle.tasks.specs.Link.{lag_means, link_kind_code}
+use Rattle.tasks.specs.Task.{duration_type_code}
+use Rattle.resources.specs.Resource.{resource_kind_code, accrual_code}
+use Rattle.pack.specs.Value.{date_by, date_given, constraint_given, given_by, starred}
+use Rattle.pack.specs.declared.record.ActivityKind.{ActivityKind}
+use Rattle.pack.specs.declared.record.ActivityKind.TheVariants as kind
 use Rattle.pack.specs.declared.record.Counts.{Counts}
-use Rattle.pack.specs.declared.record.Plan.{Plan}
-use Rattle.pack.specs.declared.record.Dates.{Dates}
-use Rattle.pack.specs.declared.record.Progress.{Progress}
+use Rattle.pack.specs.declared.record.Link.{Link}
+use Rattle.pack.specs.declared.record.Assignment.{Assignment}
+use Rattle.pack.specs.declared.record.Expense.{Expense}
+use Rattle.pack.specs.declared.record.Project.{Project}
+use Rattle.pack.specs.declared.record.Resource.{Resource}
+use Rattle.pack.specs.declared.record.Activity.{Activity}
 
-abbrev pub link_by : ℕ → ℕ → ℕ → Lag → Link
-link_by predecessor successor kind lag =
-    record { predecessor = predecessor; successor = successor; kind = kind; lag = lag.days; minutes = lag.minutes; lag_kind = lag_kind_means lag.kind }
+-- the model's code
+abbrev pub activity_kind_code : ActivityKind → ℕ
+activity_kind_code kind.Task = 0
+activity_kind_code kind.StartMilestone = 1
+activity_kind_code kind.FinishMilestone = 2
 
-abbrev pub assignment_by : ℕ → ℕ → Amounts → Option ℤ → Assignment
-assignment_by activity resource work rate = record {
-  activity = activity;
-  resource = resource;
-  planned = work.planned;
-  actual = work.actual;
-  remaining = work.remaining;
-  rate = rate;
+abbrev pub link_by : Link → M.Link
+link_by l =
+    let lag = lag_means l.lag in
+    record { predecessor = l.predecessor; successor = l.successor; kind = link_kind_code l.kind; lag = lag.days; minutes = lag.minutes; lag_kind = lag.kind }
+
+abbrev pub assignment_by : Assignment → M.Assignment
+assignment_by a = record {
+  activity = a.activity;
+  resource = a.resource;
+  planned = a.work.planned;
+  actual = a.work.actual;
+  remaining = a.work.remaining;
+  rate = a.rate;
 }
 
-abbrev pub expense_by : ℕ → Text → Amounts → ℕ → Expense
-expense_by activity name cost accrual = record {
-  activity = activity;
-  name = name;
-  planned = cost.planned;
-  actual = cost.actual;
-  remaining = cost.remaining;
-  accrual = accrual;
+abbrev pub expense_by : Expense → M.Expense
+expense_by e = record {
+  activity = e.activity;
+  name = e.name.now;
+  planned = e.cost.planned;
+  actual = e.cost.actual;
+  remaining = e.cost.remaining;
+  accrual = accrual_code e.accrual;
 }
 
-abbrev pub project_by : Text → ℤ → Text → Skips → Option DayNumber → Project
-project_by name start currency skips data_date = record {
-  name = name;
-  start = date_by start;
-  currency = currency;
-  skipped = skips.skipped;
-  dangling = skips.dangling;
-  across = skips.across;
-  fractional = skips.fractional;
-  data_date = date_given data_date;
+abbrev pub project_by : Project → M.Project
+project_by p = record {
+  name = p.name.now;
+  start = date_by p.start.0;
+  currency = p.currency.now;
+  skipped = p.skips.skipped;
+  dangling = p.skips.dangling;
+  across = p.skips.across;
+  fractional = p.skips.fractional;
+  data_date = date_given p.data_date;
 }
 
 abbrev pub counts_by : Counts → P.Counts
 counts_by n = (n.calendars, (n.activities, (n.links, (n.resources, (n.assignments, n.expenses)))))
 
-abbrev pub resource_by : Text → ℕ → Text → ℕ → Text → ℤ → Text → Option ℕ → Option ℤ → Resource
-resource_by id stars name kind unit max_units calendar named price = record {
-  id = starred_by id stars;
-  name = name;
-  kind = kind;
-  unit = unit;
-  max_units = max_units;
-  calendar = name_meaning calendar named;
-  price = price;
+abbrev pub resource_by : Resource → M.Resource
+resource_by r = record {
+  id = starred r.id;
+  name = r.name.now;
+  kind = resource_kind_code r.kind;
+  unit = r.unit.now;
+  max_units = r.max_units;
+  calendar = given_by starred r.calendar;
+  price = r.price;
 }
 
-abbrev pub activity_by : Text → ℕ → Text → Plan → Text → Text → Option ℕ → Dates → Progress → Text → Activity
-activity_by id stars name plan notes calendar named dates progress uid = record {
-  id = starred_by id stars;
-  name = name;
-  kind = plan.kind;
-  duration = plan.duration.days;
-  minutes = plan.duration.minutes;
-  parent = plan.parent;
-  notes = notes;
-  calendar = name_meaning calendar named;
-  constraint = constraint_given dates.constraint;
-  deadline = date_given dates.deadline;
-  start = date_given dates.start;
-  finish = date_given dates.finish;
-  percent = progress.percent;
-  duration_type = progress.duration_type;
-  remaining = progress.remaining;
-  uid = uid;
+abbrev pub activity_by : Activity → M.Activity
+activity_by a = record {
+  id = starred a.id;
+  name = a.name.now;
+  kind = activity_kind_code a.plan.kind;
+  duration = a.plan.duration.days;
+  minutes = a.plan.duration.minutes;
+  parent = a.plan.parent;
+  notes = a.notes.now;
+  calendar = given_by starred a.calendar;
+  constraint = constraint_given a.dates.constraint;
+  deadline = date_given a.dates.deadline;
+  start = date_given a.dates.start;
+  finish = date_given a.dates.finish;
+  percent = a.progress.percent;
+  duration_type = duration_type_code a.progress.duration_type;
+  remaining = a.progress.remaining;
+  uid = a.uid.now;
 }
 
 -- ---- an activity's fields from its notes on
@@ -96,5 +106,5 @@ ScheduleFields = Text × (Option Text × (Option (ℕ × Option Date) × (Option
 abbrev pub schedule_fields : Format ScheduleFields
 schedule_fields = text ⊗ optional text ⊗ optional constraint ⊗ optional date ⊗ optional date ⊗ optional date ⊗ optional number ⊗ code 0 3 ⊗ optional number ⊗ text
 
-abbrev pub schedule_of : Activity → ScheduleFields
+abbrev pub schedule_of : M.Activity → ScheduleFields
 schedule_of a = (a.notes, (a.calendar, (a.constraint, (a.deadline, (a.start, (a.finish, (a.percent, (a.duration_type, (a.remaining, a.uid)))))))))

@@ -11,11 +11,22 @@ use Rattle.laws.specs.Fields.{InYears, days_day}
 use Rattle.laws.specs.Formats.{IfGiven}
 use Rattle.definition.specs.Text.{Text}
 use Rattle.definition.specs.Answer.{date_meaning, day_number_of}
+use Rattle.tasks.specs.declared.link.Lag.{Lag}
+use Rattle.tasks.specs.Link.{lag_means}
+use Rattle.pack.specs.declared.stars.Starred.{Starred}
 use Rattle.tasks.specs.Task.{code_and_day, constraint_means, day_numbered}
 
 -- what a value means, where there is one
 abbrev pub given_by : {A B : Type 0} → (A → B) → Option A → Option B
 given_by f o = o >>= λ x. Some (f x)
+
+-- a text with so many `*` behind it
+abbrev pub starred : Starred → Text
+starred x = starred_by x.text.now x.stars
+
+-- a lag's days and minutes, and its kind
+abbrev pub lag_values : Lag → ℤ × (Option ℤ × (ℕ × Option ℤ))
+lag_values l = let m = lag_means l in (m.days, (m.minutes, m.kind))
 
 -- the date of a day number; 0 outside the years
 abbrev pub date_by : ℤ → Date

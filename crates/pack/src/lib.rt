@@ -7,8 +7,8 @@ mod stars;
 mod value;
 
 pub use record::{
-    Counts, Dates, Plan, Progress, Records, Skips, put_activity, put_assignment, put_counts,
-    put_expense, put_link, put_project, put_resource,
+    Activity, ActivityKind, Assignment, Counts, Dates, Expense, Link, Plan, Progress, Project,
+    Records, Resource, Skips, put_counts,
 };
-pub use stars::put_starred;
+pub use stars::Starred;
 pub use value::{put_count, put_date};

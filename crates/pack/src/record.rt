@@ -1,21 +1,20 @@
 // The records, each from the values in it, with zero bits up to a whole byte.
-ghost use Rattle.std.specs.Prelude.{ℕ};
+ghost use Rattle.std.specs.Prelude.{◌≡◌};
 ghost use Rattle.definition.specs.Format.{whole};
-ghost use Rattle.definition.specs.Text.{Text};
 ghost use Rattle.definition.specs.Pack.{project, activity, link, resource, assignment, expense, counts};
 ghost use Rattle.bits.specs.Steps.{Puts};
-ghost use Rattle.pack.specs.Record.{link_by, assignment_by, expense_by, project_by, resource_by, activity_by, schedule_fields, schedule_of, counts_by};
+ghost use Rattle.pack.specs.Record.{link_by, assignment_by, expense_by, project_by, resource_by, activity_by, activity_kind_code, schedule_fields, schedule_of, counts_by};
 
-use crate::stars::{put_optional_name, put_starred};
-use crate::value::{put_code, put_count, put_date, put_lag_kind, put_number, put_optional};
+use crate::stars::Starred;
+use crate::value::{put_code, put_count, put_date, put_lag, put_number, put_optional};
 use bits::Place;
 use definition::Date;
-use resources::Amounts;
-use tasks::{Constraint, Lag, Parts};
+use resources::{Accrual, Amounts, ResourceKind};
+use tasks::{Constraint, DurationType, Lag, LinkKind, Parts};
 
 // How many exceptions were skipped, how many links dangle or go across, and how many kept tasks have a duration
 // that was not whole minutes.
-#[derive(Clone, Copy)]
+#[derive(Clone, Copy, Debug, PartialEq, Eq)]
 pub struct Skips {
     pub skipped: u32,
     pub dangling: u32,
@@ -23,15 +22,35 @@ pub struct Skips {
     pub fractional: u32,
 }
 
+#[derive(Clone, Copy, Debug, PartialEq, Eq)]
+pub enum ActivityKind {
+    Task,
+    StartMilestone,
+    FinishMilestone,
+}
+
+// The model's codes.
+impl From<ActivityKind> for u32 {
+    ghost from_gives = { λ kind n. n ≡ activity_kind_code kind };
+
+    fn from(kind: ActivityKind) -> u32 {
+        match kind {
+            ActivityKind::Task => 0,
+            ActivityKind::StartMilestone => 1,
+            ActivityKind::FinishMilestone => 2,
+        }
+    }
+}
+
 // What an activity is: its kind, its duration in days, with the minutes where they are not whole days, and its parent's row.
-#[derive(Clone, Copy)]
+#[derive(Clone, Copy, Debug, PartialEq, Eq)]
 pub struct Plan {
-    pub kind: u32,
+    pub kind: ActivityKind,
     pub duration: Parts,
     pub parent: Option<u32>,
 }
 
-#[derive(Clone, Copy)]
+#[derive(Clone, Copy, Debug, PartialEq, Eq)]
 pub struct Dates {
     pub constraint: Option<Constraint>,
     pub deadline: Option<Date>,
@@ -39,15 +58,15 @@ pub struct Dates {
     pub finish: Option<Date>,
 }
 
-#[derive(Clone, Copy)]
+#[derive(Clone, Copy, Debug, PartialEq, Eq)]
 pub struct Progress {
     pub percent: Option<i64>,
-    pub duration_type: u32,
+    pub duration_type: DurationType,
     pub remaining: Option<i64>,
 }
 
 // How many records of each kind there are.
-#[derive(Clone, Copy)]
+#[derive(Clone, Copy, Debug, PartialEq, Eq)]
 pub struct Counts {
     pub calendars: u32,
     pub activities: u32,
@@ -58,94 +77,173 @@ pub struct Counts {
 }
 
 // The records of a section: how many there are, and the place behind them.
-#[derive(Clone, Copy)]
+#[derive(Clone, Copy, PartialEq, Eq)]
 pub struct Records {
     pub count: u32,
     pub next: Place,
 }
 
-pub fn put_link(
-    out: &mut [u8],
-    p: Place,
-    predecessor: u32,
-    successor: u32,
-    kind: u32,
-    lag: Lag,
-) -> Place
-    ensures { Puts (whole link) (link_by predecessor successor kind lag) out.old p out.new result }
-{
-    let minutes = lag.minutes;
-    let kind_of_lag = lag.kind;
-    let a = put_count(out, p, predecessor);
-    let b = put_count(out, a, successor);
-    let c = put_code(out, b, kind);
-    let d = put_number(out, c, lag.days);
-    let e = put_optional(out, d, minutes);
-    let f = put_lag_kind(out, e, kind_of_lag);
-    bits::pad(out, f)
+// ---- the records
+
+#[derive(Clone, Copy, Debug, PartialEq, Eq)]
+pub struct Link {
+    pub predecessor: u32,
+    pub successor: u32,
+    pub kind: LinkKind,
+    pub lag: Lag,
 }
 
-pub fn put_assignment(
-    out: &mut [u8],
-    p: Place,
-    activity: u32,
-    resource: u32,
-    work: Amounts,
-    rate: Option<i64>,
-) -> Place
-    ensures { Puts (whole assignment) (assignment_by activity resource work rate) out.old p out.new result }
-{
-    let remaining = work.remaining;
-    let a = put_count(out, p, activity);
-    let b = put_count(out, a, resource);
-    let c = put_number(out, b, work.planned);
-    let d = put_number(out, c, work.actual);
-    let e = put_optional(out, d, remaining);
-    let f = put_optional(out, e, rate);
-    bits::pad(out, f)
+impl Link {
+    pub fn put(self, out: &mut [u8], p: Place) -> Place
+        ensures { Puts (whole link) (link_by self) out.old p out.new result }
+    {
+        let a = put_count(out, p, self.predecessor);
+        let b = put_count(out, a, self.successor);
+        let c = put_code(out, b, u32::from(self.kind));
+        let d = put_lag(out, c, self.lag);
+        bits::pad(out, d)
+    }
 }
 
-pub fn put_expense(
-    out: &mut [u8],
-    p: Place,
-    activity: u32,
-    name: &[u8],
-    cost: Amounts,
-    accrual: u32,
-) -> Place
-    ensures { Puts (whole expense) (expense_by activity name.now cost accrual) out.old p out.new result }
-{
-    let remaining = cost.remaining;
-    let a = put_count(out, p, activity);
-    let b = bits::put_text(out, a, name);
-    let c = put_number(out, b, cost.planned);
-    let d = put_number(out, c, cost.actual);
-    let e = put_optional(out, d, remaining);
-    let f = put_code(out, e, accrual);
-    bits::pad(out, f)
+#[derive(Clone, Copy, Debug, PartialEq, Eq)]
+pub struct Assignment {
+    pub activity: u32,
+    pub resource: u32,
+    pub work: Amounts,
+    pub rate: Option<i64>,
 }
 
-pub fn put_project(
-    out: &mut [u8],
-    p: Place,
-    name: &[u8],
-    start: Date,
-    currency: &[u8],
-    skips: Skips,
-    status: Option<Date>,
-) -> Place
-    ensures { Puts (whole project) (project_by name.now start.0 currency.now skips status) out.old p out.new result }
-{
-    let a = bits::put_text(out, p, name);
-    let b = put_date(out, a, start);
-    let c = bits::put_text(out, b, currency);
-    let d = put_count(out, c, skips.skipped);
-    let e = put_count(out, d, skips.dangling);
-    let f = put_count(out, e, skips.across);
-    let g = put_count(out, f, skips.fractional);
-    let h = put_optional(out, g, status);
-    bits::pad(out, h)
+impl Assignment {
+    pub fn put(self, out: &mut [u8], p: Place) -> Place
+        ensures { Puts (whole assignment) (assignment_by self) out.old p out.new result }
+    {
+        let a = put_count(out, p, self.activity);
+        let b = put_count(out, a, self.resource);
+        let c = put_number(out, b, self.work.planned);
+        let d = put_number(out, c, self.work.actual);
+        let e = put_optional(out, d, self.work.remaining);
+        let f = put_optional(out, e, self.rate);
+        bits::pad(out, f)
+    }
 }
+
+#[derive(Clone, Copy)]
+pub struct Expense<'a> {
+    pub activity: u32,
+    pub name: &'a [u8],
+    pub cost: Amounts,
+    pub accrual: Accrual,
+}
+
+impl Expense<'_> {
+    pub fn put(self, out: &mut [u8], p: Place) -> Place
+        ensures { Puts (whole expense) (expense_by self.entry) out.old p out.new result }
+    {
+        let a = put_count(out, p, self.activity);
+        let b = bits::put_text(out, a, self.name);
+        let c = put_number(out, b, self.cost.planned);
+        let d = put_number(out, c, self.cost.actual);
+        let e = put_optional(out, d, self.cost.remaining);
+        let f = put_code(out, e, u32::from(self.accrual));
+        bits::pad(out, f)
+    }
+}
+
+#[derive(Clone, Copy)]
+pub struct Project<'a> {
+    pub name: &'a [u8],
+    pub start: Date,
+    pub currency: &'a [u8],
+    pub skips: Skips,
+    pub data_date: Option<Date>,
+}
+
+impl Project<'_> {
+    pub fn put(self, out: &mut [u8], p: Place) -> Place
+        ensures { Puts (whole project) (project_by self.entry) out.old p out.new result }
+    {
+        let a = bits::put_text(out, p, self.name);
+        let b = put_date(out, a, self.start);
+        let c = bits::put_text(out, b, self.currency);
+        let d = put_count(out, c, self.skips.skipped);
+        let e = put_count(out, d, self.skips.dangling);
+        let f = put_count(out, e, self.skips.across);
+        let g = put_count(out, f, self.skips.fractional);
+        let h = put_optional(out, g, self.data_date);
+        bits::pad(out, h)
+    }
+}
+
+#[derive(Clone, Copy)]
+pub struct Resource<'a> {
+    pub id: Starred<'a>,
+    pub name: &'a [u8],
+    pub kind: ResourceKind,
+    pub unit: &'a [u8],
+    pub max_units: i64,
+    pub calendar: Option<Starred<'a>>,
+    pub price: Option<i64>,
+}
+
+impl Resource<'_> {
+    pub fn put(self, out: &mut [u8], p: Place) -> Place
+        ensures { Puts (whole resource) (resource_by self.entry) out.old p out.new result }
+    {
+        let a = self.id.put(out, p);
+        let b = bits::put_text(out, a, self.name);
+        let c = put_code(out, b, u32::from(self.kind));
+        let d = bits::put_text(out, c, self.unit);
+        let e = put_number(out, d, self.max_units);
+        let f = put_optional(out, e, self.calendar);
+        let g = put_optional(out, f, self.price);
+        bits::pad(out, g)
+    }
+}
+
+#[derive(Clone, Copy)]
+pub struct Activity<'a> {
+    pub id: Starred<'a>,
+    pub name: &'a [u8],
+    pub plan: Plan,
+    pub notes: &'a [u8],
+    pub calendar: Option<Starred<'a>>,
+    pub dates: Dates,
+    pub progress: Progress,
+    pub uid: &'a [u8],
+}
+
+impl Activity<'_> {
+    // The fields from the notes on.
+    fn put_schedule(self, out: &mut [u8], p: Place) -> Place
+        ensures { Puts schedule_fields (schedule_of (activity_by self.entry)) out.old p out.new result }
+    {
+        let a = bits::put_text(out, p, self.notes);
+        let b = put_optional(out, a, self.calendar);
+        let c = put_optional(out, b, self.dates.constraint);
+        let d = put_optional(out, c, self.dates.deadline);
+        let e = put_optional(out, d, self.dates.start);
+        let f = put_optional(out, e, self.dates.finish);
+        let g = put_optional(out, f, self.progress.percent);
+        let h = put_code(out, g, u32::from(self.progress.duration_type));
+        let i = put_optional(out, h, self.progress.remaining);
+        bits::put_text(out, i, self.uid)
+    }
+
+    pub fn put(self, out: &mut [u8], p: Place) -> Place
+        ensures { Puts (whole activity) (activity_by self.entry) out.old p out.new result }
+    {
+        let a = self.id.put(out, p);
+        let b = bits::put_text(out, a, self.name);
+        let c = put_code(out, b, u32::from(self.plan.kind));
+        let d = put_number(out, c, self.plan.duration.days);
+        let e = put_optional(out, d, self.plan.duration.minutes);
+        let f = put_optional(out, e, self.plan.parent);
+        let g = self.put_schedule(out, f);
+        bits::pad(out, g)
+    }
+}
+
+// ---- counts
 
 // Six fields of a struct by their names: an array to loop over would hold the same again.
 pub fn put_counts(out: &mut [u8], p: Place, n: Counts) -> Place
@@ -157,91 +255,4 @@ pub fn put_counts(out: &mut [u8], p: Place, n: Counts) -> Place
     let d = put_count(out, c, n.resources);
     let e = put_count(out, d, n.assignments);
     put_count(out, e, n.expenses)
-}
-
-// The id with so many `*` behind it; the calendar's name by the answer beside it.
-pub fn put_resource(
-    out: &mut [u8],
-    p: Place,
-    id: &[u8],
-    stars: u32,
-    name: &[u8],
-    kind: u32,
-    unit: &[u8],
-    units: i64,
-    calendar: &[u8],
-    named: Option<u32>,
-    price: Option<i64>,
-) -> Place
-    ensures { Puts (whole resource) (resource_by id.now stars name.now kind unit.now units calendar.now named price) out.old p out.new result }
-{
-    let a = put_starred(out, p, id, stars);
-    let b = bits::put_text(out, a, name);
-    let c = put_code(out, b, kind);
-    let d = bits::put_text(out, c, unit);
-    let e = put_number(out, d, units);
-    let f = put_optional_name(out, e, calendar, named);
-    let g = put_optional(out, f, price);
-    bits::pad(out, g)
-}
-
-// The fields of an activity from its notes on.
-fn put_schedule(
-    out: &mut [u8],
-    p: Place,
-    notes: &[u8],
-    calendar: &[u8],
-    named: Option<u32>,
-    dates: Dates,
-    progress: Progress,
-    uid: &[u8],
-) -> Place
-    ensures { (id : Text) (stars : ℕ) (name : Text) (plan : Plan) → Puts schedule_fields (schedule_of (activity_by id stars name plan notes.now calendar.now named dates progress uid.now)) out.old p out.new result }
-{
-    let constraint = dates.constraint;
-    let deadline = dates.deadline;
-    let start = dates.start;
-    let finish = dates.finish;
-    let percent = progress.percent;
-    let remaining = progress.remaining;
-    let a = bits::put_text(out, p, notes);
-    let b = put_optional_name(out, a, calendar, named);
-    let c = put_optional(out, b, constraint);
-    let d = put_optional(out, c, deadline);
-    let e = put_optional(out, d, start);
-    let f = put_optional(out, e, finish);
-    let g = put_optional(out, f, percent);
-    let h = put_code(out, g, progress.duration_type);
-    let i = put_optional(out, h, remaining);
-    bits::put_text(out, i, uid)
-}
-
-// The id with so many `*` behind it; the calendar's name by the answer beside it.
-pub fn put_activity(
-    out: &mut [u8],
-    p: Place,
-    id: &[u8],
-    stars: u32,
-    name: &[u8],
-    plan: Plan,
-    notes: &[u8],
-    calendar: &[u8],
-    named: Option<u32>,
-    dates: Dates,
-    progress: Progress,
-    uid: &[u8],
-) -> Place
-    ensures { Puts (whole activity) (activity_by id.now stars name.now plan notes.now calendar.now named dates progress uid.now) out.old p out.new result }
-{
-    let duration = plan.duration;
-    let minutes = duration.minutes;
-    let parent = plan.parent;
-    let a = put_starred(out, p, id, stars);
-    let b = bits::put_text(out, a, name);
-    let c = put_code(out, b, plan.kind);
-    let d = put_number(out, c, duration.days);
-    let e = put_optional(out, d, minutes);
-    let f = put_optional(out, e, parent);
-    let g = put_schedule(out, f, notes, calendar, named, dates, progress, uid);
-    bits::pad(out, g)
 }

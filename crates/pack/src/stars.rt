@@ -2,12 +2,12 @@
 ghost use Rattle.std.specs.Prelude.{replicate, refl};
 ghost use Rattle.definition.specs.Text.{Text};
 ghost use Rattle.definition.specs.Bits.{bits_of};
-ghost use Rattle.definition.specs.Format.{text, optional};
+ghost use Rattle.definition.specs.Format.{text};
 ghost use Rattle.laws.specs.Buf.{◌▷◌};
 ghost use Rattle.bits.specs.Steps.{Step, Puts};
-ghost use Rattle.pack.specs.Value.{given_by, starred_by, name_meaning};
+ghost use Rattle.pack.specs.Value.{given_by, starred};
 
-use crate::value::{Put, put_optional};
+use crate::value::Put;
 use bits::Place;
 
 // So many `*`.
@@ -21,21 +21,22 @@ fn put_stars(out: &mut [u8], p: Place, stars: u32) -> Place
     q
 }
 
-// A text with so many `*` behind it.
-pub fn put_starred(out: &mut [u8], p: Place, s: &[u8], stars: u32) -> Place
-    ensures { Puts text (starred_by s.now stars) out.old p out.new result }
-{
-    let a = bits::put(out, p, 32, s.len() as u64 + u64::from(stars));
-    let b = bits::pad(out, a);
-    let c = bits::put_bytes(out, b, s);
-    put_stars(out, c, stars)
-}
-
 // A text, and how many `*` stand behind it.
 #[derive(Clone, Copy)]
-struct Starred<'a> {
-    text: &'a [u8],
-    stars: u32,
+pub struct Starred<'a> {
+    pub text: &'a [u8],
+    pub stars: u32,
+}
+
+impl Starred<'_> {
+    pub fn put(self, out: &mut [u8], p: Place) -> Place
+        ensures { Puts text (starred self.entry) out.old p out.new result }
+    {
+        let a = bits::put(out, p, 32, self.text.len() as u64 + u64::from(self.stars));
+        let b = bits::pad(out, a);
+        let c = bits::put_bytes(out, b, self.text);
+        put_stars(out, c, self.stars)
+    }
 }
 
 impl Put for Starred<'_> {
@@ -43,21 +44,15 @@ impl Put for Starred<'_> {
 
     ghost format = { text };
 
-    ghost means = { λ x. starred_by x.text.now x.stars };
+    ghost means = { starred };
 
-    ghost given = { given_by (λ x. starred_by x.text.now x.stars) };
+    ghost given = { given_by starred };
 
     ghost of_none = { refl };
 
     ghost of_some = { λ x. refl };
 
     fn put(self, out: &mut [u8], p: Place) -> Place {
-        put_starred(out, p, self.text, self.stars)
+        self.put(out, p)
     }
-}
-
-pub(crate) fn put_optional_name(out: &mut [u8], p: Place, s: &[u8], name: Option<u32>) -> Place
-    ensures { Puts (optional text) (name_meaning s.now name) out.old p out.new result }
-{
-    put_optional(out, p, name.map(|stars| Starred { text: s, stars }))
 }

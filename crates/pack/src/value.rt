@@ -1,18 +1,15 @@
 // The fields of a record, and values that may be missing.
 ghost use Rattle.std.specs.Prelude.{ℕ, ℤ, ◌≡◌, refl, Bool, Option, Some, None};
 ghost use Rattle.definition.specs.Date.{day_number, Date as DateOf};
-ghost use Rattle.definition.specs.Format.{Format, depending, count, row, code, number, date, optional};
+ghost use Rattle.definition.specs.Format.{Format, depending, ◌⊗◌, count, row, code, number, date, optional};
 ghost use Rattle.definition.specs.Pack.{constraint};
 ghost use Rattle.bits.specs.Steps.{Puts};
-ghost use Rattle.tasks.specs.Link.{lag_kind_means};
 ghost use Rattle.definition.specs.Pack.{lag_kind};
-ghost use Rattle.pack.specs.Value.{date_by, date_given, date_none, date_some, constraint_by, constraint_given, constraint_none, constraint_some};
-ghost use Rattle.definition.specs.Answer.{date_meaning};
-ghost use Rattle.tasks.specs.Task.{code_and_day};
+ghost use Rattle.pack.specs.Value.{lag_values, date_by, date_given, date_none, date_some, constraint_by, constraint_given, constraint_none, constraint_some};
 
 use bits::Place;
 use definition::Date;
-use tasks::{Constraint, LagKind};
+use tasks::{Constraint, Lag};
 
 // A count or a row.
 pub fn put_count(out: &mut [u8], p: Place, n: u32) -> Place
@@ -134,7 +131,7 @@ pub(crate) fn put_optional<T: Put>(out: &mut [u8], p: Place, v: Option<T>) -> Pl
     }
 }
 
-// ---- constraints and kinds of lag
+// ---- constraints and lags
 
 // A code, and behind it a value where there is one.
 fn put_coded<T: Put>(out: &mut [u8], p: Place, k: u32, v: Option<T>) -> Place
@@ -144,21 +141,6 @@ fn put_coded<T: Put>(out: &mut [u8], p: Place, k: u32, v: Option<T>) -> Place
     match v {
         Some(v) => v.put(out, q),
         None => q,
-    }
-}
-
-#[tactic(auto, unfolding(definition::specs::Answer::date_meaning))]
-fn code_and_date(c: Constraint) -> (u32, Option<Date>)
-    ensures { (result.0, date_meaning result.1) ≡ code_and_day c }
-{
-    match c {
-        Constraint::AsLateAsPossible => (1, None),
-        Constraint::StartOn(d) => (2, Some(d)),
-        Constraint::FinishOn(d) => (3, Some(d)),
-        Constraint::StartOnOrAfter(d) => (4, Some(d)),
-        Constraint::StartOnOrBefore(d) => (5, Some(d)),
-        Constraint::FinishOnOrAfter(d) => (6, Some(d)),
-        Constraint::FinishOnOrBefore(d) => (7, Some(d)),
     }
 }
 
@@ -176,25 +158,27 @@ impl Put for Constraint {
     ghost of_some = { constraint_some };
 
     fn put(self, out: &mut [u8], p: Place) -> Place {
-        let (k, d) = code_and_date(self);
-        put_coded(out, p, k, d)
+        put_coded(out, p, self.code(), self.date())
     }
 }
 
-fn code_and_share(kind: LagKind) -> (u32, Option<i64>)
-    ensures { result ≡ lag_kind_means kind }
+// The days and the minutes, and the code of the kind with its share of the predecessor's duration.
+fn lag_fields(lag: Lag) -> (i64, Option<i64>, u32, Option<i64>)
+    ensures { (result.0, (result.1, (result.2, result.3))) ≡ lag_values lag }
 {
-    match kind {
-        LagKind::Working => (0, None),
-        LagKind::Elapsed => (1, None),
-        LagKind::Percent(n) => (2, Some(n)),
+    match lag {
+        Lag::Days(days) => (days, None, 0, None),
+        Lag::Minutes(minutes) => (0, Some(minutes), 0, None),
+        Lag::Elapsed(minutes) => (0, Some(minutes), 1, None),
+        Lag::Share(share) => (0, None, 2, Some(share)),
     }
 }
 
-// A lag's kind, and its share of the predecessor's duration.
-pub(crate) fn put_lag_kind(out: &mut [u8], p: Place, kind: LagKind) -> Place
-    ensures { Puts lag_kind (lag_kind_means kind) out.old p out.new result }
+pub(crate) fn put_lag(out: &mut [u8], p: Place, lag: Lag) -> Place
+    ensures { Puts (number ⊗ optional number ⊗ lag_kind) (lag_values lag) out.old p out.new result }
 {
-    let (k, n) = code_and_share(kind);
-    put_coded(out, p, k, n)
+    let (days, minutes, k, share) = lag_fields(lag);
+    let a = put_number(out, p, days);
+    let b = put_optional(out, a, minutes);
+    put_coded(out, b, k, share)
 }

@@ -3,11 +3,11 @@ use Prim.Native.Nat.{◌^◌, ◌≤◌}
 use native.Mathlib.Omega.{arith}
 use mathlib.Core.Path.{◌≡◌, refl, sym, ap, ◌∙◌, subst}
 use mathlib.Core.Bool.{Bool, true, false, ◌&&◌}
-use Rattle.std.specs.Prelude.{Option}
+use Rattle.std.specs.Prelude.{Option, Some, None}
 use lib.IntN.{ℤ, pos, nat_abs, neg_ℤ, +ℤ_idl}
 use lib.Ieee.{Float, fin, binary64, round, neg, le, lt, mul}
 use lib.Ieee.Fits.{and_l, and_r}
-use Rattle.definition.specs.Base.{◌or◌, when}
+use Rattle.definition.specs.Base.{◌or◌, ◌>>=◌, when}
 use Rattle.definition.specs.Number.{float, zero_float}
 use Rattle.definition.specs.Resource.{units_from, price_from, money_from, unless_left}
 use Rattle.number.specs.Floats.{float-10¹³}
@@ -62,9 +62,12 @@ small_when : (t : Bool) (y : Float) → Small (when t (whole_within y))
 small_when true y = whole_most y
 small_when false y = omega arith
 
-pub small_money : (m : Float) {o : Option ℤ} → o ≡ money_from m → Small o
-small_money m e =
-    subst (λ (o : Option ℤ). Small o) (money_is m ∙ sym e) (small_when (money? m) (mul binary64 m (float 100)))
+small_money : (m : Float) → Small (money_from m)
+small_money m = subst (λ (o : Option ℤ). Small o) (money_is m) (small_when (money? m) (mul binary64 m (float 100)))
+
+pub small_if_said : (o : Option Float) {r : Option ℤ} → r ≡ (o >>= money_from) → Small r
+small_if_said None e = rw e (omega arith)
+small_if_said (Some m) e = rw e (small_money m)
 
 pub means_as : {r : Amounts} {o₁ o₂ o₃ p₁ p₂ p₃ : Option ℤ} → o₁ ≡ p₁ → o₂ ≡ p₂ → o₃ ≡ p₃ → Means r o₁ o₂ o₃ → Means r p₁ p₂ p₃
 means_as e₁ e₂ e₃ m = record {

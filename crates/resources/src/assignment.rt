@@ -9,7 +9,7 @@ ghost use Rattle.resources.specs.Assignment.{Small, Means};
 use crate::resource::units;
 
 // Hundredths: of an hour for an assignment, of the currency for an expense.
-#[derive(Clone, Copy)]
+#[derive(Clone, Copy, Debug, PartialEq, Eq)]
 pub struct Amounts {
     pub planned: i64,
     pub actual: i64,
@@ -78,16 +78,21 @@ pub fn rate(s: &[u8], at: usize) -> Option<i64>
 
 // ---- money
 
+fn money_from(m: f64) -> Option<i64>
+    ensures { result ≡ money_from m }
+{
+    ((-1e13 < m) & (m < 1e13)).then(|| number::hundredths(m))
+}
+
 // Hundredths of an amount below 10,000,000,000,000 either way.
 fn money(s: &[u8], at: usize, name: &[u8]) -> Option<i64>
     ensures is { result ≡ bind (number_said (element_at s.now at) name.now) money_from }
     ensures small { Small result }
 {
-    let m = fields::number_in(s, at, name)?;
-    fields::hundredths_when((-1e13 < m) & (m < 1e13), m)
+    fields::number_in(s, at, name).and_then(money_from)
 }
 
-// By another reader and other names than `work`; one function for both would be no plainer.
+// Not one function with `work`: it would take the reader as a closure, with a promise that what it reads is small, and three names.
 #[tactic(auto, unfolding(definition::specs::Field::number_in))]
 pub fn cost(s: &[u8], at: usize) -> Amounts
     ensures { Means result (money_in (element_at s.now at) "Cost") (money_in (element_at s.now at) "ActualCost") (money_in (element_at s.now at) "RemainingCost") }

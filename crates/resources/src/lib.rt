@@ -5,4 +5,6 @@ mod assignment;
 mod resource;
 
 pub use assignment::{Amounts, cost, rate, work};
-pub use resource::{accrual, is_cost, is_resource, max_units, price, resource_kind};
+pub use resource::{
+    Accrual, ResourceKind, accrual_of, is_cost, is_resource, max_units, price, resource_kind,
+};

@@ -1,9 +1,49 @@
 // The values of a Resource. What is right is said in the crate definition, specs/Resource.antt.
 ghost use Rattle.std.specs.Prelude.{◌≡◌};
 ghost use Rattle.definition.specs.Base.{◌>>=◌ as bind};
-ghost use Rattle.definition.specs.Resource.{is_resource, is_cost, resource_kind, units_from, max_units, price_of, accrual_of};
+ghost use Rattle.definition.specs.Resource.{is_resource, is_cost, resource_kind, units_from, max_units, price_from, price_of, accrual_of};
 ghost use Rattle.tree.specs.Place.{element_at};
 ghost use Rattle.fields.specs.Said.{number_said};
+ghost use Rattle.resources.specs.Resource.{resource_kind_code, accrual_code};
+
+#[derive(Clone, Copy, Debug, PartialEq, Eq)]
+pub enum ResourceKind {
+    Labor,
+    Material,
+}
+
+// The model's codes.
+impl From<ResourceKind> for u32 {
+    ghost from_gives = { λ kind n. n ≡ resource_kind_code kind };
+
+    fn from(kind: ResourceKind) -> u32 {
+        match kind {
+            ResourceKind::Labor => 0,
+            ResourceKind::Material => 2,
+        }
+    }
+}
+
+// When the cost of a resource falls due.
+#[derive(Clone, Copy, Debug, PartialEq, Eq)]
+pub enum Accrual {
+    AtStart,
+    AtEnd,
+    Evenly,
+}
+
+// The model's codes.
+impl From<Accrual> for u32 {
+    ghost from_gives = { λ accrual n. n ≡ accrual_code accrual };
+
+    fn from(accrual: Accrual) -> u32 {
+        match accrual {
+            Accrual::AtStart => 0,
+            Accrual::AtEnd => 1,
+            Accrual::Evenly => 2,
+        }
+    }
+}
 
 // A UID other than `0`, and a name.
 pub fn is_resource(s: &[u8], at: usize) -> bool
@@ -19,23 +59,27 @@ pub fn is_cost(s: &[u8], at: usize) -> bool
     fields::int_in(s, at, b"Type") == Some(2)
 }
 
-// The model's code, which its writer takes as it is: 0 labor, 2 material.
 #[tactic(auto, unfolding(definition::specs::Field::int_in))]
-pub fn resource_kind(s: &[u8], at: usize) -> u32
-    ensures { result ≡ resource_kind (element_at s.now at) }
+pub fn resource_kind(s: &[u8], at: usize) -> ResourceKind
+    ensures { resource_kind_code result ≡ resource_kind (element_at s.now at) }
 {
     match fields::int_in(s, at, b"Type") {
-        Some(0) => 2,
-        _ => 0,
+        Some(0) => ResourceKind::Material,
+        _ => ResourceKind::Labor,
     }
+}
+
+fn units_from(u: f64) -> Option<i64>
+    ensures { result ≡ units_from u }
+{
+    ((0.0 <= u) & (u <= 1000000.0)).then(|| number::hundredths(u))
 }
 
 // Hundredths of a number from 0 to 1,000,000.
 pub(crate) fn units(s: &[u8], at: usize, name: &[u8]) -> Option<i64>
     ensures { result ≡ bind (number_said (element_at s.now at) name.now) units_from }
 {
-    let u = fields::number_in(s, at, name)?;
-    fields::hundredths_when((0.0 <= u) & (u <= 1000000.0), u)
+    fields::number_in(s, at, name).and_then(units_from)
 }
 
 // Hundredths of MaxUnits, of one from 0 to 1,000,000; else 100.
@@ -46,23 +90,27 @@ pub fn max_units(s: &[u8], at: usize) -> i64
     units(s, at, b"MaxUnits").unwrap_or(100)
 }
 
+fn price_from(p: f64) -> Option<i64>
+    ensures { result ≡ price_from p }
+{
+    ((0.0 < p) & (p < 1e13)).then(|| number::hundredths(p))
+}
+
 // Hundredths of StandardRate, of one above 0 and below 10,000,000,000,000.
 #[tactic(auto, unfolding(definition::specs::Field::number_in))]
 pub fn price(s: &[u8], at: usize) -> Option<i64>
     ensures { result ≡ price_of (element_at s.now at) }
 {
-    let p = fields::number_in(s, at, b"StandardRate")?;
-    fields::hundredths_when((0.0 < p) & (p < 1e13), p)
+    fields::number_in(s, at, b"StandardRate").and_then(price_from)
 }
 
-// The model's code, which its writer takes as it is: 0 at the start, 1 at the end, 2 evenly.
 #[tactic(auto, unfolding(definition::specs::Field::int_in))]
-pub fn accrual(s: &[u8], at: usize) -> u32
-    ensures { result ≡ accrual_of (element_at s.now at) }
+pub fn accrual_of(s: &[u8], at: usize) -> Accrual
+    ensures { accrual_code result ≡ accrual_of (element_at s.now at) }
 {
     match fields::int_in(s, at, b"AccrueAt") {
-        Some(1) => 0,
-        Some(2) => 1,
-        _ => 2,
+        Some(1) => Accrual::AtStart,
+        Some(2) => Accrual::AtEnd,
+        _ => Accrual::Evenly,
     }
 }

@@ -43,21 +43,14 @@ module _ (m : Float) where
   day_test : day? ≡ between 1 1440 m
   day_test = λ i. le (sym float_1 i) m && le m (sym float_1440 i)
 
-  module _ (h : day? ≡ true) (z : ℤ) (e : z ≡ whole_within m) (f : SFits w64 z) where
-    whole : z ≡ pos (half_away m)
-    whole =
-        e
-        ∙ whole_between m 1 1440 (omega arith) (subst T (sym (sym day_test ∙ h)) tt)
-        ∙ upward m (and_l (le (fin false 1 (pos 0)) m) (le m (fin false 45 (pos 5))) (subst T (sym h) tt))
+  -- the whole number that the code makes, as the machine holds it
+  pub day_whole : day? ≡ true → {n : ℕ} (z : ℤ) → z ≡ whole_within m → SFits w64 z → n ≡ nat_abs (to_z w64 (of_z w64 z)) → n ≡ half_away m
+  day_whole h z e f k =
+      k ∙ ap nat_abs (to_z-of_z w64 z f ∙ e ∙ whole_between m 1 1440 (omega arith) (subst T (sym (sym day_test ∙ h)) tt)
+      ∙ upward m (and_l (le (fin false 1 (pos 0)) m) (le m (fin false 45 (pos 5))) (subst T (sym h) tt)))
 
-    on : to_z w64 (of_z w64 z) ≡ pos (half_away m)
-    on = to_z-of_z w64 z f ∙ whole
-
-    pub day_yes : {n : ℕ} → n ≡ nat_abs (to_z w64 (of_z w64 z)) → Some n ≡ per_day_from m
-    day_yes k = ap Some (k ∙ ap nat_abs on) ∙ sym (ap (λ (t : Bool). when t (half_away m)) (sym day_test ∙ h))
-
-  pub day_no : day? ≡ false → None ≡ per_day_from m
-  day_no h = sym (ap (λ (t : Bool). when t (half_away m)) (sym day_test ∙ h))
+  pub day_is : when day? (half_away m) ≡ per_day_from m
+  day_is = ap (λ (t : Bool). when t (half_away m)) day_test
 
 -- ---- the percentage
 

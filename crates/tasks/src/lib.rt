@@ -1,12 +1,13 @@
 // What a task and a link say, each value by itself: a position in the lent tree in, a value out.
 #![tactic(auto)]
 
+mod format;
 mod link;
 mod task;
 mod value;
 
-pub use link::{Lag, LagKind, is_across, link_kind, link_lag};
+pub use link::{Lag, LinkKind, is_across, link_kind, link_lag};
 pub use task::{
-    Constraint, Parts, constraint_of, duration_parts, duration_type, is_elapsed, is_fractional,
-    is_kept, level_of, milestone, per_day, percent_of, remaining_of,
+    Constraint, DurationType, Parts, constraint_of, duration_parts, duration_type, is_elapsed,
+    is_fractional, is_kept, level_of, milestone, per_day, percent_of, remaining_of,
 };

@@ -1,27 +1,47 @@
 // The values of a PredecessorLink. What is right is said in the crate definition, specs/Link.antt.
-ghost use Rattle.std.specs.Prelude.{◌≡◌, ◌^◌, ◌<◌, nat_abs};
+ghost use Rattle.std.specs.Prelude.{ℕ, ◌≡◌, ◌^◌, ◌<◌, nat_abs};
 ghost use Rattle.definition.specs.Field.{yes_in};
 ghost use Rattle.definition.specs.Link.{working_lag, lag_of, link_lag, link_kind};
 ghost use Rattle.tree.specs.Place.{element_at};
-ghost use Rattle.tasks.specs.Link.{lag_means};
+ghost use Rattle.tasks.specs.Format.{IsFormat};
+ghost use Rattle.tasks.specs.Link.{lag_means, link_kind_code};
 
-use crate::task::{elapsed_format, format_of, percent_format};
+use crate::format::{Format, format_of};
 use crate::value::quotient;
 
-// Working time, elapsed time, or a share of the predecessor's duration in hundredths of a percent.
-#[derive(Clone, Copy)]
-pub enum LagKind {
-    Working,
-    Elapsed,
-    Percent(i64),
+// How long after its predecessor a successor comes.
+#[derive(Clone, Copy, Debug, PartialEq, Eq)]
+pub enum Lag {
+    // Working time: in days, or in minutes where they are not whole days.
+    Days(i64),
+    Minutes(i64),
+    // Elapsed time, in minutes.
+    Elapsed(i64),
+    // A share of the predecessor's duration, in hundredths of a percent.
+    Share(i64),
 }
 
-// A working lag in days, or in minutes where they are not whole days; an elapsed one in minutes; neither for a share.
-#[derive(Clone, Copy)]
-pub struct Lag {
-    pub days: i64,
-    pub minutes: Option<i64>,
-    pub kind: LagKind,
+// Which end of the predecessor the link leaves, and which end of the successor it enters.
+#[derive(Clone, Copy, Debug, PartialEq, Eq)]
+pub enum LinkKind {
+    FinishToStart,
+    StartToStart,
+    FinishToFinish,
+    StartToFinish,
+}
+
+// The model's codes.
+impl From<LinkKind> for u32 {
+    ghost from_gives = { λ kind n. n ≡ link_kind_code kind };
+
+    fn from(kind: LinkKind) -> u32 {
+        match kind {
+            LinkKind::FinishToStart => 0,
+            LinkKind::StartToStart => 1,
+            LinkKind::FinishToFinish => 2,
+            LinkKind::StartToFinish => 3,
+        }
+    }
 }
 
 // ---- the lag
@@ -32,39 +52,23 @@ fn working_lag(per_day: u64, minutes: i64) -> Lag
 {
     let size = minutes.unsigned_abs();
     if size.is_multiple_of(per_day) {
-        let days = quotient(size, per_day) as i64;
-        return Lag {
-            days: if minutes < 0 { -days } else { days },
-            minutes: None,
-            kind: LagKind::Working,
-        };
+        let days = quotient(size, per_day).cast_signed();
+        return Lag::Days(if minutes < 0 { -days } else { days });
     }
-    Lag {
-        days: 0,
-        minutes: Some(minutes),
-        kind: LagKind::Working,
-    }
+    Lag::Minutes(minutes)
 }
 
-// A lag in tenths of a minute, of a percent in the formats 19 and 20.
-fn lag_of(per_day: u64, format: u64, tenths: i64) -> Lag
-    ensures { lag_means result ≡ lag_of per_day format tenths }
+// A lag in tenths of a minute, or of a percent.
+fn lag_of(per_day: u64, format: Format, tenths: i64) -> Lag
+    ensures { (code : ℕ) → IsFormat code format → lag_means result ≡ lag_of per_day code tenths }
 {
-    if percent_format(format) {
-        return Lag {
-            days: 0,
-            minutes: None,
-            kind: LagKind::Percent(tenths.clamp(-1000000, 1000000) * 10),
-        };
+    match format {
+        Format::Percent | Format::ElapsedPercent => {
+            Lag::Share(tenths.clamp(-1000000, 1000000) * 10)
+        }
+        Format::Elapsed => Lag::Elapsed(tenths / 10),
+        Format::Working => working_lag(per_day, tenths / 10),
     }
-    if elapsed_format(format) {
-        return Lag {
-            days: 0,
-            minutes: Some(tenths / 10),
-            kind: LagKind::Elapsed,
-        };
-    }
-    working_lag(per_day, tenths / 10)
 }
 
 // The lag of a link, with so many minutes a day. LinkLag is held to -100,000,000,000 to 100,000,000,000, and 0 where there is none.
@@ -80,20 +84,20 @@ pub fn link_lag(s: &[u8], at: usize, per_day: u64) -> Lag
 
 // ---- the kind
 
-// The model's code, which its writer takes as it is: 0 finish to start, 1 start to start, 2 finish to finish, 3 start to finish.
 #[tactic(auto, unfolding(definition::specs::Field::int_in))]
-pub fn link_kind(s: &[u8], at: usize) -> u32
-    ensures { result ≡ link_kind (element_at s.now at) }
+pub fn link_kind(s: &[u8], at: usize) -> LinkKind
+    ensures { link_kind_code result ≡ link_kind (element_at s.now at) }
 {
     match fields::int_in(s, at, b"Type") {
-        Some(0) => 2,
-        Some(2) => 3,
-        Some(3) => 1,
-        _ => 0,
+        Some(0) => LinkKind::FinishToFinish,
+        Some(2) => LinkKind::StartToFinish,
+        Some(3) => LinkKind::StartToStart,
+        _ => LinkKind::FinishToStart,
     }
 }
 
 // Across projects.
+#[tactic(auto, unfolding(definition::specs::Field::yes_in))]
 pub fn is_across(s: &[u8], at: usize) -> bool
     ensures { result ≡ yes_in (element_at s.now at) "CrossProject" }
 {

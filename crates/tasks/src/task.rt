@@ -1,22 +1,20 @@
 // The values of a Task. What is right is said in the crate definition, specs/Task.antt.
-ghost use Rattle.std.specs.Prelude.{◌≡◌, pos};
-ghost use Rattle.definition.specs.Base.{◌or◌};
+ghost use Rattle.std.specs.Prelude.{◌≡◌};
 ghost use Rattle.definition.specs.Field.{yes_in};
 ghost use Rattle.definition.specs.Answer.{date_meaning};
-ghost use Rattle.definition.specs.Task.{not_below0, level_of, is_kept, unmarked, percent_format, elapsed_format, is_elapsed, is_fractional, per_day_from, per_day_of};
+ghost use Rattle.definition.specs.Task.{level_of, is_kept, is_elapsed, is_fractional, per_day_from, per_day_of};
 ghost use Rattle.definition.specs.Task.{constraint_from, constraint_of, duration_type_of, duration_days, duration_minutes};
-ghost use Rattle.definition.specs.Task.{under_way, remaining_of, percent_of};
+ghost use Rattle.definition.specs.Task.{under_way, remaining_of, percent_from, percent_of};
 ghost use Rattle.tree.specs.Place.{element_at};
 ghost use Rattle.tree.specs.Root.{root_at};
-ghost use Rattle.fields.specs.Said.{whole_said};
-ghost use Rattle.tasks.specs.Task.{constraint_means, day_numbered};
+ghost use Rattle.tasks.specs.Task.{code_and_day, constraint_means, day_numbered, duration_type_code};
 
+use crate::format::format_of;
 use crate::value::quotient;
 use definition::Date;
 use tree::Root;
 
-// MSPDI's codes 1 to 7.
-#[derive(Clone, Copy)]
+#[derive(Clone, Copy, Debug, PartialEq, Eq)]
 pub enum Constraint {
     AsLateAsPossible,
     StartOn(Date),
@@ -27,8 +25,61 @@ pub enum Constraint {
     FinishOnOrBefore(Date),
 }
 
+impl Constraint {
+    // MSPDI's code, which is the model's.
+    pub fn code(self) -> u32
+        ensures { result ≡ (code_and_day self).0 }
+    {
+        match self {
+            Constraint::AsLateAsPossible => 1,
+            Constraint::StartOn(_) => 2,
+            Constraint::FinishOn(_) => 3,
+            Constraint::StartOnOrAfter(_) => 4,
+            Constraint::StartOnOrBefore(_) => 5,
+            Constraint::FinishOnOrAfter(_) => 6,
+            Constraint::FinishOnOrBefore(_) => 7,
+        }
+    }
+
+    #[tactic(auto, unfolding(definition::specs::Answer::date_meaning))]
+    pub fn date(self) -> Option<Date>
+        ensures { date_meaning result ≡ (code_and_day self).1 }
+    {
+        match self {
+            Constraint::AsLateAsPossible => None,
+            Constraint::StartOn(d)
+            | Constraint::FinishOn(d)
+            | Constraint::StartOnOrAfter(d)
+            | Constraint::StartOnOrBefore(d)
+            | Constraint::FinishOnOrAfter(d)
+            | Constraint::FinishOnOrBefore(d) => Some(d),
+        }
+    }
+}
+
+// What stays as it is when a task's duration changes.
+#[derive(Clone, Copy, Debug, PartialEq, Eq)]
+pub enum DurationType {
+    FixedDurationAndRate,
+    FixedRate,
+    FixedUnits,
+}
+
+// The model's codes.
+impl From<DurationType> for u32 {
+    ghost from_gives = { λ kind n. n ≡ duration_type_code kind };
+
+    fn from(kind: DurationType) -> u32 {
+        match kind {
+            DurationType::FixedDurationAndRate => 0,
+            DurationType::FixedRate => 2,
+            DurationType::FixedUnits => 3,
+        }
+    }
+}
+
 // Minutes as days, rounded up, and the minutes themselves where they are not whole days.
-#[derive(Clone, Copy)]
+#[derive(Clone, Copy, Debug, PartialEq, Eq)]
 pub struct Parts {
     pub days: i64,
     pub minutes: Option<i64>,
@@ -37,6 +88,7 @@ pub struct Parts {
 // ---- the kept tasks
 
 // OutlineLevel, 1 where none is read and 0 for one below 0.
+#[tactic(auto, using(fields::specs::Answers::unsigned_or_0), unfolding(definition::specs::Task::level_of, definition::specs::Field::int_in))]
 pub fn level_of(s: &[u8], at: usize) -> u64
     ensures { result ≡ level_of (element_at s.now at) }
 {
@@ -50,44 +102,18 @@ pub fn is_kept(s: &[u8], at: usize) -> bool
     fields::own_uid(s, at) & (1 <= level_of(s, at))
 }
 
-// ---- formats of durations and lags
-
-// 35 to 52 are 3 to 20 with the mark of an estimate.
-fn without_mark(code: u64) -> u64
-    ensures { result ≡ unmarked code }
-{
-    if (35 <= code) & (code <= 52) {
-        return code - 32;
-    }
-    code
-}
-
-pub(crate) fn format_of(s: &[u8], at: usize, name: &[u8]) -> u64
-    ensures { result ≡ unmarked (not_below0 (whole_said (element_at s.now at) name.now or pos 0)) }
-{
-    without_mark(fields::unsigned_in(s, at, name, 0, 0))
-}
-
-pub(crate) fn percent_format(format: u64) -> bool
-    ensures { result ≡ percent_format format }
-{
-    (19 <= format) & (format <= 20)
-}
-
-pub(crate) fn elapsed_format(format: u64) -> bool
-    ensures { result ≡ elapsed_format format }
-{
-    (format % 2 == 0) & (((4 <= format) & (format <= 12)) | (format == 20))
-}
+// ---- the duration as it is told
 
 // Elapsed time, where a day has 1440 minutes.
+#[tactic(auto, unfolding(definition::specs::Task::is_elapsed, definition::specs::Field::int_in))]
 pub fn is_elapsed(s: &[u8], at: usize) -> bool
     ensures { result ≡ is_elapsed (element_at s.now at) }
 {
-    elapsed_format(format_of(s, at, b"DurationFormat"))
+    format_of(s, at, b"DurationFormat").is_elapsed()
 }
 
 // A Duration that gives minutes and was not whole.
+#[tactic(auto, unfolding(definition::specs::Task::is_fractional))]
 pub fn is_fractional(s: &[u8], at: usize) -> bool
     ensures { result ≡ is_fractional (element_at s.now at) }
 {
@@ -99,10 +125,7 @@ pub fn is_fractional(s: &[u8], at: usize) -> bool
 fn day_from(m: f64) -> Option<u64>
     ensures { result ≡ per_day_from m }
 {
-    if (1.0 <= m) & (m <= 1440.0) {
-        return Some(number::nearest_whole(m).unsigned_abs());
-    }
-    None
+    ((1.0 <= m) & (m <= 1440.0)).then(|| number::nearest_whole(m).unsigned_abs())
 }
 
 // MinutesPerDay of the root, from 1 to 1440; else 480.
@@ -142,15 +165,14 @@ pub fn constraint_of(s: &[u8], at: usize) -> Option<Constraint>
 
 // ---- the duration
 
-// The model's code, which its writer takes as it is: 0 fixed duration and rate, 2 fixed rate, 3 fixed units.
 #[tactic(auto, unfolding(definition::specs::Field::int_in))]
-pub fn duration_type(s: &[u8], at: usize) -> u32
-    ensures { result ≡ duration_type_of (element_at s.now at) }
+pub fn duration_type(s: &[u8], at: usize) -> DurationType
+    ensures { duration_type_code result ≡ duration_type_of (element_at s.now at) }
 {
     match fields::int_in(s, at, b"Type") {
-        Some(0) => 2,
-        Some(2) => 3,
-        _ => 0,
+        Some(0) => DurationType::FixedRate,
+        Some(2) => DurationType::FixedUnits,
+        _ => DurationType::FixedDurationAndRate,
     }
 }
 
@@ -158,7 +180,7 @@ pub fn duration_parts(minutes: u32, day: u64) -> Parts
     ensures { (result.days ≡ duration_days minutes day) × (result.minutes ≡ duration_minutes minutes day) }
 {
     let n = u64::from(minutes);
-    let whole = quotient(n, day) as i64;
+    let whole = quotient(n, day).cast_signed();
     if n.is_multiple_of(day) {
         return Parts {
             days: whole,
@@ -183,6 +205,7 @@ fn under_way(s: &[u8], at: usize) -> bool
 }
 
 // The minutes left, of a task that is under way.
+#[tactic(auto, unfolding(definition::specs::Field::minutes_in, definition::specs::Field::date_in))]
 pub fn remaining_of(s: &[u8], at: usize) -> Option<i64>
     ensures { result ≡ remaining_of (element_at s.now at) }
 {
@@ -192,14 +215,20 @@ pub fn remaining_of(s: &[u8], at: usize) -> Option<i64>
     fields::minutes_in(s, at, b"RemainingDuration").map(i64::from)
 }
 
+fn percent_from(p: f64) -> Option<i64>
+    ensures { result ≡ percent_from p }
+{
+    ((0.0 < p) & (p <= 100.0)).then(|| number::hundredths(p))
+}
+
 // Hundredths of PhysicalPercentComplete, of one above 0 and up to 100.
 pub fn percent_of(s: &[u8], at: usize) -> Option<i64>
     ensures { result ≡ percent_of (element_at s.now at) }
 {
-    let p = fields::number_in(s, at, b"PhysicalPercentComplete")?;
-    fields::hundredths_when((0.0 < p) & (p <= 100.0), p)
+    fields::number_in(s, at, b"PhysicalPercentComplete").and_then(percent_from)
 }
 
+#[tactic(auto, unfolding(definition::specs::Field::yes_in))]
 pub fn milestone(s: &[u8], at: usize) -> bool
     ensures { result ≡ yes_in (element_at s.now at) "Milestone" }
 {

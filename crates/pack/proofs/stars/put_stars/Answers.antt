@@ -1,6 +1,6 @@
 use mathlib.Core.Path.{◌≡◌}
 use native.Mathlib.Omega.{arith}
-use Rattle.pack.proofs.Starred.{star_none, star_more}
+use Rattle.pack.proofs.TextBits.{star_none, star_more}
 use Rattle.pack.proofs.stars.put_stars.Goals as goal
 
 pub loop-init : goal.loop-init

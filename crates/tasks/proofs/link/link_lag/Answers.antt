@@ -24,4 +24,4 @@ returns c =
     ∙ c.clamp-tenths.ensures.value
     ∙ clamp_held 99999999999 (to_z w64 (of_z w64 c.unwrap_or.result))
     ∙ ap (held_by 100000000000) said in
-    c.lag_of.ensures ∙ (λ i. lag_of c.args.per_day (c.format_of-format.ensures i) (n i))
+    c.lag_of.ensures _ c.format_of-format.ensures ∙ ap (lag_of c.args.per_day _) n

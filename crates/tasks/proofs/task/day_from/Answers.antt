@@ -1,12 +1,10 @@
+use mathlib.Core.Path.{◌∙◌}
 use lib.Ieee.{of_bits}
-use Rattle.tasks.proofs.Floats.{day_yes, day_no}
+use Rattle.std.proofs.Common.{rules}
+use Rattle.fields.specs.Hundredths.{then_when}
+use Rattle.tasks.proofs.Floats.{day_is, day_whole}
 use Rattle.tasks.proofs.task.day_from.Goals as goal
-
-pub returns-then-m : goal.returns-then-m
-unfolding of_bits
-returns-then-m c =
-    day_yes c.args.m c.if-m.true c.nearest_whole.result c.nearest_whole.ensures (record { sfits = c.nearest_whole.type_inv }) c.unsigned_abs.ensures.value
 
 pub returns : goal.returns
 unfolding of_bits
-returns c = day_no c.args.m c.if-m.false
+returns c = then_when _ _ _ c.then.ensures.variant c.then.ensures.some (λ e y h. search (rules, day_whole c.args.m e)) ∙ day_is c.args.m

@@ -1,14 +1,8 @@
-use mathlib.Core.Path.{sym, ◌∙◌}
-use lib.Ieee.{of_bits}
 use Rattle.std.proofs.Common.{rules}
+use mathlib.Core.Path.{sym}
 use Rattle.definition.specs.Field.{number_in}
-use Rattle.tasks.proofs.Floats.{percent_is}
 use Rattle.tasks.proofs.task.percent_of.Goals as goal
 
-pub returns-in_err-p : goal.returns-in_err-p
-unfolding number_in
-returns-in_err-p c = rw (sym c.number_in.ensures, c.in_err-p.was) (search rules)
-
 pub returns : goal.returns
-unfolding number_in of_bits
-returns c = rw (sym c.number_in.ensures, c.in_ok-p.was) (c.hundredths_when.ensures ∙ percent_is _)
+unfolding number_in
+returns c = rw (sym c.number_in.ensures) (search rules)

@@ -1,6 +1,5 @@
-use Prim.Native.Nat.{ℕ}
-use mathlib.Core.Path.{ap}
 use mathlib.Core.Bool.{not}
+use mathlib.Core.Path.{ap}
 use lib.Dec.{eqb}
 use lib.IntN.{ℤ}
 use Rattle.std.specs.Prelude.{Option, Some}
@@ -13,4 +12,4 @@ use Rattle.pack.proofs.value.ConstraintPut.put.Goals as goal
 pub returns : goal.returns
 unfolding constraint
 returns c =
-    put_same (ap (λ (x : ℕ × Option ℤ). (x.0, x.1 >>= λ z. Some (date_by z))) c.code_and_date-k.ensures) (c.put_coded.ensures 1 7 (λ k. not (eqb k 1)))
+    put_same (λ i. (c.code.ensures i, c.date.ensures i >>= λ z. Some (date_by z))) (c.put_coded.ensures 1 7 (λ k. not (eqb k 1)))

@@ -1,8 +1,0 @@
-use mathlib.Core.Path.{ap, ◌∙◌}
-use Prim.Native.Nat.{ℕ}
-use Rattle.definition.specs.Task.{unmarked}
-use Rattle.fields.specs.Answers.{unsigned_or_0}
-use Rattle.tasks.proofs.task.format_of.Goals as goal
-
-pub returns : goal.returns
-returns c = c.without_mark.ensures ∙ ap (λ (n : ℕ). unmarked n) (c.unsigned_in.ensures ∙ unsigned_or_0 0 _)
