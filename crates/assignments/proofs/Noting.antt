@@ -13,7 +13,7 @@ use Rattle.definition.specs.Field.{text_in}
 use Rattle.definition.specs.Format.{whole}
 use Rattle.definition.specs.Model.{Expense}
 use Rattle.definition.specs.Pack.{expense}
-use Rattle.definition.specs.Resource.{expense_from, firsts}
+use Rattle.definition.specs.Resource.{firsts}
 use Rattle.laws.specs.Bools.{both}
 use Rattle.laws.specs.Same.{same_eq}
 use Rattle.laws.specs.Options.{never}
@@ -249,21 +249,6 @@ module _ {start : Place} {d : List ℕ} {u : Used} {w : List ℕ} {activity : �
   -- by a scan
   pub in_use_scan : {b : Bool} → Tells d start u.done.count activity name b → InUse start d u w activity name b
   in_use_scan h = record { told = λ d₀ xs ok k n i. told_of activity name ok k i h }
-
--- the name of its cost resource
-module _ (activity : ℕ) (r a : Element) {name : Text} (e : name ≡ (text_in r "Name" or [])) where
-  pub in_use_as : {start : Place} {d : List ℕ} {u : Used} {w : List ℕ} {b : Bool} → InUse start d u w activity name b
-      → InUse start d u w (expense_from activity r a).activity (expense_from activity r a).name b
-  unfolding expense_from
-  in_use_as {start} {d} {u} {w} {b} h = subst (λ (n : Text). InUse start d u w activity n b) e h
-
-  pub key_as : {key : ℕ} → key ≡ key_of activity name → key ≡ key_of (expense_from activity r a).activity (expense_from activity r a).name
-  unfolding expense_from
-  key_as h = h ∙ ap (key_of activity) e
-
-  pub row_as : activity < 2 ^ 32 → (expense_from activity r a).activity < 2 ^ 32
-  unfolding expense_from
-  row_as h = h
 
 -- ---- one that may be missing
 

@@ -9,17 +9,17 @@ ghost use Rattle.bits.specs.Clear.{cleared};
 ghost use Rattle.index.specs.Chains.{table_of};
 ghost use Rattle.tree.specs.Place.{meaning};
 ghost use Rattle.tree.specs.Root.{root_at};
+ghost use Rattle.pack.specs.Record.{expense_by};
 ghost use Rattle.assignments.specs.Section.{WritesIn};
-ghost use Rattle.assignments.specs.Finders.{ends_of, expense_for, expenses_by};
-ghost use Rattle.assignments.specs.Records.{finders_at, is_expense_at, Tells};
-ghost use Rattle.assignments.specs.InUse.{key_of, is_used, emptied, noted_by, expense_meaning, InUse, Notes, WroteBeside};
+ghost use Rattle.assignments.specs.Finders.{expense_for, expenses_by};
+ghost use Rattle.assignments.specs.Records.{finders_at, ends_at, is_expense_at, Tells};
+ghost use Rattle.assignments.specs.InUse.{key_of, is_used, emptied, noted_by, InUse, Notes, WroteBeside};
 
 use crate::section::{Done, Tables};
 use bits::Place;
 use index::Table;
 use model::records::Kind;
-use pack::Records;
-use resources::Amounts;
+use pack::{Expense, Records};
 use tree::Element;
 
 // What is written, and a table of it by activity and name, with the byte of each record; none once one does not fit there.
@@ -134,64 +134,42 @@ fn count_assignments(section: Element<'_>) -> u32
 
 // ---- one after another
 
-// What an expense says.
-#[derive(Clone, Copy)]
-struct Expense<'a> {
-    key: Key<'a>,
-    cost: Amounts,
-    accrual: u32,
-}
-
-// That of an Assignment, where its task and its cost resource are there.
+// What an element gives: its task has a row, and its cost resource is there.
 fn expense_of<'a>(tables: Tables<'a>, words: &[u32], e: Element<'_>) -> Option<Expense<'a>>
-    ensures { option_map expense_meaning result ≡ expense_for (finders_at words.now tables.entry) (meaning e.entry) }
+    ensures { option_map expense_by result ≡ expense_for (finders_at words.now tables.entry) (meaning e.entry) }
 {
     let activity = tables.task_of(words, e)?;
     let resource = tables.cost_of(words, e)?;
-    let name = resource.text_of(b"Name");
     Some(Expense {
-        key: Key { activity, name },
+        activity,
+        name: resource.text_of(b"Name"),
         cost: resources::cost(e),
-        accrual: resources::accrual(resource),
+        accrual: resources::accrual_of(resource),
     })
 }
 
 // One more, unless it is there.
 fn put_new(out: &mut [u8], start: Place, used: Used, words: &mut [u32], x: Expense<'_>) -> Used
-    ensures { Notes start (Some (expense_meaning x.entry)) out.old used words.old out.new result words.new }
+    ensures { Notes start (Some (expense_by x.entry)) out.old used words.old out.new result words.new }
 {
-    let key = x.key;
+    let key = Key {
+        activity: x.activity,
+        name: x.name,
+    };
     if key.in_use(out, start, used, words) {
         return used;
     }
     let p = used.done.next;
-    let next = pack::put_expense(out, p, key.activity, key.name, x.cost, x.accrual);
+    let next = x.put(out, p);
     Used {
         made: note(words, used.made, used.done.count, p, key.hash()),
         done: used.done.more(next),
     }
 }
 
-// That of one element, where it has one.
-fn put_one(
-    out: &mut [u8],
-    start: Place,
-    used: Used,
-    tables: Tables<'_>,
-    words: &mut [u32],
-    e: Element<'_>,
-) -> Used
-    ensures { Notes start (expense_for (finders_at words.old tables.entry) (meaning e.entry)) out.old used words.old out.new result words.new }
-{
-    match expense_of(tables, words, e) {
-        Some(x) => put_new(out, start, used, words, x),
-        None => used,
-    }
-}
-
 // Those of all.
 fn put_all(out: &mut [u8], p: Place, tables: Tables<'_>, words: &mut [u32]) -> Done
-    ensures { WroteBeside (ends_of tables.entry) (expenses_by (finders_at words.old tables.entry) (root_at tables.entry.root)) out.old p words.old out.new result words.new }
+    ensures { WroteBeside (ends_at tables.entry) (expenses_by (finders_at words.old tables.entry) (root_at tables.entry.root)) out.old p words.old out.new result words.new }
 {
     let section = tables.root.part(tables.root.assignments);
     let end = tables.end(words.len());
@@ -201,14 +179,16 @@ fn put_all(out: &mut [u8], p: Place, tables: Tables<'_>, words: &mut [u32]) -> D
         made,
     };
     for e in section.children(b"Assignment") {
-        used = put_one(out, p, used, tables, words, e);
+        if let Some(x) = expense_of(tables, words, e) {
+            used = put_new(out, p, used, words, x);
+        }
     }
     used.done
 }
 
 // The expenses, one after another; tasks and cost resources by tables in the words, behind which the words are lent too, and cleared.
 pub fn put_expenses(out: &mut [u8], p: Place, tables: Tables<'_>, words: &mut [u32]) -> Records
-    ensures { WritesIn (whole expense) (expenses_by (finders_at words.old tables.entry) (root_at tables.entry.root)) out.old p out.new result × (words.new ≡ cleared (ends_of tables.entry) words.old) }
+    ensures { WritesIn (whole expense) (expenses_by (finders_at words.old tables.entry) (root_at tables.entry.root)) out.old p out.new result × (words.new ≡ cleared (ends_at tables.entry) words.old) }
 {
     let done = put_all(out, p, tables, words);
     bits::fill_from(words, tables.end(words.len()), 0);

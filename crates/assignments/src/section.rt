@@ -3,8 +3,8 @@ ghost use Rattle.std.specs.Prelude.{◌≡◌, ◌+◌, ◌%◌, ◌^◌, min};
 ghost use Rattle.std.specs.Option.{option_map};
 ghost use Rattle.definition.specs.Tree.{text_of as text_in};
 ghost use Rattle.tree.specs.Place.{meaning};
-ghost use Rattle.assignments.specs.Finders.{task_by, work_by, cost_by, ends_of};
-ghost use Rattle.assignments.specs.Records.{finders_at};
+ghost use Rattle.assignments.specs.Finders.{task_by, work_by, cost_by};
+ghost use Rattle.assignments.specs.Records.{finders_at, ends_at};
 
 use bits::Place;
 use index::Table;
@@ -58,7 +58,7 @@ impl<'a> Tables<'a> {
 
     // Where they end, no more than the length of the words.
     pub(crate) fn end(self, len: usize) -> usize
-        ensures { result ≡ min (ends_of self.entry) len }
+        ensures { result ≡ min (ends_at self.entry) len }
     {
         let resources = index::end_of(self.work, len).max(index::end_of(self.cost, len));
         index::end_of(self.tasks, len).max(resources)
