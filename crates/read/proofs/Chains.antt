@@ -46,7 +46,7 @@ use Rattle.read.specs.Sections.{start, low, zeros, listed, listed_of, Few, Whole
 abbrev pub Fit : Element → Type 0
 Fit e = Each (FitsCalendarBy Short) (calendars_of (context_of e))
 
-pub fit_tree : (s : Text) (root : Root) → ((i : ℕ) → get_or s i 0 < 256) → Few (root_at s root) → Fit (root_at s root)
+pub fit_tree : (s : Text) (root : Root) → ((i : ℕ) → get_or s i 0 < 256) → Few (root_at root) → Fit (root_at root)
 fit_tree s root h few = fit_calendars slim_texts (small_root s root (bytes_of_lem s h)) few.calendars
 
 -- ---- one section

@@ -122,11 +122,11 @@ module _ {a b : Element} (h : Same a b) where
 
 -- the root that was found has the parts of the element
 module _ {s : Text} {root : Root} (at : ℕ) (h : Parts (λ n p. Stands s p (child (element_at s at) n)) root) where
-  text : (n : Text) {p : ℕ} → text_of (root_at s root) n ≡ own_text (element_at s p) → Stands s p (child (element_at s at) n) → text_of (root_at s root) n ≡ text_of (element_at s at) n
+  text : (n : Text) {p : ℕ} → text_of (root_at root) n ≡ own_text (element_at s p) → Stands s p (child (element_at s at) n) → text_of (root_at root) n ≡ text_of (element_at s at) n
   unfolding text_of
   text n e k = e ∙ stands_text k
 
-  parts : Same (root_at s root) (element_at s at)
+  parts : Same (root_at root) (element_at s at)
   parts = record {
     calendars = in_calendars s root _ ∙ stands_all h.calendars (bytes "Calendar");
     tasks = in_tasks s root _ ∙ stands_all h.tasks (bytes "Task");
@@ -141,5 +141,5 @@ module _ {s : Text} {root : Root} (at : ℕ) (h : Parts (λ n p. Stands s p (chi
     status = text (bytes "StatusDate") (status_date s root) h.status;
   }
 
-  pub all_same : {d d' : List ℕ} {r : Sections} → AllPut (root_at s root) d d' r → AllPut (element_at s at) d d' r
+  pub all_same : {d d' : List ℕ} {r : Sections} → AllPut (root_at root) d d' r → AllPut (element_at s at) d d' r
   all_same = put parts

@@ -52,7 +52,7 @@ module _ {s : Text} {root : Element} {l : Listed} {at : ℕ} {w w' : List ℕ} {
       go None x = omega arith
       go (Some t) x = x.indexed.fits.room
 
-pub tasks_made : {s : Text} {root : Root} {at : ℕ} {w w' : List ℕ} {m : Option Table} → Makes s (root_at s root) Listed.Tasks at w w' m → Tasked s root w' m
+pub tasks_made : {s : Text} {root : Root} {at : ℕ} {w w' : List ℕ} {m : Option Table} → Makes s (root_at root) Listed.Tasks at w w' m → Tasked s root w' m
 tasks_made h = record { finds = λ u. tabled_finds u h ∙ tasks_32 _ u; ends = made_ends h }
 
 -- ---- the table of the kept tasks stays
@@ -75,7 +75,7 @@ cleared_leaves m {n} w h k = record { same = λ t e. go t (rw e at h) }
 
 tasked_same : {s : Text} {root : Root} {tasks : Option Table} {w w' : List ℕ} → Tasked s root w tasks → SameFor tasks w w' → length w' ≡ length w → Tasked s root w' tasks
 tasked_same {s} {root} x y e = record {
-  finds = λ u. ap (λ (f : Text → Option ℕ). f u) (row_same s (root_at s root) Listed.Tasks y) ∙ x.finds u;
+  finds = λ u. ap (λ (f : Text → Option ℕ). f u) (row_same s (root_at root) Listed.Tasks y) ∙ x.finds u;
   ends = omega (arith, x.ends);
 }
 
@@ -92,28 +92,28 @@ module _ {s : Text} {root : Root} {w : List ℕ} {tasks : Option Table} (x : Tas
 
   -- ---- fates and links by it
 
-  pub fates_counted : {r : Fates} → Counted (fates_by (task_in s root w tasks) (context_of (root_at s root))) r → Counted (fates (context_of (root_at s root))) r
+  pub fates_counted : {r : Fates} → Counted (fates_by (task_in s root w tasks) (context_of (root_at root))) r → Counted (fates (context_of (root_at root))) r
   unfolding context_of
-  fates_counted {r} = subst (λ (l : List Fate). Counted l r) (fates_found (context_of (root_at s root)) x.finds)
+  fates_counted {r} = subst (λ (l : List Fate). Counted l r) (fates_found (context_of (root_at root)) x.finds)
 
-  links_are : links_by (task_in s root w tasks) (context_of (root_at s root)) ≡ links (context_of (root_at s root))
+  links_are : links_by (task_in s root w tasks) (context_of (root_at root)) ≡ links (context_of (root_at root))
   unfolding context_of
-  links_are = links_found (context_of (root_at s root)) x.finds
+  links_are = links_found (context_of (root_at root)) x.finds
 
   module _ {d : List ℕ} {p : Place} {d' : List ℕ} {r : Records} where
-    pub links_written : {f : Format Link} → Writes f (links_by (task_in s root w tasks) (context_of (root_at s root))) d p d' r → Writes f (links (context_of (root_at s root))) d p d' r
+    pub links_written : {f : Format Link} → Writes f (links_by (task_in s root w tasks) (context_of (root_at root))) d p d' r → Writes f (links (context_of (root_at root))) d p d' r
     links_written {f} = subst (λ (l : List Link). Writes f l d p d' r) links_are
 
     pub activities_written : (y : Context) {test : Bool} {f : Format Activity}
-        → WritesIf test f (activities y (entered (links_by (task_in s root w tasks) (context_of (root_at s root))))) d p d' r
-        → WritesIf test f (activities y (entered (links (context_of (root_at s root))))) d p d' r
+        → WritesIf test f (activities y (entered (links_by (task_in s root w tasks) (context_of (root_at root))))) d p d' r
+        → WritesIf test f (activities y (entered (links (context_of (root_at root))))) d p d' r
     activities_written y {test} {f} = subst (λ (l : List Link). WritesIf test f (activities y (entered l)) d p d' r) links_are
 
   -- ---- the tables of resources behind it
 
-  pub resources_made : {at behind : ℕ} {w1 w2 : List ℕ} {work cost : Option Table} → at ≡ min (end_in tasks) (length w) → Makes s (root_at s root) Listed.Work at w w1 work
-      → behind ≡ max at (min (end_in work) (length w1)) → Makes s (root_at s root) Listed.Cost behind w1 w2 cost
-      → Finds (root_at s root) (finders_in s (root_at s root) w2 tasks work cost)
+  pub resources_made : {at behind : ℕ} {w1 w2 : List ℕ} {work cost : Option Table} → at ≡ min (end_in tasks) (length w) → Makes s (root_at root) Listed.Work at w w1 work
+      → behind ≡ max at (min (end_in work) (length w1)) → Makes s (root_at root) Listed.Cost behind w1 w2 cost
+      → Finds (root_at root) (finders_in s (root_at root) w2 tasks work cost)
   resources_made {at} {behind} {work = work} a h b k =
       let ends : end_in tasks ≤ at = omega (arith, x.ends) in
       let later : end_in tasks ≤ behind = omega arith in
@@ -122,7 +122,7 @@ module _ {s : Text} {root : Root} {w : List ℕ} {tasks : Option Table} (x : Tas
       let z = tasked_same y (makes_behind k tasks later) (made_long k) in
       record {
         task = z.finds;
-        work = λ u. ap (λ (f : Text → Option ℕ). f u) (row_same s (root_at s root) Listed.Work (makes_behind k work ends_work)) ∙ tabled_finds u h;
+        work = λ u. ap (λ (f : Text → Option ℕ). f u) (row_same s (root_at root) Listed.Work (makes_behind k work ends_work)) ∙ tabled_finds u h;
         cost = λ u. tabled_cost u k;
       }
 

@@ -34,39 +34,31 @@ fn later(a: usize, b: usize) -> usize
 }
 
 // The tables of resources behind that of the kept tasks, each where it finds room.
-fn index_resources(s: &[u8], root: Root, words: &mut [u32], tasks: Option<Table>) -> ResourceTables
-    requires { Tasked s.now root words.old tasks }
-    ensures { Finds (root_at s.now root) (finders_in s.now (root_at s.now root) words.new tasks result.work result.cost) }
+fn index_resources(root: Root<'_>, words: &mut [u32], tasks: Option<Table>) -> ResourceTables
+    requires { Tasked root.entry.tree.now root words.old tasks }
+    ensures { Finds (root_at root.entry) (finders_in root.entry.tree.now (root_at root.entry) words.new tasks result.work result.cost) }
 {
     let at = index::end_of(tasks, words.len());
-    let work = rows::index_rows(s, root, Listed::Work, words, at);
+    let work = rows::index_rows(root, Listed::Work, words, at);
     let behind = later(at, index::end_of(work, words.len()));
-    let cost = rows::index_rows(s, root, Listed::Cost, words, behind);
+    let cost = rows::index_rows(root, Listed::Cost, words, behind);
     ResourceTables { work, cost }
 }
 
 // All three, from p on. The calendars stand at c.
-pub(crate) fn put_assigned(
-    out: &mut [u8],
-    p: Place,
-    s: &[u8],
-    root: Root,
-    c: Place,
-    words: &mut [u32],
-    tasks: Option<Table>,
-) -> Assigned
-    requires { Tasked s.now root words.old tasks }
-    ensures { AssignedPut (root_at s.now root) c out.old p out.new result }
+pub(crate) fn put_assigned(out: &mut [u8], p: Place, root: Root<'_>, c: Place, words: &mut [u32], tasks: Option<Table>) -> Assigned
+    requires { Tasked root.entry.tree.now root words.old tasks }
+    ensures { AssignedPut (root_at root.entry) c out.old p out.new result }
 {
     let at = index::end_of(tasks, words.len());
-    let resources = assignments::put_resources(out, p, s, root, c, words, at);
-    let t = index_resources(s, root, words, tasks);
+    let resources = assignments::put_resources(out, p, root, c, words, at);
+    let t = index_resources(root, words, tasks);
     let work = t.work;
     let cost = t.cost;
     let q = resources.next;
-    let assignments = assignments::put_assignments(out, q, s, root, words, tasks, work, cost);
+    let assignments = assignments::put_assignments(out, q, root, words, tasks, work, cost);
     let q = assignments.next;
-    let expenses = assignments::put_expenses(out, q, s, root, words, tasks, work, cost);
+    let expenses = assignments::put_expenses(out, q, root, words, tasks, work, cost);
     Assigned {
         resources,
         assignments,

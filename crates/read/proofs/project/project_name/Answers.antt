@@ -13,18 +13,18 @@ use Rattle.read.proofs.project.project_name.Goals as goal
 pub returns-then-title-ne0 : goal.returns-then-title-ne0
 returns-then-title-ne0 c =
     let a = c.args in
-    let e = root_at a.s.now a.root in
-    let title = element_at a.s.now a.root.title in
+    let e = root_at a.root in
+    let title = element_at a.root.title in
     c.own_text-title.ensures
     ∙ given_first (own_text title) (text_in e "Name") (own_given title c.own_text-title.ensures c.if-title-ne0.true)
-    ∙ ap (λ (o : Option Text). (o or_else text_in e "Name") or []) (sym (title_is a.s.now a.root))
+    ∙ ap (λ (o : Option Text). (o or_else text_in e "Name") or []) (sym (title_is a.root))
 
 pub returns : goal.returns
 returns c =
     let a = c.args in
-    let e = root_at a.s.now a.root in
-    let title = element_at a.s.now a.root.title in
+    let e = root_at a.root in
+    let title = element_at a.root.title in
     c.own_text.ensures
-    ∙ ap (λ (o : Option Text). o or []) (sym (name_is a.s.now a.root))
+    ∙ ap (λ (o : Option Text). o or []) (sym (name_is a.root))
     ∙ given_second (own_text title) (text_in e "Name") (own_missing title c.own_text-title.ensures c.if-title-ne0.false)
-    ∙ ap (λ (o : Option Text). (o or_else text_in e "Name") or []) (sym (title_is a.s.now a.root))
+    ∙ ap (λ (o : Option Text). (o or_else text_in e "Name") or []) (sym (title_is a.root))

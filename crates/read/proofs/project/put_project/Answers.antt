@@ -13,7 +13,7 @@ skips_of-skips-requires c = c.requires
 pub returns : goal.returns
 returns c =
     let a = c.args in
-    let e = root_at a.s.now a.root in
-    let symbol = c.own_text-currency.ensures ∙ ap (λ (o : Option Text). o or []) (sym (currency_symbol a.s.now a.root)) in
+    let e = root_at a.root in
+    let symbol = c.own_text-currency.ensures ∙ ap (λ (o : Option Text). o or []) (sym (currency_symbol a.root)) in
     project_put e _ _ c.start_of-start.result.0 _ _ c.project_name-name.ensures c.start_of-start.ensures symbol c.skips_of-skips.ensures
-    (date_given_lem _ e "StatusDate" (status_date a.s.now a.root) c.date_at-status.ensures) c.put_project.ensures
+    (date_given_lem _ e "StatusDate" (status_date a.root) c.date_at-status.ensures) c.put_project.ensures
