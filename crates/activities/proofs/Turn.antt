@@ -42,7 +42,9 @@ use Rattle.pack.specs.declared.record.Records.{Records}
 use Rattle.rows.specs.Tables.{no_element}
 use Rattle.rows.specs.Tabled.{row_same}
 use Rattle.rows.specs.declared.table.Listed.TheVariants.{Tasks}
+use Rattle.tree.specs.Place.{Within}
 use Rattle.tree.specs.Root.{root_at}
+use Rattle.tree.specs.declared.element.Element.{Element as ElementAt}
 use Rattle.tree.specs.declared.root.Root.{Root}
 use Rattle.activities.specs.Own.{IdsOpen, OwnRoom, RowNoted}
 use Rattle.activities.specs.Parents.{task_at, Held, Ready}
@@ -51,30 +53,28 @@ use Rattle.activities.proofs.Ids.{ids_moved}
 use Rattle.activities.proofs.Loop.{Written, next_of, written_more, next_put, tasks_before, ids_of}
 
 -- what a turn leaves of the words: those of the tables before them, and those of the rows before
-pub record Stays (s : Text) (root : Element) (tasks : Option Table) (own : Own) (start : Place) (w₀ w d : List ℕ) (q : Place) (row : ℕ) (task : Option (ℕ × ℕ)) : Type 0 where
+pub record Stays (s : Text) (root : Element) (tasks : Option Table) (own : Own) (start : Place) (w₀ w d : List ℕ) (q : Place) (row : ℕ) : Type 0 where
   pub same : SameBelow (end_in tasks) w₀ w
   pub names : SameBelow (end_names own.calendars) w₀ w
   pub held : row ≤ own.columns.rows → Held s root own.columns.at row w
   pub ids : inside (length d) q ≡ true → NotedIn Activities own.ids d start w row
-  pub there : (at left : ℕ) → task ≡ Some (at, left) → at < length s
 
 module _ {s : Text} {root : Element} {tasks : Option Table} {own : Own} {start : Place} {w₀ : List ℕ} where
-  pub stays_begin : {d : List ℕ} {bytes : ℕ} → OwnRoom own tasks d start w₀ bytes → {q : Place} {task : Option (ℕ × ℕ)} → ((at left : ℕ) → task ≡ Some (at, left) → at < length s) → Stays s root tasks own start w₀ w₀ d q 0 task
-  stays_begin r h = record {
+  pub stays_begin : {d : List ℕ} {bytes : ℕ} → OwnRoom own tasks d start w₀ bytes → {q : Place} → Stays s root tasks own start w₀ w₀ d q 0
+  stays_begin r = record {
     same = below_refl _ w₀;
     names = below_refl _ w₀;
     held = λ k. record { stands = λ r j. absurd (omega arith); parents = λ r j. absurd (omega arith) };
     ids = λ i. r.ids;
-    there = h;
   }
 
-  module _ {w d : List ℕ} {q : Place} {row : ℕ} {task : Option (ℕ × ℕ)} (x : Stays s root tasks own start w₀ w d q row task) where
-    pub stays_ready : {d₀ : List ℕ} → OwnRoom own tasks d₀ start w₀ (length s) → {at left : ℕ} → task ≡ Some (at, left) → row ≤ length (kept_tasks root) → Ready s root own.columns row at w
-    stays_ready r {at} {left} e few = record { own_room = rw x.same.long r.room; held = x.held; few = few; there = x.there at left e }
+  module _ {w d : List ℕ} {q : Place} {row : ℕ} (x : Stays s root tasks own start w₀ w d q row) where
+    pub stays_ready : {d₀ : List ℕ} → OwnRoom own tasks d₀ start w₀ (length s) → {task : ElementAt} → Within s 0 task → row ≤ length (kept_tasks root) → Ready s root own.columns row task w
+    stays_ready r there few = record { own_room = rw x.same.long r.room; held = x.held; few = few; there = there }
 
 -- the same rows are found
-pub found_same : (s : Text) (root : Root) (tasks : Option Table) {w w' : List ℕ} → SameBelow (end_in tasks) w w' → task_in s root w' tasks ≡ task_in s root w tasks
-found_same s root tasks {w} {w'} x = row_same s (root_at s root) Tasks (record { same = λ t e. below_in x (by e) })
+pub found_same : (root : Root) (tasks : Option Table) {w w' : List ℕ} → SameBelow (end_in tasks) w w' → task_in root w' tasks ≡ task_in root w tasks
+found_same root tasks {w} {w'} x = row_same root.tree.now (root_at root) Tasks (record { same = λ t e. below_in x (by e) })
   where
     by : {t : Table} → tasks ≡ Some t → end_of t ≤ end_in tasks
     by e = rw e (omega arith)

@@ -27,13 +27,14 @@ use Rattle.fields.proofs.Empty.{length_given}
 use Rattle.laws.specs.Fields.{InYears}
 use Rattle.laws.specs.Formats.{IfGiven}
 use Rattle.links.specs.Given.{given_none, given_some}
-use Rattle.pack.specs.Record.{activity_by}
-use Rattle.pack.specs.Value.{starred_by, name_meaning}
+use Rattle.pack.specs.Record.{activity_by, activity_kind_code}
+use Rattle.pack.specs.Value.{given_by, starred, starred_by, name_meaning}
 use Rattle.pack.specs.Writes.{put_any}
 use Rattle.names.specs.Context.{wanted_name}
 use Rattle.names.specs.Named.{named_in, elapsed_in, calendar_name}
 use Rattle.names.specs.Naming.{Finds}
 use Rattle.names.specs.declared.named.CalendarName.{CalendarName}
+use Rattle.pack.specs.declared.record.Activity.{Activity}
 use Rattle.pack.specs.declared.record.Plan.{Plan}
 use Rattle.pack.specs.declared.record.Dates.{Dates}
 use Rattle.pack.specs.declared.record.Progress.{Progress}
@@ -90,9 +91,8 @@ module _ (x : Context) (s : Text) (w : List ℕ) (k : Option Table) (t : Element
         ∙ ap (λ (u : Text). names_calendar u) j
         ∙ ap (λ (b : Bool). b && not (same (text_in t "CalendarUID" or []) (bytes "-1"))) (length_given t (bytes "CalendarUID"))
 
-    pub by_none : not b ≡ true → (text : Text) → name_meaning text None ≡ calendar_in x s w k e t
-    unfolding name_meaning
-    by_none h text = rw (i, no_calendar (text_in t "CalendarUID") (named_in x s w k) (sym names_is ∙ not-true b h))
+    pub by_none : not b ≡ true → None ≡ calendar_in x s w k e t
+    by_none h = rw (i, no_calendar (text_in t "CalendarUID") (named_in x s w k) (sym names_is ∙ not-true b h))
 
     pub by_own : not b ≡ false → (r : CalendarName) → calendar_name s r ≡ named_in x s w k u → {text : Text} → text ≡ wanted_name (element_at s r.at) → name_meaning text r.name ≡ calendar_in x s w k e t
     by_own h r m l =
@@ -135,28 +135,27 @@ constraint_years k (Some d) h = dated (eqb k 1) (within 2 7 k)
 
 -- ---- the record
 
-module _ (id : Text) (stars : ℕ) (name : Text) (plan : Plan) (notes calendar : Text) (named : Option ℕ) (dates : Dates) (progress : Progress) (uid : Text) {t : Element} where
-  pub activity_is : name ≡ (text_in t "Name" or []) → notes ≡ (text_in t "Notes" or []) → DatesOf t dates → ProgressOf t progress → uid ≡ (text_in t "UID" or [])
-      → activity_by id stars name plan notes calendar named dates progress uid ≡ activity_planned (name_meaning calendar named) (starred_by id stars) plan t
-  unfolding activity_planned
-  activity_is n o d g u = λ k. record {
-    id = starred_by id stars;
-    name = n k;
-    kind = plan.kind;
-    duration = (activity_planned (name_meaning calendar named) (starred_by id stars) plan t).duration;
-    minutes = (activity_planned (name_meaning calendar named) (starred_by id stars) plan t).minutes;
-    parent = (activity_planned (name_meaning calendar named) (starred_by id stars) plan t).parent;
-    notes = o k;
-    calendar = name_meaning calendar named;
-    constraint = d.constraint_is k;
-    deadline = d.deadline_is k;
-    start = d.start_is k;
-    finish = d.finish_is k;
-    percent = g.percent_is k;
-    duration_type = g.type_is k;
-    remaining = g.remaining_is k;
-    uid = u k;
-  }
+pub activity_is : (a : Activity) {t : Element} → a.name.now ≡ (text_in t "Name" or []) → a.notes.now ≡ (text_in t "Notes" or []) → DatesOf t a.dates → ProgressOf t a.progress → a.uid.now ≡ (text_in t "UID" or [])
+    → activity_by a ≡ activity_planned (given_by starred a.calendar) (starred a.id) a.plan t
+unfolding activity_planned
+activity_is a n o d g u = λ k. record {
+  id = starred a.id;
+  name = n k;
+  kind = activity_kind_code a.plan.kind;
+  duration = a.plan.duration.days;
+  minutes = a.plan.duration.minutes;
+  parent = a.plan.parent;
+  notes = o k;
+  calendar = given_by starred a.calendar;
+  constraint = d.constraint_is k;
+  deadline = d.deadline_is k;
+  start = d.start_is k;
+  finish = d.finish_is k;
+  percent = g.percent_is k;
+  duration_type = g.type_is k;
+  remaining = g.remaining_is k;
+  uid = u k;
+}
 
 -- by the context, and those before it
 pub activity_of_lem : (x : Context) (ids : List Text) (levels : List ℕ) (entered : Bool) (t : Element) (plan : Plan) {calendar : Option Text} {id : Text} {e : Bool} {day per_day : ℕ} {parent : Option ℕ}

@@ -10,7 +10,8 @@ use Rattle.definition.specs.Task.{level_of, kept_tasks, parent_of}
 use Rattle.definition.specs.Text.{Text}
 use Rattle.definition.specs.Tree.{Element}
 use Rattle.index.specs.Last.{last_below, word_of}
-use Rattle.tree.specs.Place.{element_at}
+use Rattle.tree.specs.Place.{meaning}
+use Rattle.tree.specs.declared.element.Element.{Element as Place}
 use Rattle.activities.specs.Climbing.{parents_are, held_lower, held_climbs, noted_not, noted_is}
 use Rattle.activities.specs.Parents.{place_at, parent_at, noted, lower, level_in, Climbs, Ready}
 use Rattle.activities.specs.declared.parents.Columns.{Columns}
@@ -29,28 +30,28 @@ word_same (Some q) (Some r) e = ap Some (omega arith)
 
 -- ---- the parent of a row
 
-module _ {s : Text} {root : Element} {own : Columns} {row at : ℕ} {w : List ℕ} (r : Ready s root own row at w) where
+module _ {s : Text} {root : Element} {own : Columns} {row : ℕ} {task : Place} {w : List ℕ} (r : Ready s root own row task w) where
   -- by a scan
-  pub parent_scanned : own.rows ≤ row → {level : ℕ} → level ≡ level_of (element_at s at) → (o : Option ℕ) → o ≡ parent_of (map level_of (take row (kept_tasks root))) level
-      → (o ≡ parent_of (map level_of (take row (kept_tasks root))) (level_of (element_at s at))) × (w ≡ noted own row at o w)
-  parent_scanned h e o i = (i ∙ ap (parent_of (map level_of (take row (kept_tasks root)))) e, sym (noted_not own row at o w h))
+  pub parent_scanned : own.rows ≤ row → {level : ℕ} → level ≡ level_of (meaning task) → (o : Option ℕ) → o ≡ parent_of (map level_of (take row (kept_tasks root))) level
+      → (o ≡ parent_of (map level_of (take row (kept_tasks root))) (level_of (meaning task))) × (w ≡ noted own row task.at o w)
+  parent_scanned h e o i = (i ∙ ap (parent_of (map level_of (take row (kept_tasks root)))) e, sym (noted_not own row task.at o w h))
 
   module _ (few : row < own.rows) where
     pub words_there : own.at + 2 * row + 2 ≤ length w
     words_there = let z = r.own_room.room (omega arith) in omega arith
 
-    pub short_at : at < 2 ^ 32
-    short_at = let z = r.own_room.short (omega arith) in omega (arith, r.there)
+    pub short_at : task.at < 2 ^ 32
+    short_at = let z = r.own_room.short (omega arith) in omega (arith, r.there.inside)
 
     pub ready_climbs : Climbs s own.at row w
     ready_climbs = held_climbs (r.held (omega arith)) (omega (arith, words_there))
 
-    pub parent_climbed : {level k : ℕ} → level ≡ level_of (element_at s at) → k ≡ word_of (last_below (lower (level_in s own.at w) level) row) → (o : Option ℕ) → word_of o ≡ k
-        → (o ≡ parent_of (map level_of (take row (kept_tasks root))) (level_of (element_at s at))) × (set (set w (place_at own.at row) at) (parent_at own.at row) k ≡ noted own row at o w)
+    pub parent_climbed : {level k : ℕ} → level ≡ level_of (meaning task) → k ≡ word_of (last_below (lower (level_in s own.at w) level) row) → (o : Option ℕ) → word_of o ≡ k
+        → (o ≡ parent_of (map level_of (take row (kept_tasks root))) (level_of (meaning task))) × (set (set w (place_at own.at row) task.at) (parent_at own.at row) k ≡ noted own row task.at o w)
     parent_climbed {level} e h o i = (
       word_same _ _ (i ∙ h)
           ∙ held_lower (r.held (omega arith)) level row (omega arith)
           ∙ sym (parents_are root row level r.few)
           ∙ ap (parent_of (map level_of (take row (kept_tasks root)))) e,
-      ap (set (set w (place_at own.at row) at) (parent_at own.at row)) (sym i) ∙ sym (noted_is own row at o w few),
+      ap (set (set w (place_at own.at row) task.at) (parent_at own.at row)) (sym i) ∙ sym (noted_is own row task.at o w few),
     )

@@ -5,7 +5,13 @@ use Rattle.std.specs.Prelude.{Some}
 use Rattle.std.specs.Prelude.{Option}
 use Rattle.definition.specs.Calendar.{free}
 use Rattle.definition.specs.Text.{Text}
+use Rattle.definition.specs.Task.{per_day_of}
+use Rattle.bits.specs.Places.{inside}
 use Rattle.bits.specs.declared.Place.{Place}
+use Rattle.tree.specs.Root.{root_at}
+use Rattle.tree.specs.declared.element.Element.{Element}
+use Rattle.names.specs.Context.{context_at}
+use Rattle.names.specs.Naming.{Finds}
 use Rattle.index.specs.Chains.{end_in}
 use Rattle.model.specs.declared.records.Kind.TheVariants.{Activities}
 use Rattle.names.specs.Ids.{noted_by}
@@ -13,8 +19,9 @@ use Rattle.names.specs.Lent.{NotedIn}
 use Rattle.names.specs.Sought.{end_names}
 use Rattle.names.specs.declared.ids.Ids.{Ids}
 use Rattle.pack.specs.Value.{starred_by}
-use Rattle.activities.specs.Parents.{end_of, Room, Behind, noted}
+use Rattle.activities.specs.Parents.{end_of, Room, Behind, Ready, noted}
 use Rattle.activities.specs.declared.own.Own.{Own}
+use Rattle.activities.specs.declared.own.Section.{Section}
 use Rattle.activities.specs.declared.parents.Columns.{Columns}
 
 -- tables stand behind the columns; each record begins at a whole byte, and 32 bits hold where
@@ -35,6 +42,20 @@ pub record OwnRoom (own : Own) (tasks : Option Table) (d : List ℕ) (start : Pl
   pub behind_names : Behind own.columns (end_names own.calendars)
   pub opened : IdsOpen own.ids own.columns start (length d)
   pub ids : NotedIn Activities own.ids d start w 0
+
+-- a section before its first row
+pub record SectionRoom (x : Section) (d : List ℕ) (w : List ℕ) : Type 0 where
+  pub room : OwnRoom x.own x.tasks d x.start w (length x.root.tree.now)
+  pub finds : Finds (context_at d x.calendars (root_at x.root)) x.root.tree.now x.own.calendars w
+  pub day : x.per_day ≡ per_day_of (root_at x.root)
+
+-- the next row can be put at p
+pub record RowReady (x : Section) (task : Element) (row : ℕ) (p : Place) (d w : List ℕ) : Type 0 where
+  pub parents : Ready x.root.tree.now (root_at x.root) x.own.columns row task w
+  pub day : x.per_day ≡ per_day_of (root_at x.root)
+  pub finds : Finds (context_at d x.calendars (root_at x.root)) x.root.tree.now x.own.calendars w
+  pub opened : IdsOpen x.own.ids x.own.columns x.start (length d)
+  pub ids : inside (length d) p ≡ true → NotedIn Activities x.own.ids d x.start w row
 
 -- the words of a row: its place and parent, and its id, which is free among some where the record fits
 pub record RowNoted (own : Own) (row at : ℕ) (parent : Option ℕ) (u : Text) (byte : ℕ) (taken : List Text) (fits : Bool) (w w' : List ℕ) : Type 0 where

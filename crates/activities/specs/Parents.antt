@@ -6,7 +6,8 @@ use Rattle.definition.specs.Text.{Text}
 use Rattle.definition.specs.Tree.{Element}
 use Rattle.index.specs.Last.{last_below, word_of}
 use Rattle.rows.specs.Tables.{no_element}
-use Rattle.tree.specs.Place.{element_at}
+use Rattle.tree.specs.Place.{element_at, Within}
+use Rattle.tree.specs.declared.element.Element.{Element as Place}
 use Rattle.activities.specs.declared.parents.Columns.{Columns}
 
 -- ---- two words a row: where its element stands in the tree, and its parent row plus 1, 0 for none
@@ -65,8 +66,8 @@ pub record Held (s : Text) (root : Element) (first n : ℕ) (w : List ℕ) : Typ
   pub parents : (r : ℕ) → r < n → get_or w (parent_at first r) 0 ≡ word_of (last_below (lower (level_at root) (level_at root r)) r)
 
 -- the next one can be noted
-pub record Ready (s : Text) (root : Element) (own : Columns) (row at : ℕ) (w : List ℕ) : Type 0 where
+pub record Ready (s : Text) (root : Element) (own : Columns) (row : ℕ) (task : Place) (w : List ℕ) : Type 0 where
   pub own_room : Room own (length w) (length s)
   pub held : row ≤ own.rows → Held s root own.at row w
   pub few : row ≤ length (kept_tasks root)
-  pub there : at < length s
+  pub there : Within s 0 task

@@ -1,7 +1,7 @@
 // Activities: the kept tasks, one after another. What is right is said in the crate definition, specs/Task.antt.
 #![tactic(auto)]
 
-ghost use Rattle.std.specs.Prelude.{◌≡◌, true, length};
+ghost use Rattle.std.specs.Prelude.{◌≡◌, true};
 ghost use Rattle.definition.specs.Format.{whole};
 ghost use Rattle.definition.specs.Pack.{activity};
 ghost use Rattle.definition.specs.Task.{context_of, activities as activities_of};
@@ -13,10 +13,9 @@ ghost use Rattle.links.specs.Fates.{task_in, links_by};
 ghost use Rattle.tree.specs.Root.{root_at};
 ghost use Rattle.pack.specs.Writes.{Writes, WritesIf};
 ghost use Rattle.names.specs.Context.{context_at, calendars_before};
-ghost use Rattle.names.specs.Naming.{Finds};
-ghost use Rattle.activities.specs.Own.{OwnRoom};
+ghost use Rattle.activities.specs.Own.{SectionRoom};
 
-use crate::own::{Own, own_for};
+use crate::own::{Section, section_for};
 use crate::record::put_row;
 use bits::{PAST, Place};
 use index::Table;
@@ -28,28 +27,16 @@ mod parents; // the parent of a row
 mod record;
 mod value;
 
-// All of them, from p on. The calendars stand at c.
-fn put_tasks(
-    out: &mut [u8],
-    p: Place,
-    s: &[u8],
-    root: Root,
-    c: Place,
-    words: &mut [u32],
-    tasks: Option<Table>,
-    own: Own,
-) -> Records
-    requires { (calendars_before out.old c (root_at s.now root) p ≡ true) × OwnRoom own tasks out.old p words.old (length s.now) × Finds (context_at out.old c (root_at s.now root)) s.now own.calendars words.old }
-    ensures { Writes (whole activity) (activities_of (context_at out.old c (root_at s.now root)) (entered (links_by (task_in s.now root words.old tasks) (context_of (root_at s.now root))))) out.old p out.new result × SameBelow (end_in tasks) words.old words.new }
+// All of them.
+fn put_tasks(out: &mut [u8], words: &mut [u32], section: Section<'_>) -> Records
+    requires { (calendars_before out.old section.calendars (root_at section.root) section.start ≡ true) × SectionRoom section out.old words.old }
+    ensures { Writes (whole activity) (activities_of (context_at out.old section.entry.calendars (root_at section.entry.root)) (entered (links_by (task_in section.entry.root words.old section.entry.tasks) (context_of (root_at section.entry.root))))) out.old section.entry.start out.new result × SameBelow (end_in section.entry.tasks) words.old words.new }
 {
-    let per_day = tasks::per_day(s, root);
-    let mut q = p;
+    let mut q = section.start;
     let mut row: u32 = 0;
-    let mut task = rows::first_kept(s, root);
-    while let Some((at, left)) = task {
-        q = put_row(out, p, q, s, root, at, row, c, words, tasks, own, per_day);
+    for task in rows::kept_tasks(section.root) {
+        q = put_row(out, q, words, section, task, row);
         row += 1;
-        task = rows::next_kept(s, at, left);
     }
     Records {
         count: row,
@@ -62,24 +49,23 @@ fn put_tasks(
 pub fn put_activities(
     out: &mut [u8],
     p: Place,
-    s: &[u8],
-    root: Root,
+    root: Root<'_>,
     c: Place,
     words: &mut [u32],
     tasks: Option<Table>,
 ) -> Records
-    ensures { WritesIf (calendars_before out.old c (root_at s.now root) p) (whole activity) (activities_of (context_at out.old c (root_at s.now root)) (entered (links_by (task_in s.now root words.old tasks) (context_of (root_at s.now root))))) out.old p out.new result × (words.new ≡ cleared (end_in tasks) words.old) }
+    ensures { WritesIf (calendars_before out.old c (root_at root.entry) p) (whole activity) (activities_of (context_at out.old c (root_at root.entry)) (entered (links_by (task_in root.entry words.old tasks) (context_of (root_at root.entry))))) out.old p out.new result × (words.new ≡ cleared (end_in tasks) words.old) }
 {
     let end = index::end_of(tasks, words.len());
-    if !names::calendars_before(out, c, s, root, p) {
+    if !names::calendars_before(out, c, root, p) {
         bits::fill_from(words, end, 0);
         return Records {
             count: 0,
             next: PAST,
         };
     }
-    let own = own_for(out, p, s, root, c, words, tasks);
-    let r = put_tasks(out, p, s, root, c, words, tasks, own);
+    let section = section_for(out, p, root, c, words, tasks);
+    let r = put_tasks(out, words, section);
     bits::fill_from(words, end, 0);
     r
 }

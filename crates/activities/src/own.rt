@@ -1,11 +1,8 @@
 // The section's own words, behind the table of the kept tasks: a table of the calendars, columns of parents, and tables of the ids that are taken.
-ghost use Rattle.std.specs.Prelude.{length};
+ghost use Rattle.std.specs.Prelude.{◌≡◌};
 ghost use Rattle.index.specs.Below.{SameBelow};
 ghost use Rattle.index.specs.Chains.{end_in};
-ghost use Rattle.names.specs.Context.{context_at};
-ghost use Rattle.names.specs.Naming.{Finds};
-ghost use Rattle.tree.specs.Root.{root_at};
-ghost use Rattle.activities.specs.Own.{OwnRoom};
+ghost use Rattle.activities.specs.Own.{SectionRoom};
 
 use crate::parents::{Columns, columns_for};
 use bits::Place;
@@ -20,28 +17,44 @@ pub(crate) struct Own {
     pub ids: Option<Ids>,
 }
 
-// For a section that begins at p. The calendars stand at c.
-pub(crate) fn own_for(
+// What all rows of the section share: the file, where the section begins, where the calendars stand in the same buffer, the table of the kept
+// tasks, the section's own words, and the minutes of a day.
+#[derive(Clone, Copy)]
+pub(crate) struct Section<'a> {
+    pub root: Root<'a>,
+    pub start: Place,
+    pub calendars: Place,
+    pub tasks: Option<Table>,
+    pub own: Own,
+    pub per_day: u64,
+}
+
+pub(crate) fn section_for<'a>(
     out: &[u8],
-    p: Place,
-    s: &[u8],
-    root: Root,
-    c: Place,
+    start: Place,
+    root: Root<'a>,
+    calendars: Place,
     words: &mut [u32],
     tasks: Option<Table>,
-) -> Own
-    ensures { OwnRoom result tasks out.now p words.new (length s.now) × SameBelow (end_in tasks) words.old words.new × Finds (context_at out.now c (root_at s.now root)) s.now result.calendars words.new }
+) -> Section<'a>
+    ensures made { SectionRoom result out.now words.new × SameBelow (end_in tasks) words.old words.new }
+    ensures of { (result.root ≡ root.entry) × (result.start ≡ start) × (result.calendars ≡ calendars) × (result.tasks ≡ tasks) }
 {
     let end = index::end_of(tasks, words.len());
-    let made = names::index_calendars(out, c, s, root, words, end);
-    let calendars = made.table;
-    let columns = columns_for(tasks, made.end, words.len(), s.len());
-    let rows = columns.rows;
-    let behind = columns.at + 2 * (rows as usize);
-    let ids = names::ids_for(out.len(), p, words, behind, rows);
-    Own {
+    let made = names::index_calendars(out, calendars, root, words, end);
+    let columns = columns_for(tasks, made.end, words.len(), root.tree.len());
+    let behind = columns.at + 2 * (columns.rows as usize);
+    let ids = names::ids_for(out.len(), start, words, behind, columns.rows);
+    Section {
+        root,
+        start,
         calendars,
-        columns,
-        ids,
+        tasks,
+        own: Own {
+            calendars: made.table,
+            columns,
+            ids,
+        },
+        per_day: tasks::per_day(root),
     }
 }

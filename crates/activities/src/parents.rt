@@ -1,16 +1,16 @@
 // The nearest row before a task that has a lower level, without a look at all rows: for each row two lent words, where its element stands in the tree
-// and its parent row plus 1, 0 for none. The parent of a row is the row before it, or a row above that one.
+// and its parent row plus 1, 0 for none (words, as there is no heap for pairs with an Option). A row is made a place by `as usize`, which has no From. The parent of a row is the row before it, or a row above that one.
 ghost use Rattle.std.specs.Prelude.{◌≡◌, map, ◌<◌, take};
 ghost use Rattle.definition.specs.Task.{level_of, kept_tasks, parent_of};
 ghost use Rattle.index.specs.Last.{last_below, word_of};
-ghost use Rattle.tree.specs.Place.{element_at};
+ghost use Rattle.tree.specs.Place.{meaning};
 ghost use Rattle.tree.specs.Root.{root_at};
 ghost use Rattle.activities.specs.Parents.{lower, level_in, Climbs, noted, Room, Behind, Ready};
 
 use index::Table;
-use tree::Root;
+use tree::{Element, Root};
 
-// Where the words begin, and for how many rows there are some. No Option where there are none: each row is compared with `rows`, and none is below 0.
+// Where the words begin, and for how many rows there are some. Not an index::Table, whose rows have buckets. No Option where there are none: each row is compared with `rows`, and none is below 0.
 #[derive(Clone, Copy)]
 pub(crate) struct Columns {
     pub at: usize,
@@ -30,14 +30,15 @@ pub(crate) fn columns_for(tasks: Option<Table>, from: usize, len: usize, bytes: 
 }
 
 // The last of the rows before a row that has a lower level, plus 1. The words begin at `first`. No `for`: each word names the row to look at next.
-fn climb(s: &[u8], words: &[u32], first: usize, row: u32, level: u64) -> u32
-    requires { Climbs s.now first row words.now }
-    ensures { result ≡ word_of (last_below (lower (level_in s.now first words.now) level) row) }
+fn climb(tree: &[u8], words: &[u32], first: usize, row: u32, level: u64) -> u32
+    requires { Climbs tree.now first row words.now }
+    ensures { result ≡ word_of (last_below (lower (level_in tree.now first words.now) level) row) }
 {
     let mut k = row;
     while let Some(r) = k.checked_sub(1) {
         let i = first + 2 * (r as usize);
-        if tasks::level_of(s, words[i] as usize) < level {
+        let at = words[i] as usize;
+        if tasks::level_of(Element { tree, at }) < level {
             return k;
         }
         k = words[i + 1];
@@ -45,26 +46,25 @@ fn climb(s: &[u8], words: &[u32], first: usize, row: u32, level: u64) -> u32
     0
 }
 
-// The parent of the task at `at`, which has the row; noted where there are words for the row.
+// The parent of the task, which has the row; noted where there are words for the row.
 pub(crate) fn parent_of(
-    s: &[u8],
-    root: Root,
-    at: usize,
+    root: Root<'_>,
+    task: Element<'_>,
     words: &mut [u32],
     own: Columns,
     row: u32,
 ) -> Option<u32>
-    requires { Ready s.now (root_at s.now root) own row at words.old }
-    ensures { (result ≡ parent_of (map level_of (take row (kept_tasks (root_at s.now root)))) (level_of (element_at s.now at))) × (words.new ≡ noted own row at result words.old) }
+    requires { Ready root.tree.now (root_at root) own row task words.old }
+    ensures { (result ≡ parent_of (map level_of (take row (kept_tasks (root_at root.entry)))) (level_of (meaning task.entry))) × (words.new ≡ noted own row task.entry.at result words.old) }
 {
-    let level = tasks::level_of(s, at);
+    let level = tasks::level_of(task);
     if own.rows <= row {
-        return rows::parent_row(s, root, row, level);
+        return rows::parent_row(root, row, level);
     }
-    let first = own.at;
-    let k = climb(s, words, first, row, level);
-    let i = first + 2 * (row as usize);
-    words[i] = at as u32;
+    let k = climb(root.tree, words, own.at, row, level);
+    let i = own.at + 2 * (row as usize);
+    // `u32::try_from` would have an error that cannot occur: there are words for a row where 32 bits hold each position.
+    words[i] = task.at as u32;
     words[i + 1] = k;
     k.checked_sub(1)
 }

@@ -1,31 +1,32 @@
 // What an activity's record holds, each value from the task in the tree.
 ghost use Rattle.std.specs.Prelude.{◌≡◌};
 ghost use Rattle.definition.specs.Task.{wanted_id};
-ghost use Rattle.links.specs.Fates.{task_in, is_entered};
+ghost use Rattle.links.specs.Fates.{found_by, is_entered};
 ghost use Rattle.names.specs.Context.{context_at};
-ghost use Rattle.pack.specs.Value.{name_meaning};
-ghost use Rattle.tree.specs.Place.{element_at};
+ghost use Rattle.pack.specs.Record.{activity_kind_code};
+ghost use Rattle.pack.specs.Value.{given_by, starred};
+ghost use Rattle.tree.specs.Place.{meaning};
 ghost use Rattle.tree.specs.Root.{root_at};
 ghost use Rattle.activities.specs.Values.{kind_by, day_by, names_calendar, calendar_in, PlanOf, DatesOf, ProgressOf};
 
-use bits::Place;
-use index::Table;
-use pack::{Dates, Plan, Progress};
-use tree::Root;
+use crate::own::Section;
+use links::TaskFinder;
+use pack::{ActivityKind, Dates, Plan, Progress, Starred};
+use tree::Element;
 
-// WBS, else ID, else UID.
-pub(crate) fn wanted_id(s: &[u8], at: usize) -> &[u8]
-    ensures { result.now ≡ wanted_id (element_at s.now at) }
+// WBS, else ID, else UID: a loop over the three names would be longer.
+pub(crate) fn wanted_id(task: Element<'_>) -> &[u8]
+    ensures { result.now ≡ wanted_id (meaning task.entry) }
 {
-    let wbs = tree::text_of(s, at, b"WBS");
-    if wbs.len() != 0 {
+    let wbs = task.text_of(b"WBS");
+    if !wbs.is_empty() {
         return wbs;
     }
-    let id = tree::text_of(s, at, b"ID");
-    if id.len() != 0 {
+    let id = task.text_of(b"ID");
+    if !id.is_empty() {
         return id;
     }
-    tree::text_of(s, at, b"UID")
+    task.text_of(b"UID")
 }
 
 // Whether a task with a CalendarUID names a calendar.
@@ -35,101 +36,89 @@ fn names_calendar(uid: &[u8]) -> bool
     !uid.is_empty() & !text::same(uid, b"-1")
 }
 
-// The text of the name that the calendar of the task at `at` wants, and the `*` behind it, where it has a name. The calendars stand at c.
+// The name of the calendar that the task wants, where it has a name.
 pub(crate) fn calendar_for<'a>(
     out: &[u8],
-    c: Place,
-    s: &'a [u8],
-    root: Root,
-    at: usize,
     words: &[u32],
-    calendars: Option<Table>,
+    section: Section<'a>,
+    task: Element<'_>,
     elapsed: bool,
-) -> (&'a [u8], Option<u32>)
-    ensures { name_meaning result.0.now result.1 ≡ calendar_in (context_at out.now c (root_at s.now root)) s.now words.now calendars elapsed (element_at s.now at) }
+) -> Option<Starred<'a>>
+    ensures { given_by starred result ≡ calendar_in (context_at out.now section.entry.calendars (root_at section.entry.root)) section.entry.root.tree.now words.now section.entry.own.calendars elapsed (meaning task.entry) }
 {
+    let root = section.root;
+    let c = section.calendars;
+    let table = section.own.calendars;
     if elapsed {
-        let name = names::elapsed_in(out, c, s, root, words, calendars);
-        return (b"Elapsed (24 hours)", name);
+        let name = names::elapsed_in(out, c, root, words, table);
+        return Starred::named(b"Elapsed (24 hours)", name);
     }
-    let uid = tree::text_of(s, at, b"CalendarUID");
+    let uid = task.text_of(b"CalendarUID");
     if !names_calendar(uid) {
-        return (b"", None);
+        return None;
     }
-    let found = names::calendar_in(out, c, s, root, words, calendars, uid);
-    (names::wanted_name(s, found.at, b"Calendar"), found.name)
+    let found = names::calendar_in(out, c, root, words, table, uid);
+    Starred::named(names::wanted_name(root.part(found.at), b"Calendar"), found.name)
 }
 
 // ---- what an activity is
 
-// The minutes of a day of the task.
+// The minutes of a day of the task: the flag is what the task says, and chooses a number, no code.
 pub(crate) fn day_of(elapsed: bool, per_day: u64) -> u64
     ensures { result ≡ day_by elapsed per_day }
 {
     if elapsed { 1440 } else { per_day }
 }
 
-// 0 a task, 1 a start milestone, 2 a finish milestone: one that a kept link enters. The code itself, as it is put: nothing matches on it.
-fn kind_of(s: &[u8], root: Root, at: usize, words: &[u32], tasks: Option<Table>) -> u32
-    ensures { result ≡ kind_by (is_entered (task_in s.now root words.now tasks) (element_at s.now at)) (element_at s.now at) }
+// A finish milestone is one that a kept link enters.
+fn kind_of(task: Element<'_>, find: TaskFinder<'_>) -> ActivityKind
+    ensures { activity_kind_code result ≡ kind_by (is_entered (found_by find.entry) (meaning task.entry)) (meaning task.entry) }
 {
-    if !tasks::milestone(s, at) {
-        return 0;
+    if !tasks::milestone(task) {
+        return ActivityKind::Task;
     }
-    if links::is_entered(s, root, at, words, tasks) {
-        return 2;
+    if links::is_entered(task, find) {
+        return ActivityKind::FinishMilestone;
     }
-    1
+    ActivityKind::StartMilestone
 }
 
 // With its parent, and the minutes of its day.
 pub(crate) fn plan_of(
-    s: &[u8],
-    root: Root,
-    at: usize,
-    words: &[u32],
-    tasks: Option<Table>,
+    task: Element<'_>,
+    find: TaskFinder<'_>,
     day: u64,
     parent: Option<u32>,
 ) -> Plan
-    ensures { PlanOf day parent (is_entered (task_in s.now root words.now tasks) (element_at s.now at)) (element_at s.now at) result }
+    ensures { PlanOf day parent (is_entered (found_by find.entry) (meaning task.entry)) (meaning task.entry) result }
 {
-    let kind = kind_of(s, root, at, words, tasks);
-    let minutes = fields::minutes_in(s, at, b"Duration").unwrap_or(0);
-    let duration = tasks::duration_parts(minutes, day);
+    let minutes = fields::minutes_in(task, b"Duration").unwrap_or(0);
     Plan {
-        kind,
-        duration,
+        kind: kind_of(task, find),
+        duration: tasks::duration_parts(minutes, day),
         parent,
     }
 }
 
 // ---- its dates, and how far it is
 
-pub(crate) fn dates_of(s: &[u8], at: usize) -> Dates
-    ensures { DatesOf (element_at s.now at) result }
+pub(crate) fn dates_of(task: Element<'_>) -> Dates
+    ensures { DatesOf (meaning task.entry) result }
 {
-    let constraint = tasks::constraint_of(s, at);
-    let deadline = fields::date_in(s, at, b"Deadline");
-    let start = fields::date_in(s, at, b"ActualStart");
-    let finish = fields::date_in(s, at, b"ActualFinish");
     Dates {
-        constraint,
-        deadline,
-        start,
-        finish,
+        constraint: tasks::constraint_of(task),
+        deadline: fields::date_in(task, b"Deadline"),
+        start: fields::date_in(task, b"ActualStart"),
+        finish: fields::date_in(task, b"ActualFinish"),
     }
 }
 
-pub(crate) fn progress_of(s: &[u8], at: usize) -> Progress
-    ensures { ProgressOf (element_at s.now at) result }
+pub(crate) fn progress_of(task: Element<'_>) -> Progress
+    ensures { ProgressOf (meaning task.entry) result }
 {
-    let percent = tasks::percent_of(s, at);
-    let duration_type = tasks::duration_type(s, at);
-    let remaining = tasks::remaining_of(s, at);
     Progress {
-        percent,
-        duration_type,
-        remaining,
+        percent: tasks::percent_of(task),
+        duration_type: tasks::duration_type(task),
+        remaining: tasks::remaining_of(task),
     }
 }

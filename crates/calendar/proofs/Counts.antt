@@ -1,15 +1,21 @@
 -- Exceptions that give no rule: one of them, and their number as 32 bits hold it. Assumes nothing.
 use Rattle.std.specs.Prelude.{if◌then◌else◌}
-use Rattle.std.proofs.Common.{◌≡◌, ℕ, ◌+◌, ◌%◌, Bool, true, false, true≢false, not, List, [], ◌∷◌, ◌++◌, sym, refl, ap, ◌∙◌, zero-add, arith}
-use native.Mathlib.Nat.{zero-mod, mod-add-mod}
+use Rattle.std.proofs.Common.{◌≡◌, ℕ, ◌+◌, ◌%◌, ◌^◌, ◌<◌, Bool, true, false, true≢false, not, List, [], ◌∷◌, ◌++◌, sym, refl, ap, ◌∙◌, zero-add, arith}
+use native.Mathlib.Nat.{zero-mod, mod-add-mod, mod-eq_of_lt}
 use mathlib.Core.List.{flat_map}
 use Rattle.std.specs.Prelude.{Option, Some, None, is_some}
 use Rattle.std.specs.Int.{from_bool}
+use Rattle.std.specs.Option.{MatchOption}
 use Rattle.definition.specs.Base.{◌>>=◌, given, keep}
-use Rattle.definition.specs.Tree.{Element}
+use Rattle.definition.specs.Ascii.{bytes}
+use Rattle.definition.specs.Text.{Text}
+use Rattle.definition.specs.Tree.{Element, all, all_in}
 use Rattle.definition.specs.Recurrence as D
 use Rattle.definition.specs.Recurrence.{recurrence_days, rule_of, days_of_rule}
 use Rattle.definition.specs.Calendar.{recurring, calendar_elements, skipped}
+use Rattle.tree.specs.Place.{meaning, Starts}
+use Rattle.tree.specs.Answer.{found_child, none_child}
+use Rattle.tree.specs.declared.element.Element.{Element as Place}
 use Rattle.laws.specs.Keep.{keep_more}
 use Rattle.recurrence.specs.Element.{rule_by}
 use Rattle.recurrence.specs.declared.Rule.{Rule}
@@ -29,16 +35,22 @@ one_rule x r e b k n f = f ∙ by (rule_of x) b (sym (ap is_some e) ∙ k)
 
 -- ---- sums, as so many bits hold them
 
-module _ (m : ℕ) (f : List Element → ℕ) (one : Element → ℕ) (law : (e : Element) (l : List Element) → f (e ∷ l) ≡ one e + f l) where
+module _ (m : ℕ) (f : List Element → ℕ) where
   pub first_sum : (l : List Element) → f l % m ≡ (0 + f l) % m
   first_sum l = ap (λ (n : ℕ). n % m) (sym (zero-add (f l)))
 
-  module _ (t n u n' : ℕ) (e : Element) (l : List Element) (h : t ≡ (n + f (e ∷ l)) % m) (i : u % m ≡ one e % m) (j : n' ≡ (n + u) % m) where
-    pub next_sum : (k : List Element) → l ≡ k → t ≡ (n' + f k) % m
-    next_sum k z =
-        let a : n + f (e ∷ l) ≡ one e + (n + f k) = omega (arith, law e l, ap f z) in
+  pub last_sum : {t n : ℕ} {l : List Element} → f [] ≡ 0 → t ≡ (n + f l) % m → l ≡ [] → n < m → n ≡ t
+  last_sum {n = n} y h z k =
+      let a : n + f [] ≡ n = omega (arith, y) in
+      sym (h ∙ ap (λ (l : List Element). (n + f l) % m) z ∙ ap (λ (x : ℕ). x % m) a ∙ mod-eq_of_lt k)
+
+  module _ (one : Element → ℕ) (law : (e : Element) (l : List Element) → f (e ∷ l) ≡ one e + f l) where
+    pub next_sum : (n u : ℕ) {t r : ℕ} {e : Element} {l k : List Element} → t ≡ (n + f l) % m → l ≡ e ∷ k → u % m ≡ one e % m → r ≡ (n + u) % m → t ≡ (r + f k) % m
+    next_sum n u {e = e} {k = k} h z i j =
+        let a : n + f (e ∷ k) ≡ one e + (n + f k) = omega (arith, law e k) in
         let b : u + (n + f k) ≡ n + u + f k = omega arith in
         h
+        ∙ ap (λ (l : List Element). (n + f l) % m) z
         ∙ ap (λ (x : ℕ). x % m) a
         ∙ sym (mod-add-mod (one e) m (n + f k))
         ∙ ap (λ (x : ℕ). (x + (n + f k)) % m) (sym i)
@@ -46,13 +58,6 @@ module _ (m : ℕ) (f : List Element → ℕ) (one : Element → ℕ) (law : (e 
         ∙ ap (λ (x : ℕ). x % m) b
         ∙ sym (mod-add-mod (n + u) m (f k))
         ∙ ap (λ (x : ℕ). (x + f k) % m) (sym j)
-
-    pub last_sum : f [] ≡ 0 → l ≡ [] → n' ≡ t
-    last_sum y z =
-        let a : n + f (e ∷ l) ≡ one e + n = omega (arith, law e l, ap f z ∙ y) in
-        let b : u + n ≡ n + u = omega arith in
-        j
-        ∙ sym (h ∙ ap (λ (x : ℕ). x % m) a ∙ sym (mod-add-mod (one e) m n) ∙ ap (λ (x : ℕ). (x + n) % m) (sym i) ∙ mod-add-mod u m n ∙ ap (λ (x : ℕ). x % m) b)
 
 pub without_more : (x : Element) (l : List Element) → without_rule (x ∷ l) ≡ one_if x + without_rule l
 unfolding without_rule
@@ -80,3 +85,9 @@ no_sum m f y l z = sym (ap (λ (l : List Element). f l % m) z ∙ ap (λ (n : �
 pub skipped_is : (root : Element) → skipped root ≡ in_all (calendar_elements root)
 unfolding skipped without_rule
 skipped_is root = refl
+
+-- of a calendar, by the element that its exceptions stand in
+pub skipped_lem : (e : Element) {s : Text} {m : ℕ} (r : Option Place) → Starts s (bytes "Exceptions") (all e (bytes "Exceptions")) m r → {n : ℕ}
+    → MatchOption r (n ≡ 0) (λ x. n ≡ without_rule (all (meaning x) (bytes "Exception")) % 2 ^ 32) → n ≡ without_rule (recurring e) % 2 ^ 32
+skipped_lem e None h k = k ∙ no_sum (2 ^ 32) without_rule without_none (recurring e) (ap (λ (o : Option Element). all_in o (bytes "Exception")) (none_child e h refl))
+skipped_lem e (Some x) h k = k ∙ sym (ap (λ (o : Option Element). without_rule (all_in o (bytes "Exception")) % 2 ^ 32) (found_child e h refl))

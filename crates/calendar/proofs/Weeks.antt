@@ -6,18 +6,14 @@ use Rattle.definition.specs.Tree.{Element, child, all, all_in}
 use Rattle.definition.specs.Calendar.{week_days, week_by}
 use Rattle.calendar.specs.Week.{week_with}
 
-module _ (whole : List Bool) (e : Element) (l : List Element) (week after : List Bool) (h : whole ≡ week_by (e ∷ l) week) (f : after ≡ week_with e week) where
-  pub day_next : (k : List Element) → l ≡ k → whole ≡ week_by k after
+module _ (whole : List Bool) (l : List Element) (week : List Bool) (h : whole ≡ week_by l week) where
+  pub day_next : {e : Element} {k : List Element} {after : List Bool} → l ≡ e ∷ k → after ≡ week_with e week → whole ≡ week_by k after
   unfolding week_by
-  day_next k z = h ∙ λ i. week_by (z i) (sym f i)
+  day_next {k = k} z f = h ∙ ap (λ (l : List Element). week_by l week) z ∙ ap (week_by k) (sym f)
 
-  pub day_last : l ≡ [] → after ≡ whole
+  pub day_last : l ≡ [] → week ≡ whole
   unfolding week_by
-  day_last z = sym (day_next [] z)
-
-pub no_days : (l : List Element) (week : List Bool) → l ≡ [] → week ≡ week_by l week
-unfolding week_by
-no_days l week z = sym (ap (λ (l : List Element). week_by l week) z)
+  day_last z = sym (h ∙ ap (λ (l : List Element). week_by l week) z)
 
 pub days_in_lem : (e c : Element) (week : List Bool) → child e (bytes "WeekDays") ≡ Some c → week_by (all c (bytes "WeekDay")) week ≡ week_by (week_days e) week
 days_in_lem e c week z = sym (ap (λ (o : Option Element). week_by (all_in o (bytes "WeekDay")) week) z)

@@ -2,12 +2,14 @@
 ghost use Rattle.std.specs.Prelude.{◌≡◌};
 ghost use Rattle.definition.specs.Base.{given};
 ghost use Rattle.definition.specs.Calendar.{base_of};
-ghost use Rattle.tree.specs.Place.{element_at};
+ghost use Rattle.tree.specs.Place.{meaning};
+
+use tree::Element;
 
 // A BaseCalendarUID other than `-1`.
-pub fn has_base(s: &[u8], at: usize) -> bool
-    ensures { result ≡ given (base_of (element_at s.now at)) }
+pub fn has_base(e: Element<'_>) -> bool
+    ensures { result ≡ given (base_of (meaning e.entry)) }
 {
-    let is = fields::given(s, at, b"BaseCalendarUID");
-    is & !fields::text_is(s, at, b"BaseCalendarUID", b"-1")
+    let is = fields::given(e, b"BaseCalendarUID");
+    is & !fields::text_is(e, b"BaseCalendarUID", b"-1")
 }

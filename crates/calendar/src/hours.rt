@@ -1,8 +1,10 @@
 // The hours of a WorkingTime. What is right is said in the crate definition, specs/Calendar.antt.
 ghost use Rattle.std.specs.Prelude.{if◌then◌else◌, ◌≡◌, nat_eq};
 ghost use Rattle.definition.specs.Calendar.{working_time};
-ghost use Rattle.tree.specs.Place.{element_at};
+ghost use Rattle.tree.specs.Place.{meaning};
 ghost use Rattle.calendar.specs.Hours.{working_meaning, time_said, time_by};
+
+use tree::Element;
 
 // Minutes of a day, from below to.
 #[derive(Clone, Copy)]
@@ -11,10 +13,10 @@ pub struct WorkingTime {
     pub to: u16,
 }
 
-fn time_in(s: &[u8], at: usize, name: &[u8]) -> Option<u16>
-    ensures { result ≡ time_said (element_at s.now at) name.now }
+fn time_in(e: Element<'_>, name: &[u8]) -> Option<u16>
+    ensures { result ≡ time_said (meaning e.entry) name.now }
 {
-    number::time_of(tree::text_of(s, at, name))
+    number::time_of(e.text_of(name))
 }
 
 // 00:00 at the end means 24:00.
@@ -40,9 +42,9 @@ fn time_by(from: Option<u16>, until: Option<u16>) -> Option<WorkingTime>
 }
 
 // FromTime to ToTime.
-pub fn working_time(s: &[u8], at: usize) -> Option<WorkingTime>
-    ensures { working_meaning result ≡ working_time (element_at s.now at) }
+pub fn working_time(e: Element<'_>) -> Option<WorkingTime>
+    ensures { working_meaning result ≡ working_time (meaning e.entry) }
 {
-    let from = time_in(s, at, b"FromTime");
-    time_by(from, time_in(s, at, b"ToTime"))
+    let from = time_in(e, b"FromTime");
+    time_by(from, time_in(e, b"ToTime"))
 }

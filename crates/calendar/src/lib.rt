@@ -1,4 +1,4 @@
-// What the elements of a calendar say, each value by itself: a position in the lent tree in, a value out.
+// What the elements of a calendar say, each value by itself: an element in, a value out.
 #![tactic(auto)]
 
 mod base;

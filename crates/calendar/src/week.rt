@@ -6,15 +6,16 @@ ghost use Rattle.definition.specs.Field.{yes_in};
 ghost use Rattle.definition.specs.Format.{bit as bit_of};
 ghost use Rattle.definition.specs.Tree.{all};
 ghost use Rattle.definition.specs.Calendar.{day_type, place_of, week_days, week_by};
-ghost use Rattle.tree.specs.Place.{element_at, later_at};
+ghost use Rattle.tree.specs.Place.{later, meaning};
 ghost use Rattle.calendar.specs.Week.{place_by, flags_in, word_of, replaced, week_with, works_on};
 
 use definition::Date;
+use tree::Element;
 
-fn day_type(s: &[u8], at: usize) -> Option<u64>
-    ensures { result ≡ day_type (element_at s.now at) }
+fn day_type(e: Element<'_>) -> Option<u64>
+    ensures { result ≡ day_type (meaning e.entry) }
 {
-    text::whole_of(tree::text_of(s, at, b"DayType"))
+    text::whole_of(e.text_of(b"DayType"))
 }
 
 // Sunday is 1, and the week begins on Monday.
@@ -29,23 +30,23 @@ fn place_by(a: Option<u64>) -> Option<u32>
 }
 
 // The place of a WeekDay in the week, Monday 0.
-pub fn day_place(s: &[u8], at: usize) -> Option<u32>
-    ensures { result ≡ place_of (element_at s.now at) }
+pub fn day_place(e: Element<'_>) -> Option<u32>
+    ensures { result ≡ place_of (meaning e.entry) }
 {
-    place_by(day_type(s, at))
+    place_by(day_type(e))
 }
 
 // A WeekDay of DayType 0 is an exception in the old form.
-pub fn is_old_exception(s: &[u8], at: usize) -> bool
-    ensures { result ≡ ((day_type (element_at s.now at) or 1) == 0) }
+pub fn is_old_exception(e: Element<'_>) -> bool
+    ensures { result ≡ ((day_type (meaning e.entry) or 1) == 0) }
 {
-    day_type(s, at).unwrap_or(1) == 0
+    day_type(e).unwrap_or(1) == 0
 }
 
-pub fn day_working(s: &[u8], at: usize) -> bool
-    ensures { result ≡ yes_in (element_at s.now at) "DayWorking" }
+pub fn day_working(e: Element<'_>) -> bool
+    ensures { result ≡ yes_in (meaning e.entry) "DayWorking" }
 {
-    fields::yes_in(s, at, b"DayWorking")
+    fields::yes_in(e, b"DayWorking")
 }
 
 // ---- the flags of a week
@@ -89,53 +90,40 @@ fn with_flag(week: u32, k: u32, on: bool) -> u32
 }
 
 // A week with what a WeekDay says.
-fn with_day(s: &[u8], at: usize, week: u32) -> u32
-    ensures { flags_in result ≡ week_with (element_at s.now at) (flags_in week) }
+fn with_day(e: Element<'_>, week: u32) -> u32
+    ensures { flags_in result ≡ week_with (meaning e.entry) (flags_in week) }
 {
-    let Some(k) = day_place(s, at) else {
+    let Some(k) = day_place(e) else {
         return week;
     };
-    with_flag(week, k, day_working(s, at))
+    with_flag(week, k, day_working(e))
 }
 
-// A WeekDay and its later siblings, one after another.
-fn week_from(s: &[u8], first: usize, base: u32) -> u32
-    ensures { flags_in result ≡ week_by (element_at s.now first ∷ later_at s.now (bytes "WeekDay") first) (flags_in base) }
+// A week with what an element's WeekDays say, one after another.
+fn week_in(e: Element<'_>, base: u32) -> u32
+    ensures { flags_in result ≡ week_by (all (meaning e.entry) (bytes "WeekDay")) (flags_in base) }
 {
-    let mut p = first;
     let mut week = base;
-    loop {
-        week = with_day(s, p, week);
-        let Some(q) = tree::next_child(s, p, b"WeekDay") else {
-            return week;
-        };
-        p = q;
+    for day in e.children(b"WeekDay") {
+        week = with_day(day, week);
     }
+    week
 }
 
-fn week_in(s: &[u8], at: usize, base: u32) -> u32
-    ensures { flags_in result ≡ week_by (all (element_at s.now at) (bytes "WeekDay")) (flags_in base) }
+fn week_under(e: Element<'_>, base: u32) -> u32
+    ensures { flags_in result ≡ week_by (week_days (meaning e.entry)) (flags_in base) }
 {
-    let Some(p) = tree::child(s, at, b"WeekDay") else {
+    let Some(days) = e.child(b"WeekDays") else {
         return base;
     };
-    week_from(s, p, base)
-}
-
-fn week_under(s: &[u8], at: usize, base: u32) -> u32
-    ensures { flags_in result ≡ week_by (week_days (element_at s.now at)) (flags_in base) }
-{
-    let Some(p) = tree::child(s, at, b"WeekDays") else {
-        return base;
-    };
-    week_in(s, p, base)
+    week_in(days, base)
 }
 
 // The week of a Calendar over its base's.
-pub fn week_of(s: &[u8], at: usize, base: u32) -> u32
-    ensures { result ≡ word_of (week_by (week_days (element_at s.now at)) (flags_in base)) }
+pub fn week_of(e: Element<'_>, base: u32) -> u32
+    ensures { result ≡ word_of (week_by (week_days (meaning e.entry)) (flags_in base)) }
 {
-    low(week_under(s, at, base), 7)
+    low(week_under(e, base), 7)
 }
 
 // Whether a week works on a day; on no day outside the years.

@@ -1,11 +1,7 @@
 // Values that may be missing.
 ghost use Rattle.std.specs.Prelude.{◌≡◌};
-ghost use Rattle.std.specs.Float.{binary64};
-ghost use Rattle.std.specs.Float.Ieee.{mul};
-ghost use Rattle.definition.specs.Base.{when};
-ghost use Rattle.definition.specs.Number.{float, found};
+ghost use Rattle.definition.specs.Number.{found};
 ghost use Rattle.definition.specs.Field.{minutes_alone, not_whole};
-ghost use Rattle.number.specs.Whole.{whole_within};
 ghost use Rattle.fields.specs.Answers.{unsigned_or};
 
 use definition::{Duration, Unread};
@@ -37,14 +33,4 @@ pub(crate) fn unsigned_or(a: Option<i64>, below: u64, absent: u64) -> u64
         Some(n) => u64::try_from(n).unwrap_or(below),
         None => absent,
     }
-}
-
-// x × 100, to the nearest whole number, where x is kept. Each caller writes its own test: a range or a closure handed in is no plainer.
-pub fn hundredths_when(keep: bool, x: f64) -> Option<i64>
-    ensures { result ≡ when «keep» (whole_within (mul binary64 x (float 100))) }
-{
-    if keep {
-        return Some(number::hundredths(x));
-    }
-    None
 }

@@ -16,30 +16,18 @@ use Rattle.std.specs.Prelude.{Ok, Err}
 
 -- ---- the loops: with what is left, the count is that of all
 
-pub record CountIn (find : Finder) (t n : Fates) (ls : List Element) : Type 0 where
-  pub is : t ≡ counted_in find n ls
-
-pub count_begin : (find : Finder) (n : Fates) {ls k : List Element} → ls ≡ k → CountIn find (counted_in find n ls) n k
-count_begin find n e = record { is = ap (counted_in find n) e }
-
-module _ {find : Finder} {t n : Fates} {ls : List Element} (h : CountIn find t n ls) where
-  pub count_next : {l : Element} {k : List Element} {f : LinkFate} {n' : Fates} → ls ≡ l ∷ k → f ≡ fate_for find l → n' ≡ counted_by n f → CountIn find t n' k
+module _ {find : Finder} {t n : Fates} {ls : List Element} (h : t ≡ counted_in find n ls) where
+  pub count_next : {l : Element} {k : List Element} {f : LinkFate} {n' : Fates} → ls ≡ l ∷ k → f ≡ fate_for find l → n' ≡ counted_by n f → t ≡ counted_in find n' k
   unfolding counted_in
-  count_next {k = k} e i j = record { is = h.is ∙ ap (counted_in find n) e ∙ ap (λ (m : Fates). counted_in find m k) (ap (counted_by n) (sym i) ∙ sym j) }
+  count_next {k = k} e i j = h ∙ ap (counted_in find n) e ∙ ap (λ (m : Fates). counted_in find m k) (ap (counted_by n) (sym i) ∙ sym j)
 
   pub count_end : ls ≡ [] → n ≡ t
   unfolding counted_in
-  count_end e = sym (h.is ∙ ap (counted_in find n) e)
+  count_end e = sym (h ∙ ap (counted_in find n) e)
 
-pub record CountOf (find : Finder) (t n : Fates) (ts : List Element) : Type 0 where
-  pub is : t ≡ counted_of find n ts
-
-pub tasks_begin : (find : Finder) (n : Fates) {ts k : List Element} → ts ≡ k → CountOf find (counted_of find n ts) n k
-tasks_begin find n e = record { is = ap (counted_of find n) e }
-
-pub tasks_next : {find : Finder} {t n : Fates} {ts : List Element} → CountOf find t n ts → {u : Element} {k : List Element} {n' : Fates} → ts ≡ u ∷ k → n' ≡ counted_in find n (all u (bytes "PredecessorLink")) → CountOf find t n' k
+pub tasks_next : {find : Finder} {t n : Fates} {ts : List Element} → t ≡ counted_of find n ts → {u : Element} {k : List Element} {n' : Fates} → ts ≡ u ∷ k → n' ≡ counted_in find n (all u (bytes "PredecessorLink")) → t ≡ counted_of find n' k
 unfolding counted_of
-tasks_next {find} {n = n} h {k = k} e j = record { is = h.is ∙ ap (counted_of find n) e ∙ ap (λ (m : Fates). counted_of find m k) (sym j) }
+tasks_next {find} {n = n} h {k = k} e j = h ∙ ap (counted_of find n) e ∙ ap (λ (m : Fates). counted_of find m k) (sym j)
 
 -- ---- what was counted
 
@@ -93,11 +81,11 @@ one_across x n row l (Err Across) h = refl
 one_across x n row l (Err Dangling) h = sum_none (2 ^ 32) n.across h
 one_across x n row l (Ok p) h = sum_none (2 ^ 32) n.across h
 
-pub tasks_end : (find : Finder) (root : Element) {n : Fates} {ts : List Element} → CountOf find (counted_of find (record { dangling = 0; across = 0 }) (kept_tasks root)) n ts → ts ≡ [] → Counted (fates_by find (context_of root)) n
+pub tasks_end : (find : Finder) (root : Element) {n : Fates} {ts : List Element} → counted_of find (record { dangling = 0; across = 0 }) (kept_tasks root) ≡ counted_of find n ts → ts ≡ [] → Counted (fates_by find (context_of root)) n
 unfolding counted_of context_of
 tasks_end find root {n} h e =
     let x = context_of root in
-    let i : counted_of find (record { dangling = 0; across = 0 }) (kept_tasks root) ≡ n = h.is ∙ ap (counted_of find n) e in
+    let i : counted_of find (record { dangling = 0; across = 0 }) (kept_tasks root) ≡ n = h ∙ ap (counted_of find n) e in
     record {
       dangling_is = ap (λ (m : Fates). m.dangling) (sym i) ∙ counted_all find x (λ m. m.dangling) is_dangling (one_dangling x) (record { dangling = 0; across = 0 }) refl;
       across_is = ap (λ (m : Fates). m.across) (sym i) ∙ counted_all find x (λ m. m.across) is_across (one_across x) (record { dangling = 0; across = 0 }) refl;

@@ -1,22 +1,21 @@
 -- Link elements: what becomes of one, and the kept ones written one after another. Assumes nothing.
 use Rattle.std.proofs.Common.{◌≡◌, ℕ, ◌+◌, ◌%◌, ◌^◌, Bool, true, false, List, [], ◌∷◌, length, sym, ap, ◌∙◌}
 use Rattle.std.specs.Prelude.{Option}
-use Rattle.definition.specs.Base.{◌>>=◌, ◌or◌}
+use Rattle.definition.specs.Base.{◌>>=◌, ◌or◌, some?}
 use Rattle.definition.specs.Ascii.{bytes}
 use Rattle.definition.specs.Text.{Text}
 use Rattle.definition.specs.Tree.{Element, all}
 use Rattle.definition.specs.Field.{text_in, yes_in}
-use Rattle.definition.specs.Model.{Link}
+use Rattle.definition.specs.Model as M
 use Rattle.definition.specs.Format.{whole}
 use Rattle.definition.specs.Pack.{link}
 use Rattle.definition.specs.Task.{context_of, kept_tasks, per_day_of}
-use Rattle.definition.specs.Link as D
 use Rattle.definition.specs.Link.{link_lag, link_kind, link_of}
 use Rattle.bits.specs.Steps.{Puts, put_same}
 use Rattle.bits.specs.declared.Place.{Place}
-use Rattle.tasks.specs.Link.{lag_means}
-use Rattle.tasks.specs.declared.link.Lag.{Lag}
+use Rattle.tasks.specs.Link.{lag_means, link_kind_code}
 use Rattle.pack.specs.Record.{link_by}
+use Rattle.pack.specs.declared.record.Link.{Link}
 use Rattle.pack.specs.declared.record.Records.{Records}
 use Rattle.rows.specs.Turns.{text_given, text_missing}
 use Rattle.links.specs.Fates.{LinkFate, Finder, fate_for, is_kept_link, links_by, day_only, links_for, links_in, links_from}
@@ -50,21 +49,41 @@ module _ (find : Finder) (l : Element) where
   pub fate_kept : {f : LinkFate} {b v : Bool} → f ≡ fate_for find l → b ≡ is_ok f → b ≡ v → is_kept_link find l ≡ v
   fate_kept e h i = kept_is find l ∙ ap (λ (f : LinkFate). is_ok f) (sym e) ∙ sym h ∙ i
 
+-- ---- whether one of those that are left is kept
+
+module _ {find : Finder} {b : Bool} {ls : List Element} (h : b ≡ some? (is_kept_link find) ls) where
+  pub entered_end : ls ≡ [] → false ≡ b
+  unfolding some?
+  entered_end e = sym (h ∙ rw e)
+
+  module _ {l : Element} {k : List Element} (e : ls ≡ l ∷ k) where
+    pub entered_here : is_kept_link find l ≡ true → true ≡ b
+    unfolding some?
+    entered_here i = sym (h ∙ rw (e, i))
+
+    pub entered_on : is_kept_link find l ≡ false → b ≡ some? (is_kept_link find) k
+    unfolding some?
+    entered_on i = h ∙ rw (e, i)
+
 -- ---- one written
 
--- a link with its lag
-abbrev lagged : ℕ → ℕ → ℕ → D.Lag → Link
-lagged p row kind lag = record { predecessor = p; successor = row; kind = kind; lag = lag.days; minutes = lag.minutes; lag_kind = lag.kind }
-
-link_is : (per_day p row : ℕ) (l : Element) (lag : Lag) {kind : ℕ} → kind ≡ link_kind l → lag_means lag ≡ link_lag per_day l → link_by p row kind lag ≡ link_of (day_only per_day) p row l
-unfolding link_of
-link_is per_day p row l lag e h = ap (λ (k : ℕ). lagged p row k (lag_means lag)) e ∙ ap (lagged p row (link_kind l)) h
+module _ (per_day : ℕ) (l : Element) (x : Link) (e : link_kind_code x.kind ≡ link_kind l) (h : lag_means x.lag ≡ link_lag per_day l) where
+  link_is : link_by x ≡ link_of (day_only per_day) x.predecessor x.successor l
+  unfolding link_of
+  link_is = λ i. record {
+    predecessor = x.predecessor;
+    successor = x.successor;
+    kind = e i;
+    lag = (h i).days;
+    minutes = (h i).minutes;
+    lag_kind = (h i).kind;
+  }
 
 module _ (per_day row : ℕ) (l : Element) {d : List ℕ} {done : Records} where
-  pub put_one : (p : ℕ) (lag : Lag) {kind : ℕ} {d' : List ℕ} {q : Place} {n : ℕ} → kind ≡ link_kind l → lag_means lag ≡ link_lag per_day l → Puts (whole link) (link_by p row kind lag) d done.next d' q → n ≡ (done.count + 1) % 2 ^ 32
-      → More (whole link) (links_for per_day row l (Ok p)) d done d' (record { count = n; next = q })
+  pub put_one : (x : Link) {d' : List ℕ} {q : Place} {n : ℕ} → link_kind_code x.kind ≡ link_kind l → lag_means x.lag ≡ link_lag per_day l → x.successor ≡ row → Puts (whole link) (link_by x) d done.next d' q → n ≡ (done.count + 1) % 2 ^ 32
+      → More (whole link) (links_for per_day row l (Ok x.predecessor)) d done d' (record { count = n; next = q })
   unfolding links_for
-  put_one p lag e h i j = more_one (put_same (link_is per_day p row l lag e h) i) j
+  put_one x e h k i j = more_one (put_same (rw k (link_is per_day l x e h)) i) j
 
   pub put_none : {f : LinkFate} {why : LeftOut} → f ≡ Err why → More (whole link) (links_for per_day row l f) d done d done
   unfolding links_for
@@ -79,7 +98,7 @@ module _ (per_day : ℕ) (find : Finder) where
   pub in_begin : (row : ℕ) {ls k : List Element} {d : List ℕ} {done : Records} → ls ≡ k → Left (whole link) (links_in per_day find row ls) (links_in per_day find row k) d done d done
   in_begin row e = left_all (ap (links_in per_day find row) e)
 
-  module _ (row : ℕ) {every : List Link} {ls : List Element} {d : List ℕ} {done : Records} {d' : List ℕ} {r : Records} (h : Left (whole link) every (links_in per_day find row ls) d done d' r) where
+  module _ (row : ℕ) {every : List M.Link} {ls : List Element} {d : List ℕ} {done : Records} {d' : List ℕ} {r : Records} (h : Left (whole link) every (links_in per_day find row ls) d done d' r) where
     pub in_next : {l : Element} {k : List Element} → ls ≡ l ∷ k → {f : LinkFate} → f ≡ fate_for find l → {d'' : List ℕ} {r' : Records} → More (whole link) (links_for per_day row l f) d' r d'' r'
         → Left (whole link) every (links_in per_day find row k) d done d'' r'
     unfolding links_in
@@ -89,7 +108,7 @@ module _ (per_day : ℕ) (find : Finder) where
     unfolding links_in
     in_end e = left_end h (ap (links_in per_day find row) e)
 
-  module _ (row : ℕ) {every : List Link} {ts : List Element} {d : List ℕ} {done : Records} {d' : List ℕ} {r : Records} (h : Left (whole link) every (links_from per_day find row ts) d done d' r) where
+  module _ (row : ℕ) {every : List M.Link} {ts : List Element} {d : List ℕ} {done : Records} {d' : List ℕ} {r : Records} (h : Left (whole link) every (links_from per_day find row ts) d done d' r) where
     pub from_next : {t : Element} {k : List Element} → ts ≡ t ∷ k → {d'' : List ℕ} {r' : Records} → More (whole link) (links_in per_day find row (all t (bytes "PredecessorLink"))) d' r d'' r'
         → Left (whole link) every (links_from per_day find (row + 1) k) d done d'' r'
     unfolding links_from

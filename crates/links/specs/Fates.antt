@@ -18,6 +18,7 @@ use Rattle.tree.specs.declared.root.Root.{Root}
 use Rattle.rows.specs.Tables.{row_in}
 use Rattle.rows.specs.declared.table.Listed.TheVariants.{Tasks}
 use Rattle.links.specs.declared.Fates.{Fates}
+use Rattle.links.specs.declared.TaskFinder.{TaskFinder}
 use Rattle.links.specs.declared.fate.LeftOut.{LeftOut}
 use Rattle.links.specs.declared.fate.LeftOut.TheVariants.{Across, Dangling}
 use Rattle.std.specs.Prelude.{Ok, Err, Result}
@@ -27,8 +28,11 @@ abbrev pub Finder : Type 0
 Finder = Text → Option ℕ
 
 -- as the words say it, by the table of the kept tasks
-abbrev pub task_in : Text → Root → List ℕ → Option Table → Finder
-task_in s root w tasks = row_in s (root_at s root) Tasks w tasks
+abbrev pub task_in : Root → List ℕ → Option Table → Finder
+task_in root w tasks = row_in root.tree.now (root_at root) Tasks w tasks
+
+abbrev pub found_by : TaskFinder → Finder
+found_by f = task_in f.root f.words.now f.table
 
 -- ---- the definition's fates and links, by a finder
 

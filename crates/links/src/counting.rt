@@ -3,14 +3,13 @@ ghost use Rattle.std.specs.Prelude.{◌≡◌};
 ghost use Rattle.definition.specs.Ascii.{bytes};
 ghost use Rattle.definition.specs.Tree.{all};
 ghost use Rattle.definition.specs.Task.{context_of};
-ghost use Rattle.tree.specs.Place.{element_at};
+ghost use Rattle.tree.specs.Place.{meaning};
 ghost use Rattle.tree.specs.Root.{root_at};
-ghost use Rattle.links.specs.Fates.{task_in, fates_by, counted_by, counted_in, Counted};
+ghost use Rattle.links.specs.Fates.{found_by, fates_by, counted_by, counted_in, Counted};
 
-use crate::Fates;
 use crate::fate::{LeftOut, fate_of};
-use index::Table;
-use tree::Root;
+use crate::{Fates, TaskFinder};
+use tree::Element;
 
 fn counted(n: Fates, fate: Result<u32, LeftOut>) -> Fates
     ensures { result ≡ counted_by n fate }
@@ -28,38 +27,26 @@ fn counted(n: Fates, fate: Result<u32, LeftOut>) -> Fates
     }
 }
 
-// With those of the task at `at`.
-fn counted_in(
-    s: &[u8],
-    root: Root,
-    at: usize,
-    words: &[u32],
-    tasks: Option<Table>,
-    n: Fates,
-) -> Fates
-    ensures { result ≡ counted_in (task_in s.now root words.now tasks) n (all (element_at s.now at) (bytes "PredecessorLink")) }
+// With those of a task.
+fn counted_in(task: Element<'_>, tasks: TaskFinder<'_>, n: Fates) -> Fates
+    ensures { result ≡ counted_in (found_by tasks.entry) n (all (meaning task.entry) (bytes "PredecessorLink")) }
 {
     let mut count = n;
-    let mut link = tree::child(s, at, b"PredecessorLink");
-    while let Some(p) = link {
-        count = counted(count, fate_of(s, root, p, words, tasks));
-        link = tree::next_child(s, p, b"PredecessorLink");
+    for link in task.children(b"PredecessorLink") {
+        count = counted(count, fate_of(link, tasks));
     }
     count
 }
 
-// By the table of the kept tasks.
-pub fn count_fates(s: &[u8], root: Root, words: &[u32], tasks: Option<Table>) -> Fates
-    ensures { Counted (fates_by (task_in s.now root words.now tasks) (context_of (root_at s.now root))) result }
+pub fn count_fates(tasks: TaskFinder<'_>) -> Fates
+    ensures { Counted (fates_by (found_by tasks.entry) (context_of (root_at tasks.entry.root))) result }
 {
     let mut count = Fates {
         dangling: 0,
         across: 0,
     };
-    let mut task = rows::first_kept(s, root);
-    while let Some((at, left)) = task {
-        count = counted_in(s, root, at, words, tasks, count);
-        task = rows::next_kept(s, at, left);
+    for task in rows::kept_tasks(tasks.root) {
+        count = counted_in(task, tasks, count);
     }
     count
 }

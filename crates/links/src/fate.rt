@@ -1,11 +1,10 @@
 // What becomes of a link element.
 ghost use Rattle.std.specs.Prelude.{◌≡◌};
-ghost use Rattle.tree.specs.Place.{element_at};
-ghost use Rattle.links.specs.Fates.{task_in, is_entered, fate_for};
+ghost use Rattle.tree.specs.Place.{meaning};
+ghost use Rattle.links.specs.Fates.{found_by, is_entered, fate_for};
 
-use index::Table;
-use rows::Listed;
-use tree::Root;
+use crate::TaskFinder;
+use tree::Element;
 
 // Why a link is not kept.
 #[derive(Clone, Copy, PartialEq, Eq)]
@@ -14,36 +13,28 @@ pub(crate) enum LeftOut {
     Dangling,
 }
 
-// The row of its predecessor, by the table of the kept tasks.
-pub(crate) fn fate_of(
-    s: &[u8],
-    root: Root,
-    at: usize,
-    words: &[u32],
-    tasks: Option<Table>,
-) -> Result<u32, LeftOut>
-    ensures { result ≡ fate_for (task_in s.now root words.now tasks) (element_at s.now at) }
+// The row of its predecessor.
+pub(crate) fn fate_of(link: Element<'_>, tasks: TaskFinder<'_>) -> Result<u32, LeftOut>
+    ensures { result ≡ fate_for (found_by tasks.entry) (meaning link.entry) }
 {
-    if tasks::is_across(s, at) {
+    if tasks::is_across(link) {
         return Err(LeftOut::Across);
     }
-    let uid = tree::text_of(s, at, b"PredecessorUID");
-    if uid.len() == 0 {
+    let uid = link.text_of(b"PredecessorUID");
+    if uid.is_empty() {
         return Err(LeftOut::Dangling);
     }
-    rows::row_with(s, root, Listed::Tasks, words, tasks, uid).ok_or(LeftOut::Dangling)
+    tasks.row(uid).ok_or(LeftOut::Dangling)
 }
 
-// Whether a kept link enters the task at `at`.
-pub fn is_entered(s: &[u8], root: Root, at: usize, words: &[u32], tasks: Option<Table>) -> bool
-    ensures { result ≡ is_entered (task_in s.now root words.now tasks) (element_at s.now at) }
+// Whether a kept link enters the task.
+pub fn is_entered(task: Element<'_>, tasks: TaskFinder<'_>) -> bool
+    ensures { result ≡ is_entered (found_by tasks.entry) (meaning task.entry) }
 {
-    let mut link = tree::child(s, at, b"PredecessorLink");
-    while let Some(p) = link {
-        if fate_of(s, root, p, words, tasks).is_ok() {
+    for link in task.children(b"PredecessorLink") {
+        if fate_of(link, tasks).is_ok() {
             return true;
         }
-        link = tree::next_child(s, p, b"PredecessorLink");
     }
     false
 }

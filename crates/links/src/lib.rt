@@ -2,6 +2,9 @@
 // specs/Link.antt.
 #![tactic(auto)]
 
+ghost use Rattle.std.specs.Prelude.{◌≡◌};
+ghost use Rattle.links.specs.Fates.{found_by};
+
 mod counting; // how many dangle and go across
 mod fate; // what becomes of one
 mod writing; // the kept ones
@@ -10,9 +13,29 @@ pub use counting::count_fates;
 pub use fate::is_entered;
 pub use writing::put_links;
 
-// How many link elements dangle, and how many go across.
-#[derive(Clone, Copy)]
+use index::Table;
+use rows::Listed;
+use tree::Root;
+
+// How many link elements dangle, and how many go across. pack's Skips has these two among its four: to hold this would give them a longer name.
+#[derive(Clone, Copy, Debug, PartialEq, Eq)]
 pub struct Fates {
     pub dangling: u32,
     pub across: u32,
+}
+
+// Finds the row of a kept task by its UID: by the table in the lent words, or in the tree where there is none.
+#[derive(Clone, Copy)]
+pub struct TaskFinder<'a> {
+    pub root: Root<'a>,
+    pub words: &'a [u32],
+    pub table: Option<Table>,
+}
+
+impl TaskFinder<'_> {
+    pub(crate) fn row(self, uid: &[u8]) -> Option<u32>
+        ensures { result ≡ found_by self.entry uid.now }
+    {
+        rows::row_with(self.root, Listed::Tasks, self.words, self.table, uid)
+    }
 }

@@ -12,7 +12,7 @@ use Rattle.bits.specs.declared.Place.{Place}
 use Rattle.std.specs.Prelude.{Option, Some, None}
 use Rattle.std.specs.Option.{MatchOption, IsSomeAnd}
 use Rattle.definition.specs.Text.{Text}
-use Rattle.pack.specs.Value.{given_by, starred_by, name_meaning}
+use Rattle.pack.specs.Value.{given_by, starred, starred_by, name_meaning}
 use Rattle.pack.specs.declared.stars.Starred.{Starred}
 
 -- no `*` yet, one more
@@ -36,3 +36,11 @@ put_starred s n {d2 = d2} {p2 = p2} x y z w =
     let star : ℕ = 42 in
     let e : length s + n ≡ length (s ++ replicate n star) = sym (length-append s (replicate n star) ∙ ap (λ (k : ℕ). length s + k) (length-replicate n star)) in
     put_text (put_same e x) y (said (z ⨾ w) _ (▷-▷ (view d2 p2) (bits_of s) (bits_of (replicate n star)) ∙ ap (λ (l : Bits). view d2 p2 ▷ l) (sym (bits_append s (replicate n star)))))
+
+-- a name that may be missing
+pub name_is : (s : Text) (o : Option ℕ) (r : Option Starred) {φ : ℕ → Starred → Type 0} → MatchOption o (r ≡ None) (λ x. IsSomeAnd r (φ x)) → ((x : ℕ) (y : Starred) → φ x y → starred y ≡ starred_by s x)
+    → given_by starred r ≡ name_meaning s o
+unfolding name_meaning
+name_is s None r h k = rw h
+name_is s (Some x) (Some y) h k = ap (λ (t : Text). Some t) (k x y h)
+name_is s (Some x) None h k = absurd h

@@ -13,7 +13,7 @@ use resources::{Accrual, Amounts, ResourceKind};
 use tasks::{Constraint, DurationType, Lag, LinkKind, Parts};
 
 // How many exceptions were skipped, how many links dangle or go across, and how many kept tasks have a duration
-// that was not whole minutes.
+// that was not whole minutes. Four counts side by side: links counts two of them, and to hold its struct would give those a longer name.
 #[derive(Clone, Copy, Debug, PartialEq, Eq)]
 pub struct Skips {
     pub skipped: u32,
@@ -65,7 +65,8 @@ pub struct Progress {
     pub remaining: Option<i64>,
 }
 
-// How many records of each kind there are.
+// How many records of each kind there are. The crate model has structs of the same six names, of places and of sections: a generic one would
+// still be filled and read by the six names.
 #[derive(Clone, Copy, Debug, PartialEq, Eq)]
 pub struct Counts {
     pub calendars: u32,
@@ -76,7 +77,7 @@ pub struct Counts {
     pub expenses: u32,
 }
 
-// The records of a section: how many there are, and the place behind them.
+// The records of a section: how many there are, and the place behind them. The buffer is not in it: it is lent again for each record.
 #[derive(Clone, Copy, PartialEq, Eq)]
 pub struct Records {
     pub count: u32,

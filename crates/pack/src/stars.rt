@@ -1,11 +1,11 @@
 // Texts with `*` behind them, and names of them that may be missing.
-ghost use Rattle.std.specs.Prelude.{replicate, refl};
+ghost use Rattle.std.specs.Prelude.{replicate, refl, ◌≡◌};
 ghost use Rattle.definition.specs.Text.{Text};
 ghost use Rattle.definition.specs.Bits.{bits_of};
 ghost use Rattle.definition.specs.Format.{text};
 ghost use Rattle.laws.specs.Buf.{◌▷◌};
 ghost use Rattle.bits.specs.Steps.{Step, Puts};
-ghost use Rattle.pack.specs.Value.{given_by, starred};
+ghost use Rattle.pack.specs.Value.{given_by, starred, name_meaning};
 
 use crate::value::Put;
 use bits::Place;
@@ -28,7 +28,14 @@ pub struct Starred<'a> {
     pub stars: u32,
 }
 
-impl Starred<'_> {
+impl<'a> Starred<'a> {
+    // A text, where it is known how many `*` stand behind it.
+    pub fn named(text: &'a [u8], stars: Option<u32>) -> Option<Starred<'a>>
+        ensures { given_by starred result ≡ name_meaning text.now stars }
+    {
+        stars.map(|stars| Starred { text, stars })
+    }
+
     pub fn put(self, out: &mut [u8], p: Place) -> Place
         ensures { Puts text (starred self.entry) out.old p out.new result }
     {

@@ -3,12 +3,13 @@ ghost use Rattle.std.specs.Prelude.{◌≡◌, ◌≤◌, pos};
 ghost use Rattle.definition.specs.Base.{◌or◌};
 ghost use Rattle.definition.specs.Recurrence.{month_from, rule_from};
 ghost use Rattle.fields.specs.Said.{whole_said, date_said};
-ghost use Rattle.tree.specs.Place.{element_at};
+ghost use Rattle.tree.specs.Place.{meaning};
 ghost use Rattle.recurrence.specs.Element.{pick_of, mask_of, last_by, most_by, held_rule, judged, UpToLast, rule_in, RuleRead, period_of, range_in, RangeRead};
 
 use crate::kind::kind_of;
 use crate::scale::{LAST, count_by, date_at};
 use crate::{Range, Rule};
+use tree::Element;
 
 // A number held to `most`, with what stands for one below 0 and for a missing one.
 fn pick(a: Option<i64>, most: u32, below: u32, absent: u32) -> u32
@@ -28,16 +29,16 @@ fn mask_of(a: Option<i64>) -> u32
     (a.unwrap_or(0).cast_unsigned() % 128) as u32
 }
 
-fn number_in(s: &[u8], at: usize, name: &[u8], most: u32, below: u32, absent: u32) -> u32
-    ensures { result ≡ pick_of most below absent (whole_said (element_at s.now at) name.now) }
+fn number_in(e: Element<'_>, name: &[u8], most: u32, below: u32, absent: u32) -> u32
+    ensures { result ≡ pick_of most below absent (whole_said (meaning e.entry) name.now) }
 {
-    pick(fields::int_in(s, at, name), most, below, absent)
+    pick(fields::int_in(e, name), most, below, absent)
 }
 
-fn day_said(s: &[u8], at: usize, name: &[u8]) -> Option<u32>
-    ensures { result ≡ date_said (element_at s.now at) name.now }
+fn day_said(e: Element<'_>, name: &[u8]) -> Option<u32>
+    ensures { result ≡ date_said (meaning e.entry) name.now }
 {
-    count_by(fields::date_in(s, at, name))
+    count_by(fields::date_in(e, name))
 }
 
 // By occurrences, a century on, if that is a date.
@@ -66,24 +67,24 @@ fn month_from(n: u32) -> Option<u32>
     (n < 12).then(|| n + 1)
 }
 
-fn rule_at(s: &[u8], at: usize, from: u32, to: u32) -> Rule
+fn rule_at(e: Element<'_>, from: u32, to: u32) -> Rule
     requires from { from ≤ 7304849 }
     requires to { to ≤ 7304849 }
-    ensures { result ≡ held_rule (rule_from (element_at s.now at) from to) }
+    ensures { result ≡ held_rule (rule_from (meaning e.entry) from to) }
 {
-    let by_count = fields::yes_in(s, at, b"EnteredByOccurrences");
+    let by_count = fields::yes_in(e, b"EnteredByOccurrences");
     let first = date_at(from);
     Rule {
-        kind: number_in(s, at, b"Type", 7, 7, 1) % 7,
+        kind: number_in(e, b"Type", 7, 7, 1) % 7,
         from: first,
         last: date_at(last_by(by_count, from, to)),
-        most: most_by(by_count, number_in(s, at, b"Occurrences", 5000, 0, 1)),
-        period: number_in(s, at, b"Period", 1000, 1, 1).max(1),
-        month: month_from(number_in(s, at, b"Month", 12, 12, 0)),
-        day: number_in(s, at, b"MonthDay", 32, 32, 1),
-        item: number_in(s, at, b"MonthItem", 10, 10, 0),
-        position: number_in(s, at, b"MonthPosition", 5, 5, 0),
-        weekdays: mask_of(fields::int_in(s, at, b"DaysOfWeek")),
+        most: most_by(by_count, number_in(e, b"Occurrences", 5000, 0, 1)),
+        period: number_in(e, b"Period", 1000, 1, 1).max(1),
+        month: month_from(number_in(e, b"Month", 12, 12, 0)),
+        day: number_in(e, b"MonthDay", 32, 32, 1),
+        item: number_in(e, b"MonthItem", 10, 10, 0),
+        position: number_in(e, b"MonthPosition", 5, 5, 0),
+        weekdays: mask_of(fields::int_in(e, b"DaysOfWeek")),
     }
 }
 
@@ -95,13 +96,13 @@ fn judge(r: Rule) -> Option<Rule>
     Some(r)
 }
 
-fn rule_in(s: &[u8], at: usize, from: Option<u32>, to: Option<u32>) -> Option<Rule>
+fn rule_in(e: Element<'_>, from: Option<u32>, to: Option<u32>) -> Option<Rule>
     requires from { UpToLast from }
     requires to { UpToLast to }
-    ensures { result ≡ rule_in (element_at s.now at) from to }
+    ensures { result ≡ rule_in (meaning e.entry) from to }
 {
     let first = from?;
-    judge(rule_at(s, at, first, to.unwrap_or(first)))
+    judge(rule_at(e, first, to.unwrap_or(first)))
 }
 
 // FromDate and ToDate of a TimePeriod.
@@ -111,27 +112,27 @@ struct Period {
     to: Option<u32>,
 }
 
-fn period_of(s: &[u8], at: usize) -> Period
-    ensures { result ≡ period_of (element_at s.now at) }
+fn period_of(e: Element<'_>) -> Period
+    ensures { result ≡ period_of (meaning e.entry) }
 {
-    let Some(p) = tree::child(s, at, b"TimePeriod") else {
+    let Some(p) = e.child(b"TimePeriod") else {
         return Period {
             from: None,
             to: None,
         };
     };
     Period {
-        from: day_said(s, p, b"FromDate"),
-        to: day_said(s, p, b"ToDate"),
+        from: day_said(p, b"FromDate"),
+        to: day_said(p, b"ToDate"),
     }
 }
 
 // The rule of an Exception.
-pub fn rule_of(s: &[u8], at: usize) -> Option<Rule>
-    ensures { RuleRead (element_at s.now at) result }
+pub fn rule_of(e: Element<'_>) -> Option<Rule>
+    ensures { RuleRead (meaning e.entry) result }
 {
-    let p = period_of(s, at);
-    rule_in(s, at, p.from, p.to)
+    let p = period_of(e);
+    rule_in(e, p.from, p.to)
 }
 
 // A reversed range is its first day alone, and 3,661 days are the most.
@@ -148,9 +149,9 @@ fn range_in(from: Option<u32>, to: Option<u32>) -> Option<Range>
 }
 
 // The days of a WeekDay of DayType 0.
-pub fn days_of(s: &[u8], at: usize) -> Option<Range>
-    ensures { RangeRead (element_at s.now at) result }
+pub fn days_of(e: Element<'_>) -> Option<Range>
+    ensures { RangeRead (meaning e.entry) result }
 {
-    let p = period_of(s, at);
+    let p = period_of(e);
     range_in(p.from, p.to)
 }

@@ -2,11 +2,12 @@
 ghost use Rattle.std.specs.Prelude.{◌≡◌, ◌^◌, ◌≤◌, nat_abs};
 ghost use Rattle.definition.specs.Base.{◌>>=◌ as bind};
 ghost use Rattle.definition.specs.Resource.{left_of, other_than, hours_from, hours_in, money_from, money_in, rate_of};
-ghost use Rattle.tree.specs.Place.{element_at};
+ghost use Rattle.tree.specs.Place.{meaning};
 ghost use Rattle.fields.specs.Said.{number_said, minutes_said};
 ghost use Rattle.resources.specs.Assignment.{Small, Means};
 
 use crate::resource::units;
+use tree::Element;
 
 // Hundredths: of an hour for an assignment, of the currency for an expense.
 #[derive(Clone, Copy, Debug, PartialEq, Eq)]
@@ -50,30 +51,30 @@ fn amounts_of(planned: Option<i64>, actual: Option<i64>, remaining: Option<i64>)
 // ---- hours
 
 // Minutes as hundredths of an hour.
-fn hours(s: &[u8], at: usize, name: &[u8]) -> Option<i64>
-    ensures is { result ≡ bind (minutes_said (element_at s.now at) name.now) hours_from }
+fn hours(e: Element<'_>, name: &[u8]) -> Option<i64>
+    ensures is { result ≡ bind (minutes_said (meaning e.entry) name.now) hours_from }
     ensures small { Small result }
 {
-    Some(i64::from(fields::minutes_in(s, at, name)?) * 100 / 60)
+    Some(i64::from(fields::minutes_in(e, name)?) * 100 / 60)
 }
 
 #[tactic(auto, unfolding(definition::specs::Field::minutes_in))]
-pub fn work(s: &[u8], at: usize) -> Amounts
-    ensures { Means result (hours_in (element_at s.now at) "Work") (hours_in (element_at s.now at) "ActualWork") (hours_in (element_at s.now at) "RemainingWork") }
+pub fn work(e: Element<'_>) -> Amounts
+    ensures { Means result (hours_in (meaning e.entry) "Work") (hours_in (meaning e.entry) "ActualWork") (hours_in (meaning e.entry) "RemainingWork") }
 {
     amounts_of(
-        hours(s, at, b"Work"),
-        hours(s, at, b"ActualWork"),
-        hours(s, at, b"RemainingWork"),
+        hours(e, b"Work"),
+        hours(e, b"ActualWork"),
+        hours(e, b"RemainingWork"),
     )
 }
 
 // Hundredths of Units, of one from 0 to 1,000,000, unless they are 100.
 #[tactic(auto, unfolding(definition::specs::Field::number_in))]
-pub fn rate(s: &[u8], at: usize) -> Option<i64>
-    ensures { result ≡ rate_of (element_at s.now at) }
+pub fn rate(e: Element<'_>) -> Option<i64>
+    ensures { result ≡ rate_of (meaning e.entry) }
 {
-    other_than(100, units(s, at, b"Units"))
+    other_than(100, units(e, b"Units"))
 }
 
 // ---- money
@@ -85,21 +86,21 @@ fn money_from(m: f64) -> Option<i64>
 }
 
 // Hundredths of an amount below 10,000,000,000,000 either way.
-fn money(s: &[u8], at: usize, name: &[u8]) -> Option<i64>
-    ensures is { result ≡ bind (number_said (element_at s.now at) name.now) money_from }
+fn money(e: Element<'_>, name: &[u8]) -> Option<i64>
+    ensures is { result ≡ bind (number_said (meaning e.entry) name.now) money_from }
     ensures small { Small result }
 {
-    fields::number_in(s, at, name).and_then(money_from)
+    fields::number_in(e, name).and_then(money_from)
 }
 
 // Not one function with `work`: it would take the reader as a closure, with a promise that what it reads is small, and three names.
 #[tactic(auto, unfolding(definition::specs::Field::number_in))]
-pub fn cost(s: &[u8], at: usize) -> Amounts
-    ensures { Means result (money_in (element_at s.now at) "Cost") (money_in (element_at s.now at) "ActualCost") (money_in (element_at s.now at) "RemainingCost") }
+pub fn cost(e: Element<'_>) -> Amounts
+    ensures { Means result (money_in (meaning e.entry) "Cost") (money_in (meaning e.entry) "ActualCost") (money_in (meaning e.entry) "RemainingCost") }
 {
     amounts_of(
-        money(s, at, b"Cost"),
-        money(s, at, b"ActualCost"),
-        money(s, at, b"RemainingCost"),
+        money(e, b"Cost"),
+        money(e, b"ActualCost"),
+        money(e, b"RemainingCost"),
     )
 }

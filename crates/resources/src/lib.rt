@@ -1,4 +1,4 @@
-// What a resource and an assignment say, each value by itself: a position in the lent tree in, a value out.
+// What a resource and an assignment say, each value by itself: an element in, a value out.
 #![tactic(auto)]
 
 mod assignment;

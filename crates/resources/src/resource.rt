@@ -2,9 +2,11 @@
 ghost use Rattle.std.specs.Prelude.{◌≡◌};
 ghost use Rattle.definition.specs.Base.{◌>>=◌ as bind};
 ghost use Rattle.definition.specs.Resource.{is_resource, is_cost, resource_kind, units_from, max_units, price_from, price_of, accrual_of};
-ghost use Rattle.tree.specs.Place.{element_at};
+ghost use Rattle.tree.specs.Place.{meaning};
 ghost use Rattle.fields.specs.Said.{number_said};
 ghost use Rattle.resources.specs.Resource.{resource_kind_code, accrual_code};
+
+use tree::Element;
 
 #[derive(Clone, Copy, Debug, PartialEq, Eq)]
 pub enum ResourceKind {
@@ -46,24 +48,24 @@ impl From<Accrual> for u32 {
 }
 
 // A UID other than `0`, and a name.
-pub fn is_resource(s: &[u8], at: usize) -> bool
-    ensures { result ≡ is_resource (element_at s.now at) }
+pub fn is_resource(e: Element<'_>) -> bool
+    ensures { result ≡ is_resource (meaning e.entry) }
 {
-    fields::own_uid(s, at) & fields::given(s, at, b"Name")
+    fields::own_uid(e) & fields::given(e, b"Name")
 }
 
 #[tactic(auto, unfolding(definition::specs::Field::int_in))]
-pub fn is_cost(s: &[u8], at: usize) -> bool
-    ensures { result ≡ is_cost (element_at s.now at) }
+pub fn is_cost(e: Element<'_>) -> bool
+    ensures { result ≡ is_cost (meaning e.entry) }
 {
-    fields::int_in(s, at, b"Type") == Some(2)
+    fields::int_in(e, b"Type") == Some(2)
 }
 
 #[tactic(auto, unfolding(definition::specs::Field::int_in))]
-pub fn resource_kind(s: &[u8], at: usize) -> ResourceKind
-    ensures { resource_kind_code result ≡ resource_kind (element_at s.now at) }
+pub fn resource_kind(e: Element<'_>) -> ResourceKind
+    ensures { resource_kind_code result ≡ resource_kind (meaning e.entry) }
 {
-    match fields::int_in(s, at, b"Type") {
+    match fields::int_in(e, b"Type") {
         Some(0) => ResourceKind::Material,
         _ => ResourceKind::Labor,
     }
@@ -76,18 +78,18 @@ fn units_from(u: f64) -> Option<i64>
 }
 
 // Hundredths of a number from 0 to 1,000,000.
-pub(crate) fn units(s: &[u8], at: usize, name: &[u8]) -> Option<i64>
-    ensures { result ≡ bind (number_said (element_at s.now at) name.now) units_from }
+pub(crate) fn units(e: Element<'_>, name: &[u8]) -> Option<i64>
+    ensures { result ≡ bind (number_said (meaning e.entry) name.now) units_from }
 {
-    fields::number_in(s, at, name).and_then(units_from)
+    fields::number_in(e, name).and_then(units_from)
 }
 
 // Hundredths of MaxUnits, of one from 0 to 1,000,000; else 100.
 #[tactic(auto, unfolding(definition::specs::Field::number_in))]
-pub fn max_units(s: &[u8], at: usize) -> i64
-    ensures { result ≡ max_units (element_at s.now at) }
+pub fn max_units(e: Element<'_>) -> i64
+    ensures { result ≡ max_units (meaning e.entry) }
 {
-    units(s, at, b"MaxUnits").unwrap_or(100)
+    units(e, b"MaxUnits").unwrap_or(100)
 }
 
 fn price_from(p: f64) -> Option<i64>
@@ -98,17 +100,17 @@ fn price_from(p: f64) -> Option<i64>
 
 // Hundredths of StandardRate, of one above 0 and below 10,000,000,000,000.
 #[tactic(auto, unfolding(definition::specs::Field::number_in))]
-pub fn price(s: &[u8], at: usize) -> Option<i64>
-    ensures { result ≡ price_of (element_at s.now at) }
+pub fn price(e: Element<'_>) -> Option<i64>
+    ensures { result ≡ price_of (meaning e.entry) }
 {
-    fields::number_in(s, at, b"StandardRate").and_then(price_from)
+    fields::number_in(e, b"StandardRate").and_then(price_from)
 }
 
 #[tactic(auto, unfolding(definition::specs::Field::int_in))]
-pub fn accrual_of(s: &[u8], at: usize) -> Accrual
-    ensures { accrual_code result ≡ accrual_of (element_at s.now at) }
+pub fn accrual_of(e: Element<'_>) -> Accrual
+    ensures { accrual_code result ≡ accrual_of (meaning e.entry) }
 {
-    match fields::int_in(s, at, b"AccrueAt") {
+    match fields::int_in(e, b"AccrueAt") {
         Some(1) => Accrual::AtStart,
         Some(2) => Accrual::AtEnd,
         _ => Accrual::Evenly,

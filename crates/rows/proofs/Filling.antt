@@ -12,10 +12,10 @@ use Rattle.index.proofs.Law.{indexed_none, indexed_by, indexed_same}
 use Rattle.index.specs.With.{with, with_here, with_before, one_more}
 use Rattle.index.specs.Frame.{Outside, added_outside, zeros_outside}
 use Rattle.index.specs.Steps.{length_zeros}
-use Rattle.tree.specs.Place.{element_at}
-use Rattle.rows.specs.Tables.{listed, uid_of, later_in, listed_by, Lists, no_element, nth, hash_in, made_for, Ripe, Tabled, Makes}
+use Rattle.tree.specs.Place.{element_at, meaning, Within}
+use Rattle.tree.specs.declared.element.Element.{Element as Place}
+use Rattle.rows.specs.Tables.{listed, uid_of, no_element, nth, hash_in, made_for, Ripe, Tabled, Makes}
 use Rattle.rows.specs.declared.table.Listed.{Listed}
-use Rattle.rows.proofs.Listing.{lists_end, lists_next}
 
 -- ---- where a list stands
 
@@ -37,33 +37,31 @@ cons_tail e = cc
 
 -- ---- the rows so far
 
-pub record Filling (s : Text) (root : Element) (l : Listed) (t : Table) (w : List ℕ) (row : ℕ) (e : Option (ℕ × ℕ)) (w' : List ℕ) : Type 0 where
+pub record Filling (s : Text) (root : Element) (l : Listed) (t : Table) (w : List ℕ) (row : ℕ) (rest : List Element) (w' : List ℕ) : Type 0 where
   pub places : ℕ → ℕ
   pub indexed : Indexed t (hash_in l root) places row w'
   pub stands : (r : ℕ) → r < row → element_at s (places r) ≡ nth l root r
   pub within : row ≤ length (listed l root)
-  pub left : drop row (listed l root) ≡ listed_by s l e
-  pub there : (at left : ℕ) → e ≡ Some (at, left) → at < length s
+  pub left : drop row (listed l root) ≡ rest
   pub length_same : length w' ≡ length w
   pub outside : (j : ℕ) → Outside t j → get_or w' j 0 ≡ get_or w j 0
 
 module _ {s : Text} {root : Element} {l : Listed} {t : Table} {w : List ℕ} (ripe : Ripe s root l t w) {w₀ : List ℕ} where
-  pub fill_begin : {n : ℕ} {e : Option (ℕ × ℕ)} → w₀ ≡ zeros w t.at t.rows → Lists s l (listed l root) n e → Filling s root l t w₀ 0 e w₀
+  pub fill_begin : {rest : List Element} → w₀ ≡ zeros w t.at t.rows → listed l root ≡ rest → Filling s root l t w₀ 0 rest w₀
   fill_begin i h = record {
     places = λ r. 0;
     indexed = rw i (indexed_none _ _ w ripe.fits);
     stands = λ r k. absurd (omega arith);
     within = omega arith;
-    left = h.is;
-    there = h.there;
+    left = h;
     length_same = refl;
     outside = λ j k. refl;
   }
 
-  module _ {row : ℕ} {e : Option (ℕ × ℕ)} {w₁ : List ℕ} (f : Filling s root l t w₀ row e w₁) where
-    pub fill_end : w₀ ≡ zeros w t.at t.rows → e ≡ None → Tabled s root l t w w₁
+  module _ {row : ℕ} {rest : List Element} {w₁ : List ℕ} (f : Filling s root l t w₀ row rest w₁) where
+    pub fill_end : w₀ ≡ zeros w t.at t.rows → rest ≡ [] → Tabled s root l t w w₁
     fill_end o i =
-        let z : length (listed l root) ≤ row = drop_out row (listed l root) (f.left ∙ lists_end s l i) in
+        let z : length (listed l root) ≤ row = drop_out row (listed l root) (f.left ∙ i) in
         let y : row ≡ length (listed l root) = omega (arith, f.within) in
         record {
           places = f.places;
@@ -74,40 +72,37 @@ module _ {s : Text} {root : Element} {l : Listed} {t : Table} {w : List ℕ} (ri
           outside = λ j k. f.outside j k ∙ ap (λ (v : List ℕ). get_or v j 0) o ∙ zeros_outside w t j k;
         }
 
-    module _ {at left : ℕ} (i : e ≡ Some (at, left)) where
+    module _ (x : Place) {k : List Element} (i : rest ≡ meaning x ∷ k) where
       pub fill_in : row < length (listed l root)
-      unfolding listed_by
-      fill_in =
-          let z : drop row (listed l root) ≡ element_at s at ∷ later_in s l at left = f.left ∙ rw i in
-          drop_in row (listed l root) z
-
-      pub fill_place : at < 2 ^ 32
-      fill_place = omega (arith, f.there at left i, ripe.short)
+      fill_in = drop_in row (listed l root) (f.left ∙ i)
 
       pub fill_row : row + 1 < 2 ^ 32
       fill_row = omega (arith, fill_in, ripe.small)
 
-      stood : element_at s at ≡ nth l root row → (r : ℕ) → r < suc row → element_at s (with f.places row at r) ≡ nth l root r
-      stood x =
-          one_more (λ r. element_at s (with f.places row at r) ≡ nth l root r) row (λ r k. rw (with_before f.places row at r k) (f.stands r k)) (rw (with_here f.places row at) x)
+      module _ (m : Within s 0 x) where
+        pub fill_place : x.at < 2 ^ 32
+        fill_place = omega (arith, m.inside, ripe.short)
 
-      module _ {n : ℕ} {r : Option (ℕ × ℕ)} (m : Lists s l (later_in s l at left) n r) where
-        here : nth l root row ∷ drop (row + 1) (listed l root) ≡ element_at s at ∷ listed_by s l r
-        here = drop_is row (listed l root) no_element (f.left ∙ lists_next i m)
+        stood : element_at s x.at ≡ nth l root row → (r : ℕ) → r < suc row → element_at s (with f.places row x.at r) ≡ nth l root r
+        stood y =
+            one_more (λ r. element_at s (with f.places row x.at r) ≡ nth l root r) row (λ r k. rw (with_before f.places row x.at r k) (f.stands r k)) (rw (with_here f.places row x.at) y)
 
-        pub fill_turn : {u : Text} → u ≡ uid_of (element_at s at) → {h : ℕ} → h ≡ hash_of u → {w₂ : List ℕ} → w₂ ≡ added w₁ t row h at → Filling s root l t w₀ (row + 1) r w₂
+        here : nth l root row ∷ drop (row + 1) (listed l root) ≡ element_at s x.at ∷ k
+        here = drop_is row (listed l root) no_element (f.left ∙ i ∙ ap (λ (s : Text). element_at s x.at ∷ k) m.tree)
+
+        pub fill_turn : {u : Text} → u ≡ uid_of (meaning x) → {h : ℕ} → h ≡ hash_of u → {w₂ : List ℕ} → w₂ ≡ added w₁ t row h x.at → Filling s root l t w₀ (row + 1) k w₂
         fill_turn d {h} j {w₂} k =
             let few : row < t.rows = omega (arith, fill_in, ripe.rows) in
-            let x : nth l root row ≡ element_at s at = cons_head here in
+            let y : nth l root row ≡ element_at s x.at = cons_head here in
+            let z : uid_of (meaning x) ≡ uid_of (nth l root row) = ap (λ (s : Text). uid_of (element_at s x.at)) m.tree ∙ ap (λ (e : Element). uid_of e) (sym y) in
             record {
-              places = with f.places row at;
-              indexed = indexed_by (indexed_same f.indexed (λ q z. refl) (λ q z. sym (with_before f.places row at q z))) few (j ∙ ap hash_of d ∙ ap (λ (e : Element). hash_of (uid_of e)) (sym x)) (sym (with_here f.places row at)) k;
-              stands = λ q z. stood (sym x) q (omega arith);
+              places = with f.places row x.at;
+              indexed = indexed_by (indexed_same f.indexed (λ q z. refl) (λ q z. sym (with_before f.places row x.at q z))) few (j ∙ ap hash_of d ∙ ap hash_of z) (sym (with_here f.places row x.at)) k;
+              stands = λ q z. stood (sym y) q (omega arith);
               within = omega (arith, fill_in);
               left = cons_tail here;
-              there = m.there;
-              length_same = ap length k ∙ length_added w₁ t row h at ∙ f.length_same;
-              outside = λ q z. ap (λ (v : List ℕ). get_or v q 0) k ∙ added_outside w₁ t row h at q z ∙ f.outside q z;
+              length_same = ap length k ∙ length_added w₁ t row h x.at ∙ f.length_same;
+              outside = λ q z. ap (λ (v : List ℕ). get_or v q 0) k ∙ added_outside w₁ t row h x.at q z ∙ f.outside q z;
             }
 
 -- ---- a table is made

@@ -6,7 +6,8 @@ use Rattle.definition.specs.Base.{◌>>=◌, ◌or_else◌, when, first, keep, f
 use Rattle.definition.specs.Text.{Text}
 use Rattle.definition.specs.Tree.{Element}
 use Rattle.definition.specs.Task.{level_of, row_of, parent_of}
-use Rattle.tree.specs.Place.{element_at}
+use Rattle.tree.specs.Place.{meaning}
+use Rattle.tree.specs.declared.element.Element.{Element as Place}
 use Rattle.rows.specs.Rows.{has_uid, found_meaning}
 
 -- ---- the row of the last that passes, counted from a row on
@@ -101,27 +102,27 @@ parents_begin row es k {l} e =
 
 -- ---- the last itself
 
-pub record LastIn (s : Text) (p : Element → Bool) (t : Option Element) (l : List Element) (found : Option ℕ) : Type 0 where
-  pub is : t ≡ (find_last p l or_else found_meaning s found)
+pub record LastIn (p : Element → Bool) (t : Option Element) (l : List Element) (found : Option Place) : Type 0 where
+  pub is : t ≡ (find_last p l or_else found_meaning found)
 
-pub last_begin : (s : Text) (p : Element → Bool) {es l : List Element} → es ≡ l → LastIn s p (find_last p es) l None
+pub last_begin : (p : Element → Bool) {es l : List Element} → es ≡ l → LastIn p (find_last p es) l None
 unfolding found_meaning
-last_begin s p e = record { is = ap (find_last p) e ∙ sym (none_else _) }
+last_begin p e = record { is = ap (find_last p) e ∙ sym (none_else _) }
 
-found_when : (s : Text) (t : Bool) (at : ℕ) (found : Option ℕ) → found_meaning s (when t at or_else found) ≡ (when t (element_at s at) or_else found_meaning s found)
+found_when : (t : Bool) (x : Place) (found : Option Place) → found_meaning (when t x or_else found) ≡ (when t (meaning x) or_else found_meaning found)
 unfolding found_meaning
-found_when s true at found = refl
-found_when s false at found = refl
+found_when true x found = refl
+found_when false x found = refl
 
-module _ {s : Text} {p : Element → Bool} {t : Option Element} {l : List Element} {found : Option ℕ} (h : LastIn s p t l found) where
-  pub last_turn : (at : ℕ) {k : List Element} → l ≡ element_at s at ∷ k → {b : Bool} → b ≡ p (element_at s at) → {here : Option ℕ} → here ≡ when b at → {found' : Option ℕ} → found' ≡ (here or_else found) → LastIn s p t k found'
+module _ {p : Element → Bool} {t : Option Element} {l : List Element} {found : Option Place} (h : LastIn p t l found) where
+  pub last_turn : (x : Place) {k : List Element} → l ≡ meaning x ∷ k → {b : Bool} → b ≡ p (meaning x) → {here : Option Place} → here ≡ when b x → {found' : Option Place} → found' ≡ (here or_else found) → LastIn p t k found'
   unfolding find_last
-  last_turn at {k} i {b} z w {found'} j =
-      let f : found_meaning s found' ≡ (when (p (element_at s at)) (element_at s at) or_else found_meaning s found) = ap (found_meaning s) (j ∙ ap (λ o. o or_else found) w) ∙ found_when s b at found ∙ rw z in
-      let a : (find_last p l or_else found_meaning s found) ≡ (find_last p k or_else (when (p (element_at s at)) (element_at s at) or_else found_meaning s found)) = rw i (else_else (find_last p k) (when (p (element_at s at)) (element_at s at)) (found_meaning s found)) in
+  last_turn x {k} i {b} z w {found'} j =
+      let f : found_meaning found' ≡ (when (p (meaning x)) (meaning x) or_else found_meaning found) = ap found_meaning (j ∙ ap (λ o. o or_else found) w) ∙ found_when b x found ∙ rw z in
+      let a : (find_last p l or_else found_meaning found) ≡ (find_last p k or_else (when (p (meaning x)) (meaning x) or_else found_meaning found)) = rw i (else_else (find_last p k) (when (p (meaning x)) (meaning x)) (found_meaning found)) in
       record { is = h.is ∙ a ∙ ap (λ o. find_last p k or_else o) (sym f) }
 
-  pub last_end : l ≡ [] → found_meaning s found ≡ t
+  pub last_end : l ≡ [] → found_meaning found ≡ t
   unfolding find_last
   last_end i = sym (h.is ∙ rw i)
 

@@ -1,15 +1,14 @@
 -- A walk over the chain of a UID: from where it stands on, the first row whose element has the UID is the one that is sought. Assumes nothing.
 use Rattle.std.proofs.Common.{◌≡◌, ℕ, Bool, true, false, List, sym, refl, ap, ◌∙◌, arith}
 use Rattle.std.specs.Prelude.{Option, Some, None}
-use Rattle.definition.specs.Base.{◌>>=◌, same}
+use Rattle.definition.specs.Base.{same}
 use Rattle.definition.specs.Text.{Text}
 use Rattle.index.specs.declared.Table.{Table}
 use Rattle.index.specs.Hash.{hash_of}
 use Rattle.index.specs.Chains.{first_of, next_of, place_of, as_row}
 use Rattle.index.specs.Law.{Seeks, seeks_first, seeks_none, seeks_here, seeks_next}
 use Rattle.tree.specs.Place.{element_at}
-use Rattle.rows.specs.Rows.{found_meaning}
-use Rattle.rows.specs.Tables.{uid_of, sought_in, found_in}
+use Rattle.rows.specs.Tables.{uid_of, sought_in}
 
 -- whether the element of a row has a UID
 abbrev pub named : Text → List ℕ → Table → Text → ℕ → Bool
@@ -39,22 +38,3 @@ module _ (s : Text) {w : List ℕ} {t : Table} (u : Text) {at : Option ℕ} (h :
 
     pub sought_on : b ≡ false → {at' : Option ℕ} → at' ≡ next_of w t r → Seeks w t (named s w t u) (sought_in s w t u) at'
     sought_on k n = seeks_next h e (here ∙ k) n
-
--- ---- where the element of a row stands
-
-module _ (w : List ℕ) (t : Table) {o : Option ℕ} where
-  pub found_at : {r : ℕ} → o ≡ Some r → {p : ℕ} → p ≡ place_of w t r → Some p ≡ found_in w t o
-  found_at e i = rw e (ap Some i)
-
-  pub found_none : o ≡ None → None ≡ found_in w t o
-  found_none e = rw e
-
--- the element where a row was found
-pub found_sought : (s : Text) (w : List ℕ) (t : Table) {o k : Option ℕ} {r : Option ℕ} → r ≡ found_in w t o → o ≡ k
-    → found_meaning s r ≡ (k >>= λ r. Some (element_at s (place_of w t r)))
-unfolding found_meaning
-found_sought s w t {k = k} e i = ap (found_meaning s) (e ∙ ap (found_in w t) i) ∙ go k
-  where
-    go : (k : Option ℕ) → found_meaning s (found_in w t k) ≡ (k >>= λ r. Some (element_at s (place_of w t r)))
-    go None = refl
-    go (Some r) = refl

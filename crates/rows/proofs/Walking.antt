@@ -1,6 +1,7 @@
 -- The walks: each turn of the search for the next element that counts. Assumes nothing.
-use Rattle.std.proofs.Common.{◌≡◌, ℕ, zero, suc, ◌+◌, ◌-◌, ◌<◌, ◌≤◌, Bool, true, false, List, [], ◌∷◌, length, take, refl, ap, ◌∙◌, arith}
-use Rattle.std.specs.Prelude.{Option, Some, None, MatchOption}
+use Rattle.std.proofs.Common.{◌≡◌, ℕ, zero, suc, ◌+◌, ◌-◌, ◌<◌, ◌≤◌, Bool, true, false, not, List, [], ◌∷◌, length, take, length-append, sym, refl, ap, ◌∙◌, arith}
+use Rattle.std.specs.Prelude.{Option, Some, None, is_some}
+use Rattle.std.proofs.lemmas.Bool.{false≢true}
 use lib.Seq.{take-nil}
 use borrow.Author.Tests.{not-true}
 use Rattle.definition.specs.Base.{◌or_else◌, given, keep, first, numbered}
@@ -10,21 +11,15 @@ use Rattle.definition.specs.Tree.{Element, child, all, all_in}
 use Rattle.definition.specs.Task.{is_kept, most_tasks, kept_tasks}
 use Rattle.definition.specs.Calendar.{base_of, calendar_elements}
 use Rattle.laws.specs.Keep.{keep_yes, keep_no}
-use Rattle.tree.specs.Place.{element_at, later_at, list_of, Past, Starts}
+use Rattle.laws.specs.FitTrees.{keep_most}
+use Rattle.tree.specs.Place.{meaning, later, list_of, Within, Past, Starts}
+use Rattle.tree.specs.Few.{children_few}
+use Rattle.tree.specs.Root.{root_at, in_calendars}
+use Rattle.tree.specs.declared.root.Root.{Root}
+use Rattle.tree.specs.declared.element.Element.{Element as Place}
 use Rattle.rows.specs.Rows.{in_order, calendar_meaning, row_zero}
-use Rattle.rows.specs.Turns.{list_at, list_end, keep_head}
-use Rattle.rows.specs.Walks.{kept_by, room, Kept, is_plain, is_derived, picked_by, Picks, PicksFrom, later_in_order, order_by, order_room, Orders, OrdersAfter}
-
--- ---- positions
-
-past_later : (s : Text) {m n : ℕ} → m ≤ n → (r : Option ℕ) → Past s n r → Past s m r
-unfolding Past
-past_later s h None k = tt
-past_later s h (Some p) k = (omega (arith, k), k.1)
-
-before_next : (s : Text) (m p : ℕ) → Past s m (Some p) → m ≤ p + 1
-unfolding Past
-before_next s m p h = omega (arith, h)
+use Rattle.rows.specs.Turns.{list_at, list_end, past_all, past_in, past_on, past_from, keep_head}
+use Rattle.rows.specs.Walks.{kept_by, place_in, KeptFrom, is_plain, is_derived, picked_by, Picks, PicksFrom, later_in_order, order_by, OrdersAfter}
 
 -- ---- the kept tasks
 
@@ -45,68 +40,88 @@ pub take_out : {A : Type 0} (n : ℕ) {l : List A} → l ≡ [] → take n l ≡
 take_out n e = ap (take n) e ∙ take-nil n
 
 -- the search among at most so many: what is left of it
-pub record TasksIn (s : Text) (l : List Element) (most : ℕ) (task : Option ℕ) (left : ℕ) : Type 0 where
-  pub is : l ≡ keep is_kept (take left (list_of s (bytes "Task") task))
-  pub on : left ≤ most
+pub record TasksIn (start : Option Place) (l : List Element) (next : Option Place) (left : ℕ) : Type 0 where
+  pub is : l ≡ keep is_kept (take left (list_of (bytes "Task") next))
+  pub there : (s : Text) → Past s 0 start → Past s 0 next
 
-pub tasks_all : (s : Text) (start : Option ℕ) (most : ℕ) → TasksIn s (keep is_kept (take most (list_of s (bytes "Task") start))) most start most
-tasks_all s start most = record { is = refl; on = omega arith }
+pub tasks_all : (start : Option Place) (most : ℕ) → TasksIn start (keep is_kept (take most (list_of (bytes "Task") start))) start most
+tasks_all start most = record { is = refl; there = λ s h. h }
 
-module _ {s : Text} {l : List Element} {most left : ℕ} {task : Option ℕ} (h : TasksIn s l most task left) where
-  pub kept_none : task ≡ None → Kept s l most None
-  unfolding kept_by room keep
-  kept_none e = record { is = h.is ∙ ap (λ (l : List Element). keep is_kept (take left l)) (list_end s (bytes "Task") e) ∙ ap (keep is_kept) (take-nil left); on = omega arith }
+module _ {start next : Option Place} (most : ℕ) {left : ℕ} (h : TasksIn start (keep is_kept (take most (list_of (bytes "Task") start))) next left) where
+  pub kept_none : next ≡ None → KeptFrom start most None
+  unfolding kept_by keep Past
+  kept_none e = record { is = h.is ∙ ap (λ (l : List Element). keep is_kept (take left l)) (list_end (bytes "Task") e) ∙ ap (keep is_kept) (take-nil left); there = λ s z. tt }
 
-  pub kept_out : left ≡ 0 → Kept s l most None
-  unfolding kept_by room keep
-  kept_out e = record { is = h.is ∙ rw e; on = omega arith }
+  pub kept_out : left ≡ 0 → KeptFrom start most None
+  unfolding kept_by keep Past
+  kept_out e = record { is = h.is ∙ rw e; there = λ s z. tt }
 
-  module _ (p : ℕ) (e : task ≡ Some p) (k : 0 < left) where
-    is_more : l ≡ keep is_kept (element_at s p ∷ take (left - 1) (later_at s (bytes "Task") p))
-    is_more = h.is ∙ ap (λ (l : List Element). keep is_kept (take left l)) (list_at s (bytes "Task") e) ∙ ap (keep is_kept) (take_more left (element_at s p) (later_at s (bytes "Task") p) k)
+  module _ {x : Place} (e : next ≡ Some x) (k : 0 < left) where
+    is_more : keep is_kept (take most (list_of (bytes "Task") start)) ≡ keep is_kept (meaning x ∷ take (left - 1) (later (bytes "Task") x))
+    is_more = h.is ∙ ap (λ (l : List Element). keep is_kept (take left l)) (list_at (bytes "Task") e) ∙ ap (keep is_kept) (take_more left (meaning x) (later (bytes "Task") x) k)
 
-    pub kept_here : is_kept (element_at s p) ≡ true → Kept s l most (Some (p, (left - 1)))
-    unfolding kept_by room
-    kept_here i = record { is = is_more ∙ keep_yes is_kept (element_at s p) _ i; on = omega (arith, h.on) }
+    pub kept_here : is_kept (meaning x) ≡ true → KeptFrom start most (Some (x, (left - 1)))
+    unfolding kept_by
+    kept_here i = record { is = is_more ∙ keep_yes is_kept (meaning x) _ i; there = λ s z. rw e at (h.there s z) }
 
-    pub tasks_later : is_kept (element_at s p) ≡ false → {m : ℕ} {r : Option ℕ} → Starts s (bytes "Task") (later_at s (bytes "Task") p) m r → TasksIn s l most r (left - 1)
-    tasks_later i j = record { is = is_more ∙ keep_no is_kept (element_at s p) _ i ∙ ap (λ (l : List Element). keep is_kept (take (left - 1) l)) j.is; on = omega (arith, h.on) }
+    pub tasks_later : is_kept (meaning x) ≡ false → {r : Option Place} → Starts x.tree.now (bytes "Task") (later (bytes "Task") x) (x.at + 1) r
+        → TasksIn start (keep is_kept (take most (list_of (bytes "Task") start))) r (left - 1)
+    tasks_later i {r} j = record {
+      is = is_more ∙ keep_no is_kept (meaning x) _ i ∙ ap (λ (l : List Element). keep is_kept (take (left - 1) l)) j.is;
+      there = λ s z. past_on r (past_in e (h.there s z)) j.on;
+    }
 
-pub kept_first : (s : Text) (root : Element) {m : ℕ} {f : Option ℕ} {r : Option (ℕ × ℕ)} → Starts s (bytes "Task") (all_in (child root (bytes "Tasks")) (bytes "Task")) m f → Kept s (keep is_kept (take most_tasks (list_of s (bytes "Task") f))) most_tasks r → Kept s (kept_tasks root) most_tasks r
+pub kept_first : (root : Element) {s : Text} {m : ℕ} {f : Option Place} {r : Option (Place × ℕ)} → Starts s (bytes "Task") (all_in (child root (bytes "Tasks")) (bytes "Task")) m f → KeptFrom f most_tasks r → kept_tasks root ≡ kept_by r
 unfolding kept_tasks
-kept_first s root i h = record { is = ap (λ (l : List Element). keep is_kept (take most_tasks l)) i.is ∙ h.is; on = h.on }
+kept_first root i h = ap (λ (l : List Element). keep is_kept (take most_tasks l)) i.is ∙ h.is
 
-pub kept_after : {s : Text} {l : List Element} {left m : ℕ} {f : Option ℕ} {r : Option (ℕ × ℕ)} → Starts s (bytes "Task") l m f → Kept s (keep is_kept (take left (list_of s (bytes "Task") f))) left r → Kept s (keep is_kept (take left l)) left r
-kept_after {left = left} i h = record { is = ap (λ (l : List Element). keep is_kept (take left l)) i.is ∙ h.is; on = h.on }
+pub kept_after : {s : Text} {l : List Element} {left m : ℕ} {f : Option Place} {r : Option (Place × ℕ)} → Starts s (bytes "Task") l m f → KeptFrom f left r → keep is_kept (take left l) ≡ kept_by r
+kept_after {left = left} i h = ap (λ (l : List Element). keep is_kept (take left l)) i.is ∙ h.is
+
+pub kept_there : {s n : Text} {l : List Element} {left m : ℕ} {f : Option Place} {r : Option (Place × ℕ)} → Starts s n l m f → KeptFrom f left r → Past s 0 (place_in r)
+kept_there {s} {f = f} i h = h.there s (past_all s _ f i.on)
+
+-- a step of the iterator
+module _ {o : Option (Place × ℕ)} {x : Place} {left : ℕ} (e : o ≡ Some (x, left)) where
+  pub kept_step : (r : Option (Place × ℕ)) → keep is_kept (take left (later (bytes "Task") x)) ≡ kept_by r → kept_by o ≡ meaning x ∷ kept_by r
+  unfolding kept_by
+  kept_step r h = rw e (ap (λ (l : List Element). meaning x ∷ l) h)
+
+pub place_at : {o : Option (Place × ℕ)} {x : Place} {left : ℕ} → o ≡ Some (x, left) → place_in o ≡ Some x
+place_at e = rw e
+
+pub kept_stop : {o : Option (Place × ℕ)} → o ≡ None → kept_by o ≡ []
+unfolding kept_by
+kept_stop e = rw e
 
 -- ---- elements that pass a test
 
 -- the search from where a list starts: what is left of it
-pub record Left (s n : Text) (w : Element → Bool) (start e : Option ℕ) : Type 0 where
-  pub is : keep w (list_of s n start) ≡ keep w (list_of s n e)
-  pub on : (from : ℕ) → Past s from start → Past s from e
+pub record Left (n : Text) (w : Element → Bool) (start e : Option Place) : Type 0 where
+  pub is : keep w (list_of n start) ≡ keep w (list_of n e)
+  pub on : (s : Text) → Past s 0 start → Past s 0 e
 
-pub left_all : {s n : Text} {w : Element → Bool} {e : Option ℕ} → Left s n w e e
-left_all = record { is = refl; on = λ from h. h }
+pub left_all : {n : Text} {w : Element → Bool} {e : Option Place} → Left n w e e
+left_all = record { is = refl; on = λ s h. h }
 
-module _ {s n : Text} {w : Element → Bool} {start e : Option ℕ} (h : Left s n w start e) where
-  pub picks_none : e ≡ None → PicksFrom s n w start None
+module _ {n : Text} {w : Element → Bool} {start e : Option Place} (h : Left n w start e) where
+  pub picks_none : e ≡ None → PicksFrom n w start None
   unfolding keep picked_by Past
-  picks_none i = record { go = λ from k. record { is = h.is ∙ ap (keep w) (list_end s n i); on = tt } }
+  picks_none i = record { is = h.is ∙ ap (keep w) (list_end n i); there = λ s k. tt }
 
-  module _ {p : ℕ} (i : e ≡ Some p) where
-    pub picks_here : w (element_at s p) ≡ true → PicksFrom s n w start (Some p)
+  module _ {x : Place} (i : e ≡ Some x) where
+    pub picks_here : w (meaning x) ≡ true → PicksFrom n w start (Some x)
     unfolding picked_by
-    picks_here j = record { go = λ from k. record { is = h.is ∙ ap (keep w) (list_at s n i) ∙ keep_yes w (element_at s p) _ j; on = rw i at (h.on from k) } }
+    picks_here j = record { is = h.is ∙ ap (keep w) (list_at n i) ∙ keep_yes w (meaning x) _ j; there = λ s k. rw i at (h.on s k) }
 
-    pub left_later : w (element_at s p) ≡ false → {r : Option ℕ} → Starts s n (later_at s n p) (p + 1) r → Left s n w start r
+    pub left_later : w (meaning x) ≡ false → {r : Option Place} → Starts x.tree.now n (later n x) (x.at + 1) r → Left n w start r
     left_later j {r} k = record {
-      is = h.is ∙ ap (keep w) (list_at s n i) ∙ keep_no w (element_at s p) _ j ∙ ap (keep w) k.is;
-      on = λ from z. past_later s (before_next s from p (rw i at (h.on from z))) r k.on;
+      is = h.is ∙ ap (keep w) (list_at n i) ∙ keep_no w (meaning x) _ j ∙ ap (keep w) k.is;
+      on = λ s z. past_on r (past_in i (h.on s z)) k.on;
     }
 
-pub picks_of : {s n : Text} {w : Element → Bool} {l : List Element} {m : ℕ} {f r : Option ℕ} → Starts s n l m f → PicksFrom s n w f r → Picks s n w l m r
-picks_of {w = w} {m = m} i h = let k = h.go m i.on in record { is = ap (keep w) i.is ∙ k.is; on = k.on }
+pub picks_of : {s n : Text} {w : Element → Bool} {l : List Element} {m : ℕ} {f r : Option Place} → Starts s n l m f → PicksFrom n w f r → Picks s n w l r
+picks_of {s} {w = w} {f = f} i h = record { is = ap (keep w) i.is ∙ h.is; there = h.there s (past_all s _ f i.on) }
 
 -- ---- a section
 
@@ -114,68 +129,85 @@ pub section_none : {s n : Text} {o : Option Element} {m : ℕ} → o ≡ None �
 unfolding list_of Past
 section_none e = record { is = rw e; on = tt }
 
-pub section_found : {s n : Text} {o : Option Element} {m p : ℕ} {r : Option ℕ} → o ≡ Some (element_at s p) → m ≤ p → Starts s n (all (element_at s p) n) (p + 1) r → Starts s n (all_in o n) m r
-section_found {s} {r = r} e k h = record { is = rw e h.is; on = past_later s (omega arith) r h.on }
+pub section_found : {s n : Text} {o : Option Element} {m : ℕ} {x : Place} {r : Option Place} → o ≡ Some (meaning x) → Within s m x → Starts x.tree.now n (all (meaning x) n) (x.at + 1) r → Starts s n (all_in o n) m r
+section_found {r = r} e k h = record { is = rw e h.is; on = past_from r k h.on }
 
 -- ---- the calendars in the order in which they are built
 
-derived_room : (s : Text) (l : List Element) {from : ℕ} (r : Option ℕ) → Picks s (bytes "Calendar") is_derived l from r → order_room s r < suc (suc (length s) - from)
-unfolding picked_by order_room is_derived Past
-derived_room s l None h = omega arith
-derived_room s l (Some q) h = rw (keep_head is_derived l h.is) (omega (arith, h.on))
+pub none_if : {A : Type 0} (o : Option A) → is_some o ≡ false → o ≡ None
+none_if None h = refl
+none_if (Some x) h = absurd (false≢true (sym h))
 
-module _ {s : Text} (root : Element) where
-  derived_list : (l : List Element) {from : ℕ} (r : Option ℕ) → Picks s (bytes "Calendar") is_derived l from r → keep is_derived l ≡ order_by s root r
+module _ (root : Element) where
+  derived_list : (l : List Element) (r : Option Place) → keep is_derived l ≡ picked_by (bytes "Calendar") is_derived r → keep is_derived l ≡ order_by root r
   unfolding picked_by order_by later_in_order is_derived
-  derived_list l None h = h.is
-  derived_list l (Some q) h = rw (keep_head is_derived l h.is) h.is
+  derived_list l None h = h
+  derived_list l (Some x) h = rw (keep_head is_derived l h) h
 
-  pub order_derived : {l : List Element} {from : ℕ} {r : Option ℕ} → Picks s (bytes "Calendar") is_derived l from r → {n : ℕ} → suc (suc (length s) - from) ≤ n → Orders s root (keep is_derived l) n r
-  order_derived {l} {r = r} h k = record { is = derived_list l r h; on = omega (arith, derived_room s l r h) }
-
-  pub after_plain : {f : Option ℕ} {p : ℕ} → f ≡ Some p → OrdersAfter s root f (Some p)
-  unfolding picked_by order_by order_room later_in_order is_plain Past
-  after_plain {f} {p} e = record {
-    go = λ l from h.
-        let i : Picks s (bytes "Calendar") is_plain l from (Some p) = rw e at h in
-        let g : given (base_of (element_at s p)) ≡ false = not-true _ (keep_head is_plain l i.is) in
-        record { is = rw (i.is, g); on = rw g (omega (arith, i.on)) };
+  pub after_plain : {s : Text} {f : Option Place} {x : Place} → f ≡ Some x → OrdersAfter s root f (Some x)
+  unfolding picked_by order_by later_in_order is_plain
+  after_plain {f = f} {x} e = record {
+    is = λ l h.
+        let i : keep is_plain l ≡ picked_by (bytes "Calendar") is_plain (Some x) = rw e at h in
+        let g : given (base_of (meaning x)) ≡ false = not-true _ (keep_head is_plain l i) in
+        rw (i, g);
+    there = λ h. rw e at h;
   }
 
-  pub after_none : {f : Option ℕ} (m : ℕ) {r : Option ℕ} → f ≡ None → Picks s (bytes "Calendar") is_derived (calendar_elements root) (m + 1) r → OrdersAfter s root f r
+  pub after_none : {s : Text} {f : Option Place} {r : Option Place} → f ≡ None → Picks s (bytes "Calendar") is_derived (calendar_elements root) r → OrdersAfter s root f r
   unfolding picked_by
-  after_none {f} m {r} e d = record {
-    go = λ l from h.
-        let i : keep is_plain l ≡ [] = rw e at h.is in
-        let o : Orders s root (keep is_derived (calendar_elements root)) (suc (length s + (suc (length s) - from))) r = order_derived d (omega arith) in
-        record { is = rw i o.is; on = o.on };
+  after_none {f = f} {r} e d = record {
+    is = λ l h. let i : keep is_plain l ≡ [] = rw e at h in rw i (derived_list (calendar_elements root) r d.is);
+    there = λ h. d.there;
   }
 
-  pub after_either : (f : Option ℕ) (m : ℕ) (r : Option ℕ) {P : Type 0} → MatchOption f P (λ p. r ≡ Some p) → (P → Picks s (bytes "Calendar") is_derived (calendar_elements root) (m + 1) r) → OrdersAfter s root f r
-  after_either None m r h d = after_none m refl (d h)
-  after_either (Some p) m r h d = rw h (after_plain refl)
+  pub after_some : {s : Text} (f : Option Place) → is_some f ≡ true → OrdersAfter s root f f
+  after_some None h = absurd (false≢true h)
+  after_some (Some x) h = after_plain refl
 
-  pub order_first : (m : ℕ) {f r : Option ℕ} → Picks s (bytes "Calendar") is_plain (calendar_elements root) (m + 1) f → OrdersAfter s root f r → Orders s root (in_order root) (suc (length s + length s)) r
+  pub order_first : {s : Text} {f r : Option Place} → Picks s (bytes "Calendar") is_plain (calendar_elements root) f → OrdersAfter s root f r → in_order root ≡ order_by root r
   unfolding in_order is_plain is_derived
-  order_first m h a = let o = a.go (calendar_elements root) (m + 1) h in record { is = o.is; on = omega (arith, o.on) }
+  order_first h a = a.is (calendar_elements root) h.is
 
-  module _ (p : ℕ) where
-    pub order_over : {r : Option ℕ} → given (base_of (element_at s p)) ≡ true → Picks s (bytes "Calendar") is_derived (later_at s (bytes "Calendar") p) (p + 1) r → Orders s root (later_in_order s root p) (order_room s (Some p)) r
-    unfolding later_in_order order_room
-    order_over g h = rw g (order_derived h (omega arith))
+  module _ (x : Place) where
+    pub order_over : {s : Text} {r : Option Place} → given (base_of (meaning x)) ≡ true → Picks s (bytes "Calendar") is_derived (later (bytes "Calendar") x) r → later_in_order root x ≡ order_by root r
+    unfolding later_in_order
+    order_over {r = r} g h = rw g (derived_list _ r h.is)
 
-    pub order_plain : {f r : Option ℕ} → given (base_of (element_at s p)) ≡ false → Picks s (bytes "Calendar") is_plain (later_at s (bytes "Calendar") p) (p + 1) f → OrdersAfter s root f r → Orders s root (later_in_order s root p) (order_room s (Some p)) r
-    unfolding later_in_order order_room
-    order_plain g h a = let o = a.go (later_at s (bytes "Calendar") p) (p + 1) h in rw g (record { is = o.is; on = omega (arith, o.on) })
+    pub order_plain : {s u : Text} {f r : Option Place} → given (base_of (meaning x)) ≡ false → Picks s (bytes "Calendar") is_plain (later (bytes "Calendar") x) f → OrdersAfter u root f r → later_in_order root x ≡ order_by root r
+    unfolding later_in_order
+    order_plain g h a = rw g (a.is (later (bytes "Calendar") x) h.is)
+
+  -- a step of the iterator
+  pub order_step : (r : Option Place) {o : Option Place} {x : Place} → o ≡ Some x → later_in_order root x ≡ order_by root r → order_by root o ≡ meaning x ∷ order_by root r
+  unfolding order_by
+  order_step r {x = x} e h = rw e (ap (λ (l : List Element). meaning x ∷ l) h)
+
+  pub order_stop : {o : Option Place} → o ≡ None → order_by root o ≡ []
+  unfolding order_by
+  order_stop e = rw e
+
+-- there are at most twice as many as the tree has bytes
+pub order_few : (root : Root) → length (in_order (root_at root)) ≤ length root.tree.now + length root.tree.now
+unfolding in_order
+order_few root =
+    let l = calendar_elements (root_at root) in
+    let f : length l ≤ length root.tree.now = rw (in_calendars root (bytes "Calendar")) (children_few root.tree.now root.calendars (bytes "Calendar")) in
+    omega (arith, length-append (keep (λ e. not (given (base_of e))) l) (keep (λ e. given (base_of e)) l), keep_most (λ e. not (given (base_of e))) l, keep_most (λ e. given (base_of e)) l, f)
 
 -- ---- the main calendar
 
-pub first_row : {s : Text} {root : Element} {n : ℕ} (c : Option ℕ) → Orders s root (in_order root) n c → calendar_meaning s (row_zero c) ≡ first (numbered 0 (in_order root))
+pub first_row : (root : Element) (c : Option Place) → in_order root ≡ order_by root c → calendar_meaning (row_zero c) ≡ first (numbered 0 (in_order root))
 unfolding calendar_meaning order_by numbered first
-first_row None h = rw h.is
-first_row (Some p) h = rw h.is
+first_row root None h = rw h
+first_row root (Some x) h = rw h
 
-pub or_first_row : (s : Text) (c : Option (ℕ × ℕ)) (r : Option (ℕ × ℕ)) (o : Option (ℕ × Element)) {P : Type 0} → MatchOption c P (λ x. r ≡ Some x) → (P → calendar_meaning s r ≡ o) → calendar_meaning s r ≡ (calendar_meaning s c or_else o)
+pub named_first : (c : Option (ℕ × Place)) (o : Option (ℕ × Element)) → is_some c ≡ true → calendar_meaning c ≡ (calendar_meaning c or_else o)
 unfolding calendar_meaning
-or_first_row s None r o h i = i h
-or_first_row s (Some (row, at)) r o h i = rw h refl
+named_first None o h = absurd (false≢true h)
+named_first (Some (row, x)) o h = refl
+
+pub or_first_row : (c r : Option (ℕ × Place)) (o : Option (ℕ × Element)) → is_some c ≡ false → calendar_meaning r ≡ o → calendar_meaning r ≡ (calendar_meaning c or_else o)
+unfolding calendar_meaning
+or_first_row None r o h i = i
+or_first_row (Some (row, x)) r o h i = absurd (false≢true (sym h))

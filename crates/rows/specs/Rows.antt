@@ -6,12 +6,13 @@ use Rattle.definition.specs.Text.{Text}
 use Rattle.definition.specs.Tree.{Element}
 use Rattle.definition.specs.Field.{text_in}
 use Rattle.definition.specs.Calendar.{base_of, calendar_elements}
-use Rattle.tree.specs.Place.{element_at}
+use Rattle.tree.specs.Place.{meaning}
+use Rattle.tree.specs.declared.element.Element.{Element as Place}
 
 -- the element that was found
-unfoldable pub found_meaning : Text → Option ℕ → Option Element
-found_meaning s None = None
-found_meaning s (Some p) = Some (element_at s p)
+unfoldable pub found_meaning : Option Place → Option Element
+found_meaning None = None
+found_meaning (Some x) = Some (meaning x)
 
 abbrev pub has_uid : Text → Element → Bool
 has_uid u e = same (text_in e "UID" or []) u
@@ -28,11 +29,11 @@ with_uid_in root u = find (λ (x : ℕ × Element). has_uid u x.1) (numbered 0 (
 unfoldable pub main_in : Element → Option (ℕ × Element)
 main_in root = (text_in root "CalendarUID" >>= with_uid_in root) or_else first (numbered 0 (in_order root))
 
-unfoldable pub calendar_meaning : Text → Option (ℕ × ℕ) → Option (ℕ × Element)
-calendar_meaning s (Some (row, at)) = Some (row, element_at s at)
-calendar_meaning s None = None
+unfoldable pub calendar_meaning : Option (ℕ × Place) → Option (ℕ × Element)
+calendar_meaning (Some (row, x)) = Some (row, meaning x)
+calendar_meaning None = None
 
 -- the first one, where there is any
-abbrev pub row_zero : Option ℕ → Option (ℕ × ℕ)
+abbrev pub row_zero : Option Place → Option (ℕ × Place)
 row_zero None = None
-row_zero (Some p) = Some (0, p)
+row_zero (Some x) = Some (0, x)

@@ -22,9 +22,9 @@ small_at s b at = small_element (drop at s) (each_drop at b)
 slim_name : (n : Text) → length n ≤ 65535 → every? (λ b. nat_lt b 128) n ≡ true → Slim n
 slim_name n k h = (k, each_less (λ b i. omega arith) (ascii n h))
 
-pub small_root : (s : Text) (r : Root) → Bytes s → Small (root_at s r)
+pub small_root : (r : Root) → Bytes r.tree.now → Small (root_at r)
 unfolding root_at every?
-small_root s r b =
+small_root r b =
     record {
       name = slim_name (bytes "Project") (omega arith) refl;
       text = (omega arith, empty);
@@ -43,5 +43,5 @@ small_root s r b =
     }
   where
     with : (n : Text) → length n ≤ 65535 → every? (λ b. nat_lt b 128) n ≡ true → (p : ℕ) {rest : Forest} → Throughout Slim rest
-        → Throughout Slim (one n (element_at s p).text (element_at s p).below rest)
-    with n k h p rest = let e = small_at s b p in along (slim_name n k h) e.text e.below rest
+        → Throughout Slim (one n (element_at r.tree.now p).text (element_at r.tree.now p).below rest)
+    with n k h p rest = let e = small_at r.tree.now b p in along (slim_name n k h) e.text e.below rest

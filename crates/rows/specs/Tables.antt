@@ -1,22 +1,24 @@
 -- Rows by their UIDs, from tables in lent words. Assumes nothing: these are definitions.
-use Rattle.std.specs.Prelude.{if◌then◌else◌, ◌≡◌, ℕ, suc, ◌-◌, ◌%◌, ◌^◌, ◌<◌, ◌≤◌, max, List, [], ◌∷◌, length, take, nat_lt, slice_index, slice_index_or}
+use Rattle.std.specs.Prelude.{if◌then◌else◌, ◌≡◌, ℕ, ◌%◌, ◌^◌, ◌<◌, ◌≤◌, max, List, [], ◌∷◌, length, take, nat_lt, slice_index, slice_index_or}
 use Rattle.std.specs.Prelude.{Option, Some, None}
 use Rattle.definition.specs.Ascii.{bytes}
 use Rattle.definition.specs.Base.{◌>>=◌, ◌or◌, keep, find, find_last, same}
 use Rattle.definition.specs.Text.{Text}
 use Rattle.definition.specs.Tree.{Element, nothing}
 use Rattle.definition.specs.Field.{text_in}
-use Rattle.definition.specs.Task.{is_kept, most_tasks, kept_tasks, row_of}
+use Rattle.definition.specs.Task.{is_kept, kept_tasks, row_of}
 use Rattle.definition.specs.Resource.{work_resources, cost_resources}
 use Rattle.index.specs.declared.Table.{Table}
 use Rattle.index.specs.Hash.{hash_of}
 use Rattle.index.specs.Chains.{table_of, chain_of, place_of}
 use Rattle.index.specs.Frame.{Outside}
 use Rattle.index.specs.Law.{Fits, Indexed}
-use Rattle.tree.specs.Place.{element_at, later_at}
+use Rattle.tree.specs.Place.{element_at, meaning, later, Past}
 use Rattle.rows.specs.Rows.{has_uid}
-use Rattle.rows.specs.Walks.{is_work, is_cost_resource}
+use Rattle.rows.specs.Walks.{is_work, is_cost_resource, place_in}
+use Rattle.tree.specs.declared.element.Element.{Element as Place}
 use Rattle.rows.specs.declared.table.Listed.{Listed}
+use Rattle.rows.specs.declared.table.ListElements.{ListElements}
 
 -- the elements of a list
 abbrev pub listed : Listed → Element → List Element
@@ -45,46 +47,39 @@ unfoldable pub cost_in : Text → Element → List ℕ → Option Table → Text
 cost_in s root w None u = find_last (has_uid u) (cost_resources root)
 cost_in s root w (Some t) u = sought_in s w t u >>= λ r. Some (element_at s (place_of w t r))
 
--- where the element of a row stands
-abbrev pub found_in : List ℕ → Table → Option ℕ → Option ℕ
-found_in w t None = None
-found_in w t (Some r) = Some (place_of w t r)
+-- the element of a row
+abbrev pub found_in : Text → List ℕ → Table → Option ℕ → Option Element
+found_in s w t o = o >>= λ r. Some (element_at s (place_of w t r))
 
 -- ---- the walk over a list
 
--- those that follow the one at a position, in the list of tasks among so many later ones
-unfoldable pub later_in : Text → Listed → ℕ → ℕ → List Element
-later_in s Listed.Tasks at left = keep is_kept (take left (later_at s (bytes "Task") at))
-later_in s Listed.Work at left = keep is_work (later_at s (bytes "Resource") at)
-later_in s Listed.Cost at left = keep is_cost_resource (later_at s (bytes "Resource") at)
+-- those that follow one, in the list of tasks among so many later ones
+unfoldable pub later_in : Listed → Place → ℕ → List Element
+later_in Listed.Tasks x left = keep is_kept (take left (later (bytes "Task") x))
+later_in Listed.Work x left = keep is_work (later (bytes "Resource") x)
+later_in Listed.Cost x left = keep is_cost_resource (later (bytes "Resource") x)
 
--- none, or the one at a position and those that follow it
-unfoldable pub listed_by : Text → Listed → Option (ℕ × ℕ) → List Element
-listed_by s l None = []
-listed_by s l (Some (at, left)) = element_at s at ∷ later_in s l at left
+-- none, or one and those that follow it
+unfoldable pub listed_by : Listed → Option (Place × ℕ) → List Element
+listed_by l None = []
+listed_by l (Some (x, left)) = meaning x ∷ later_in l x left
 
--- at most so many
-abbrev pub most_in : Text → Listed → ℕ
-most_in s Listed.Tasks = most_tasks
-most_in s Listed.Work = length s
-most_in s Listed.Cost = length s
-
-unfoldable pub room_in : Text → Listed → Option (ℕ × ℕ) → ℕ
-room_in s l None = 0
-room_in s Listed.Tasks (Some (at, left)) = suc left
-room_in s Listed.Work (Some (at, left)) = suc (length s - at)
-room_in s Listed.Cost (Some (at, left)) = suc (length s - at)
-
--- r stands for the list es, of fewer than n, and is a position in the tree
-pub record Lists (s : Text) (l : Listed) (es : List Element) (n : ℕ) (r : Option (ℕ × ℕ)) : Type 0 where
-  pub is : es ≡ listed_by s l r
-  pub on : room_in s l r < n
-  pub there : (at left : ℕ) → r ≡ Some (at, left) → at < length s
+-- r stands for the list es, and is a position in the tree
+pub record Lists (s : Text) (l : Listed) (es : List Element) (r : Option (Place × ℕ)) : Type 0 where
+  pub is : es ≡ listed_by l r
+  pub there : Past s 0 (place_in r)
 
 -- any number after it
-abbrev pub unbounded_of : Option ℕ → Option (ℕ × ℕ)
-unbounded_of (Some p) = Some (p, 0)
+abbrev pub unbounded_of : Option Place → Option (Place × ℕ)
+unbounded_of (Some x) = Some (x, 0)
 unbounded_of None = None
+
+abbrev pub elements_left : ListElements → List Element
+elements_left e = listed_by e.list e.next
+
+-- of a tree
+abbrev pub ElementsOf : ListElements → Text → Type 0
+ElementsOf e s = Past s 0 (place_in e.next)
 
 -- ---- the table of a list
 

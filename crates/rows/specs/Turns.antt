@@ -1,5 +1,5 @@
 -- What a loop over a walk learns in each turn: the list that is left is the element and what the next answer stands for, and less is left. Assumes nothing.
-use Rattle.std.specs.Prelude.{if◌then◌else◌, ◌≡◌, ℕ, suc, ◌+◌, ◌-◌, ◌<◌, ◌≤◌, Bool, true, false, not, ◌&&◌, List, [], ◌∷◌, length, take, ◌≢◌, refl}
+use Rattle.std.specs.Prelude.{if◌then◌else◌, ◌≡◌, ℕ, suc, ◌+◌, ◌<◌, ◌≤◌, Bool, true, false, not, ◌&&◌, List, [], ◌∷◌, length, ◌≢◌, refl}
 use Rattle.std.proofs.Common.{arith, ◌∙◌}
 use Rattle.std.proofs.Math.Path.{sym, ap}
 use Rattle.std.proofs.lemmas.Bool.{false≢true}
@@ -9,62 +9,53 @@ use Rattle.definition.specs.Base.{◌>>=◌, ◌or◌, given, keep, some?}
 use Rattle.definition.specs.Ascii.{bytes}
 use Rattle.definition.specs.Text.{Text, trim}
 use Rattle.definition.specs.Tree.{Element, child, all_in, non_empty}
-use Rattle.definition.specs.Task.{is_kept}
-use Rattle.definition.specs.Calendar.{base_of}
 use Rattle.definition.specs.Resource.{is_resource, is_cost, work_resources, cost_resources}
 use Rattle.laws.specs.Keep.{one_if, keep_more}
-use Rattle.tree.specs.Place.{element_at, later_at, list_of, Past, Starts}
+use Rattle.tree.specs.Place.{meaning, later, list_of, Within, Past, Starts}
 use Rattle.tree.specs.Root.{own_text}
-use Rattle.rows.specs.Walks.{ahead, kept_by, room, Kept, is_work, is_cost_resource, picked_by, Picks, later_in_order, order_by, order_room, Orders}
+use Rattle.tree.specs.declared.element.Element.{Element as Place}
+use Rattle.rows.specs.Walks.{is_work, is_cost_resource, Picks}
 
 -- ---- all elements of a name
 
-pub list_end : (s n : Text) {e : Option ℕ} → e ≡ None → list_of s n e ≡ []
+pub list_end : (n : Text) {e : Option Place} → e ≡ None → list_of n e ≡ []
 unfolding list_of
-list_end s n i = rw i
+list_end n i = rw i
 
-pub list_at : (s n : Text) {e : Option ℕ} {p : ℕ} → e ≡ Some p → list_of s n e ≡ element_at s p ∷ later_at s n p
+pub list_at : (n : Text) {e : Option Place} {x : Place} → e ≡ Some x → list_of n e ≡ meaning x ∷ later n x
 unfolding list_of
-list_at s n i = rw i
+list_at n i = rw i
 
-pub list_next : {s n : Text} {e : Option ℕ} {p : ℕ} → e ≡ Some p → {from : ℕ} {r : Option ℕ} → Starts s n (later_at s n p) from r → list_of s n e ≡ element_at s p ∷ list_of s n r
-list_next {s} {n} {p = p} i h = list_at s n i ∙ ap (λ (l : List Element). element_at s p ∷ l) h.is
+pub list_next : {s n : Text} {e : Option Place} {x : Place} → e ≡ Some x → {from : ℕ} {r : Option Place} → Starts s n (later n x) from r → list_of n e ≡ meaning x ∷ list_of n r
+list_next {s} {n} {x = x} i h = list_at n i ∙ ap (λ (l : List Element). meaning x ∷ l) h.is
 
-pub ahead_less : (s : Text) {e : Option ℕ} {p : ℕ} → e ≡ Some p → (r : Option ℕ) → Past s (p + 1) r → ahead s r < ahead s e
-unfolding ahead Past
-ahead_less s i None h = rw i (omega arith)
-ahead_less s i (Some q) h = rw i (omega (arith, h))
+pub list_less : {s n : Text} {e : Option Place} {x : Place} → e ≡ Some x → {from : ℕ} {r : Option Place} → Starts s n (later n x) from r → length (list_of n r) < length (list_of n e)
+list_less i h = rw (list_next i h) (omega arith)
 
--- ---- the kept tasks
+-- ---- a step of a walk
 
-pub kept_end : (s : Text) {task : Option (ℕ × ℕ)} → task ≡ None → kept_by s task ≡ []
-unfolding kept_by
-kept_end s e = rw e
+pub step_less : {A : Type 0} {x : A} {l k : List A} → l ≡ x ∷ k → length k < length l
+step_less e = rw e (omega arith)
 
-pub kept_at : (s : Text) {task : Option (ℕ × ℕ)} {at left : ℕ} → task ≡ Some (at, left) → kept_by s task ≡ element_at s at ∷ keep is_kept (take left (later_at s (bytes "Task") at))
-unfolding kept_by
-kept_at s e = rw e
+-- ---- where a step leads
 
-pub room_at : {task : Option (ℕ × ℕ)} {at left : ℕ} → task ≡ Some (at, left) → room task ≡ suc left
-unfolding room
-room_at e = rw e
+pub past_all : (s : Text) (m : ℕ) (r : Option Place) → Past s m r → Past s 0 r
+unfolding Past
+past_all s m None h = tt
+past_all s m (Some x) h = record { tree = h.tree; after = omega arith; inside = h.inside }
 
-module _ {s : Text} {task : Option (ℕ × ℕ)} {at left : ℕ} (e : task ≡ Some (at, left)) {n : ℕ} {r : Option (ℕ × ℕ)} (h : Kept s (keep is_kept (take left (later_at s (bytes "Task") at))) n r) where
-  pub kept_next : kept_by s task ≡ element_at s at ∷ kept_by s r
-  kept_next = kept_at s e ∙ ap (λ (l : List Element). element_at s at ∷ l) h.is
+pub past_in : {s : Text} {m : ℕ} {r : Option Place} {x : Place} → r ≡ Some x → Past s m r → Within s m x
+unfolding Past
+past_in e h = rw e at h
 
-  pub kept_less : n ≤ left → room r < room task
-  kept_less k = omega (arith, h.on, room_at e)
+-- from one place on to a later one of its tree
+pub past_from : {s : Text} {m : ℕ} {x : Place} (r : Option Place) → Within s m x → Past x.tree.now (x.at + 1) r → Past s m r
+unfolding Past
+past_from None h k = tt
+past_from (Some y) h k = record { tree = k.tree ∙ h.tree; after = omega (arith, h.after, k.after); inside = rw (← h.tree) k.inside }
 
--- ---- elements that pass a test
-
-pub picked_end : (s n : Text) (w : Element → Bool) {e : Option ℕ} → e ≡ None → picked_by s n w e ≡ []
-unfolding picked_by
-picked_end s n w i = rw i
-
-pub picked_next : {s n : Text} {w : Element → Bool} {e : Option ℕ} {p : ℕ} → e ≡ Some p → {from : ℕ} {r : Option ℕ} → Picks s n w (later_at s n p) from r → picked_by s n w e ≡ element_at s p ∷ picked_by s n w r
-unfolding picked_by
-picked_next {s} {n} {w} {p = p} i h = ap (picked_by s n w) i ∙ ap (λ (l : List Element). element_at s p ∷ l) h.is
+pub past_on : {s : Text} {x : Place} (r : Option Place) → Within s 0 x → Past x.tree.now (x.at + 1) r → Past s 0 r
+past_on r h k = past_from r h k
 
 -- what is kept passes
 pub keep_head : {A : Type 0} (q : A → Bool) (l : List A) {x : A} {k : List A} → keep q l ≡ x ∷ k → q x ≡ true
@@ -96,31 +87,6 @@ work_picked root = keep_both is_resource (λ r. not (is_cost r)) _
 pub cost_picked : (root : Element) → keep is_cost_resource (all_in (child root (bytes "Resources")) (bytes "Resource")) ≡ cost_resources root
 unfolding is_cost_resource
 cost_picked root = keep_both is_resource is_cost _
-
--- ---- the calendars in the order in which they are built
-
-pub order_end : (s : Text) (root : Element) {c : Option ℕ} → c ≡ None → order_by s root c ≡ []
-unfolding order_by
-order_end s root i = rw i
-
-pub order_at : (s : Text) (root : Element) {c : Option ℕ} {p : ℕ} → c ≡ Some p → order_by s root c ≡ element_at s p ∷ later_in_order s root p
-unfolding order_by
-order_at s root i = rw i
-
-pub order_some : (s : Text) {c : Option ℕ} {p : ℕ} → c ≡ Some p → 0 < order_room s c
-unfolding order_room
-order_some s {p = p} i = rw i (by (given (base_of (element_at s p))))
-  where
-    by : (t : Bool) → 0 < (if t then suc (length s - p) else suc (length s + (length s - p)))
-    by true = omega arith
-    by false = omega arith
-
-module _ {s : Text} {root : Element} {c : Option ℕ} {p : ℕ} (i : c ≡ Some p) {r : Option ℕ} (h : Orders s root (later_in_order s root p) (order_room s (Some p)) r) where
-  pub order_next : order_by s root c ≡ element_at s p ∷ order_by s root r
-  order_next = order_at s root i ∙ ap (λ (l : List Element). element_at s p ∷ l) h.is
-
-  pub order_less : order_room s r < order_room s c
-  order_less = rw i h.on
 
 -- ---- whether any of a list passes: those that are left
 
@@ -194,8 +160,8 @@ own_missing e {t} h k = by (trim e.text) h
 
 -- ---- a section of the root
 
-pub starts_same : {s n : Text} {l k : List Element} {m : ℕ} {r : Option ℕ} → k ≡ l → Starts s n l m r → Starts s n k m r
+pub starts_same : {s n : Text} {l k : List Element} {m : ℕ} {r : Option Place} → k ≡ l → Starts s n l m r → Starts s n k m r
 starts_same e h = record { is = e ∙ h.is; on = h.on }
 
-pub picks_same : {s n : Text} {w : Element → Bool} {l k : List Element} {m : ℕ} {r : Option ℕ} → k ≡ l → Picks s n w l m r → Picks s n w k m r
-picks_same {w = w} e h = record { is = ap (keep w) e ∙ h.is; on = h.on }
+pub picks_same : {s n : Text} {w : Element → Bool} {l k : List Element} {r : Option Place} → k ≡ l → Picks s n w l r → Picks s n w k r
+picks_same {w = w} e h = record { is = ap (keep w) e ∙ h.is; there = h.there }

@@ -1,6 +1,6 @@
--- Walks over elements: what an answer stands for, and how much is left behind it. Assumes nothing: these are definitions.
-use Rattle.std.specs.Prelude.{if◌then◌else◌, ◌≡◌, ℕ, suc, ◌+◌, ◌-◌, ◌<◌, ◌≤◌, Bool, not, ◌&&◌, List, [], ◌∷◌, ◌++◌, length, take}
-use Rattle.std.specs.Prelude.{None, Option, Some}
+-- Walks over elements: what an answer stands for, and what an iterator has left. Assumes nothing: these are definitions.
+use Rattle.std.specs.Prelude.{if◌then◌else◌, ◌≡◌, ℕ, Bool, not, ◌&&◌, List, [], ◌∷◌, ◌++◌, take}
+use Rattle.std.specs.Prelude.{None, Option, Some, MatchOption}
 use Rattle.definition.specs.Base.{given, keep}
 use Rattle.definition.specs.Ascii.{bytes}
 use Rattle.definition.specs.Text.{Text}
@@ -8,29 +8,38 @@ use Rattle.definition.specs.Tree.{Element}
 use Rattle.definition.specs.Task.{is_kept}
 use Rattle.definition.specs.Resource.{is_resource, is_cost}
 use Rattle.definition.specs.Calendar.{base_of, calendar_elements}
-use Rattle.tree.specs.Place.{element_at, later_at, list_of, Past}
+use Rattle.tree.specs.Place.{meaning, later, list_of, Within, Past}
+use Rattle.tree.specs.Root.{root_at}
+use Rattle.tree.specs.declared.element.Element.{Element as Place}
+use Rattle.rows.specs.declared.kept.KeptTasks.{KeptTasks}
+use Rattle.rows.specs.declared.built.CalendarsInOrder.{CalendarsInOrder}
 
--- how far it is to the end
-unfoldable pub ahead : Text → Option ℕ → ℕ
-ahead s None = 0
-ahead s (Some p) = suc (length s - p)
+-- a step of an iterator over elements: it gives the first of those that it has left; and if it is of a tree, so is what it gives, with a position in it
+abbrev pub Gives : {S : Type 0} → (S → Text → Type 0) → (S → List Element) → S → Option Place → S → Type 0
+Gives of left s r t = MatchOption r ((left s ≡ []) × (left t ≡ [])) (λ x. (left s ≡ meaning x ∷ left t) × ((u : Text) → of s u → Within u 0 x × of t u))
 
 -- ---- the kept tasks
 
--- none, or the one at a position and those among so many later ones
-unfoldable pub kept_by : Text → Option (ℕ × ℕ) → List Element
-kept_by s None = []
-kept_by s (Some (at, left)) = element_at s at ∷ keep is_kept (take left (later_at s (bytes "Task") at))
+-- none, or one and those among so many later ones
+unfoldable pub kept_by : Option (Place × ℕ) → List Element
+kept_by None = []
+kept_by (Some (x, left)) = meaning x ∷ keep is_kept (take left (later (bytes "Task") x))
 
--- at most so many
-unfoldable pub room : Option (ℕ × ℕ) → ℕ
-room None = 0
-room (Some (at, left)) = suc left
+abbrev pub place_in : Option (Place × ℕ) → Option Place
+place_in None = None
+place_in (Some (x, left)) = Some x
 
--- r stands for the list l, of at most n
-pub record Kept (s : Text) (l : List Element) (n : ℕ) (r : Option (ℕ × ℕ)) : Type 0 where
-  pub is : l ≡ kept_by s r
-  pub on : room r ≤ n
+-- r stands for those that are kept of the first so many, from where a list of tasks starts
+pub record KeptFrom (start : Option Place) (most : ℕ) (r : Option (Place × ℕ)) : Type 0 where
+  pub is : keep is_kept (take most (list_of (bytes "Task") start)) ≡ kept_by r
+  pub there : (s : Text) → Past s 0 start → Past s 0 (place_in r)
+
+abbrev pub kept_left : KeptTasks → List Element
+kept_left k = kept_by k.next
+
+-- of a tree
+abbrev pub KeptOf : KeptTasks → Text → Type 0
+KeptOf k s = Past s 0 (place_in k.next)
 
 -- ---- elements that pass a test
 
@@ -48,44 +57,42 @@ is_plain e = not (given (base_of e))
 unfoldable pub is_derived : Element → Bool
 is_derived e = given (base_of e)
 
--- none, or the one at a position and its later siblings that pass
-unfoldable pub picked_by : Text → Text → (Element → Bool) → Option ℕ → List Element
-picked_by s n w None = []
-picked_by s n w (Some p) = element_at s p ∷ keep w (later_at s n p)
+-- none, or one and its later siblings that pass
+unfoldable pub picked_by : Text → (Element → Bool) → Option Place → List Element
+picked_by n w None = []
+picked_by n w (Some x) = meaning x ∷ keep w (later n x)
 
--- r stands for those of l that pass, from a position on
-pub record Picks (s n : Text) (w : Element → Bool) (l : List Element) (from : ℕ) (r : Option ℕ) : Type 0 where
-  pub is : keep w l ≡ picked_by s n w r
-  pub on : Past s from r
+-- r stands for those of l that pass
+pub record Picks (s n : Text) (w : Element → Bool) (l : List Element) (r : Option Place) : Type 0 where
+  pub is : keep w l ≡ picked_by n w r
+  pub there : Past s 0 r
 
 -- from where a list of elements starts
-pub record PicksFrom (s n : Text) (w : Element → Bool) (start r : Option ℕ) : Type 0 where
-  pub go : (from : ℕ) → Past s from start → Picks s n w (list_of s n start) from r
+pub record PicksFrom (n : Text) (w : Element → Bool) (start r : Option Place) : Type 0 where
+  pub is : keep w (list_of n start) ≡ picked_by n w r
+  pub there : (s : Text) → Past s 0 start → Past s 0 r
 
 -- ---- the calendars in the order in which they are built
 
--- those that follow the one at a position
-unfoldable pub later_in_order : Text → Element → ℕ → List Element
-later_in_order s root p =
-    if given (base_of (element_at s p)) then keep is_derived (later_at s (bytes "Calendar") p) else
-    keep is_plain (later_at s (bytes "Calendar") p) ++ keep is_derived (calendar_elements root)
+-- those that follow one
+unfoldable pub later_in_order : Element → Place → List Element
+later_in_order root x =
+    if given (base_of (meaning x)) then keep is_derived (later (bytes "Calendar") x) else
+    keep is_plain (later (bytes "Calendar") x) ++ keep is_derived (calendar_elements root)
 
--- none, or the one at a position and those that follow it
-unfoldable pub order_by : Text → Element → Option ℕ → List Element
-order_by s root None = []
-order_by s root (Some p) = element_at s p ∷ later_in_order s root p
-
--- at most so many
-unfoldable pub order_room : Text → Option ℕ → ℕ
-order_room s None = 0
-order_room s (Some p) = if given (base_of (element_at s p)) then suc (length s - p) else suc (length s + (length s - p))
-
--- r stands for the list l, of fewer than n
-pub record Orders (s : Text) (root : Element) (l : List Element) (n : ℕ) (r : Option ℕ) : Type 0 where
-  pub is : l ≡ order_by s root r
-  pub on : order_room s r < n
+-- none, or one and those that follow it
+unfoldable pub order_by : Element → Option Place → List Element
+order_by root None = []
+order_by root (Some x) = meaning x ∷ later_in_order root x
 
 -- after those without a base
-pub record OrdersAfter (s : Text) (root : Element) (plain r : Option ℕ) : Type 0 where
-  pub go : (l : List Element) (from : ℕ) → Picks s (bytes "Calendar") is_plain l from plain
-      → Orders s root (keep is_plain l ++ keep is_derived (calendar_elements root)) (suc (length s + (suc (length s) - from))) r
+pub record OrdersAfter (s : Text) (root : Element) (plain r : Option Place) : Type 0 where
+  pub is : (l : List Element) → keep is_plain l ≡ picked_by (bytes "Calendar") is_plain plain → keep is_plain l ++ keep is_derived (calendar_elements root) ≡ order_by root r
+  pub there : Past s 0 plain → Past s 0 r
+
+abbrev pub calendars_left : CalendarsInOrder → List Element
+calendars_left c = order_by (root_at c.root) c.next
+
+-- of a tree
+abbrev pub CalendarsOf : CalendarsInOrder → Text → Type 0
+CalendarsOf c s = (c.root.tree.now ≡ s) × Past s 0 c.next

@@ -1,79 +1,120 @@
 // The calendars in the order in which they are built: those without a base, then the others.
-ghost use Rattle.std.specs.Prelude.{◌≡◌, suc, ◌+◌, length};
+ghost use Rattle.std.specs.Prelude.{◌≡◌};
+ghost use Rattle.std.specs.Iterator.{item_count};
 ghost use Rattle.definition.specs.Base.{◌>>=◌ as bind, first as first_of, numbered};
 ghost use Rattle.definition.specs.Field.{text_in};
+ghost use Rattle.tree.specs.Place.{Past};
 ghost use Rattle.tree.specs.Root.{root_at};
 ghost use Rattle.rows.specs.Rows.{in_order, with_uid_in, main_in, calendar_meaning};
-ghost use Rattle.rows.specs.Walks.{later_in_order, order_room, Orders, OrdersAfter};
+ghost use Rattle.rows.specs.Walks.{Gives, later_in_order, order_by, OrdersAfter, calendars_left, CalendarsOf};
 
 use crate::section::{Derived, Plain, first_which, next_which};
-use tree::Root;
+use tree::{Element, Root};
 
 // After those without a base, the first over one.
-fn or_derived(s: &[u8], root: Root, plain: Option<usize>) -> Option<usize>
-    ensures { OrdersAfter s.now (root_at s.now root) plain result }
+fn or_derived<'a>(root: Root<'a>, plain: Option<Element<'a>>) -> Option<Element<'a>>
+    ensures { OrdersAfter root.entry.tree.now (root_at root.entry) plain.entry result }
 {
-    plain.or_else(|| first_which::<Derived>(s, root.calendars, b"Calendar"))
+    // `or_else` would state the clause of `first_which` once more, on its closure.
+    if plain.is_some() {
+        return plain;
+    }
+    first_which::<Derived>(root.part(root.calendars), b"Calendar")
 }
 
 // The first calendar to be built.
-pub fn first_calendar(s: &[u8], root: Root) -> Option<usize>
-    ensures { Orders s.now (root_at s.now root) (in_order (root_at s.now root)) (suc (length s.now + length s.now)) result }
+fn first_calendar(root: Root<'_>) -> Option<Element<'_>>
+    ensures is { in_order (root_at root.entry) ≡ order_by (root_at root.entry) result }
+    ensures there { Past root.entry.tree.now 0 result }
 {
     or_derived(
-        s,
         root,
-        first_which::<Plain>(s, root.calendars, b"Calendar"),
+        first_which::<Plain>(root.part(root.calendars), b"Calendar"),
     )
 }
 
-// The one to be built after that at `at`.
-pub fn next_calendar(s: &[u8], root: Root, at: usize) -> Option<usize>
-    ensures { Orders s.now (root_at s.now root) (later_in_order s.now (root_at s.now root) at) (order_room s.now (Some at)) result }
+// The one to be built after another.
+fn next_calendar<'a>(root: Root<'a>, e: Element<'a>) -> Option<Element<'a>>
+    ensures is { later_in_order (root_at root.entry) e.entry ≡ order_by (root_at root.entry) result }
+    ensures there { e.entry.tree.now ≡ root.entry.tree.now → Past root.entry.tree.now 0 result }
 {
-    if calendar::has_base(s, at) {
-        return next_which::<Derived>(s, at, b"Calendar");
+    if calendar::has_base(e) {
+        return next_which::<Derived>(e, b"Calendar");
     }
-    or_derived(s, root, next_which::<Plain>(s, at, b"Calendar"))
+    or_derived(root, next_which::<Plain>(e, b"Calendar"))
 }
 
-// The first calendar with a UID, in the order in which calendars are built.
-pub fn calendar_with(s: &[u8], root: Root, uid: &[u8]) -> Option<(usize, usize)>
-    ensures { calendar_meaning s.now result ≡ with_uid_in (root_at s.now root) uid.now }
+// The calendars to be built, one after another.
+#[derive(Clone, Copy)]
+pub struct CalendarsInOrder<'a> {
+    root: Root<'a>,
+    next: Option<Element<'a>>,
+}
+
+impl<'a> Iterator for CalendarsInOrder<'a> {
+    type Item = Element<'a>;
+
+    ghost next_gives = { Gives CalendarsOf calendars_left };
+
+    ghost remaining = { item_count calendars_left };
+
+    fn next(&mut self) -> Option<Element<'a>> {
+        let e = self.next?;
+        self.next = next_calendar(self.root, e);
+        Some(e)
+    }
+}
+
+pub fn calendars(root: Root<'_>) -> CalendarsInOrder<'_>
+    ensures is { calendars_left result ≡ in_order (root_at root.entry) }
+    ensures of { CalendarsOf result root.entry.tree.now }
+{
+    CalendarsInOrder {
+        root,
+        next: first_calendar(root),
+    }
+}
+
+// The first calendar with a UID, in the order in which calendars are built, and its row.
+pub fn calendar_with<'a>(root: Root<'a>, uid: &[u8]) -> Option<(usize, Element<'a>)>
+    ensures { calendar_meaning result ≡ with_uid_in (root_at root.entry) uid.now }
 {
     let mut row: usize = 0;
-    let mut c = first_calendar(s, root);
-    while let Some(at) = c {
-        if fields::text_is(s, at, b"UID", uid) {
-            return Some((row, at));
+    for e in calendars(root) {
+        if fields::text_is(e, b"UID", uid) {
+            return Some((row, e));
         }
         row += 1;
-        c = next_calendar(s, root, at);
     }
     None
 }
 
 // The calendar of CalendarUID.
-fn named_calendar(s: &[u8], root: Root) -> Option<(usize, usize)>
-    ensures { calendar_meaning s.now result ≡ bind (text_in (root_at s.now root) "CalendarUID") (with_uid_in (root_at s.now root)) }
+fn named_calendar(root: Root<'_>) -> Option<(usize, Element<'_>)>
+    ensures { calendar_meaning result ≡ bind (text_in (root_at root.entry) "CalendarUID") (with_uid_in (root_at root.entry)) }
 {
-    let uid = tree::own_text(s, root.calendar);
-    if uid.len() != 0 {
-        return calendar_with(s, root, uid);
+    let uid = root.part(root.calendar).own_text();
+    if uid.is_empty() {
+        return None;
     }
-    None
+    calendar_with(root, uid)
 }
 
 // The first to be built, with its row.
-fn first_row(s: &[u8], root: Root) -> Option<(usize, usize)>
-    ensures { calendar_meaning s.now result ≡ first_of (numbered 0 (in_order (root_at s.now root))) }
+fn first_row(root: Root<'_>) -> Option<(usize, Element<'_>)>
+    ensures { calendar_meaning result ≡ first_of (numbered 0 (in_order (root_at root.entry))) }
 {
-    first_calendar(s, root).map(|at| (0, at))
+    first_calendar(root).map(|e| (0, e))
 }
 
 // The main calendar: that of CalendarUID, else the first.
-pub fn main_calendar(s: &[u8], root: Root) -> Option<(usize, usize)>
-    ensures { calendar_meaning s.now result ≡ main_in (root_at s.now root) }
+pub fn main_calendar(root: Root<'_>) -> Option<(usize, Element<'_>)>
+    ensures { calendar_meaning result ≡ main_in (root_at root.entry) }
 {
-    named_calendar(s, root).or_else(|| first_row(s, root))
+    // no `or_else`, as above
+    let named = named_calendar(root);
+    if named.is_some() {
+        return named;
+    }
+    first_row(root)
 }

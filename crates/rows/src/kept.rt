@@ -1,86 +1,113 @@
 // The kept tasks: those among the first 100,000 that have a UID other than `0` and a level of at least 1.
 ghost use Rattle.std.specs.Prelude.{◌≡◌, map, length, take};
+ghost use Rattle.std.specs.Iterator.{item_count};
 ghost use Rattle.definition.specs.Base.{keep, some?};
 ghost use Rattle.definition.specs.Ascii.{bytes};
-ghost use Rattle.definition.specs.Task.{level_of, most_tasks, is_kept, kept_tasks, parent_of, is_elapsed, is_fractional};
-ghost use Rattle.tree.specs.Place.{later_at, list_of};
+ghost use Rattle.definition.specs.Task.{level_of, is_kept, kept_tasks, parent_of, is_elapsed, is_fractional};
+ghost use Rattle.tree.specs.Place.{later, Past};
 ghost use Rattle.tree.specs.Root.{root_at};
-ghost use Rattle.rows.specs.Walks.{Kept};
+ghost use Rattle.rows.specs.Walks.{Gives, kept_by, place_in, KeptFrom, kept_left, KeptOf};
 
-use tree::Root;
+use tree::{Element, Root};
 
-// The first of at most `most` tasks, from where a list of tasks starts.
-fn kept_from(s: &[u8], start: Option<usize>, most: u32) -> Option<(usize, u32)>
-    ensures { Kept s.now (keep is_kept (take most (list_of s.now (bytes "Task") start))) most result }
+// The first of at most `most` tasks, from where a list of tasks starts, and how many after it are still to be looked at.
+fn kept_from(start: Option<Element<'_>>, most: u32) -> Option<(Element<'_>, u32)>
+    ensures { KeptFrom start.entry most result }
 {
-    let mut task = start;
+    let mut next = start;
     let mut left = most;
-    while let Some(at) = task {
+    while let Some(task) = next {
         if left == 0 {
             return None;
         }
         left -= 1;
-        if tasks::is_kept(s, at) {
-            return Some((at, left));
+        if tasks::is_kept(task) {
+            return Some((task, left));
         }
-        task = tree::next_child(s, at, b"Task");
+        next = task.next(b"Task");
     }
     None
 }
 
 // The first kept task.
-pub fn first_kept(s: &[u8], root: Root) -> Option<(usize, u32)>
-    ensures { Kept s.now (kept_tasks (root_at s.now root)) most_tasks result }
+pub(crate) fn first_kept(root: Root<'_>) -> Option<(Element<'_>, u32)>
+    ensures is { kept_tasks (root_at root.entry) ≡ kept_by result }
+    ensures there { Past root.entry.tree.now 0 (place_in result) }
 {
-    kept_from(s, tree::child(s, root.tasks, b"Task"), 100000)
+    kept_from(root.part(root.tasks).child(b"Task"), 100000)
 }
 
-// The next one, of at most `left` tasks after the one at `at`.
-pub fn next_kept(s: &[u8], at: usize, left: u32) -> Option<(usize, u32)>
-    ensures { Kept s.now (keep is_kept (take left (later_at s.now (bytes "Task") at))) left result }
+// The next one, of at most `left` tasks after another.
+pub(crate) fn next_kept(task: Element<'_>, left: u32) -> Option<(Element<'_>, u32)>
+    ensures is { keep is_kept (take left (later (bytes "Task") task.entry)) ≡ kept_by result }
+    ensures there { Past task.entry.tree.now 0 (place_in result) }
 {
-    kept_from(s, tree::next_child(s, at, b"Task"), left)
+    kept_from(task.next(b"Task"), left)
+}
+
+// The kept tasks, one after another.
+#[derive(Clone, Copy)]
+pub struct KeptTasks<'a> {
+    next: Option<(Element<'a>, u32)>,
+}
+
+impl<'a> Iterator for KeptTasks<'a> {
+    type Item = Element<'a>;
+
+    ghost next_gives = { Gives KeptOf kept_left };
+
+    ghost remaining = { item_count kept_left };
+
+    fn next(&mut self) -> Option<Element<'a>> {
+        let (task, left) = self.next?;
+        self.next = next_kept(task, left);
+        Some(task)
+    }
+}
+
+pub fn kept_tasks(root: Root<'_>) -> KeptTasks<'_>
+    ensures is { kept_left result ≡ kept_tasks (root_at root.entry) }
+    ensures of { KeptOf result root.entry.tree.now }
+{
+    KeptTasks {
+        next: first_kept(root),
+    }
 }
 
 // The nearest kept task of a lower level before the task of a row.
-pub fn parent_row(s: &[u8], root: Root, row: u32, level: u64) -> Option<u32>
-    ensures { result ≡ parent_of (map level_of (take row (kept_tasks (root_at s.now root)))) level }
+pub fn parent_row(root: Root<'_>, row: u32, level: u64) -> Option<u32>
+    ensures { result ≡ parent_of (map level_of (take row (kept_tasks (root_at root.entry)))) level }
 {
     let mut found = None;
-    let mut task = first_kept(s, root);
+    let mut kept = kept_tasks(root);
     for n in 0..row {
-        let Some((at, left)) = task else {
+        let Some(task) = kept.next() else {
             return found;
         };
-        let lower = (tasks::level_of(s, at) < level).then_some(n);
+        let lower = (tasks::level_of(task) < level).then_some(n);
         found = lower.or(found);
-        task = next_kept(s, at, left);
     }
     found
 }
 
-pub fn any_elapsed(s: &[u8], root: Root) -> bool
-    ensures { result ≡ some? is_elapsed (kept_tasks (root_at s.now root)) }
+pub fn any_elapsed(root: Root<'_>) -> bool
+    ensures { result ≡ some? is_elapsed (kept_tasks (root_at root.entry)) }
 {
-    let mut task = first_kept(s, root);
-    while let Some((at, left)) = task {
-        if tasks::is_elapsed(s, at) {
+    for task in kept_tasks(root) {
+        if tasks::is_elapsed(task) {
             return true;
         }
-        task = next_kept(s, at, left);
     }
     false
 }
 
 // How many kept tasks have a Duration that gives minutes and was not whole.
-pub fn count_fractional(s: &[u8], root: Root) -> u32
-    ensures { result ≡ length (keep is_fractional (kept_tasks (root_at s.now root))) }
+pub fn count_fractional(root: Root<'_>) -> u32
+    ensures { result ≡ length (keep is_fractional (kept_tasks (root_at root.entry))) }
 {
     let mut count: u32 = 0;
-    let mut task = first_kept(s, root);
-    while let Some((at, left)) = task {
-        count += u32::from(tasks::is_fractional(s, at));
-        task = next_kept(s, at, left);
+    for task in kept_tasks(root) {
+        count += u32::from(tasks::is_fractional(task));
     }
     count
 }

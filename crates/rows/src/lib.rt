@@ -8,7 +8,7 @@ mod resource; // cost resources
 mod section; // elements of a section that pass a test
 mod table; // rows by their UIDs, from tables in lent words
 
-pub use built::{calendar_with, first_calendar, main_calendar, next_calendar};
-pub use kept::{any_elapsed, count_fractional, first_kept, next_kept, parent_row};
+pub use built::{CalendarsInOrder, calendar_with, calendars, main_calendar};
+pub use kept::{KeptTasks, any_elapsed, count_fractional, kept_tasks, parent_row};
 pub use section::first_in;
 pub use table::{Listed, cost_with, index_rows, row_with, seek};

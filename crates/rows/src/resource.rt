@@ -5,19 +5,17 @@ ghost use Rattle.definition.specs.Resource.{cost_resources};
 ghost use Rattle.tree.specs.Root.{root_at};
 ghost use Rattle.rows.specs.Rows.{found_meaning, has_uid};
 
-use crate::section::{Cost, first_which, next_which};
-use tree::Root;
+use crate::table::{Listed, elements};
+use tree::{Element, Root};
 
 // The last cost resource with a UID.
-pub(crate) fn cost_resource(s: &[u8], root: Root, uid: &[u8]) -> Option<usize>
-    ensures { found_meaning s.now result ≡ find_last (has_uid uid.now) (cost_resources (root_at s.now root)) }
+pub(crate) fn cost_resource<'a>(root: Root<'a>, uid: &[u8]) -> Option<Element<'a>>
+    ensures { found_meaning result ≡ find_last (has_uid uid.now) (cost_resources (root_at root.entry)) }
 {
     let mut found = None;
-    let mut e = first_which::<Cost>(s, root.resources, b"Resource");
-    while let Some(at) = e {
-        let named = fields::text_is(s, at, b"UID", uid).then_some(at);
+    for e in elements(root, Listed::Cost) {
+        let named = fields::text_is(e, b"UID", uid).then_some(e);
         found = named.or(found);
-        e = next_which::<Cost>(s, at, b"Resource");
     }
     found
 }

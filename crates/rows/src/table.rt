@@ -1,14 +1,16 @@
 // Tables of the elements that have a UID, in lent words: the hash of each UID, and where its element stands in the tree.
-ghost use Rattle.std.specs.Prelude.{◌≡◌, suc, ◌^◌, ◌<◌, length};
+ghost use Rattle.std.specs.Prelude.{◌≡◌, ◌^◌, ◌<◌, length};
+ghost use Rattle.std.specs.Iterator.{item_count};
 ghost use Rattle.tree.specs.Root.{root_at};
 ghost use Rattle.rows.specs.Rows.{found_meaning};
-ghost use Rattle.rows.specs.Tables.{listed, row_in32, sought_in, row_in, cost_in, later_in, most_in, room_in, Lists, unbounded_of, found_in, Ripe, Tabled, Makes};
+ghost use Rattle.rows.specs.Walks.{Gives};
+ghost use Rattle.rows.specs.Tables.{listed, row_in32, sought_in, row_in, cost_in, later_in, Lists, unbounded_of, elements_left, ElementsOf, found_in, Ripe, Tabled, Makes};
 
 use crate::kept::{first_kept, next_kept};
 use crate::resource::cost_resource;
 use crate::section::{Cost, Work, first_which, next_which};
 use index::Table;
-use tree::Root;
+use tree::{Element, Root};
 
 // The kept tasks, the work resources, the cost resources.
 // An enum, where `section` has a trait: it is a parameter of the public functions, whose callers pass a value.
@@ -22,96 +24,116 @@ pub enum Listed {
 // ---- the elements of a list, one after another
 
 // Any number after it.
-fn unbounded(e: Option<usize>) -> Option<(usize, u32)>
-    ensures { result ≡ unbounded_of e }
+fn unbounded(e: Option<Element<'_>>) -> Option<(Element<'_>, u32)>
+    ensures { result ≡ unbounded_of e.entry }
 {
-    e.map(|at| (at, 0))
+    e.map(|e| (e, 0))
 }
 
-fn first_listed(s: &[u8], root: Root, list: Listed) -> Option<(usize, u32)>
-    ensures { Lists s.now list (listed list (root_at s.now root)) (suc (most_in s.now list)) result }
+fn first_listed(root: Root<'_>, list: Listed) -> Option<(Element<'_>, u32)>
+    ensures { Lists root.entry.tree.now list (listed list (root_at root.entry)) result }
 {
+    let resources = root.part(root.resources);
     match list {
-        Listed::Tasks => first_kept(s, root),
-        Listed::Work => unbounded(first_which::<Work>(s, root.resources, b"Resource")),
-        Listed::Cost => unbounded(first_which::<Cost>(s, root.resources, b"Resource")),
+        Listed::Tasks => first_kept(root),
+        Listed::Work => unbounded(first_which::<Work>(resources, b"Resource")),
+        Listed::Cost => unbounded(first_which::<Cost>(resources, b"Resource")),
     }
 }
 
-fn next_listed(s: &[u8], list: Listed, at: usize, left: u32) -> Option<(usize, u32)>
-    ensures { Lists s.now list (later_in s.now list at left) (room_in s.now list (Some (at, left))) result }
+fn next_listed(list: Listed, e: Element<'_>, left: u32) -> Option<(Element<'_>, u32)>
+    ensures { Lists e.entry.tree.now list (later_in list e.entry left) result }
 {
     match list {
-        Listed::Tasks => next_kept(s, at, left),
-        Listed::Work => unbounded(next_which::<Work>(s, at, b"Resource")),
-        Listed::Cost => unbounded(next_which::<Cost>(s, at, b"Resource")),
+        Listed::Tasks => next_kept(e, left),
+        Listed::Work => unbounded(next_which::<Work>(e, b"Resource")),
+        Listed::Cost => unbounded(next_which::<Cost>(e, b"Resource")),
+    }
+}
+
+// The elements of a list.
+#[derive(Clone, Copy)]
+pub(crate) struct ListElements<'a> {
+    list: Listed,
+    next: Option<(Element<'a>, u32)>,
+}
+
+impl<'a> Iterator for ListElements<'a> {
+    type Item = Element<'a>;
+
+    ghost next_gives = { Gives ElementsOf elements_left };
+
+    ghost remaining = { item_count elements_left };
+
+    fn next(&mut self) -> Option<Element<'a>> {
+        let (e, left) = self.next?;
+        self.next = next_listed(self.list, e, left);
+        Some(e)
+    }
+}
+
+pub(crate) fn elements(root: Root<'_>, list: Listed) -> ListElements<'_>
+    ensures is { elements_left result ≡ listed list (root_at root.entry) }
+    ensures of { ElementsOf result root.entry.tree.now }
+{
+    ListElements {
+        list,
+        next: first_listed(root, list),
     }
 }
 
 // ---- a table is made
 
 // How many there are, in a tree of fewer than 2 ^ 32 bytes.
-fn count_listed(s: &[u8], root: Root, list: Listed, first: Option<(usize, u32)>) -> u32
-    requires { (length s.now < 2 ^ 32) × Lists s.now list (listed list (root_at s.now root)) (suc (most_in s.now list)) first }
-    ensures { result ≡ length (listed list (root_at s.now root)) }
+fn count_listed(root: Root<'_>, list: Listed) -> u32
+    requires { length root.tree.now < 2 ^ 32 }
+    ensures { result ≡ length (listed list (root_at root.entry)) }
 {
     let mut n: u32 = 0;
-    let mut e = first;
-    while let Some((at, left)) = e {
+    for _e in elements(root, list) {
         n += 1;
-        e = next_listed(s, list, at, left);
     }
     n
 }
 
-fn fill(
-    s: &[u8],
-    root: Root,
-    list: Listed,
-    first: Option<(usize, u32)>,
-    words: &mut [u32],
-    t: Table,
-)
-    requires { Ripe s.now (root_at s.now root) list t words.old × Lists s.now list (listed list (root_at s.now root)) (suc (most_in s.now list)) first }
-    ensures { Tabled s.now (root_at s.now root) list t words.old words.new }
+fn fill(root: Root<'_>, list: Listed, words: &mut [u32], t: Table)
+    requires { Ripe root.tree.now (root_at root) list t words.old }
+    ensures { Tabled root.entry.tree.now (root_at root.entry) list t words.old words.new }
 {
     t.clear(words);
     let mut row: u32 = 0;
-    let mut e = first;
-    while let Some((at, left)) = e {
-        let hash = index::hash_of(tree::text_of(s, at, b"UID"));
+    for e in elements(root, list) {
+        let hash = index::hash_of(e.text_of(b"UID"));
         // `u32::try_from` would have an error that cannot occur: 32 bits hold each position.
-        t.put(words, row, hash, at as u32);
+        t.put(words, row, hash, e.at as u32);
         row += 1;
-        e = next_listed(s, list, at, left);
     }
 }
 
 // A table of a list, in the words from a place on, where there is room for it and 32 bits hold each position in the tree.
-pub fn index_rows(s: &[u8], root: Root, list: Listed, words: &mut [u32], at: usize) -> Option<Table>
-    ensures { Makes s.now (root_at s.now root) list at words.old words.new result }
+pub fn index_rows(root: Root<'_>, list: Listed, words: &mut [u32], at: usize) -> Option<Table>
+    ensures { Makes root.entry.tree.now (root_at root.entry) list at words.old words.new result }
 {
-    if 4294967295 < s.len() {
+    if 4294967295 < root.tree.len() {
         return None;
     }
-    let first = first_listed(s, root, list);
-    let n = count_listed(s, root, list, first);
+    let n = count_listed(root, list);
     // A table of no rows would be none.
     let t = index::table_at(words.len(), at, n.max(1))?;
-    fill(s, root, list, first, words, t);
+    fill(root, list, words, t);
     Some(t)
 }
 
 // ---- the last with a UID
 
 // The first row of a chain whose element has the UID.
-pub fn seek(s: &[u8], words: &[u32], t: Table, uid: &[u8]) -> Option<u32>
-    ensures { result ≡ sought_in s.now words.now t uid.now }
+pub fn seek(tree: &[u8], words: &[u32], t: Table, uid: &[u8]) -> Option<u32>
+    ensures { result ≡ sought_in tree.now words.now t uid.now }
 {
     let mut row = t.first(words, index::hash_of(uid));
     while let Some(r) = row {
         let at = t.place(words, r) as usize;
-        if fields::text_is(s, at, b"UID", uid) {
+        if fields::text_is(Element { tree, at }, b"UID", uid) {
             return Some(r);
         }
         row = t.next(words, r);
@@ -120,57 +142,53 @@ pub fn seek(s: &[u8], words: &[u32], t: Table, uid: &[u8]) -> Option<u32>
 }
 
 // The row of the last of a list with a UID, as 32 bits hold it, by a look at all of them.
-fn scan(s: &[u8], root: Root, list: Listed, uid: &[u8]) -> Option<u32>
-    ensures { result ≡ row_in32 list (root_at s.now root) uid.now }
+fn scan(root: Root<'_>, list: Listed, uid: &[u8]) -> Option<u32>
+    ensures { result ≡ row_in32 list (root_at root.entry) uid.now }
 {
     let mut found = None;
     let mut row: u32 = 0;
-    let mut e = first_listed(s, root, list);
-    while let Some((at, left)) = e {
-        let named = fields::text_is(s, at, b"UID", uid).then_some(row);
+    for e in elements(root, list) {
+        let named = fields::text_is(e, b"UID", uid).then_some(row);
         found = named.or(found);
         row = row.wrapping_add(1);
-        e = next_listed(s, list, at, left);
     }
     found
 }
 
 // The row of the last of a list with a UID, by a table in the words; by a scan where there is none.
 pub fn row_with(
-    s: &[u8],
-    root: Root,
+    root: Root<'_>,
     list: Listed,
     words: &[u32],
     made: Option<Table>,
     uid: &[u8],
 ) -> Option<u32>
-    ensures { result ≡ row_in s.now (root_at s.now root) list words.now made uid.now }
+    ensures { result ≡ row_in root.entry.tree.now (root_at root.entry) list words.now made uid.now }
 {
     match made {
-        Some(t) => seek(s, words, t, uid),
-        None => scan(s, root, list, uid),
+        Some(t) => seek(root.tree, words, t, uid),
+        None => scan(root, list, uid),
     }
 }
 
-// Where the element of a row stands.
-fn place_of(words: &[u32], t: Table, row: Option<u32>) -> Option<usize>
-    ensures { result ≡ found_in words.now t row }
+// The element of a row.
+fn element_of<'a>(root: Root<'a>, words: &[u32], t: Table, row: Option<u32>) -> Option<Element<'a>>
+    ensures { found_meaning result ≡ found_in root.entry.tree.now words.now t row }
 {
-    row.map(|r| t.place(words, r) as usize)
+    Some(root.part(t.place(words, row?) as usize))
 }
 
 // The last cost resource with a UID, by a table in the words; by a scan where there is none.
-pub fn cost_with(
-    s: &[u8],
-    root: Root,
+pub fn cost_with<'a>(
+    root: Root<'a>,
     words: &[u32],
     made: Option<Table>,
     uid: &[u8],
-) -> Option<usize>
-    ensures { found_meaning s.now result ≡ cost_in s.now (root_at s.now root) words.now made uid.now }
+) -> Option<Element<'a>>
+    ensures { found_meaning result ≡ cost_in root.entry.tree.now (root_at root.entry) words.now made uid.now }
 {
     match made {
-        Some(t) => place_of(words, t, seek(s, words, t, uid)),
-        None => cost_resource(s, root, uid),
+        Some(t) => element_of(root, words, t, seek(root.tree, words, t, uid)),
+        None => cost_resource(root, uid),
     }
 }

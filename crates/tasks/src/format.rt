@@ -2,9 +2,11 @@
 ghost use Rattle.std.specs.Prelude.{◌≡◌, pos};
 ghost use Rattle.definition.specs.Base.{◌or◌};
 ghost use Rattle.definition.specs.Task.{not_below0, unmarked};
-ghost use Rattle.tree.specs.Place.{element_at};
+ghost use Rattle.tree.specs.Place.{meaning};
 ghost use Rattle.fields.specs.Said.{whole_said};
 ghost use Rattle.tasks.specs.Format.{IsFormat, of_elapsed};
+
+use tree::Element;
 
 // How a duration or a lag is told. An elapsed percentage is both.
 #[derive(Clone, Copy, Debug, PartialEq, Eq)]
@@ -48,8 +50,8 @@ fn without_mark(code: u64) -> u64
 }
 
 // Of the format that a child of the name says; its code is 0 where there is none.
-pub(crate) fn format_of(s: &[u8], at: usize, name: &[u8]) -> Format
-    ensures { IsFormat (unmarked (not_below0 (whole_said (element_at s.now at) name.now or pos 0))) result }
+pub(crate) fn format_of(e: Element<'_>, name: &[u8]) -> Format
+    ensures { IsFormat (unmarked (not_below0 (whole_said (meaning e.entry) name.now or pos 0))) result }
 {
-    Format::from(without_mark(fields::unsigned_in(s, at, name, 0, 0)))
+    Format::from(without_mark(fields::unsigned_in(e, name, 0, 0)))
 }

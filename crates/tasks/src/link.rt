@@ -2,12 +2,13 @@
 ghost use Rattle.std.specs.Prelude.{ℕ, ◌≡◌, ◌^◌, ◌<◌, nat_abs};
 ghost use Rattle.definition.specs.Field.{yes_in};
 ghost use Rattle.definition.specs.Link.{working_lag, lag_of, link_lag, link_kind};
-ghost use Rattle.tree.specs.Place.{element_at};
+ghost use Rattle.tree.specs.Place.{meaning};
 ghost use Rattle.tasks.specs.Format.{IsFormat};
 ghost use Rattle.tasks.specs.Link.{lag_means, link_kind_code};
 
 use crate::format::{Format, format_of};
 use crate::value::quotient;
+use tree::Element;
 
 // How long after its predecessor a successor comes.
 #[derive(Clone, Copy, Debug, PartialEq, Eq)]
@@ -72,23 +73,23 @@ fn lag_of(per_day: u64, format: Format, tenths: i64) -> Lag
 }
 
 // The lag of a link, with so many minutes a day. LinkLag is held to -100,000,000,000 to 100,000,000,000, and 0 where there is none.
-pub fn link_lag(s: &[u8], at: usize, per_day: u64) -> Lag
-    ensures { lag_means result ≡ link_lag per_day (element_at s.now at) }
+pub fn link_lag(link: Element<'_>, per_day: u64) -> Lag
+    ensures { lag_means result ≡ link_lag per_day (meaning link.entry) }
 {
-    let tenths = fields::int_in(s, at, b"LinkLag")
+    let tenths = fields::int_in(link, b"LinkLag")
         .unwrap_or(0)
         .clamp(-100000000000, 100000000000);
-    let format = format_of(s, at, b"LagFormat");
+    let format = format_of(link, b"LagFormat");
     lag_of(per_day, format, tenths)
 }
 
 // ---- the kind
 
 #[tactic(auto, unfolding(definition::specs::Field::int_in))]
-pub fn link_kind(s: &[u8], at: usize) -> LinkKind
-    ensures { link_kind_code result ≡ link_kind (element_at s.now at) }
+pub fn link_kind(link: Element<'_>) -> LinkKind
+    ensures { link_kind_code result ≡ link_kind (meaning link.entry) }
 {
-    match fields::int_in(s, at, b"Type") {
+    match fields::int_in(link, b"Type") {
         Some(0) => LinkKind::FinishToFinish,
         Some(2) => LinkKind::StartToFinish,
         Some(3) => LinkKind::StartToStart,
@@ -96,10 +97,10 @@ pub fn link_kind(s: &[u8], at: usize) -> LinkKind
     }
 }
 
-// Across projects.
+// Across projects. A name for a yes under another name, like `milestone`: what they share is `fields::yes_in`.
 #[tactic(auto, unfolding(definition::specs::Field::yes_in))]
-pub fn is_across(s: &[u8], at: usize) -> bool
-    ensures { result ≡ yes_in (element_at s.now at) "CrossProject" }
+pub fn is_across(link: Element<'_>) -> bool
+    ensures { result ≡ yes_in (meaning link.entry) "CrossProject" }
 {
-    fields::yes_in(s, at, b"CrossProject")
+    fields::yes_in(link, b"CrossProject")
 }

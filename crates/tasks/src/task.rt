@@ -5,14 +5,14 @@ ghost use Rattle.definition.specs.Answer.{date_meaning};
 ghost use Rattle.definition.specs.Task.{level_of, is_kept, is_elapsed, is_fractional, per_day_from, per_day_of};
 ghost use Rattle.definition.specs.Task.{constraint_from, constraint_of, duration_type_of, duration_days, duration_minutes};
 ghost use Rattle.definition.specs.Task.{under_way, remaining_of, percent_from, percent_of};
-ghost use Rattle.tree.specs.Place.{element_at};
+ghost use Rattle.tree.specs.Place.{meaning};
 ghost use Rattle.tree.specs.Root.{root_at};
 ghost use Rattle.tasks.specs.Task.{code_and_day, constraint_means, day_numbered, duration_type_code};
 
 use crate::format::format_of;
 use crate::value::quotient;
 use definition::Date;
-use tree::Root;
+use tree::{Element, Root};
 
 #[derive(Clone, Copy, Debug, PartialEq, Eq)]
 pub enum Constraint {
@@ -89,35 +89,35 @@ pub struct Parts {
 
 // OutlineLevel, 1 where none is read and 0 for one below 0.
 #[tactic(auto, using(fields::specs::Answers::unsigned_or_0), unfolding(definition::specs::Task::level_of, definition::specs::Field::int_in))]
-pub fn level_of(s: &[u8], at: usize) -> u64
-    ensures { result ≡ level_of (element_at s.now at) }
+pub fn level_of(task: Element<'_>) -> u64
+    ensures { result ≡ level_of (meaning task.entry) }
 {
-    fields::unsigned_in(s, at, b"OutlineLevel", 0, 1)
+    fields::unsigned_in(task, b"OutlineLevel", 0, 1)
 }
 
 // A UID other than `0`, and a level of at least 1.
-pub fn is_kept(s: &[u8], at: usize) -> bool
-    ensures { result ≡ is_kept (element_at s.now at) }
+pub fn is_kept(task: Element<'_>) -> bool
+    ensures { result ≡ is_kept (meaning task.entry) }
 {
-    fields::own_uid(s, at) & (1 <= level_of(s, at))
+    fields::own_uid(task) & (1 <= level_of(task))
 }
 
 // ---- the duration as it is told
 
 // Elapsed time, where a day has 1440 minutes.
 #[tactic(auto, unfolding(definition::specs::Task::is_elapsed, definition::specs::Field::int_in))]
-pub fn is_elapsed(s: &[u8], at: usize) -> bool
-    ensures { result ≡ is_elapsed (element_at s.now at) }
+pub fn is_elapsed(task: Element<'_>) -> bool
+    ensures { result ≡ is_elapsed (meaning task.entry) }
 {
-    format_of(s, at, b"DurationFormat").is_elapsed()
+    format_of(task, b"DurationFormat").is_elapsed()
 }
 
 // A Duration that gives minutes and was not whole.
 #[tactic(auto, unfolding(definition::specs::Task::is_fractional))]
-pub fn is_fractional(s: &[u8], at: usize) -> bool
-    ensures { result ≡ is_fractional (element_at s.now at) }
+pub fn is_fractional(task: Element<'_>) -> bool
+    ensures { result ≡ is_fractional (meaning task.entry) }
 {
-    fields::fraction_in(s, at, b"Duration")
+    fields::fraction_in(task, b"Duration")
 }
 
 // ---- the day
@@ -129,10 +129,10 @@ fn day_from(m: f64) -> Option<u64>
 }
 
 // MinutesPerDay of the root, from 1 to 1440; else 480.
-pub fn per_day(s: &[u8], root: Root) -> u64
-    ensures { result ≡ per_day_of (root_at s.now root) }
+pub fn per_day(root: Root<'_>) -> u64
+    ensures { result ≡ per_day_of (root_at root.entry) }
 {
-    fields::number_at(s, root.minutes)
+    fields::number_at(root.part(root.minutes))
         .and_then(day_from)
         .unwrap_or(480)
 }
@@ -156,20 +156,20 @@ fn constraint_by(kind: u64, a: Option<Date>) -> Option<Constraint>
 }
 
 // 1 is as late as possible and has no date; 2 to 7 need theirs.
-pub fn constraint_of(s: &[u8], at: usize) -> Option<Constraint>
-    ensures { constraint_means result ≡ day_numbered (constraint_of (element_at s.now at)) }
+pub fn constraint_of(task: Element<'_>) -> Option<Constraint>
+    ensures { constraint_means result ≡ day_numbered (constraint_of (meaning task.entry)) }
 {
-    let kind = fields::unsigned_in(s, at, b"ConstraintType", 0, 0);
-    constraint_by(kind, fields::date_in(s, at, b"ConstraintDate"))
+    let kind = fields::unsigned_in(task, b"ConstraintType", 0, 0);
+    constraint_by(kind, fields::date_in(task, b"ConstraintDate"))
 }
 
 // ---- the duration
 
 #[tactic(auto, unfolding(definition::specs::Field::int_in))]
-pub fn duration_type(s: &[u8], at: usize) -> DurationType
-    ensures { duration_type_code result ≡ duration_type_of (element_at s.now at) }
+pub fn duration_type(task: Element<'_>) -> DurationType
+    ensures { duration_type_code result ≡ duration_type_of (meaning task.entry) }
 {
-    match fields::int_in(s, at, b"Type") {
+    match fields::int_in(task, b"Type") {
         Some(0) => DurationType::FixedRate,
         Some(2) => DurationType::FixedUnits,
         _ => DurationType::FixedDurationAndRate,
@@ -196,23 +196,23 @@ pub fn duration_parts(minutes: u32, day: u64) -> Parts
 // ---- progress
 
 // Begun and not ended.
-fn under_way(s: &[u8], at: usize) -> bool
-    ensures { result ≡ under_way (element_at s.now at) }
+fn under_way(task: Element<'_>) -> bool
+    ensures { result ≡ under_way (meaning task.entry) }
 {
-    let begun = fields::date_in(s, at, b"ActualStart").is_some();
-    let ended = fields::date_in(s, at, b"ActualFinish").is_some();
+    let begun = fields::date_in(task, b"ActualStart").is_some();
+    let ended = fields::date_in(task, b"ActualFinish").is_some();
     begun & !ended
 }
 
 // The minutes left, of a task that is under way.
 #[tactic(auto, unfolding(definition::specs::Field::minutes_in, definition::specs::Field::date_in))]
-pub fn remaining_of(s: &[u8], at: usize) -> Option<i64>
-    ensures { result ≡ remaining_of (element_at s.now at) }
+pub fn remaining_of(task: Element<'_>) -> Option<i64>
+    ensures { result ≡ remaining_of (meaning task.entry) }
 {
-    if !under_way(s, at) {
+    if !under_way(task) {
         return None;
     }
-    fields::minutes_in(s, at, b"RemainingDuration").map(i64::from)
+    fields::minutes_in(task, b"RemainingDuration").map(i64::from)
 }
 
 fn percent_from(p: f64) -> Option<i64>
@@ -222,15 +222,15 @@ fn percent_from(p: f64) -> Option<i64>
 }
 
 // Hundredths of PhysicalPercentComplete, of one above 0 and up to 100.
-pub fn percent_of(s: &[u8], at: usize) -> Option<i64>
-    ensures { result ≡ percent_of (element_at s.now at) }
+pub fn percent_of(task: Element<'_>) -> Option<i64>
+    ensures { result ≡ percent_of (meaning task.entry) }
 {
-    fields::number_in(s, at, b"PhysicalPercentComplete").and_then(percent_from)
+    fields::number_in(task, b"PhysicalPercentComplete").and_then(percent_from)
 }
 
 #[tactic(auto, unfolding(definition::specs::Field::yes_in))]
-pub fn milestone(s: &[u8], at: usize) -> bool
-    ensures { result ≡ yes_in (element_at s.now at) "Milestone" }
+pub fn milestone(task: Element<'_>) -> bool
+    ensures { result ≡ yes_in (meaning task.entry) "Milestone" }
 {
-    fields::yes_in(s, at, b"Milestone")
+    fields::yes_in(task, b"Milestone")
 }

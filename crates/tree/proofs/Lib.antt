@@ -4,3 +4,4 @@ pub mod Walk
 pub mod Rows
 pub mod Passes
 pub mod Parts
+pub mod Left

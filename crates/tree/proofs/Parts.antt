@@ -5,7 +5,7 @@ use Prim.Native.Nat.{ℕ, ◌+◌, ◌<◌}
 use native.Mathlib.Omega.{arith}
 use mathlib.Core.Path.{◌≡◌, refl, sym, ap, ◌∙◌, subst}
 use mathlib.Core.Bool.{Bool, true, false}
-use mathlib.Core.List.{List}
+use mathlib.Core.List.{List, ◌∷◌}
 use Rattle.std.specs.Prelude.{Option, Some}
 use lib.Dec.{ltb}
 use lib.ListN.{length}
@@ -17,7 +17,7 @@ use Rattle.tree.specs.Place.{whole, head_at, records_at, under, element_at, list
 use Rattle.tree.specs.Root.{note_at, Notes, Parts, Stands}
 use Rattle.tree.specs.declared.root.Root.{Root}
 use Rattle.tree.proofs.Heads.{part, bounds}
-use Rattle.tree.proofs.Rows.{row, row_cut, row_end, row_hit, row_miss, row_under, name_whole, all_cut, all_row}
+use Rattle.tree.proofs.Rows.{row, row_cut, row_end, row_here, row_miss, row_under, name_whole, all_cut, all_row}
 use Rattle.tree.specs.Answer.{none_child}
 
 -- ---- each part
@@ -62,15 +62,15 @@ module _ (P Q : Text → ℕ → Type 0) where
 abbrev Left : Text → ℕ → ℕ → ℕ → Text → ℕ → Type 0
 Left s w from p n x = first (row s n w from) ≡ (if ltb x (length s) then Some (element_at s x) else first (row s n w p))
 
-first_hit : (s n : Text) (p : ℕ) {l : List Element} → l ≡ list_of s n (Some p) → first l ≡ Some (element_at s p)
-unfolding first list_of
-first_hit s n p e = rw e
+first_hit : {x : Element} {l k : List Element} → l ≡ x ∷ k → first l ≡ Some x
+unfolding first
+first_hit e = rw e
 
 module _ (s : Text) (w from : ℕ) where
   left_all : (n : Text) (x : ℕ) → x ≡ length s → Left s w from from n x
   left_all n x e = rw (e, le-ltb (length s) (length s) (omega arith))
 
-  left_end : (p : ℕ) (n : Text) (x : ℕ) → row s n w p ≡ list_of s n None → Left s w from p n x → Stands s x (first (row s n w from))
+  left_end : (p : ℕ) (n : Text) (x : ℕ) → row s n w p ≡ list_of n None → Left s w from p n x → Stands s x (first (row s n w from))
   unfolding first list_of
   left_end p n x e h = record { is = h ∙ ap (λ (o : Option Element). if ltb x (length s) then Some (element_at s x) else o) (ap (λ l. first l) e) }
 
@@ -92,7 +92,7 @@ module _ (s : Text) (w from : ℕ) where
 
         go : (i j : Bool) → ltb x (length s) ≡ i → same (element_at s p).name n ≡ j → Left s w from e n (note_at s p n x)
         go true j y z = at x (rw y) (rw y (rw y at h))
-        go false true y z = at p (rw (y, z)) (rw here ((rw y at h) ∙ first_hit s n p (row_hit s n w p g k (named z))))
+        go false true y z = at p (rw (y, z)) (rw here ((rw y at h) ∙ first_hit (row_here s n w p g k (named z))))
         go false false y z = at x (rw (y, z)) (left_same p e n x (row_miss s n w p g k (named z)) h)
 
 -- the parts that are noted, and those that may stand from p on

@@ -12,7 +12,8 @@ use borrow.Author.Tests.{le-leb, lt-leb, le-ltb, lt-ltb, eq-eqb, ne_eqb}
 use Rattle.definition.specs.Base.{◌or◌, keep, same}
 use Rattle.definition.specs.Text.{Text, trim}
 use Rattle.definition.specs.Tree.{Rec, size, Element, elements, level, element, all, non_empty, text_of}
-use Rattle.tree.specs.Place.{whole, head_at, records_at, under, after, element_at, named, siblings, later_at, list_of, Past, Starts}
+use Rattle.tree.specs.Place.{whole, head_at, records_at, under, after, element_at, named, siblings, later_at, meaning, list_of, Past, Starts}
+use Rattle.tree.specs.declared.element.Element.{Element as Place}
 use Rattle.tree.specs.Answer.{found_child, none_child}
 use Rattle.tree.specs.Root.{own_text}
 use Rattle.tree.proofs.Heads.{le_or_lt, part, bounds, records_cut}
@@ -35,18 +36,22 @@ abbrev pub row : Text → Text → ℕ → ℕ → List Element
 row s n w at = named n (level w (records_at s at))
 
 module _ (s n : Text) (w at : ℕ) where
-  pub row_cut : head_at s at ≡ None → row s n w at ≡ list_of s n None
+  pub row_cut : head_at s at ≡ None → row s n w at ≡ list_of n None
   unfolding level elements keep list_of
   row_cut h = rw (records_cut s at h)
 
   module _ {d a b e : ℕ} (h : head_at s at ≡ whole d a b e) where
-    pub row_end : d < w → row s n w at ≡ list_of s n None
+    pub row_end : d < w → row s n w at ≡ list_of n None
     unfolding level elements keep list_of
     row_end q = rw (bounds s at h).here (simp (lt-ltb _ _ q))
 
-    pub row_hit : d ≡ w → same (part s a b) n ≡ true → row s n w at ≡ list_of s n (Some at)
-    unfolding level elements keep list_of element siblings
-    row_hit q i = rw (← q, (bounds s at h).here) (simp (le-ltb d d (omega arith), eq-eqb d d refl, i))
+    pub row_here : d ≡ w → same (part s a b) n ≡ true → row s n w at ≡ element_at s at ∷ later_at s n at
+    unfolding level elements keep element siblings
+    row_here q i = rw (← q, (bounds s at h).here) (simp (le-ltb d d (omega arith), eq-eqb d d refl, i))
+
+    pub row_hit : (x : Place) → x.tree.now ≡ s → x.at ≡ at → d ≡ w → same (part s a b) n ≡ true → row s n w at ≡ list_of n (Some x)
+    unfolding list_of
+    row_hit x t p q i = row_here q i ∙ rw (t, p)
 
     row_deeper : w < d → row s n w at ≡ row s n w e
     unfolding level
@@ -85,13 +90,13 @@ unfolding same
 empty_is s [] at h = rw (← name_cut s at h)
 empty_is s (x ∷ n) at h = rw (← name_cut s at h) (ne_eqb (suc (length n)) 0 (λ q. omega arith))
 
-past_more : (s : Text) {from m : ℕ} (r : Option ℕ) → m ≤ from → Past s from r → Past s m r
+past_more : (s : Text) {from m : ℕ} (r : Option Place) → m ≤ from → Past s from r → Past s m r
 unfolding Past
 past_more s None q h = tt
-past_more s (Some p) q h = (omega arith, h.1)
+past_more s (Some x) q h = record { tree = h.tree; after = omega (arith, h.after); inside = h.inside }
 
 -- the same list, named otherwise, and from an earlier place on
-starts_also : {s n : Text} {l k : List Element} {from m : ℕ} {r : Option ℕ} → k ≡ l → m ≤ from → Starts s n l from r → Starts s n k m r
+starts_also : {s n : Text} {l k : List Element} {from m : ℕ} {r : Option Place} → k ≡ l → m ≤ from → Starts s n l from r → Starts s n k m r
 starts_also e q h = record { is = e ∙ h.is; on = past_more _ _ q h.on }
 
 module _ (s n : Text) (at : ℕ) where
@@ -115,10 +120,10 @@ module _ (s n : Text) (at : ℕ) where
     beyond : at + 1 ≤ e
     beyond = omega (arith, bounds s at h)
 
-    pub all_whole : {r : Option ℕ} → Starts s n (row s n (d + 1) e) e r → Starts s n (all (element_at s at) n) (at + 1) r
+    pub all_whole : {r : Option Place} → Starts s n (row s n (d + 1) e) e r → Starts s n (all (element_at s at) n) (at + 1) r
     all_whole = starts_also all_row beyond
 
-    pub later_whole : {r : Option ℕ} → Starts s n (row s n d e) e r → Starts s n (later_at s n at) (at + 1) r
+    pub later_whole : {r : Option Place} → Starts s n (row s n d e) e r → Starts s n (later_at s n at) (at + 1) r
     later_whole = starts_also later_row beyond
 
 pub name_is : (s n : Text) (at : ℕ) {d a b e : ℕ} {r : Bool} → head_at s at ≡ whole d a b e → r ≡ same (part s a b) n → r ≡ same (element_at s at).name n
@@ -133,11 +138,11 @@ non_empty_lem (b ∷ t) = refl
 pub own_trimmed : (e : Element) {t u : Text} → t ≡ e.text → u ≡ trim t → u ≡ (own_text e or [])
 own_trimmed e i k = k ∙ rw i (non_empty_lem _)
 
-module _ {s n : Text} (e : Element) {m : ℕ} {r : Option ℕ} (h : Starts s n (all e n) m r) where
+module _ {s n : Text} (e : Element) {m : ℕ} {r : Option Place} (h : Starts s n (all e n) m r) where
   pub text_none : r ≡ None → [] ≡ (text_of e n or [])
   unfolding text_of
   text_none q = rw (none_child e h q)
 
-  pub text_found : {p : ℕ} {u : Text} → r ≡ Some p → u ≡ (own_text (element_at s p) or []) → u ≡ (text_of e n or [])
+  pub text_found : {x : Place} {u : Text} → r ≡ Some x → u ≡ (own_text (meaning x) or []) → u ≡ (text_of e n or [])
   unfolding text_of
   text_found q k = k ∙ rw (found_child e h q)

@@ -1,3 +1,4 @@
 pub mod Place
 pub mod Answer
 pub mod Root
+pub mod Few

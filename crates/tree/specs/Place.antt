@@ -3,8 +3,11 @@ use Rattle.std.specs.Prelude.{if◌then◌else◌, ℕ, ◌≤◌, ◌<◌, ◌+
 use Rattle.std.specs.Prelude.{Option, Some, None}
 use Rattle.definition.specs.Base.{keep, same}
 use Rattle.definition.specs.Text.{Text}
-use Rattle.definition.specs.Tree.{Rec, head_bytes, record_of, records, layout, Forest, nothing, Element, elements, level, element}
+use Rattle.definition.specs.Tree.{Rec, head_bytes, record_of, records, layout, Forest, nothing, elements, level, element}
+use Rattle.definition.specs.Tree as D
 use Rattle.tree.specs.declared.Head.{Head}
+use Rattle.tree.specs.declared.element.Element.{Element}
+use Rattle.tree.specs.declared.element.Children.{Children}
 
 -- ---- heads
 
@@ -49,12 +52,16 @@ after d (r ∷ rs) = if leb r.depth d then r ∷ rs else after d rs
 -- ---- elements
 
 -- the element whose record stands at a position
-abbrev pub element_at : Text → ℕ → Element
+abbrev pub element_at : Text → ℕ → D.Element
 element_at s at = element (records_at s at)
 
+-- the element that a place in a tree stands for
+abbrev pub meaning : Element → D.Element
+meaning e = element_at e.tree.now e.at
+
 -- the elements of a name in a row
-abbrev pub named : Text → Forest → List Element
-named n f = keep (λ (c : Element). same c.name n) (elements f)
+abbrev pub named : Text → Forest → List D.Element
+named n f = keep (λ (c : D.Element). same c.name n) (elements f)
 
 -- the row of siblings that follow the first element
 unfoldable pub siblings : List Rec → Forest
@@ -62,20 +69,33 @@ siblings [] = nothing
 siblings (r ∷ rs) = level r.depth rs
 
 -- the siblings of a name that follow the element at a position
-abbrev pub later_at : Text → Text → ℕ → List Element
+abbrev pub later_at : Text → Text → ℕ → List D.Element
 later_at s n at = named n (siblings (records_at s at))
 
--- the elements of a name that an answer stands for: none, or the element at a position and its later siblings
-unfoldable pub list_of : Text → Text → Option ℕ → List Element
-list_of s n None = []
-list_of s n (Some p) = element_at s p ∷ later_at s n p
+-- the siblings of a name that follow an element
+abbrev pub later : Text → Element → List D.Element
+later n e = later_at e.tree.now n e.at
 
--- what is found stands in the bytes, at a position or after it
-unfoldable pub Past : Text → ℕ → Option ℕ → Type 0
+-- the elements of a name that an answer stands for: none, or an element and its later siblings
+unfoldable pub list_of : Text → Option Element → List D.Element
+list_of n None = []
+list_of n (Some e) = meaning e ∷ later n e
+
+-- what is found is of the same tree, and stands in its bytes, at a position or after it
+pub record Within (s : Text) (from : ℕ) (e : Element) : Type 0 where
+  pub tree : e.tree.now ≡ s
+  pub after : from ≤ e.at
+  pub inside : e.at < length s
+
+unfoldable pub Past : Text → ℕ → Option Element → Type 0
 Past s from None = Unit
-Past s from (Some p) = (from ≤ p) × (p < length s)
+Past s from (Some e) = Within s from e
 
 -- r is where the list of elements l starts, at `from` or after it
-pub record Starts (s n : Text) (l : List Element) (from : ℕ) (r : Option ℕ) : Type 0 where
-  pub is : l ≡ list_of s n r
+pub record Starts (s n : Text) (l : List D.Element) (from : ℕ) (r : Option Element) : Type 0 where
+  pub is : l ≡ list_of n r
   pub on : Past s from r
+
+-- the elements that are left to an iterator over siblings
+abbrev pub left : Children → List D.Element
+left c = list_of c.name.now c.first

@@ -21,8 +21,9 @@ own_text e = non_empty (trim e.text)
 abbrev part : Text → Text → ℕ → Forest → Forest
 part s n p rest = one n (element_at s p).text (element_at s p).below rest
 
-abbrev parts_at : Text → Root → Forest
-parts_at s r =
+abbrev parts_of : Root → Forest
+parts_of r =
+    let s = r.tree.now in
     part s (bytes "Calendars") r.calendars
     (part s (bytes "Tasks") r.tasks
     (part s (bytes "Resources") r.resources
@@ -35,51 +36,51 @@ parts_at s r =
     (part s (bytes "CurrencySymbol") r.currency
     (part s (bytes "StatusDate") r.status nothing))))))))))
 
-unfoldable pub root_at : Text → Root → Element
-root_at s r = record { name = bytes "Project"; text = []; below = parts_at s r }
+unfoldable pub root_at : Root → Element
+root_at r = record { name = bytes "Project"; text = []; below = parts_of r }
 
-module _ (s : Text) (r : Root) where
-  pub in_calendars : (n : Text) → all_in (child (root_at s r) (bytes "Calendars")) n ≡ all (element_at s r.calendars) n
+module _ (r : Root) where
+  pub in_calendars : (n : Text) → all_in (child (root_at r) (bytes "Calendars")) n ≡ all (element_at r.tree.now r.calendars) n
   unfolding root_at child first all elements keep same
   in_calendars n = refl
 
-  pub in_tasks : (n : Text) → all_in (child (root_at s r) (bytes "Tasks")) n ≡ all (element_at s r.tasks) n
+  pub in_tasks : (n : Text) → all_in (child (root_at r) (bytes "Tasks")) n ≡ all (element_at r.tree.now r.tasks) n
   unfolding root_at child first all elements keep same
   in_tasks n = refl
 
-  pub in_resources : (n : Text) → all_in (child (root_at s r) (bytes "Resources")) n ≡ all (element_at s r.resources) n
+  pub in_resources : (n : Text) → all_in (child (root_at r) (bytes "Resources")) n ≡ all (element_at r.tree.now r.resources) n
   unfolding root_at child first all elements keep same
   in_resources n = refl
 
-  pub in_assignments : (n : Text) → all_in (child (root_at s r) (bytes "Assignments")) n ≡ all (element_at s r.assignments) n
+  pub in_assignments : (n : Text) → all_in (child (root_at r) (bytes "Assignments")) n ≡ all (element_at r.tree.now r.assignments) n
   unfolding root_at child first all elements keep same
   in_assignments n = refl
 
-  pub calendar_uid : text_of (root_at s r) (bytes "CalendarUID") ≡ own_text (element_at s r.calendar)
+  pub calendar_uid : text_of (root_at r) (bytes "CalendarUID") ≡ own_text (element_at r.tree.now r.calendar)
   unfolding root_at child first all elements keep same text_of
   calendar_uid = refl
 
-  pub minutes_per_day : text_of (root_at s r) (bytes "MinutesPerDay") ≡ own_text (element_at s r.minutes)
+  pub minutes_per_day : text_of (root_at r) (bytes "MinutesPerDay") ≡ own_text (element_at r.tree.now r.minutes)
   unfolding root_at child first all elements keep same text_of
   minutes_per_day = refl
 
-  pub title_is : text_of (root_at s r) (bytes "Title") ≡ own_text (element_at s r.title)
+  pub title_is : text_of (root_at r) (bytes "Title") ≡ own_text (element_at r.tree.now r.title)
   unfolding root_at child first all elements keep same text_of
   title_is = refl
 
-  pub name_is : text_of (root_at s r) (bytes "Name") ≡ own_text (element_at s r.name)
+  pub name_is : text_of (root_at r) (bytes "Name") ≡ own_text (element_at r.tree.now r.name)
   unfolding root_at child first all elements keep same text_of
   name_is = refl
 
-  pub start_date : text_of (root_at s r) (bytes "StartDate") ≡ own_text (element_at s r.start)
+  pub start_date : text_of (root_at r) (bytes "StartDate") ≡ own_text (element_at r.tree.now r.start)
   unfolding root_at child first all elements keep same text_of
   start_date = refl
 
-  pub currency_symbol : text_of (root_at s r) (bytes "CurrencySymbol") ≡ own_text (element_at s r.currency)
+  pub currency_symbol : text_of (root_at r) (bytes "CurrencySymbol") ≡ own_text (element_at r.tree.now r.currency)
   unfolding root_at child first all elements keep same text_of
   currency_symbol = refl
 
-  pub status_date : text_of (root_at s r) (bytes "StatusDate") ≡ own_text (element_at s r.status)
+  pub status_date : text_of (root_at r) (bytes "StatusDate") ≡ own_text (element_at r.tree.now r.status)
   unfolding root_at child first all elements keep same text_of
   status_date = refl
 

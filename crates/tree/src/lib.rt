@@ -1,15 +1,15 @@
 // A lent tree: elements in document order, a record each.
 #![tactic(auto)]
 
-ghost use Rattle.std.specs.Prelude.{◌≡◌, [], ◌+◌, ◌<◌, length};
-ghost use Rattle.definition.specs.Base.{same, ◌or◌};
-ghost use Rattle.definition.specs.Tree.{right_at, size, level, all, text_of};
-ghost use Rattle.tree.specs.Place.{IsWord, head_at, verdict, records_at, under, element_at, named, later_at, Starts};
-ghost use Rattle.tree.specs.Root.{own_text};
+ghost use Rattle.std.specs.Prelude.{◌≡◌, ◌+◌, ◌<◌, length};
+ghost use Rattle.definition.specs.Tree.{right_at, size, level};
+ghost use Rattle.tree.specs.Place.{IsWord, head_at, verdict, records_at, under, named, Starts};
 
+mod element; // an element of a tree
 mod refusal;
 mod root; // where the parts of a project stand
 
+pub use element::{Children, Element};
 pub use refusal::judge;
 pub use root::{Root, root_of};
 
@@ -104,18 +104,8 @@ fn skip(s: &[u8], from: usize, d: usize) -> usize
     p
 }
 
-// Whether the record at `at` has the name.
-pub fn name_is(s: &[u8], at: usize, name: &[u8]) -> bool
-    ensures { result ≡ same (element_at s.now at).name name.now }
-{
-    let Some(h) = read_head(s, at) else {
-        return name.is_empty();
-    };
-    text::same(&s[h.name_at..h.text_at], name)
-}
-
 // The first record of depth w and of the name from `from` on, before any of less depth.
-fn find(s: &[u8], from: usize, w: usize, name: &[u8]) -> Option<usize>
+fn find<'a>(s: &'a [u8], from: usize, w: usize, name: &[u8]) -> Option<Element<'a>>
     ensures { Starts s.now name.now (named name.now (level w (records_at s.now from))) from result }
 {
     let mut p = from;
@@ -125,7 +115,7 @@ fn find(s: &[u8], from: usize, w: usize, name: &[u8]) -> Option<usize>
         }
         if h.depth == w {
             if text::same(&s[h.name_at..h.text_at], name) {
-                return Some(p);
+                return Some(Element { tree: s, at: p });
             }
             p = h.next;
         } else {
@@ -133,47 +123,4 @@ fn find(s: &[u8], from: usize, w: usize, name: &[u8]) -> Option<usize>
         }
     }
     None
-}
-
-// The first child of the name of the element at `at`.
-pub fn child(s: &[u8], at: usize, name: &[u8]) -> Option<usize>
-    ensures { Starts s.now name.now (all (element_at s.now at) name.now) (at + 1) result }
-{
-    let h = read_head(s, at)?;
-    find(s, h.next, h.depth + 1, name)
-}
-
-// The next sibling of the name after the element at `at`.
-pub fn next_child(s: &[u8], at: usize, name: &[u8]) -> Option<usize>
-    ensures { Starts s.now name.now (later_at s.now name.now at) (at + 1) result }
-{
-    let h = read_head(s, at)?;
-    find(s, h.next, h.depth, name)
-}
-
-// The text of the element at `at`.
-fn text(s: &[u8], at: usize) -> &[u8]
-    ensures { result.now ≡ (element_at s.now at).text }
-{
-    let Some(h) = read_head(s, at) else {
-        return &[];
-    };
-    &s[h.text_at..h.next]
-}
-
-// The trimmed text of the element at `at`.
-pub fn own_text(s: &[u8], at: usize) -> &[u8]
-    ensures { result.now ≡ (own_text (element_at s.now at) or []) }
-{
-    text::trim(text(s, at))
-}
-
-// The trimmed text of the first child of the name, empty where there is none.
-pub fn text_of<'a>(s: &'a [u8], at: usize, name: &[u8]) -> &'a [u8]
-    ensures { result.now ≡ (text_of (element_at s.now at) name.now or []) }
-{
-    let Some(p) = child(s, at, name) else {
-        return &[];
-    };
-    own_text(s, p)
 }

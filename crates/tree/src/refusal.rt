@@ -6,6 +6,7 @@ ghost use Rattle.tree.specs.Place.{records_at};
 ghost use Rattle.definition.specs.Answer.{answer_number};
 ghost use Rattle.definition.specs.Refusal.{utf8?, long?, number_names, duration_names, long_in, too_long, tree_refusal};
 
+use crate::Element;
 use definition::{Refusal, Unread};
 
 // Whether all names and texts are UTF-8.
@@ -108,7 +109,7 @@ pub fn judge(s: &[u8]) -> Result<(), Refusal>
     if 5000000 < count {
         return Err(Refusal::TooMany);
     }
-    if !crate::name_is(s, 0, b"Project") {
+    if !(Element { tree: s, at: 0 }).name_is(b"Project") {
         return Err(Refusal::NoProject);
     }
     if any_long(s) {

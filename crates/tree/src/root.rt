@@ -1,14 +1,17 @@
 // Where the parts of a project stand, found in one walk over its children.
-ghost use Rattle.std.specs.Prelude.{◌≡◌};
+ghost use Rattle.std.specs.Prelude.{◌≡◌, length};
 ghost use Rattle.definition.specs.Base.{first};
 ghost use Rattle.definition.specs.Tree.{level, child as child_of};
-ghost use Rattle.tree.specs.Place.{records_at, element_at, named};
+ghost use Rattle.tree.specs.Place.{records_at, meaning, named};
 ghost use Rattle.tree.specs.Root.{note_at, Notes, Parts, Stands};
+
+use crate::Element;
 
 // The children of a project that are read; a position past the end stands for one that is missing.
 // Option<usize> would be no plainer: past the end stands an element with no name, text or child, so that no reader of a part asks whether it is there.
 #[derive(Clone, Copy)]
-pub struct Root {
+pub struct Root<'a> {
+    pub tree: &'a [u8],
     pub calendars: usize,
     pub tasks: usize,
     pub resources: usize,
@@ -22,10 +25,25 @@ pub struct Root {
     pub status: usize,
 }
 
-fn nowhere(end: usize) -> Root
-    ensures { Parts (λ n p. p ≡ end) result }
+impl<'a> Root<'a> {
+    // The element at a position.
+    pub fn part(self, at: usize) -> Element<'a>
+        ensures { result ≡ record { tree = self.entry.tree; at = at } }
+    {
+        Element {
+            tree: self.tree,
+            at,
+        }
+    }
+}
+
+fn nowhere(tree: &[u8]) -> Root<'_>
+    ensures tree { result.tree.now ≡ tree.now }
+    ensures parts { Parts (λ n p. p ≡ length tree.now) result }
 {
+    let end = tree.len();
     Root {
+        tree,
         calendars: end,
         tasks: end,
         resources: end,
@@ -40,49 +58,52 @@ fn nowhere(end: usize) -> Root
     }
 }
 
-// Where the part of a name stands, once the child at `at` was looked at.
-fn note(s: &[u8], was: usize, at: usize, name: &[u8]) -> usize
-    ensures { result ≡ note_at s.now at name.now was }
+// Where the part of a name stands, once a child was looked at.
+fn note(was: usize, e: Element<'_>, name: &[u8]) -> usize
+    ensures { result ≡ note_at e.entry.tree.now e.entry.at name.now was }
 {
-    if was < s.len() {
+    if was < e.tree.len() {
         return was;
     }
-    if crate::name_is(s, at, name) {
-        return at;
+    if e.name_is(name) {
+        return e.at;
     }
     was
 }
 
-fn note_all(s: &[u8], was: Root, at: usize) -> Root
-    ensures { Notes s.now at was result }
+fn note_all<'a>(was: Root<'a>, e: Element<'_>) -> Root<'a>
+    ensures tree { result.tree.now ≡ was.entry.tree.now }
+    ensures parts { Notes e.entry.tree.now e.entry.at was.entry result }
 {
     Root {
-        calendars: note(s, was.calendars, at, b"Calendars"),
-        tasks: note(s, was.tasks, at, b"Tasks"),
-        resources: note(s, was.resources, at, b"Resources"),
-        assignments: note(s, was.assignments, at, b"Assignments"),
-        calendar: note(s, was.calendar, at, b"CalendarUID"),
-        minutes: note(s, was.minutes, at, b"MinutesPerDay"),
-        title: note(s, was.title, at, b"Title"),
-        name: note(s, was.name, at, b"Name"),
-        start: note(s, was.start, at, b"StartDate"),
-        currency: note(s, was.currency, at, b"CurrencySymbol"),
-        status: note(s, was.status, at, b"StatusDate"),
+        tree: was.tree,
+        calendars: note(was.calendars, e, b"Calendars"),
+        tasks: note(was.tasks, e, b"Tasks"),
+        resources: note(was.resources, e, b"Resources"),
+        assignments: note(was.assignments, e, b"Assignments"),
+        calendar: note(was.calendar, e, b"CalendarUID"),
+        minutes: note(was.minutes, e, b"MinutesPerDay"),
+        title: note(was.title, e, b"Title"),
+        name: note(was.name, e, b"Name"),
+        start: note(was.start, e, b"StartDate"),
+        currency: note(was.currency, e, b"CurrencySymbol"),
+        status: note(was.status, e, b"StatusDate"),
     }
 }
 
 // The parts among the records of depth w from `from` on, before any of less depth.
-fn parts_from(s: &[u8], from: usize, w: usize) -> Root
-    ensures { Parts (λ n p. Stands s.now p (first (named n (level w (records_at s.now from))))) result }
+fn parts_from(s: &[u8], from: usize, w: usize) -> Root<'_>
+    ensures tree { result.tree.now ≡ s.now }
+    ensures parts { Parts (λ n p. Stands s.now p (first (named n (level w (records_at s.now from))))) result }
 {
-    let mut r = nowhere(s.len());
+    let mut r = nowhere(s);
     let mut p = from;
     while let Some(h) = crate::read_head(s, p) {
         if h.depth < w {
             return r;
         }
         if h.depth == w {
-            r = note_all(s, r, p);
+            r = note_all(r, Element { tree: s, at: p });
             p = h.next;
         } else {
             p = crate::skip(s, h.next, w);
@@ -91,12 +112,13 @@ fn parts_from(s: &[u8], from: usize, w: usize) -> Root
     r
 }
 
-// The parts of the element at `at`.
-pub fn root_of(s: &[u8], at: usize) -> Root
-    ensures { Parts (λ n p. Stands s.now p (child_of (element_at s.now at) n)) result }
+// The parts of an element.
+pub fn root_of(e: Element<'_>) -> Root<'_>
+    ensures tree { result.tree.now ≡ e.entry.tree.now }
+    ensures parts { Parts (λ n p. Stands e.entry.tree.now p (child_of (meaning e.entry) n)) result }
 {
-    let Some(h) = crate::read_head(s, at) else {
-        return nowhere(s.len());
+    let Some(h) = crate::read_head(e.tree, e.at) else {
+        return nowhere(e.tree);
     };
-    parts_from(s, h.next, h.depth + 1)
+    parts_from(e.tree, h.next, h.depth + 1)
 }

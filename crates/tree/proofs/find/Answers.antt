@@ -32,8 +32,8 @@ returns-then-same c =
     let h = sym c.read_head.ensures ∙ c.in-Some.is in
     let i = c.loop-h.invariant in
     record {
-      is = i.0 ∙ row_hit _ _ _ _ h c.if-h-w-2.true (sym c.same.ensures ∙ c.if-same.true);
-      on = (i.1, omega (arith, bounds _ _ h));
+      is = i.0 ∙ row_hit _ _ _ _ h _ refl refl c.if-h-w-2.true (sym c.same.ensures ∙ c.if-same.true);
+      on = record { tree = refl; after = i.1; inside = omega (arith, bounds _ _ h) };
     }
 
 pub loop-h-smaller-then-h-w-2 : goal.loop-h-smaller-then-h-w-2

@@ -38,7 +38,7 @@ offset_bounds-words-i-2 c =
 pub bounds-words-i-2 : goal.bounds-words-i-2
 bounds-words-i-2 c =
     let a = c.args in
-    omega (arith, words_there c.requires c.if-own-row.false, length-set a.words.now (a.own.at + 2 * a.row) a.at)
+    omega (arith, words_there c.requires c.if-own-row.false, length-set a.words.now (a.own.at + 2 * a.row) a.task.at)
 
 pub returns : goal.returns
 returns c =

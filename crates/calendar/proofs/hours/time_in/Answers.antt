@@ -1,8 +1,8 @@
-use Rattle.tree.specs.Place.{element_at}
+use Rattle.tree.specs.Place.{meaning}
 use Rattle.std.proofs.Common.{◌∙◌}
 use Rattle.calendar.proofs.Texts.{time_or}
 use Rattle.calendar.proofs.hours.time_in.Goals as goal
 
 pub returns : goal.returns
 returns c =
-    c.time_of.ensures ∙ time_or (element_at c.args.s.now c.args.at) c.args.name.now _ c.text_of.ensures
+    c.time_of.ensures ∙ time_or (meaning c.args.e) c.args.name.now _ c.text_of.ensures

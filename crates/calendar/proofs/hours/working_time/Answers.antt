@@ -1,5 +1,5 @@
 use Rattle.std.proofs.Common.{◌∙◌}
-use Rattle.tree.specs.Place.{element_at}
+use Rattle.tree.specs.Place.{meaning}
 use Rattle.calendar.specs.Hours.{time_by, working_time_lem}
 use Rattle.calendar.proofs.hours.working_time.Goals as goal
 
@@ -7,4 +7,4 @@ pub returns : goal.returns
 returns c =
     c.time_by.ensures
     ∙ (λ i. time_by (c.time_in-from.ensures i) (c.time_in.ensures i))
-    ∙ working_time_lem (element_at c.args.s.now c.args.at)
+    ∙ working_time_lem (meaning c.args.e)

@@ -1,12 +1,9 @@
+use Rattle.std.proofs.Common.{◌≡◌}
 use Rattle.definition.specs.Task.{kept_tasks}
 use Rattle.tree.specs.Root.{root_at}
-use Rattle.rows.specs.Walks.{kept_by, room}
-use Rattle.links.specs.Fates.{task_in, counted_of}
-use Rattle.links.proofs.Counts.{CountOf}
+use Rattle.rows.specs.Walks.{kept_left}
+use Rattle.links.specs.Fates.{found_by, counted_of}
 use Rattle.links.proofs.counting.count_fates.Given as goal
 
 abbrev pub invariant-loop-task : goal.invariant-loop-task
-invariant-loop-task l = CountOf (task_in l.s l.root l.words l.tasks) (counted_of (task_in l.s l.root l.words l.tasks) l.initial.count (kept_tasks (root_at l.s l.root))) l.count (kept_by l.s l.task)
-
-abbrev pub decreases-loop-task : goal.decreases-loop-task
-decreases-loop-task l = room l.task
+invariant-loop-task l = counted_of (found_by l.tasks) l.initial.count (kept_tasks (root_at l.tasks.root)) ≡ counted_of (found_by l.tasks) l.count (kept_left l.task-iterator)

@@ -1,25 +1,23 @@
-use Rattle.std.proofs.Common.{refl, ◌∙◌, arith}
-use Rattle.rows.specs.Turns.{kept_end, kept_next, kept_less, room_at}
+use Rattle.std.proofs.Common.{refl, ◌∙◌, sym, ap, length, arith}
+use Rattle.rows.specs.Walks.{kept_left}
+use Rattle.rows.specs.declared.kept.KeptTasks.{KeptTasks}
 use Rattle.links.specs.More.{more_all}
 use Rattle.links.proofs.Links.{from_begin, from_next, from_end}
 use Rattle.links.proofs.writing.put_links.Goals as goal
 
 pub loop-task-init : goal.loop-task-init
-loop-task-init c = (refl, from_begin _ _ c.per_day-per_day.ensures c.first_kept-task.ensures.is, omega (arith, c.first_kept-task.ensures.on))
+loop-task-init c = (refl, from_begin _ _ c.per_day-per_day.ensures (sym (ap (λ (x : KeptTasks). kept_left x) c.into_iter-task-iterator.ensures.into_iter_gives ∙ c.kept_tasks-task-items.ensures.is)), ?)
 
 pub shape_of-out : goal.shape_of-out
 shape_of-out c = c.loop-task.invariant.0
 
 pub returns : goal.returns
-returns c = more_all (from_end _ _ _ c.loop-task.invariant.1 (kept_end _ c.in_default.is))
+returns c = more_all (from_end _ _ _ c.loop-task.invariant.1 c.in-None.ensures.steps.0)
 
 pub overflow_add-row : goal.overflow_add-row
 overflow_add-row c =
-    omega (arith, c.loop-task.invariant.2, room_at c.in-Some.is)
-
-pub loop-task-smaller : goal.loop-task-smaller
-loop-task-smaller c = kept_less c.in-Some.is c.next_kept-task.ensures (omega arith)
+    omega (arith, c.loop-task.invariant.2, ap length c.in-Some.ensures.steps.0)
 
 pub loop-task-preserved : goal.loop-task-preserved
 loop-task-preserved c =
-    (c.put_links_in-r.auto.out ∙ c.loop-task.invariant.0, from_next _ _ _ c.loop-task.invariant.1 (kept_next c.in-Some.is c.next_kept-task.ensures) c.put_links_in-r.ensures, omega (arith, c.loop-task.invariant.2, kept_less c.in-Some.is c.next_kept-task.ensures (omega arith)))
+    (c.put_links_in-r.auto.out ∙ c.loop-task.invariant.0, from_next _ _ _ c.loop-task.invariant.1 c.in-Some.ensures.steps.0 c.put_links_in-r.ensures, omega (arith, c.loop-task.invariant.2, ap length c.in-Some.ensures.steps.0))

@@ -2,7 +2,7 @@ use Prim.Native.Nat.{ℕ}
 use mathlib.Core.Path.{ap, subst, ◌∙◌}
 use native.Mathlib.Omega.{arith}
 use Rattle.definition.specs.Recurrence.{rule_from}
-use Rattle.tree.specs.Place.{element_at}
+use Rattle.tree.specs.Place.{meaning}
 use Rattle.recurrence.specs.Element.{held_rule, judged, UpToLast, rule_in}
 use Rattle.recurrence.proofs.Options.{or_is}
 use Rattle.recurrence.proofs.Rules.{or_most}
@@ -20,7 +20,7 @@ rule_at-requires c =
 pub returns : goal.returns
 unfolding rule_in
 returns c =
-    let x = element_at c.args.s.now c.args.at in
+    let x = meaning c.args.e in
     let d = c.in_ok-first.first in
     rw c.in_ok-first.was
     (c.judge.ensures ∙ ap judged (c.rule_at.ensures ∙ ap (λ (n : ℕ). held_rule (rule_from x d n)) (c.unwrap_or.ensures ∙ or_is c.args.to d)))

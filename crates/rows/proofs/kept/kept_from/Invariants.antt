@@ -1,14 +1,13 @@
-use Rattle.std.proofs.Common.{take}
+use Rattle.std.proofs.Common.{length, take}
 use Rattle.definition.specs.Base.{keep}
 use Rattle.definition.specs.Ascii.{bytes}
 use Rattle.definition.specs.Task.{is_kept}
 use Rattle.tree.specs.Place.{list_of}
-use Rattle.rows.specs.Walks.{ahead}
 use Rattle.rows.proofs.Walking.{TasksIn}
 use Rattle.rows.proofs.kept.kept_from.Given as goal
 
-abbrev pub invariant-loop-task : goal.invariant-loop-task
-invariant-loop-task l = TasksIn l.s (keep is_kept (take l.most (list_of l.s (bytes "Task") l.initial.task))) l.most l.task l.left
+abbrev pub invariant-loop-next : goal.invariant-loop-next
+invariant-loop-next l = TasksIn l.initial.next (keep is_kept (take l.most (list_of (bytes "Task") l.initial.next))) l.next l.left
 
-abbrev pub decreases-loop-task : goal.decreases-loop-task
-decreases-loop-task l = ahead l.s l.task
+abbrev pub decreases-loop-next : goal.decreases-loop-next
+decreases-loop-next l = length (list_of (bytes "Task") l.next)

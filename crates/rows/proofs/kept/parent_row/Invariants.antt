@@ -1,11 +1,8 @@
 use Rattle.std.proofs.Common.{◌-◌, ltb, map, take}
 use Rattle.definition.specs.Task.{level_of, parent_of}
-use Rattle.rows.specs.Walks.{kept_by, room}
+use Rattle.rows.specs.Walks.{kept_left}
 use Rattle.rows.proofs.Lasts.{RowIn, up}
 use Rattle.rows.proofs.kept.parent_row.Given as goal
 
 abbrev pub invariant-loop-n : goal.invariant-loop-n
-invariant-loop-n l = RowIn up (λ e. ltb (level_of e) l.level) (parent_of (map level_of (take l.row (kept_by l.s l.initial.task))) l.level) l.n (take (l.row - l.n) (kept_by l.s l.task)) l.found
-
-abbrev pub decreases-loop-n : goal.decreases-loop-n
-decreases-loop-n l = room l.task
+invariant-loop-n l = RowIn up (λ e. ltb (level_of e) l.level) (parent_of (map level_of (take l.row (kept_left l.initial.kept))) l.level) l.n (take (l.row - l.n) (kept_left l.kept)) l.found

@@ -1,9 +1,10 @@
-use Rattle.rows.specs.Walks.{ahead}
+use Rattle.std.proofs.Common.{length}
+use Rattle.tree.specs.Place.{list_of}
 use Rattle.rows.proofs.Walking.{Left}
 use Rattle.rows.proofs.section.which_from.Given as goal
 
-abbrev pub invariant-loop-e : goal.invariant-loop-e
-invariant-loop-e g l = Left l.s l.name g.T.Test.test l.initial.e l.e
+abbrev pub invariant-loop-next : goal.invariant-loop-next
+invariant-loop-next g l = Left l.name g.T.Test.test l.initial.next l.next
 
-abbrev pub decreases-loop-e : goal.decreases-loop-e
-decreases-loop-e g l = ahead l.s l.e
+abbrev pub decreases-loop-next : goal.decreases-loop-next
+decreases-loop-next g l = length (list_of l.name l.next)

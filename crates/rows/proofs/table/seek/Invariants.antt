@@ -6,7 +6,7 @@ use Rattle.rows.proofs.Seeking.{named}
 use Rattle.rows.proofs.table.seek.Given as goal
 
 abbrev pub invariant-loop-row : goal.invariant-loop-row
-invariant-loop-row l = Seeks l.words l.t (named l.s l.words l.t l.uid) (sought_in l.s l.words l.t l.uid) l.row
+invariant-loop-row l = Seeks l.words l.t (named l.tree l.words l.t l.uid) (sought_in l.tree l.words l.t l.uid) l.row
 
 abbrev pub decreases-loop-row : goal.decreases-loop-row
 decreases-loop-row l = up_to l.row

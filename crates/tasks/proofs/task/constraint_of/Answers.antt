@@ -1,5 +1,5 @@
 use mathlib.Core.Path.{◌∙◌}
-use Rattle.tree.specs.Place.{element_at}
+use Rattle.tree.specs.Place.{meaning}
 use Rattle.definition.specs.Ascii.{bytes}
 use Rattle.definition.specs.Field.{int_in, date_in}
 use Rattle.definition.specs.Task.{constraint_from}
@@ -13,4 +13,4 @@ unfolding int_in date_in
 returns c =
     let k = c.unsigned_in-kind.ensures ∙ unsigned_or_0 0 _ in
     let d = c.date_in.ensures in
-    c.constraint_by.ensures ∙ (λ i. constraint_from (k i) (d i)) ∙ constraint_numbered _ (date_said (element_at c.args.s.now c.args.at) (bytes "ConstraintDate"))
+    c.constraint_by.ensures ∙ (λ i. constraint_from (k i) (d i)) ∙ constraint_numbered _ (date_said (meaning c.args.task) (bytes "ConstraintDate"))

@@ -10,9 +10,9 @@ use Rattle.tree.specs.Root.{own_text, root_at, minutes_per_day}
 use Rattle.tree.specs.declared.root.Root.{Root}
 use Rattle.tasks.proofs.task.per_day.Goals as goal
 
-number_is : (s : Text) (root : Root) → (own_text (element_at s root.minutes) >>= λ t. found (number_of t)) ≡ number_in (root_at s root) "MinutesPerDay"
+number_is : (root : Root) → (own_text (element_at root.tree.now root.minutes) >>= λ t. found (number_of t)) ≡ number_in (root_at root) "MinutesPerDay"
 unfolding number_in
-number_is s root = ap (λ (o : Option Text). o >>= λ t. found (number_of t)) (sym (minutes_per_day s root))
+number_is root = ap (λ (o : Option Text). o >>= λ t. found (number_of t)) (sym (minutes_per_day root))
 
 pub returns : goal.returns
-returns c = rw (sym (c.number_at.ensures ∙ number_is c.args.s.now c.args.root)) (search rules)
+returns c = rw (sym ((rw c.part.ensures at c.number_at.ensures) ∙ number_is c.args.root)) (search rules)

@@ -1,7 +1,7 @@
 use Rattle.tree.proofs.root.note_all.Goals as goal
 
-pub returns : goal.returns
-returns c = record {
+pub returns-clause-parts : goal.returns-clause-parts
+returns-clause-parts c = record {
   calendars = c.note.ensures;
   tasks = c.note-2.ensures;
   resources = c.note-3.ensures;

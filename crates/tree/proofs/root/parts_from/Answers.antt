@@ -6,19 +6,19 @@ use Rattle.tree.proofs.Parts.{parts_begin, parts_cut, parts_end, parts_next, par
 use Rattle.tree.proofs.root.parts_from.Goals as goal
 
 pub loop-h-init : goal.loop-h-init
-loop-h-init c = let a = c.args in parts_begin a.s.now a.w a.from c.nowhere-r.ensures
+loop-h-init c = let a = c.args in (c.nowhere-r.ensures.tree, parts_begin a.s.now a.w a.from c.nowhere-r.ensures.parts)
 
-pub returns : goal.returns
-returns c = parts_cut c.loop-h.invariant (sym c.read_head.ensures ∙ c.in_default.is)
+pub returns-clause-parts : goal.returns-clause-parts
+returns-clause-parts c = parts_cut c.loop-h.invariant.1 (sym c.read_head.ensures ∙ c.in_default.is)
 
-pub returns-then-h-w : goal.returns-then-h-w
-returns-then-h-w c = parts_end c.loop-h.invariant (sym c.read_head.ensures ∙ c.in-Some.is) c.if-h-w.true
+pub returns-then-h-w-clause-parts : goal.returns-then-h-w-clause-parts
+returns-then-h-w-clause-parts c = parts_end c.loop-h.invariant.1 (sym c.read_head.ensures ∙ c.in-Some.is) c.if-h-w.true
 
 pub loop-h-smaller-then-h-w-2 : goal.loop-h-smaller-then-h-w-2
 loop-h-smaller-then-h-w-2 c = omega (arith, bounds _ _ (sym c.read_head.ensures ∙ c.in-Some.is))
 
 pub loop-h-preserved-then-h-w-2 : goal.loop-h-preserved-then-h-w-2
-loop-h-preserved-then-h-w-2 c = parts_next c.loop-h.invariant (sym c.read_head.ensures ∙ c.in-Some.is) c.if-h-w-2.true c.note_all-r.ensures
+loop-h-preserved-then-h-w-2 c = (c.note_all-r.ensures.tree ∙ c.loop-h.invariant.0, parts_next c.loop-h.invariant.1 (sym c.read_head.ensures ∙ c.in-Some.is) c.if-h-w-2.true c.note_all-r.ensures.parts)
 
 pub loop-h-smaller : goal.loop-h-smaller
 loop-h-smaller c = omega (arith, c.skip-p.ensures, bounds _ _ (sym c.read_head.ensures ∙ c.in-Some.is))
@@ -26,4 +26,4 @@ loop-h-smaller c = omega (arith, c.skip-p.ensures, bounds _ _ (sym c.read_head.e
 pub loop-h-preserved : goal.loop-h-preserved
 loop-h-preserved c =
     let deeper = lt_of_le-ne c.if-h-w.false (λ e. c.if-h-w-2.false (sym e)) in
-    parts_under c.loop-h.invariant (sym c.read_head.ensures ∙ c.in-Some.is) deeper c.skip-p.ensures
+    (c.loop-h.invariant.0, parts_under c.loop-h.invariant.1 (sym c.read_head.ensures ∙ c.in-Some.is) deeper c.skip-p.ensures)

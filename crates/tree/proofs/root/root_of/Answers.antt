@@ -7,8 +7,8 @@ use Rattle.tree.proofs.root.root_of.Goals as goal
 pub overflow_add-h : goal.overflow_add-h
 overflow_add-h c = omega (arith, bounds _ _ (sym c.read_head.ensures ∙ c.in-Some.is))
 
-pub returns-in_default : goal.returns-in_default
-returns-in_default c = root_cut _ _ (sym c.read_head.ensures ∙ c.in_default.is) c.nowhere.ensures
+pub returns-in_default-clause-parts : goal.returns-in_default-clause-parts
+returns-in_default-clause-parts c = root_cut _ _ (sym c.read_head.ensures ∙ c.in_default.is) c.nowhere.ensures.parts
 
-pub returns : goal.returns
-returns c = root_whole _ _ (sym c.read_head.ensures ∙ c.in-Some.is) c.parts_from.ensures
+pub returns-clause-parts : goal.returns-clause-parts
+returns-clause-parts c = root_whole _ _ (sym c.read_head.ensures ∙ c.in-Some.is) c.parts_from.ensures.parts

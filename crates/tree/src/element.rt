@@ -1,0 +1,100 @@
+// An element of a lent tree, and what it has.
+ghost use Rattle.std.specs.Prelude.{◌≡◌, [], ◌+◌};
+ghost use Rattle.std.specs.Iterator.{YieldsFirstBy, item_count};
+ghost use Rattle.definition.specs.Base.{same, ◌or◌};
+ghost use Rattle.definition.specs.Tree.{all, text_of as text_in};
+ghost use Rattle.tree.specs.Place.{meaning, later, left, Starts};
+ghost use Rattle.tree.specs.Root.{own_text as own};
+
+// An element: its tree's bytes, and where its record begins. Where no record is whole there stands an element with no name, text or child.
+#[derive(Clone, Copy)]
+pub struct Element<'a> {
+    pub tree: &'a [u8],
+    pub at: usize,
+}
+
+impl<'a> Element<'a> {
+    // Whether it has the name.
+    pub fn name_is(self, name: &[u8]) -> bool
+        ensures { result ≡ same (meaning self.entry).name name.now }
+    {
+        let Some(h) = crate::read_head(self.tree, self.at) else {
+            return name.is_empty();
+        };
+        text::same(&self.tree[h.name_at..h.text_at], name)
+    }
+
+    // The first child of the name.
+    pub fn child(self, name: &[u8]) -> Option<Element<'a>>
+        ensures { Starts self.entry.tree.now name.now (all (meaning self.entry) name.now) (self.entry.at + 1) result }
+    {
+        let h = crate::read_head(self.tree, self.at)?;
+        crate::find(self.tree, h.next, h.depth + 1, name)
+    }
+
+    // The next sibling of the name.
+    pub fn next(self, name: &[u8]) -> Option<Element<'a>>
+        ensures { Starts self.entry.tree.now name.now (later name.now self.entry) (self.entry.at + 1) result }
+    {
+        let h = crate::read_head(self.tree, self.at)?;
+        crate::find(self.tree, h.next, h.depth, name)
+    }
+
+    // Its text.
+    fn text(self) -> &'a [u8]
+        ensures { result.now ≡ (meaning self.entry).text }
+    {
+        let Some(h) = crate::read_head(self.tree, self.at) else {
+            return &[];
+        };
+        &self.tree[h.text_at..h.next]
+    }
+
+    // Its trimmed text.
+    pub fn own_text(self) -> &'a [u8]
+        ensures { result.now ≡ (own (meaning self.entry) or []) }
+    {
+        text::trim(self.text())
+    }
+
+    // The trimmed text of its first child of the name, empty where there is none.
+    pub fn text_of(self, name: &[u8]) -> &'a [u8]
+        ensures { result.now ≡ (text_in (meaning self.entry) name.now or []) }
+    {
+        let Some(c) = self.child(name) else {
+            return &[];
+        };
+        c.own_text()
+    }
+
+    // Its children of the name, in their order.
+    pub fn children<'n>(self, name: &'n [u8]) -> Children<'a, 'n>
+        ensures { left result ≡ all (meaning self.entry) name.now }
+    {
+        Children {
+            first: self.child(name),
+            name,
+        }
+    }
+}
+
+// Elements of a name, each the next sibling of the one before.
+#[derive(Clone, Copy)]
+pub struct Children<'a, 'n> {
+    first: Option<Element<'a>>,
+    name: &'n [u8],
+}
+
+impl<'a, 'n> Iterator for Children<'a, 'n> {
+    type Item = Element<'a>;
+
+    ghost next_gives = { YieldsFirstBy meaning left };
+
+    ghost remaining = { item_count left };
+
+    fn next(&mut self) -> Option<Element<'a>> {
+        let e = self.first?;
+        self.first = e.next(self.name);
+        Some(e)
+    }
+}
