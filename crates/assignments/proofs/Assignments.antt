@@ -28,22 +28,20 @@ use Rattle.assignments.proofs.Turns.{wrote_more, wrote_as, writes, Going, going_
 -- ---- what an element gives
 
 -- its cost resource wins
-pub cost_wins : (g : Finders) (a : Element) {c : Option Named} → found_meaning c ≡ cost_by g a → is_some c ≡ true → None ≡ assignment_for g a
+pub cost_wins : (g : Finders) (a : Element) (c : Option Named) → found_meaning c ≡ cost_by g a → is_some c ≡ true → None ≡ assignment_for g a
 unfolding assignment_for found_meaning
-cost_wins g a {c} e s = by c e s
+cost_wins g a c e s = by c e s
   where
     by : (c : Option Named) → found_meaning c ≡ cost_by g a → is_some c ≡ true → None ≡ assignment_for g a
-    unfolding assignment_for found_meaning
     by None e s = absurd (true≢false (sym s))
     by (Some q) e s = rw (← e)
 
-module _ (g : Finders) (a : Element) {c : Option Named} (e : found_meaning c ≡ cost_by g a) (s : is_some c ≡ false) where
+module _ (g : Finders) (a : Element) (c : Option Named) (e : found_meaning c ≡ cost_by g a) (s : is_some c ≡ false) where
   cost_none : None ≡ cost_by g a
   unfolding found_meaning
   cost_none = by c s ∙ e
     where
       by : (c : Option Named) → is_some c ≡ false → None ≡ found_meaning c
-      unfolding found_meaning
       by None s = refl
       by (Some q) s = absurd (true≢false s)
 

@@ -3,6 +3,7 @@ ghost use Rattle.std.specs.Prelude.{◌≡◌, ◌+◌, ◌%◌, ◌^◌, min};
 ghost use Rattle.std.specs.Option.{option_map};
 ghost use Rattle.definition.specs.Tree.{text_of as text_in};
 ghost use Rattle.tree.specs.Place.{meaning};
+ghost use Rattle.rows.specs.Rows.{found_meaning};
 ghost use Rattle.assignments.specs.Finders.{task_by, work_by, cost_by};
 ghost use Rattle.assignments.specs.Records.{finders_at, ends_at};
 
@@ -50,7 +51,7 @@ impl<'a> Tables<'a> {
 
     // Its cost resource.
     pub(crate) fn cost_of(self, words: &[u32], e: Element<'_>) -> Option<Element<'a>>
-        ensures { option_map meaning result ≡ cost_by (finders_at words.now self.entry) (meaning e.entry) }
+        ensures { found_meaning result ≡ cost_by (finders_at words.now self.entry) (meaning e.entry) }
     {
         let uid = said(e, b"ResourceUID")?;
         rows::cost_with(self.root, words, self.cost, uid)
