@@ -34,25 +34,26 @@ word_lem (suc n) (Some k) h text = let z : k ≡ n = omega (arith, h.1) in ap (�
 
 module _ (s : Text) (w : List ℕ) (t : Table) {row : Option ℕ} where
   pub row_there : {r : ℕ} → row ≡ Some r → {p : ℕ} → p ≡ place_of w t r → {word : ℕ} → word ≡ get_or w (name_at t r) 0 → (a : Option ℕ) → ((text : Text) → name_meaning text a ≡ name_by text word)
-      → name_meaning (wanted_name (element_at s p)) a ≡ name_of_row s w t row
-  row_there {r} e {p} i {word} j a h =
-      rw e (h (wanted_name (element_at s p)) ∙ ap (λ (p : ℕ). name_by (wanted_name (element_at s p)) word) i ∙ ap (name_by (wanted_name (element_at s (place_of w t r)))) j)
+      → {text : Text} → text ≡ wanted_name (element_at s p) → name_meaning text a ≡ name_of_row s w t row
+  row_there {r} e {p} i {word} j a h {text} k =
+      rw (e, k) (h (wanted_name (element_at s p)) ∙ ap (λ (p : ℕ). name_by (wanted_name (element_at s p)) word) i ∙ ap (name_by (wanted_name (element_at s (place_of w t r)))) j)
 
-  pub row_absent : (text : Text) → row ≡ None → name_meaning text None ≡ name_of_row s w t row
-  unfolding name_meaning
-  row_absent text e = rw e
+  pub row_absent : row ≡ None → None ≡ name_of_row s w t row
+  row_absent e = rw e
 
 -- ---- by a look at all calendars
 
 module _ (d : List ℕ) (c : Place) (root : Element) (u : Text) where
-  pub scan_there : (row : ℕ) (e : Element) (r : Option ℕ) → with_uid_in root u ≡ Some (row, e) → name_meaning (wanted_name e) r ≡ unless_main (context_at d c root) (starred_by (wanted_name e) (stars_in d c root row e))
-      → name_meaning (wanted_name e) r ≡ named_by (context_at d c root) u
-  scan_there row e r h k =
-      k ∙ sym (named_by_lem d c root u ∙ ap (λ (o : Option (ℕ × Element)). o >>= λ y. unless_main (context_at d c root) (name_in d c root y)) h)
+  pub scan_there : (row : ℕ) (e : Element) (r : Option ℕ) → with_uid_in root u ≡ Some (row, e) → {text : Text} → text ≡ wanted_name e → {k : ℕ} → k ≡ stars_in d c root row e
+      → name_meaning text r ≡ unless_main (context_at d c root) (starred_by text k) → name_meaning text r ≡ named_by (context_at d c root) u
+  scan_there row e r h {text} i {k} j l =
+      l
+      ∙ ap (λ (t : Text). unless_main (context_at d c root) (starred_by t k)) i
+      ∙ ap (λ (k : ℕ). unless_main (context_at d c root) (starred_by (wanted_name e) k)) j
+      ∙ sym (named_by_lem d c root u ∙ ap (λ (o : Option (ℕ × Element)). o >>= λ y. unless_main (context_at d c root) (name_in d c root y)) h)
 
-  pub scan_absent : (text : Text) → with_uid_in root u ≡ None → name_meaning text None ≡ named_by (context_at d c root) u
-  unfolding name_meaning
-  scan_absent text h = sym (named_by_lem d c root u ∙ ap (λ (o : Option (ℕ × Element)). o >>= λ y. unless_main (context_at d c root) (name_in d c root y)) h)
+  pub scan_absent : with_uid_in root u ≡ None → None ≡ named_by (context_at d c root) u
+  scan_absent h = sym (named_by_lem d c root u ∙ ap (λ (o : Option (ℕ × Element)). o >>= λ y. unless_main (context_at d c root) (name_in d c root y)) h)
 
 -- ---- with a table or without one
 

@@ -20,7 +20,8 @@ use Rattle.bits.specs.declared.Place.{Place}
 use Rattle.model.specs.declared.records.Kind.TheVariants.{Calendars}
 use Rattle.pack.specs.Value.{starred_by, name_meaning}
 use Rattle.rows.specs.Rows.{calendar_meaning}
-use Rattle.tree.specs.Place.{element_at}
+use Rattle.tree.specs.Place.{meaning}
+use Rattle.tree.specs.declared.element.Element.{Element as Standing}
 use Rattle.model.specs.Answers.{read_at}
 use Rattle.model.specs.Parts.{raw}
 use Rattle.names.specs.Texts.{place_of_row}
@@ -30,8 +31,8 @@ use Rattle.names.specs.Context.{main_row, section_row, wanted_name, stars_by, st
 
 -- ---- what a look-up answered
 
-module _ (s : Text) (r : Option (ℕ × ℕ)) {o : Option (ℕ × Element)} (h : calendar_meaning s r ≡ o) where
-  pub is_there : {row p : ℕ} → r ≡ Some (row, p) → o ≡ Some (row, element_at s p)
+module _ (r : Option (ℕ × Standing)) {o : Option (ℕ × Element)} (h : calendar_meaning r ≡ o) where
+  pub is_there : {row : ℕ} {x : Standing} → r ≡ Some (row, x) → o ≡ Some (row, meaning x)
   unfolding calendar_meaning
   is_there e = sym h ∙ rw e
 
@@ -72,11 +73,6 @@ module _ (d : List ℕ) (p : Place) (e : Element) {t w : Text} (ht : t ≡ ((rea
 
 module _ (d : List ℕ) (c : Place) (root : Element) where
   -- ---- what the functions answer
-
-  -- the text beside it and its `*`, as they were found
-  pub beside : (row : ℕ) (e : Element) {t : Text} {k : ℕ} (r : Option ℕ) → t ≡ wanted_name e → k ≡ stars_in d c root row e → name_meaning t r ≡ unless_main (context_at d c root) (starred_by t k)
-      → name_meaning (wanted_name e) r ≡ unless_main (context_at d c root) (starred_by (wanted_name e) (stars_in d c root row e))
-  beside row e {t} {k} r h i x = ap (λ (t : Text). name_meaning t r) (sym h) ∙ x ∙ ap (λ (t : Text). unless_main (context_at d c root) (starred_by t k)) h ∙ ap (λ (k : ℕ). unless_main (context_at d c root) (starred_by (wanted_name e) k)) i
 
   pub unless_by : (t : Text) (k : ℕ) {b : Bool} → b ≡ same (starred_by t k) (context_at d c root).main.name → name_meaning t (then_some (not b) k) ≡ unless_main (context_at d c root) (starred_by t k)
   unfolding name_meaning

@@ -1,23 +1,16 @@
 -- The table of the calendars while it is filled. Assumes nothing.
-use Rattle.std.specs.Prelude.{if◌then◌else◌}
 use Prim.Native.Nat.{ℕ, suc, ◌+◌, ◌-◌, ◌%◌, ◌^◌, ◌≤◌, ◌<◌}
 use native.Mathlib.Nat.{mod-lt}
 use native.Mathlib.Omega.{arith}
 use mathlib.Core.Path.{◌≡◌, refl, sym, ap, ◌∙◌}
-use mathlib.Core.Bool.{Bool, true, false, not, false≢true}
+use mathlib.Core.Bool.{Bool, true, false}
 use mathlib.Core.List.{List, [], ◌∷◌}
-use Rattle.std.specs.Prelude.{Option, Some, None}
-use lib.Dec.{eqb, ltb}
-use lib.ListN.{length, get_or, set, drop, length-set, drop_of_length-le}
+use lib.Dec.{eqb}
+use lib.ListN.{length, get_or, set, drop, length-set}
 use lib.Seq.{get_or-set_same, get_or-set_other}
-use borrow.Author.Tests.{ltb-true, ltb-false, eqb-true, eqb-false}
-use Rattle.definition.specs.Ascii.{bytes}
-use Rattle.definition.specs.Base.{given, keep, same}
-use Rattle.definition.specs.Calendar.{base_of}
+use borrow.Author.Tests.{eqb-true, eqb-false}
 use Rattle.definition.specs.Text.{Text}
-use Rattle.definition.specs.Tree.{Element, records, records_up_to, element, all, all_in, child}
-use Rattle.laws.specs.Each.{Each, empty, next, each_append, each_drop}
-use Rattle.laws.specs.FitLists.{each_keep}
+use Rattle.definition.specs.Tree.{Element}
 use Rattle.index.specs.declared.Table.{Table}
 use Rattle.index.specs.Hash.{hash_of}
 use Rattle.index.specs.Chains.{place_at, place_of, end_of, zeros, added}
@@ -27,10 +20,9 @@ use Rattle.index.specs.Frame.{zeros_other, zeros_outside, added_outside}
 use Rattle.index.specs.Steps.{length_zeros}
 use Rattle.rows.specs.Rows.{in_order}
 use Rattle.rows.specs.Tables.{uid_of, no_element}
-use Rattle.rows.specs.Turns.{order_end, order_at}
-use Rattle.rows.specs.Walks.{order_by, later_in_order, Orders}
+use Rattle.tree.specs.declared.element.Element.{Element as Standing}
 use Rattle.rows.proofs.Filling.{drop_in, drop_out, drop_is, cons_head, cons_tail}
-use Rattle.tree.specs.Place.{element_at}
+use Rattle.tree.specs.Place.{element_at, meaning, Within}
 use Rattle.names.specs.Uids.{names_end, how_many, of_row, Stays, Ripe, Stand, Chained}
 
 -- ---- words that stay
@@ -48,78 +40,39 @@ pub stays_set : {from to : ℕ} (w : List ℕ) (k v : ℕ) → from ≤ k → k 
 stays_set w k v a b =
     record { long = length-set w k v; outside = λ j h. get_or-set_other w k j v 0 (λ e. h (omega arith) (omega arith)) }
 
--- ---- a calendar stands in the tree
-
-abbrev Kept : Element → Type 0
-Kept e = same e.name (bytes "Calendar") ≡ true
-
-each_passes : {A : Type 0} (p : A → Bool) (l : List A) → Each (λ x. p x ≡ true) (keep p l)
-unfolding keep
-each_passes p [] = empty
-each_passes {A} p (x ∷ l) = go (p x) refl (each_passes p l)
-  where
-    go : (b : Bool) → p x ≡ b → Each (λ x. p x ≡ true) (keep p l) → Each (λ x. p x ≡ true) (if b then x ∷ keep p l else keep p l)
-    go true e h = next e h
-    go false e h = h
-
-calendars_kept : (o : Option Element) → Each Kept (all_in o (bytes "Calendar"))
-unfolding all
-calendars_kept None = empty
-calendars_kept (Some e) = each_passes _ _
-
-order_kept : (root : Element) → Each Kept (in_order root)
-unfolding in_order
-order_kept root =
-    each_append (each_keep (λ e. not (given (base_of e))) (calendars_kept (child root (bytes "Calendars")))) (each_keep (λ e. given (base_of e)) (calendars_kept (child root (bytes "Calendars"))))
-
-kept_first : {x : Element} {l m : List Element} → Each Kept l → l ≡ x ∷ m → Kept x
-kept_first empty e = let y : ◌≡◌ {A = ℕ} 0 1 = cc in absurd (omega arith)
-kept_first (next {x = y} h hs) e = rw (← cons_head e) h
-
-kept_there : (s : Text) (p : ℕ) → Kept (element_at s p) → p < length s
-unfolding records records_up_to element same
-kept_there s p h = go (ltb p (length s)) refl
-  where
-    none_there : length s ≤ p → same (element_at s p).name (bytes "Calendar") ≡ false
-    none_there k = rw (drop_of_length-le s {i = p} k)
-
-    go : (b : Bool) → ltb p (length s) ≡ b → p < length s
-    go true e = ltb-true p (length s) e
-    go false e = absurd (false≢true (sym (none_there (ltb-false p (length s) e)) ∙ h))
-
 -- ---- where each calendar stands
 
-pub record Placing (s : Text) (root : Element) (t : Table) (left : ℕ) (e : Option ℕ) (w w' : List ℕ) : Type 0 where
+pub record Placing (s : Text) (root : Element) (t : Table) (left : ℕ) (rest : List Element) (w w' : List ℕ) : Type 0 where
   pub few : left ≤ t.rows
   pub most : t.rows - left ≤ how_many root
-  pub ahead : drop (t.rows - left) (in_order root) ≡ order_by s root e
+  pub ahead : drop (t.rows - left) (in_order root) ≡ rest
   pub stand : Stand s root t left w'
   pub stays : Stays t.at (names_end t) w w'
 
 module _ {s : Text} {root : Element} {t : Table} {w : List ℕ} (ripe : Ripe s root t (length w)) where
-  pub placing_begin : {n : ℕ} {e : Option ℕ} → Orders s root (in_order root) n e → Placing s root t t.rows e w w
+  pub placing_begin : {rest : List Element} → in_order root ≡ rest → Placing s root t t.rows rest w w
   placing_begin h =
       let z : t.rows - t.rows ≡ 0 = omega arith in
       record {
         few = omega arith;
         most = omega arith;
-        ahead = ap (λ (k : ℕ). drop k (in_order root)) z ∙ h.is;
+        ahead = ap (λ (k : ℕ). drop k (in_order root)) z ∙ h;
         stand = record { stands = λ r a b. absurd (omega arith) };
         stays = stays_refl t.at (names_end t) w;
       }
 
-  module _ {left : ℕ} {e : Option ℕ} {w₁ : List ℕ} (p : Placing s root t left e w w₁) where
-    none_left : e ≡ None → t.rows - left ≡ how_many root
-    none_left i = omega (arith, drop_out (t.rows - left) (in_order root) (p.ahead ∙ order_end s root i), p.most)
+  module _ {left : ℕ} {rest : List Element} {w₁ : List ℕ} (p : Placing s root t left rest w w₁) where
+    none_left : rest ≡ [] → t.rows - left ≡ how_many root
+    none_left i = omega (arith, drop_out (t.rows - left) (in_order root) (p.ahead ∙ i), p.most)
 
-    pub placing_end : e ≡ None → (t.rows - left ≡ how_many root) × Stand s root t 0 w₁ × Stays t.at (names_end t) w w₁
+    pub placing_end : rest ≡ [] → (t.rows - left ≡ how_many root) × Stand s root t 0 w₁ × Stays t.at (names_end t) w w₁
     placing_end i =
         let z = none_left i in
         (z, record { stands = λ r a b. p.stand.stands r (omega (arith, p.few, ripe.rows)) b }, p.stays)
 
-    module _ {at : ℕ} (i : e ≡ Some at) where
-      split : drop (t.rows - left) (in_order root) ≡ element_at s at ∷ later_in_order s root at
-      split = p.ahead ∙ order_at s root i
+    module _ (x : Standing) {more : List Element} (i : rest ≡ meaning x ∷ more) where
+      split : drop (t.rows - left) (in_order root) ≡ meaning x ∷ more
+      split = p.ahead ∙ i
 
       pub placing_more : 0 < left
       placing_more = omega (arith, drop_in (t.rows - left) (in_order root) split, ripe.rows, p.few)
@@ -127,41 +80,44 @@ module _ {s : Text} {root : Element} {t : Table} {w : List ℕ} (ripe : Ripe s r
       placing_rows : t.rows ≡ how_many root
       placing_rows = omega (arith, drop_in (t.rows - left) (in_order root) split, ripe.rows)
 
-      pub placing_at : at < 2 ^ 32
-      placing_at =
-          omega (arith, kept_there s at (kept_first (each_drop (t.rows - left) (order_kept root)) split), ripe.short)
-
-      both : get_or (in_order root) (t.rows - left) no_element ∷ drop (t.rows - left + 1) (in_order root) ≡ element_at s at ∷ later_in_order s root at
+      both : get_or (in_order root) (t.rows - left) no_element ∷ drop (t.rows - left + 1) (in_order root) ≡ meaning x ∷ more
       both = drop_is (t.rows - left) (in_order root) no_element split
 
-      here : element_at s at ≡ of_row root (left - 1)
+      here : meaning x ≡ of_row root (left - 1)
       here =
           let z : t.rows - left ≡ how_many root - suc (left - 1) = omega (arith, placing_more, placing_rows) in
           sym (cons_head both) ∙ ap (λ (k : ℕ). get_or (in_order root) k no_element) z
 
-      module _ {w₂ : List ℕ} (j : w₂ ≡ set w₁ (place_at t (left - 1)) at) where
-        stood : (r : ℕ) (b : Bool) → eqb r (left - 1) ≡ b → left - 1 ≤ r → r < how_many root → element_at s (place_of w₂ t r) ≡ of_row root r
-        stood r true z a b =
-            let y : r ≡ left - 1 = eqb-true r (left - 1) z in
-            let x : place_of w₂ t (left - 1) ≡ at =
-            ap (λ (l : List ℕ). get_or l (place_at t (left - 1)) 0) j ∙ get_or-set_same w₁ (place_at t (left - 1)) at 0 (omega (arith, p.stays.long, ripe.room)) in
-            rw y (ap (element_at s) x ∙ here)
-        stood r false z a b =
-            let y : r ≡ left - 1 → ⊥ = eqb-false r (left - 1) z in
-            ap (λ (l : List ℕ). element_at s (get_or l (place_at t r) 0)) j
-            ∙ ap (element_at s) (get_or-set_other w₁ (place_at t (left - 1)) (place_at t r) at 0 (λ q. y (omega arith)))
-            ∙ p.stand.stands r (omega (arith, y)) b
+      module _ (m : Within s 0 x) where
+        pub placing_at : x.at < 2 ^ 32
+        placing_at = omega (arith, m.inside, ripe.short)
 
-        pub placing_turn : {n : ℕ} {r : Option ℕ} → Orders s root (later_in_order s root at) n r → Placing s root t (left - 1) r w w₂
-        placing_turn h =
-            let z : t.rows - left + 1 ≡ t.rows - (left - 1) = omega (arith, placing_more, p.few) in
-            record {
-              few = omega (arith, p.few);
-              most = omega (arith, drop_in (t.rows - left) (in_order root) split, p.few);
-              ahead = ap (λ (k : ℕ). drop k (in_order root)) (sym z) ∙ cons_tail both ∙ h.is;
-              stand = record { stands = λ r a b. stood r (eqb r (left - 1)) refl a b };
-              stays = stays_then p.stays (rw j (stays_set w₁ (place_at t (left - 1)) at (omega arith) (omega (arith, placing_more, p.few))));
-            }
+        here_at : element_at s x.at ≡ of_row root (left - 1)
+        here_at = ap (λ (s : Text). element_at s x.at) (sym m.tree) ∙ here
+
+        module _ {w₂ : List ℕ} (j : w₂ ≡ set w₁ (place_at t (left - 1)) x.at) where
+          stood : (r : ℕ) (b : Bool) → eqb r (left - 1) ≡ b → left - 1 ≤ r → r < how_many root → element_at s (place_of w₂ t r) ≡ of_row root r
+          stood r true z a b =
+              let y : r ≡ left - 1 = eqb-true r (left - 1) z in
+              let y2 : place_of w₂ t (left - 1) ≡ x.at =
+              ap (λ (l : List ℕ). get_or l (place_at t (left - 1)) 0) j ∙ get_or-set_same w₁ (place_at t (left - 1)) x.at 0 (omega (arith, p.stays.long, ripe.room)) in
+              rw y (ap (element_at s) y2 ∙ here_at)
+          stood r false z a b =
+              let y : r ≡ left - 1 → ⊥ = eqb-false r (left - 1) z in
+              ap (λ (l : List ℕ). element_at s (get_or l (place_at t r) 0)) j
+              ∙ ap (element_at s) (get_or-set_other w₁ (place_at t (left - 1)) (place_at t r) x.at 0 (λ q. y (omega arith)))
+              ∙ p.stand.stands r (omega (arith, y)) b
+
+          pub placing_turn : Placing s root t (left - 1) more w w₂
+          placing_turn =
+              let z : t.rows - left + 1 ≡ t.rows - (left - 1) = omega (arith, placing_more, p.few) in
+              record {
+                few = omega (arith, p.few);
+                most = omega (arith, drop_in (t.rows - left) (in_order root) split, p.few);
+                ahead = ap (λ (k : ℕ). drop k (in_order root)) (sym z) ∙ cons_tail both;
+                stand = record { stands = λ r a b. stood r (eqb r (left - 1)) refl a b };
+                stays = stays_then p.stays (rw j (stays_set w₁ (place_at t (left - 1)) x.at (omega arith) (omega (arith, placing_more, p.few))));
+              }
 
 -- ---- all rows into their chains
 

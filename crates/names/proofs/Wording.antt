@@ -34,7 +34,8 @@ use Rattle.model.specs.declared.records.Kind.TheVariants as kind
 use Rattle.pack.specs.Value.{starred_by}
 use Rattle.rows.specs.Rows.{in_order, has_uid, main_in, with_uid_in, calendar_meaning}
 use Rattle.rows.specs.Tables.{uid_of, sought_in}
-use Rattle.tree.specs.Place.{element_at}
+use Rattle.tree.specs.Place.{element_at, meaning}
+use Rattle.tree.specs.declared.element.Element.{Element as Standing}
 use Rattle.names.specs.declared.named.Main.{Main}
 use Rattle.names.specs.declared.uids.CalendarTable.{CalendarTable}
 use Rattle.names.specs.Texts.{text_at}
@@ -43,22 +44,19 @@ use Rattle.names.specs.Turned.{order_length}
 use Rattle.names.specs.Context.{main_row, section_row, wanted_name, stars_by, stars_in, context_at}
 use Rattle.names.specs.ByUid.{main_there, main_absent}
 use Rattle.names.specs.Named.{name_word, name_at, Calendars, MainOf, main_text, nth_in, word_by, NotesName, NamesNoted, Makes}
-use Rattle.names.specs.Uids.{names_end, how_many, made_in, of_row, Stays, Uids, MakesUids, order_row, row_found, calendar_by, Ripe, Stand, Chained}
+use Rattle.names.specs.Uids.{names_end, how_many, made_in, of_row, Stays, Uids, MakesUids, row_found, calendar_by, Ripe, Stand, Chained}
 use Rattle.names.proofs.Placing.{stays_refl, stays_then, stays_wider, stays_set}
 
 -- ---- the word of a name
 
-module _ (s : Text) (m : Main) (text : Text) (stars : ℕ) {name : Text} (i : name ≡ wanted_name (element_at s m.at)) {b : Bool} (j : b ≡ same (starred_by text stars) (starred_by name m.stars)) where
-  is_main : same (starred_by text stars) (main_text s m) ≡ b
-  is_main = sym (j ∙ ap (λ (n : Text). same (starred_by text stars) (starred_by n m.stars)) i)
-
-  pub word_main : b ≡ true → 0 ≡ name_word (main_text s m) text stars
+module _ (m : Main) (text : Text) (stars : ℕ) {b : Bool} (j : b ≡ same (starred_by text stars) (main_text m)) where
+  pub word_main : b ≡ true → 0 ≡ name_word (main_text m) text stars
   unfolding name_word
-  word_main h = rw (is_main, h)
+  word_main h = rw (← j, h)
 
-  pub word_other : b ≡ false → stars + 1 ≡ name_word (main_text s m) text stars
+  pub word_other : b ≡ false → stars + 1 ≡ name_word (main_text m) text stars
   unfolding name_word
-  word_other h = rw (is_main, h) (omega arith)
+  word_other h = rw (← j, h) (omega arith)
 
 -- a wanted name is no empty text, so that 32 bits hold the word
 wanted_some : (e : Element) → 0 < length (wanted_name e)
@@ -97,10 +95,10 @@ main_some root {x} e = go (text_in root "CalendarUID") (in_order root) e
     go None (y ∷ l) e = omega arith
     go (Some u) (y ∷ l) e = omega arith
 
-module _ {d : List ℕ} {c : Place} {s : Text} {root : Element} {m : Main} (h : MainOf d c s root m) where
-  main_name : main_text s m ≡ (context_at d c root).main.name
+module _ {d : List ℕ} {c : Place} {root : Element} {m : Main} (h : MainOf d c root m) where
+  main_name : main_text m ≡ (context_at d c root).main.name
   main_name =
-      ap (starred_by (wanted_name (element_at s m.at))) h.stars ∙ sym (main_there d c root (m.row, element_at s m.at) h.there)
+      ap (λ (n : Text). starred_by n m.stars) h.name ∙ ap (starred_by (wanted_name h.calendar)) h.stars ∙ sym (main_there d c root (m.row, h.calendar) h.there)
 
   main_is : m.row ≡ main_row root
   main_is = sym (ap (λ (o : Option (ℕ × Element)). (o >>= λ x. Some x.0) or 0) h.there)
@@ -131,15 +129,15 @@ next_row_lem main row false e = go (ltb main row) refl
 -- one row
 module _ (d : List ℕ) (c q : Place) (s : Text) (t : Table) (row : ℕ) (m : Main) (w : List ℕ) (few : row < t.rows) where
   pub note_word : {at : ℕ} → at ≡ place_of w t (t.rows - 1 - row) → {p : Place} → p ≡ (if eqb row m.row then c else q) → {text : Text} → text ≡ wanted_name (element_at s at) → {stars : ℕ}
-      → stars ≡ stars_by ((read_at raw d p).0 or []) (element_at s at) → {word : ℕ} → word ≡ name_word (main_text s m) text stars → {w' : List ℕ} → w' ≡ set w (t.at + (3 * t.rows + (t.rows - 1 - row))) word
-      → w' ≡ set w (name_at t (t.rows - suc row)) (word_by s m ((read_at raw d (if eqb row m.row then c else q)).0 or []) (nth_in s t w row))
+      → stars ≡ stars_by ((read_at raw d p).0 or []) (element_at s at) → {word : ℕ} → word ≡ name_word (main_text m) text stars → {w' : List ℕ} → w' ≡ set w (t.at + (3 * t.rows + (t.rows - 1 - row))) word
+      → w' ≡ set w (name_at t (t.rows - suc row)) (word_by m ((read_at raw d (if eqb row m.row then c else q)).0 or []) (nth_in s t w row))
   note_word {at} i {p} j {text} k {stars} l {word} n o =
       let z : t.rows - 1 - row ≡ t.rows - suc row = omega arith in
       let a : element_at s at ≡ nth_in s t w row = ap (element_at s) i ∙ ap (λ (r : ℕ). element_at s (place_of w t r)) z in
       let b : stars_by ((read_at raw d p).0 or []) (element_at s at) ≡ stars_by ((read_at raw d (if eqb row m.row then c else q)).0 or []) (nth_in s t w row) =
       ap (λ (p : Place). stars_by ((read_at raw d p).0 or []) (element_at s at)) j ∙ ap (stars_by ((read_at raw d (if eqb row m.row then c else q)).0 or [])) a in
-      let y : word ≡ word_by s m ((read_at raw d (if eqb row m.row then c else q)).0 or []) (nth_in s t w row) =
-      n ∙ ap (λ (x : Text). name_word (main_text s m) x stars) (k ∙ ap wanted_name a) ∙ ap (name_word (main_text s m) (wanted_name (nth_in s t w row))) (l ∙ b) in
+      let y : word ≡ word_by m ((read_at raw d (if eqb row m.row then c else q)).0 or []) (nth_in s t w row) =
+      n ∙ ap (λ (x : Text). name_word (main_text m) x stars) (k ∙ ap wanted_name a) ∙ ap (name_word (main_text m) (wanted_name (nth_in s t w row))) (l ∙ b) in
       o ∙ ap (λ (r : ℕ). set w (name_at t r) word) z ∙ ap (set w (name_at t (t.rows - suc row))) y
 
 module _ {d : List ℕ} {c q : Place} {b : Bool} where
@@ -183,14 +181,14 @@ module _ {d : List ℕ} {c : Place} {s : Text} {t : Table} {m : Main} {n : ℕ} 
         at = rw (← next_row_lem m.row n (eqb n m.row) refl) (h.next (next_row m.row n) x.at);
       }
     where
-      named : (row : ℕ) (b : Bool) → eqb row n ≡ b → row < n + 1 → get_or w₂ (name_at t (t.rows - suc row)) 0 ≡ word_by s m (text_at kind.Calendars d c (section_row m.row row)) (nth_in s t w row)
+      named : (row : ℕ) (b : Bool) → eqb row n ≡ b → row < n + 1 → get_or w₂ (name_at t (t.rows - suc row)) 0 ≡ word_by m (text_at kind.Calendars d c (section_row m.row row)) (nth_in s t w row)
       named row true e k =
           let z : row ≡ n = eqb-true row n e in
           rw z
           (ap (λ (l : List ℕ). get_or l (name_at t (t.rows - suc n)) 0) h.word
           ∙ get_or-set_same w₁ (name_at t (t.rows - suc n)) _ 0 (omega (arith, x.noted.stays.long, few))
-          ∙ ap (λ (name : Text). word_by s m name (nth_in s t w₁ n)) (name_at_lem (eqb n m.row) refl)
-          ∙ ap (word_by s m (text_at kind.Calendars d c (section_row m.row n))) (place_stays n))
+          ∙ ap (λ (name : Text). word_by m name (nth_in s t w₁ n)) (name_at_lem (eqb n m.row) refl)
+          ∙ ap (word_by m (text_at kind.Calendars d c (section_row m.row n))) (place_stays n))
       named row false e k =
           let z : row ≡ n → ⊥ = eqb-false row n e in
           ap (λ (l : List ℕ). get_or l (name_at t (t.rows - suc row)) 0) h.word
@@ -231,8 +229,8 @@ module _ {d : List ℕ} {c : Place} {s : Text} {root : Element} {t : Table} {w :
         x,
       )
 
-  module _ {w₁ w₂ : List ℕ} {m : Main} {word : ℕ} (main : MainOf d c s root m)
-      (n : NamesNoted d c s t m t.rows w w₁) (e : word ≡ name_word (main_text s m) elapsed_name 0) (i : w₂ ≡ set w₁ (t.at + 4 * t.rows) word) where
+  module _ {w₁ w₂ : List ℕ} {m : Main} {word : ℕ} (main : MainOf d c root m)
+      (n : NamesNoted d c s t m t.rows w w₁) (e : word ≡ name_word (main_text m) elapsed_name 0) (i : w₂ ≡ set w₁ (t.at + 4 * t.rows) word) where
     names_set : Stays (end_of t) (names_end t) w w₂
     names_set = stays_then n.stays (rw i (stays_set w₁ (t.at + 4 * t.rows) word (omega arith) (omega arith)))
 
@@ -247,10 +245,10 @@ module _ {d : List ℕ} {c : Place} {s : Text} {root : Element} {t : Table} {w :
         ∙ get_or-set_other w₁ (t.at + 4 * t.rows) (name_at t r) word 0 (λ q. omega (arith, rows_are))
         ∙ ap (λ (k : ℕ). get_or w₁ (name_at t k) 0) z
         ∙ n.names (t.rows - suc r) (omega (arith, rows_are))
-        ∙ ap (λ (k : ℕ). word_by s m (text_at kind.Calendars d c (section_row m.row (t.rows - suc r))) (element_at s (place_of w t k))) (sym z)
-        ∙ ap (word_by s m (text_at kind.Calendars d c (section_row m.row (t.rows - suc r)))) (uids.stands r h)
-        ∙ ap (λ (k : ℕ). word_by s m (text_at kind.Calendars d c (section_row k (t.rows - suc r))) (of_row root r)) (main_is main)
-        ∙ ap (λ (k : ℕ). word_by s m (text_at kind.Calendars d c (section_row (main_row root) k)) (of_row root r)) x
+        ∙ ap (λ (k : ℕ). word_by m (text_at kind.Calendars d c (section_row m.row (t.rows - suc r))) (element_at s (place_of w t k))) (sym z)
+        ∙ ap (word_by m (text_at kind.Calendars d c (section_row m.row (t.rows - suc r)))) (uids.stands r h)
+        ∙ ap (λ (k : ℕ). word_by m (text_at kind.Calendars d c (section_row k (t.rows - suc r))) (of_row root r)) (main_is main)
+        ∙ ap (λ (k : ℕ). word_by m (text_at kind.Calendars d c (section_row (main_row root) k)) (of_row root r)) x
         ∙ ap (λ (name : Text). name_word name (wanted_name (of_row root r)) (stars_in d c root (how_many root - suc r) (of_row root r))) (main_name main)
 
     pub filled : Calendars d c s root t w₂ × Stays (end_of t) (names_end t) w w₂
@@ -334,34 +332,20 @@ module _ {d : List ℕ} {c : Place} {s : Text} {root : Element} {at : ℕ} {w w�
 
 -- ---- a calendar by it
 
-in_order_lem : (s : Text) (w : List ℕ) (t : Table) (o : Option ℕ) → calendar_meaning s (order_row w t o) ≡ (o >>= row_found s w t)
-unfolding order_row calendar_meaning
-in_order_lem s w t None = refl
-in_order_lem s w t (Some r) = refl
-
-module _ (w : List ℕ) (t : Table) {a : Option ℕ} where
-  pub row_absent : a ≡ None → None ≡ order_row w t a
-  unfolding order_row
-  row_absent e = rw e
-
-  pub row_there : {r : ℕ} → a ≡ Some r → {row at : ℕ} → row ≡ t.rows - suc r → at ≡ place_of w t r → Some (row, at) ≡ order_row w t a
-  unfolding order_row
-  row_there e h i = rw e (λ j. Some ((h j), (i j)))
-
 module _ (s : Text) (root : Element) (w : List ℕ) {m : Option Table} (u : Text) where
-  pub by_table : {t : Table} → m ≡ Some t → (o : Option ℕ) → o ≡ sought_in s w t u → {a : Option (ℕ × ℕ)} → a ≡ order_row w t o → calendar_meaning s a ≡ calendar_by s root w m u
+  pub by_table : {t : Table} → m ≡ Some t → {o : Option ℕ} → o ≡ sought_in s w t u → {a : Option (ℕ × Element)} → a ≡ (o >>= row_found s w t) → a ≡ calendar_by s root w m u
   unfolding calendar_by
-  by_table {t} e o h i = ap (calendar_meaning s) i ∙ in_order_lem s w t o ∙ rw (e, h)
+  by_table {t} e h i = rw e (i ∙ ap (λ (o : Option ℕ). o >>= row_found s w t) h)
 
-  pub by_scan : m ≡ None → (a : Option (ℕ × ℕ)) → calendar_meaning s a ≡ with_uid_in root u → calendar_meaning s a ≡ calendar_by s root w m u
+  pub by_scan : m ≡ None → {a : Option (ℕ × Element)} → a ≡ with_uid_in root u → a ≡ calendar_by s root w m u
   unfolding calendar_by
-  by_scan e a h = rw e h
+  by_scan e h = rw e h
 
-module _ (s : Text) (root : Element) {a : Option (ℕ × ℕ)} (h : calendar_meaning s a ≡ main_in root) where
+module _ (root : Element) {a : Option (ℕ × Standing)} (h : calendar_meaning a ≡ main_in root) where
   pub main_missing : a ≡ None → main_in root ≡ None
   unfolding calendar_meaning
   main_missing e = sym h ∙ rw e
 
-  pub main_given : {d : List ℕ} {c : Place} {row at : ℕ} → a ≡ Some (row, at) → {stars : ℕ} → stars ≡ stars_in d c root row (element_at s at) → MainOf d c s root (record { row = row; at = at; stars = stars })
+  pub main_given : {d : List ℕ} {c : Place} {m : Main} {x : Standing} → a ≡ Some (m.row, x) → m.name.now ≡ wanted_name (meaning x) → m.stars ≡ stars_in d c root m.row (meaning x) → MainOf d c root m
   unfolding calendar_meaning
-  main_given e i = record { there = sym h ∙ rw e; stars = i }
+  main_given {x = x} e i j = record { calendar = meaning x; there = sym h ∙ rw e; name = i; stars = j }

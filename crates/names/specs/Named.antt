@@ -59,8 +59,8 @@ elapsed_in x w None = unless_main x elapsed_name
 elapsed_in x w (Some t) = name_by elapsed_name (get_or w (name_at t t.rows) 0)
 
 -- what an answer means
-abbrev pub calendar_name : Text → CalendarName → Option Text
-calendar_name s r = name_meaning (wanted_name (element_at s r.at)) r.name
+abbrev pub calendar_name : CalendarName → Option Text
+calendar_name r = name_meaning r.text.now r.stars
 
 -- ---- a table of all calendars
 
@@ -81,28 +81,30 @@ pub record Makes (d : List ℕ) (c : Place) (s : Text) (root : Element) (at : �
 
 -- ---- while it is made
 
-pub record MainOf (d : List ℕ) (c : Place) (s : Text) (root : Element) (m : Main) : Type 0 where
-  pub there : main_in root ≡ Some (m.row, element_at s m.at)
-  pub stars : m.stars ≡ stars_in d c root m.row (element_at s m.at)
+pub record MainOf (d : List ℕ) (c : Place) (root : Element) (m : Main) : Type 0 where
+  pub calendar : Element
+  pub there : main_in root ≡ Some (m.row, calendar)
+  pub name : m.name.now ≡ wanted_name calendar
+  pub stars : m.stars ≡ stars_in d c root m.row calendar
 
 -- its name
-abbrev pub main_text : Text → Main → Text
-main_text s m = starred_by (wanted_name (element_at s m.at)) m.stars
+abbrev pub main_text : Main → Text
+main_text m = starred_by m.name.now m.stars
 
 -- the element of a row, counted from the first calendar
 abbrev pub nth_in : Text → Table → List ℕ → ℕ → Element
 nth_in s t w row = element_at s (place_of w t (t.rows - suc row))
 
 -- its word by the name in its record
-abbrev pub word_by : Text → Main → Text → Element → ℕ
-word_by s m name e = name_word (main_text s m) (wanted_name e) (stars_by name e)
+abbrev pub word_by : Main → Text → Element → ℕ
+word_by m name e = name_word (main_text m) (wanted_name e) (stars_by name e)
 
 -- one row: its record is that at c for the main calendar, else that at q; r is where the next one is
 pub record NotesName (d : List ℕ) (c q : Place) (s : Text) (t : Table) (row : ℕ) (m : Main) (w w' : List ℕ) (r : Place) : Type 0 where
-  pub word : w' ≡ set w (name_at t (t.rows - suc row)) (word_by s m ((read_at raw d (if eqb row m.row then c else q)).0 or []) (nth_in s t w row))
+  pub word : w' ≡ set w (name_at t (t.rows - suc row)) (word_by m ((read_at raw d (if eqb row m.row then c else q)).0 or []) (nth_in s t w row))
   pub next : (k : ℕ) → Passes (times k (record_of false kind.Calendars)) d c q → Passes (times (if eqb row m.row then k else k + 1) (record_of false kind.Calendars)) d c r
 
 -- the first n rows
 pub record NamesNoted (d : List ℕ) (c : Place) (s : Text) (t : Table) (m : Main) (n : ℕ) (w w' : List ℕ) : Type 0 where
-  pub names : (row : ℕ) → row < n → get_or w' (name_at t (t.rows - suc row)) 0 ≡ word_by s m (text_at kind.Calendars d c (section_row m.row row)) (nth_in s t w row)
+  pub names : (row : ℕ) → row < n → get_or w' (name_at t (t.rows - suc row)) 0 ≡ word_by m (text_at kind.Calendars d c (section_row m.row row)) (nth_in s t w row)
   pub stays : Stays (end_of t) (names_end t) w w'

@@ -64,11 +64,7 @@ pub record MakesUids (s : Text) (root : Element) (at : ℕ) (w w' : List ℕ) (r
 
 -- ---- a calendar by it
 
--- its row in the order in which they are built, and where it stands
-unfoldable pub order_row : List ℕ → Table → Option ℕ → Option (ℕ × ℕ)
-order_row w t None = None
-order_row w t (Some r) = Some ((t.rows - suc r), (place_of w t r))
-
+-- its row in the order in which they are built, and its element
 abbrev pub row_found : Text → List ℕ → Table → ℕ → Option (ℕ × Element)
 row_found s w t r = Some (t.rows - suc r, element_at s (place_of w t r))
 

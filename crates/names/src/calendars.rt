@@ -7,7 +7,7 @@ ghost use Rattle.definition.specs.Task.{unless_main};
 ghost use Rattle.bits.specs.Places.{up_to};
 ghost use Rattle.model.specs.Answers.{read_at};
 ghost use Rattle.model.specs.Parts.{raw};
-ghost use Rattle.tree.specs.Place.{element_at, later_at};
+ghost use Rattle.tree.specs.Place.{later, meaning};
 ghost use Rattle.tree.specs.Root.{root_at};
 ghost use Rattle.pack.specs.Value.{starred_by, name_meaning};
 ghost use Rattle.names.specs.Context.{main_row, section_row, wanted_by, stars_by, stars_in, context_at, calendars_before};
@@ -17,32 +17,19 @@ use crate::stars::same_starred;
 use bits::Place;
 use model::records::Kind;
 use std::cmp::Ordering;
-use tree::Root;
+use tree::{Element, Root};
 
 // ---- how many
 
-// A calendar and its later siblings.
-fn count_from(s: &[u8], first: usize) -> usize
-    ensures { result ≡ length (element_at s.now first ∷ later_at s.now (bytes "Calendar") first) }
+// How many calendars there are.
+pub fn count_calendars(root: Root<'_>) -> usize
+    ensures { result ≡ length (calendar_elements (root_at root.entry)) }
 {
-    let mut p = first;
-    let mut n = 1;
-    while let Some(q) = tree::next_child(s, p, b"Calendar") {
-        p = q;
+    let mut n = 0;
+    for _e in root.part(root.calendars).children(b"Calendar") {
         n += 1;
     }
     n
-}
-
-// How many calendars there are.
-pub fn count_calendars(s: &[u8], root: Root) -> usize
-    ensures { result ≡ length (calendar_elements (root_at s.now root)) }
-{
-    // `map_or` was tried: the proof learns too little of what the closure gives.
-    match tree::child(s, root.calendars, b"Calendar") {
-        None => 0,
-        Some(p) => count_from(s, p),
-    }
 }
 
 // Whether a place is not behind another. No derived order says this: a bit may be past 7, so that two places differ and are the same bit.
@@ -63,10 +50,10 @@ fn up_to(p: Place, q: Place) -> bool
 }
 
 // Whether all calendars, at most 5,000,000, are read from c on before p.
-pub fn calendars_before(out: &[u8], c: Place, s: &[u8], root: Root, p: Place) -> bool
-    ensures { result ≡ calendars_before out.now c (root_at s.now root) p }
+pub fn calendars_before(out: &[u8], c: Place, root: Root<'_>, p: Place) -> bool
+    ensures { result ≡ calendars_before out.now c (root_at root.entry) p }
 {
-    let n = count_calendars(s, root);
+    let n = count_calendars(root);
     if 5000000 < n {
         return false;
     }
@@ -76,22 +63,21 @@ pub fn calendars_before(out: &[u8], c: Place, s: &[u8], root: Root, p: Place) ->
 // ---- names
 
 // The name that a calendar is to have; `unnamed` for one that says none, `Calendar` by the definition.
-pub fn wanted_name<'a>(s: &'a [u8], at: usize, unnamed: &'a [u8]) -> &'a [u8]
-    ensures { result.now ≡ wanted_by unnamed.now (element_at s.now at) }
+pub fn wanted_name<'a>(e: Element<'a>, unnamed: &'a [u8]) -> &'a [u8]
+    ensures { result.now ≡ wanted_by unnamed.now (meaning e.entry) }
 {
-    let n = tree::text_of(s, at, b"Name");
+    let n = e.text_of(b"Name");
     if n.is_empty() { unnamed } else { n }
 }
 
 // The row of the main calendar among those in the order in which they are built.
-fn main_row(s: &[u8], root: Root) -> usize
-    ensures { result ≡ main_row (root_at s.now root) }
+fn main_row(root: Root<'_>) -> usize
+    ensures { result ≡ main_row (root_at root.entry) }
 {
-    // `map_or` was tried, as above.
-    match rows::main_calendar(s, root) {
-        Some((row, _)) => row,
-        None => 0,
-    }
+    let Some((row, _)) = rows::main_calendar(root) else {
+        return 0;
+    };
+    row
 }
 
 fn section_row(main: usize, row: usize) -> usize
@@ -104,32 +90,32 @@ fn section_row(main: usize, row: usize) -> usize
     }
 }
 
-// How many `*` the name of the calendar at `at` has behind its wanted name; its record in the buffer stands at p.
-pub(crate) fn stars_at(out: &[u8], p: Place, s: &[u8], at: usize) -> u32
-    ensures { result ≡ stars_by ((read_at raw out.now p).0 or []) (element_at s.now at) }
+// How many `*` the name of a calendar has behind its wanted name; its record in the buffer stands at p.
+pub(crate) fn stars_at(out: &[u8], p: Place, e: Element<'_>) -> u32
+    ensures { result ≡ stars_by ((read_at raw out.now p).0 or []) (meaning e.entry) }
 {
     let long = raw_text(out, p).len();
-    let short = wanted_name(s, at, b"Calendar").len();
+    let short = wanted_name(e, b"Calendar").len();
     long.saturating_sub(short) as u32
 }
 
 // That of the calendar of a row.
-pub(crate) fn stars_of(out: &[u8], c: Place, s: &[u8], root: Root, row: usize, at: usize) -> u32
-    ensures { result ≡ stars_in out.now c (root_at s.now root) row (element_at s.now at) }
+pub(crate) fn stars_of(out: &[u8], c: Place, root: Root<'_>, row: usize, e: Element<'_>) -> u32
+    ensures { result ≡ stars_in out.now c (root_at root.entry) row (meaning e.entry) }
 {
-    let k = section_row(main_row(s, root), row);
+    let k = section_row(main_row(root), row);
     let p = place_of_row(out, c, Kind::Calendars, k);
-    stars_at(out, p, s, at)
+    stars_at(out, p, e)
 }
 
 // Whether a text with so many `*` is the main calendar's name.
-fn is_main(out: &[u8], c: Place, s: &[u8], root: Root, text: &[u8], stars: u32) -> bool
-    ensures { result ≡ same (starred_by text.now stars) (context_at out.now c (root_at s.now root)).main.name }
+fn is_main(out: &[u8], c: Place, root: Root<'_>, text: &[u8], stars: u32) -> bool
+    ensures { result ≡ same (starred_by text.now stars) (context_at out.now c (root_at root.entry)).main.name }
 {
-    match rows::main_calendar(s, root) {
-        Some((row, at)) => {
-            let m = stars_of(out, c, s, root, row, at);
-            same_starred(text, stars, wanted_name(s, at, b"Calendar"), m)
+    match rows::main_calendar(root) {
+        Some((row, e)) => {
+            let m = stars_of(out, c, root, row, e);
+            same_starred(text, stars, wanted_name(e, b"Calendar"), m)
         }
         None => same_starred(text, stars, b"Standard", 0),
     }
@@ -139,19 +125,18 @@ fn is_main(out: &[u8], c: Place, s: &[u8], root: Root, text: &[u8], stars: u32) 
 pub(crate) fn unless_main(
     out: &[u8],
     c: Place,
-    s: &[u8],
-    root: Root,
+    root: Root<'_>,
     text: &[u8],
     stars: u32,
 ) -> Option<u32>
-    ensures { name_meaning text.now result ≡ unless_main (context_at out.now c (root_at s.now root)) (starred_by text.now stars) }
+    ensures { name_meaning text.now result ≡ unless_main (context_at out.now c (root_at root.entry)) (starred_by text.now stars) }
 {
-    (!is_main(out, c, s, root, text, stars)).then_some(stars)
+    (!is_main(out, c, root, text, stars)).then_some(stars)
 }
 
 // The elapsed calendar's name, unless it is the main one's.
-pub(crate) fn elapsed_named(out: &[u8], c: Place, s: &[u8], root: Root) -> Option<u32>
-    ensures { name_meaning elapsed_name result ≡ unless_main (context_at out.now c (root_at s.now root)) elapsed_name }
+pub(crate) fn elapsed_named(out: &[u8], c: Place, root: Root<'_>) -> Option<u32>
+    ensures { name_meaning elapsed_name result ≡ unless_main (context_at out.now c (root_at root.entry)) elapsed_name }
 {
-    unless_main(out, c, s, root, b"Elapsed (24 hours)", 0)
+    unless_main(out, c, root, b"Elapsed (24 hours)", 0)
 }

@@ -1,6 +1,6 @@
 // The name of a calendar by its UID, from a table in lent words: behind that of the UIDs each row has a word for its name in the buffer, 0 where it is
 // the main calendar's, else how many `*` it has behind the wanted name, plus 1. A last word is for the elapsed calendar's name.
-ghost use Rattle.std.specs.Prelude.{if◌then◌else◌, ◌≡◌, ◌+◌, ◌^◌, ◌≤◌, ◌<◌, length};
+ghost use Rattle.std.specs.Prelude.{if◌then◌else◌, ◌≡◌, ◌+◌, ◌^◌, ◌≤◌, ◌<◌, length, None};
 ghost use Rattle.definition.specs.Calendar.{elapsed_name};
 ghost use Rattle.definition.specs.Text.{Text};
 ghost use Rattle.index.specs.Chains.{end_of};
@@ -16,24 +16,23 @@ use crate::uids::{CalendarTable, index_uids};
 use bits::Place;
 use index::Table;
 use model::records::{Kind, skip_record};
-use tree::Root;
+use tree::{Element, Root};
 
 // ---- the words of the names
 
-// The main calendar: its row in the order in which they are built, where it stands, and how many `*` its name has.
+// The main calendar: its row in the order in which they are built, the name that it wants, and how many `*` its name has behind that.
 #[derive(Clone, Copy)]
-pub(crate) struct Main {
+pub(crate) struct Main<'a> {
     pub row: usize,
-    pub at: usize,
+    pub name: &'a [u8],
     pub stars: u32,
 }
 
-fn word_of(s: &[u8], text: &[u8], stars: u32, main: Main) -> u32
+fn word_of(text: &[u8], stars: u32, main: Main<'_>) -> u32
     requires { stars + 1 < 2 ^ 32 }
-    ensures { result ≡ name_word (main_text s.now main) text.now stars }
+    ensures { result ≡ name_word (main_text main.entry) text.now stars }
 {
-    let name = wanted_name(s, main.at, b"Calendar");
-    if same_starred(text, stars, name, main.stars) {
+    if same_starred(text, stars, main.name, main.stars) {
         return 0;
     }
     stars + 1
@@ -51,20 +50,21 @@ fn note_name(
     out: &[u8],
     c: Place,
     q: Place,
-    s: &[u8],
+    tree: &[u8],
     words: &mut [u32],
     t: Table,
     row: u32,
-    main: Main,
+    main: Main<'_>,
 ) -> Place
     requires { row < t.rows }
-    ensures { NotesName out.now c q s.now t row main words.old words.new result }
+    ensures { NotesName out.now c q tree.now t row main.entry words.old words.new result }
 {
     let r = t.rows - 1 - row;
     let at = t.place(words, r) as usize;
+    let e = Element { tree, at };
     let first = row as usize == main.row;
-    let stars = stars_at(out, either(first, c, q), s, at);
-    let word = word_of(s, wanted_name(s, at, b"Calendar"), stars, main);
+    let stars = stars_at(out, either(first, c, q), e);
+    let word = word_of(wanted_name(e, b"Calendar"), stars, main);
     index::set_word(words, t.at, 3 * (t.rows as usize) + r as usize, word);
     if first {
         return q;
@@ -72,29 +72,32 @@ fn note_name(
     skip_record::<false>(out, q, Kind::Calendars)
 }
 
-fn note_names(out: &[u8], c: Place, s: &[u8], words: &mut [u32], t: Table, main: Main)
+fn note_names(out: &[u8], c: Place, tree: &[u8], words: &mut [u32], t: Table, main: Main<'_>)
     requires { names_end t ≤ length words.old }
-    ensures { NamesNoted out.now c s.now t main t.rows words.old words.new }
+    ensures { NamesNoted out.now c tree.now t main.entry t.rows words.old words.new }
 {
     let mut q = skip_record::<false>(out, c, Kind::Calendars);
     for row in 0..t.rows {
-        q = note_name(out, c, q, s, words, t, row, main);
+        q = note_name(out, c, q, tree, words, t, row, main);
     }
 }
 
 // All of them; where there is no calendar, the main one is the default one.
-fn note_all(out: &[u8], c: Place, s: &[u8], root: Root, words: &mut [u32], t: Table)
-    requires { Uids s.now (root_at s.now root) t words.old }
-    ensures { Calendars out.now c s.now (root_at s.now root) t words.new × Stays (end_of t) (names_end t) words.old words.new }
+fn note_all(out: &[u8], c: Place, root: Root<'_>, words: &mut [u32], t: Table)
+    requires { Uids root.tree.now (root_at root) t words.old }
+    ensures { Calendars out.now c root.entry.tree.now (root_at root.entry) t words.new × Stays (end_of t) (names_end t) words.old words.new }
 {
-    let Some((row, at)) = rows::main_calendar(s, root) else {
+    let Some((row, e)) = rows::main_calendar(root) else {
         index::set_word(words, t.at, 4 * (t.rows as usize), 1);
         return;
     };
-    let stars = stars_of(out, c, s, root, row, at);
-    let main = Main { row, at, stars };
-    note_names(out, c, s, words, t, main);
-    let elapsed = word_of(s, b"Elapsed (24 hours)", 0, main);
+    let main = Main {
+        row,
+        name: wanted_name(e, b"Calendar"),
+        stars: stars_of(out, c, root, row, e),
+    };
+    note_names(out, c, root.tree, words, t, main);
+    let elapsed = word_of(b"Elapsed (24 hours)", 0, main);
     index::set_word(words, t.at, 4 * (t.rows as usize), elapsed);
 }
 
@@ -102,16 +105,15 @@ fn note_all(out: &[u8], c: Place, s: &[u8], root: Root, words: &mut [u32], t: Ta
 pub fn index_calendars(
     out: &[u8],
     c: Place,
-    s: &[u8],
-    root: Root,
+    root: Root<'_>,
     words: &mut [u32],
     at: usize,
 ) -> CalendarTable
-    ensures { Makes out.now c s.now (root_at s.now root) at words.old words.new result }
+    ensures { Makes out.now c root.entry.tree.now (root_at root.entry) at words.old words.new result }
 {
-    let made = index_uids(s, root, words, at);
+    let made = index_uids(root, words, at);
     if let Some(t) = made.table {
-        note_all(out, c, s, root, words, t);
+        note_all(out, c, root, words, t);
     }
     made
 }
@@ -125,63 +127,64 @@ fn by_word(word: u32) -> Option<u32>
     word.checked_sub(1)
 }
 
-// Where a calendar stands, and its name beside its wanted name.
+// The name that a calendar wants, and how many `*` its name has behind that; no number where there is no name to be put.
 #[derive(Clone, Copy)]
-pub struct CalendarName {
-    pub at: usize,
-    pub name: Option<u32>,
+pub struct CalendarName<'a> {
+    pub text: &'a [u8],
+    pub stars: Option<u32>,
 }
 
-fn name_of(s: &[u8], words: &[u32], t: Table, row: Option<u32>) -> CalendarName
-    ensures { calendar_name s.now result ≡ name_of_row s.now words.now t row }
+fn no_name<'a>() -> CalendarName<'a>
+    ensures { calendar_name result ≡ None }
 {
-    match row {
-        Some(r) => CalendarName {
-            at: t.place(words, r) as usize,
-            name: by_word(index::word(words, t.at, 3 * (t.rows as usize) + r as usize)),
-        },
-        None => CalendarName {
-            at: s.len(),
-            name: None,
-        },
+    CalendarName {
+        text: b"",
+        stars: None,
     }
 }
 
-fn scan(out: &[u8], c: Place, s: &[u8], root: Root, uid: &[u8]) -> CalendarName
-    ensures { calendar_name s.now result ≡ named_by (context_at out.now c (root_at s.now root)) uid.now }
+fn name_of<'a>(root: Root<'a>, words: &[u32], t: Table, row: Option<u32>) -> CalendarName<'a>
+    ensures { calendar_name result ≡ name_of_row root.entry.tree.now words.now t row }
 {
-    match rows::calendar_with(s, root, uid) {
-        Some((row, at)) => {
-            let stars = stars_of(out, c, s, root, row, at);
-            let text = wanted_name(s, at, b"Calendar");
-            CalendarName {
-                at,
-                name: unless_main(out, c, s, root, text, stars),
-            }
-        }
-        None => CalendarName {
-            at: s.len(),
-            name: None,
-        },
+    let Some(r) = row else {
+        return no_name();
+    };
+    let e = root.part(t.place(words, r) as usize);
+    CalendarName {
+        text: wanted_name(e, b"Calendar"),
+        stars: by_word(index::word(words, t.at, 3 * (t.rows as usize) + r as usize)),
+    }
+}
+
+fn scan<'a>(out: &[u8], c: Place, root: Root<'a>, uid: &[u8]) -> CalendarName<'a>
+    ensures { calendar_name result ≡ named_by (context_at out.now c (root_at root.entry)) uid.now }
+{
+    let Some((row, e)) = rows::calendar_with(root, uid) else {
+        return no_name();
+    };
+    let text = wanted_name(e, b"Calendar");
+    let stars = stars_of(out, c, root, row, e);
+    CalendarName {
+        text,
+        stars: unless_main(out, c, root, text, stars),
     }
 }
 
 // The name of the first calendar with a UID, unless it is the main one's, by a table in the words; by a scan where there is none. The calendars stand at c.
-pub fn calendar_in(
+pub fn calendar_in<'a>(
     out: &[u8],
     c: Place,
-    s: &[u8],
-    root: Root,
+    root: Root<'a>,
     words: &[u32],
     table: Option<Table>,
     uid: &[u8],
-) -> CalendarName
-    ensures { calendar_name s.now result ≡ named_in (context_at out.now c (root_at s.now root)) s.now words.now table uid.now }
+) -> CalendarName<'a>
+    ensures { calendar_name result ≡ named_in (context_at out.now c (root_at root.entry)) root.entry.tree.now words.now table uid.now }
 {
     // One way needs the words, the other the buffer: a trait over both is no plainer.
     match table {
-        Some(t) => name_of(s, words, t, rows::seek(s, words, t, uid)),
-        None => scan(out, c, s, root, uid),
+        Some(t) => name_of(root, words, t, rows::seek(root.tree, words, t, uid)),
+        None => scan(out, c, root, uid),
     }
 }
 
@@ -189,15 +192,14 @@ pub fn calendar_in(
 pub fn elapsed_in(
     out: &[u8],
     c: Place,
-    s: &[u8],
-    root: Root,
+    root: Root<'_>,
     words: &[u32],
     table: Option<Table>,
 ) -> Option<u32>
-    ensures { name_meaning elapsed_name result ≡ elapsed_in (context_at out.now c (root_at s.now root)) words.now table }
+    ensures { name_meaning elapsed_name result ≡ elapsed_in (context_at out.now c (root_at root.entry)) words.now table }
 {
     match table {
         Some(t) => by_word(index::word(words, t.at, 4 * (t.rows as usize))),
-        None => elapsed_named(out, c, s, root),
+        None => elapsed_named(out, c, root),
     }
 }

@@ -2,25 +2,26 @@
 // that the first one with a UID is found: its UID by its hash, and where its element stands in the tree. Behind the table there is a word for each row, and
 // one more, for what is to be noted of them.
 ghost use Rattle.std.specs.Prelude.{◌≡◌, suc, ◌-◌, ◌≤◌, max, length};
+ghost use Rattle.definition.specs.Base.{◌>>=◌ as bind};
 ghost use Rattle.index.specs.Law.{Fits};
 ghost use Rattle.rows.specs.Rows.{calendar_meaning};
 ghost use Rattle.tree.specs.Root.{root_at};
-ghost use Rattle.names.specs.Uids.{how_many, made_in, names_end, Stays, Ripe, Stand, Chained, MakesUids, order_row, calendar_by};
+ghost use Rattle.names.specs.Uids.{how_many, made_in, names_end, Stays, Ripe, Stand, Chained, MakesUids, row_found, calendar_by};
 
 use crate::calendars::count_calendars;
 use index::Table;
-use tree::Root;
+use tree::{Element, Root};
 
 // ---- the table is made
 
 // Room for a table of all calendars, 4 words for each and one more, where 32 bits hold each position in the tree.
-fn room_for(s: &[u8], root: Root, len: usize, at: usize) -> Option<Table>
-    ensures { result ≡ made_in s.now (root_at s.now root) len at }
+fn room_for(root: Root<'_>, len: usize, at: usize) -> Option<Table>
+    ensures { result ≡ made_in root.entry.tree.now (root_at root.entry) len at }
 {
-    if 4294967295 < s.len() {
+    if 4294967295 < root.tree.len() {
         return None;
     }
-    let n = count_calendars(s, root);
+    let n = count_calendars(root);
     if 5000000 < n {
         return None;
     }
@@ -33,36 +34,35 @@ fn room_for(s: &[u8], root: Root, len: usize, at: usize) -> Option<Table>
 }
 
 // Where each calendar stands. Answers how many there are.
-fn note_places(s: &[u8], root: Root, words: &mut [u32], t: Table) -> u32
-    requires { Ripe s.now (root_at s.now root) t (length words.old) }
-    ensures { (result ≡ how_many (root_at s.now root)) × Stand s.now (root_at s.now root) t 0 words.new × Stays t.at (names_end t) words.old words.new }
+fn note_places(root: Root<'_>, words: &mut [u32], t: Table) -> u32
+    requires { Ripe root.tree.now (root_at root) t (length words.old) }
+    ensures { (result ≡ how_many (root_at root.entry)) × Stand root.entry.tree.now (root_at root.entry) t 0 words.new × Stays t.at (names_end t) words.old words.new }
 {
-    // The row is counted by hand: the calendars have no iterator, as each next one is asked of the tree.
+    // The row is counted by hand: it falls from the last one on.
     let mut left = t.rows;
-    let mut e = rows::first_calendar(s, root);
-    while let Some(at) = e {
+    for e in rows::calendars(root) {
         left -= 1;
         index::set_word(
             words,
             t.at,
             2 * (t.rows as usize) + left as usize,
-            at as u32,
+            e.at as u32,
         );
-        e = rows::next_calendar(s, root, at);
     }
     t.rows - left
 }
 
 // The first so many rows into the chains of their UIDs.
-fn chain_rows(s: &[u8], words: &mut [u32], t: Table, count: u32)
+fn chain_rows(tree: &[u8], words: &mut [u32], t: Table, count: u32)
     requires { Fits t (length words.old) × (count ≤ t.rows) }
-    ensures { Chained s.now t count words.old words.new }
+    ensures { Chained tree.now t count words.old words.new }
 {
     t.clear(words);
     for row in 0..count {
-        let at = t.place(words, row);
-        let hash = index::hash_of(tree::text_of(s, at as usize, b"UID"));
-        t.put(words, row, hash, at);
+        let place = t.place(words, row);
+        let at = place as usize;
+        let hash = index::hash_of(Element { tree, at }.text_of(b"UID"));
+        t.put(words, row, hash, place);
     }
 }
 
@@ -74,17 +74,17 @@ pub struct CalendarTable {
 }
 
 // A table of the calendars in the words from a place on, where there is room for it.
-pub fn index_uids(s: &[u8], root: Root, words: &mut [u32], at: usize) -> CalendarTable
-    ensures { MakesUids s.now (root_at s.now root) at words.old words.new result }
+pub fn index_uids(root: Root<'_>, words: &mut [u32], at: usize) -> CalendarTable
+    ensures { MakesUids root.entry.tree.now (root_at root.entry) at words.old words.new result }
 {
-    let Some(t) = room_for(s, root, words.len(), at) else {
+    let Some(t) = room_for(root, words.len(), at) else {
         return CalendarTable {
             table: None,
             end: at,
         };
     };
-    let count = note_places(s, root, words, t);
-    chain_rows(s, words, t, count);
+    let count = note_places(root, words, t);
+    chain_rows(root.tree, words, t, count);
     CalendarTable {
         table: Some(t),
         end: t.at + 4 * (t.rows as usize) + 1,
@@ -100,28 +100,29 @@ fn order_row(rows: u32, row: u32) -> usize
     rows.saturating_sub(1).saturating_sub(row) as usize
 }
 
-fn in_order(words: &[u32], t: Table, row: Option<u32>) -> Option<(usize, usize)>
-    ensures { result ≡ order_row words.now t row }
+fn in_order<'a>(
+    root: Root<'a>,
+    words: &[u32],
+    t: Table,
+    row: Option<u32>,
+) -> Option<(usize, Element<'a>)>
+    ensures { calendar_meaning result ≡ bind row (row_found root.entry.tree.now words.now t) }
 {
-    // `map` was tried: the proof learns too little of what the closure gives.
-    match row {
-        Some(r) => Some((order_row(t.rows, r), t.place(words, r) as usize)),
-        None => None,
-    }
+    let r = row?;
+    Some((order_row(t.rows, r), root.part(t.place(words, r) as usize)))
 }
 
 // The first calendar with a UID in the order in which they are built, by a table in the words; by a scan where there is none.
-pub fn calendar_by(
-    s: &[u8],
-    root: Root,
+pub fn calendar_by<'a>(
+    root: Root<'a>,
     words: &[u32],
     table: Option<Table>,
     uid: &[u8],
-) -> Option<(usize, usize)>
-    ensures { calendar_meaning s.now result ≡ calendar_by s.now (root_at s.now root) words.now table uid.now }
+) -> Option<(usize, Element<'a>)>
+    ensures { calendar_meaning result ≡ calendar_by root.entry.tree.now (root_at root.entry) words.now table uid.now }
 {
     match table {
-        Some(t) => in_order(words, t, rows::seek(s, words, t, uid)),
-        None => rows::calendar_with(s, root, uid),
+        Some(t) => in_order(root, words, t, rows::seek(root.tree, words, t, uid)),
+        None => rows::calendar_with(root, uid),
     }
 }

@@ -10,9 +10,9 @@ use Rattle.names.proofs.calendars.calendars_before.Goals as goal
 pub returns-then-n-gt5000000 : goal.returns-then-n-gt5000000
 returns-then-n-gt5000000 c =
     let a = c.args in
-    too_many a.out.now a.c (root_at a.s.now a.root) a.p (omega (arith, c.count_calendars-n.ensures, c.if-n-gt5000000.true))
+    too_many a.out.now a.c (root_at a.root) a.p (omega (arith, c.count_calendars-n.ensures, c.if-n-gt5000000.true))
 
 pub returns : goal.returns
 returns c =
     let a = c.args in
-    few a.out.now a.c (root_at a.s.now a.root) a.p _ _ c.count_calendars-n.ensures (omega (arith, c.if-n-gt5000000.false)) (c.up_to.ensures ∙ ap (λ (q : Place). up_to q a.p) c.place_of_row.ensures)
+    few a.out.now a.c (root_at a.root) a.p _ _ c.count_calendars-n.ensures (omega (arith, c.if-n-gt5000000.false)) (c.up_to.ensures ∙ ap (λ (q : Place). up_to q a.p) c.place_of_row.ensures)

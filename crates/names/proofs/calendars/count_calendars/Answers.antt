@@ -1,20 +1,25 @@
--- `names::calendars::count_calendars` meets its contract. Assumes nothing.
-use mathlib.Core.Path.{sym, ap, ◌∙◌}
-use mathlib.Core.List.{List}
-use lib.ListN.{length}
+use Rattle.std.proofs.Common.{◌≤◌, length, ap, ◌∙◌, arith}
 use Rattle.definition.specs.Ascii.{bytes}
-use Rattle.definition.specs.Tree.{Element}
-use Rattle.tree.specs.Root.{in_calendars}
-use Rattle.tree.specs.Answer.{found_list, none_list}
+use Rattle.definition.specs.Calendar.{calendar_elements}
+use Rattle.tree.specs.Place.{left}
+use Rattle.tree.specs.Root.{root_at, in_calendars}
+use Rattle.tree.specs.Few.{children_few}
+use Rattle.tree.specs.declared.root.Root.{Root}
+use Rattle.tree.specs.declared.element.Children.{Children}
 use Rattle.names.proofs.calendars.count_calendars.Goals as goal
 
-pub returns-in-None : goal.returns-in-None
-returns-in-None c =
-    let a = c.args in
-    sym (ap (λ (l : List Element). length l) (in_calendars a.s.now a.root (bytes "Calendar") ∙ none_list c.child.ensures c.in-None.is))
+few : (root : Root) → length (calendar_elements (root_at root)) ≤ length root.tree.now
+few root = rw (in_calendars root (bytes "Calendar")) (children_few root.tree.now root.calendars (bytes "Calendar"))
 
-pub returns-in-Some : goal.returns-in-Some
-returns-in-Some c =
-    let a = c.args in
-    c.count_from.ensures
-    ∙ sym (ap (λ (l : List Element). length l) (in_calendars a.s.now a.root (bytes "Calendar") ∙ found_list c.child.ensures c.in-Some.is))
+pub loop-e-init : goal.loop-e-init
+loop-e-init c =
+    omega (arith, ap length (ap (λ (k : Children). left k) c.into_iter-e-iterator.ensures.into_iter_gives ∙ (rw c.part.ensures at c.children-e-items.ensures)), ap length (in_calendars c.args.root (bytes "Calendar")))
+
+pub returns : goal.returns
+returns c = omega (arith, c.loop-e.invariant, ap length c.in-None.ensures.steps.0)
+
+pub overflow_add-n : goal.overflow_add-n
+overflow_add-n c = omega (arith, c.loop-e.invariant, ap length c.in-Some.ensures.steps, few c.args.root, c.ranges)
+
+pub loop-e-preserved : goal.loop-e-preserved
+loop-e-preserved c = omega (arith, c.loop-e.invariant, ap length c.in-Some.ensures.steps)

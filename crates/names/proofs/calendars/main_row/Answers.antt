@@ -7,12 +7,12 @@ use Rattle.definition.specs.Tree.{Element}
 use Rattle.names.proofs.Found.{is_there, is_absent}
 use Rattle.names.proofs.calendars.main_row.Goals as goal
 
-pub returns-in-Some : goal.returns-in-Some
-returns-in-Some c =
+pub returns : goal.returns
+returns c =
     let x = c.main_calendar in
-    sym (ap (λ (o : Option (ℕ × Element)). (o >>= λ x. Some x.0) or 0) (is_there c.args.s.now x.result x.ensures c.in-Some.is))
+    sym (ap (λ (o : Option (ℕ × Element)). (o >>= λ x. Some x.0) or 0) (is_there x.result x.ensures c.in-Some.is))
 
-pub returns-in-None : goal.returns-in-None
-returns-in-None c =
+pub returns-in_default : goal.returns-in_default
+returns-in_default c =
     let x = c.main_calendar in
-    sym (ap (λ (o : Option (ℕ × Element)). (o >>= λ x. Some x.0) or 0) (is_absent c.args.s.now x.result x.ensures c.in-None.is))
+    sym (ap (λ (o : Option (ℕ × Element)). (o >>= λ x. Some x.0) or 0) (is_absent x.result x.ensures c.in_default.is))

@@ -1,5 +1,5 @@
 -- `names::calendars::stars_of` meets its contract. Assumes nothing.
-use Rattle.tree.specs.Place.{element_at}
+use Rattle.tree.specs.Place.{meaning}
 use Rattle.tree.specs.Root.{root_at}
 use Rattle.names.proofs.Found.{stars_row}
 use Rattle.names.proofs.calendars.stars_of.Goals as goal
@@ -7,4 +7,4 @@ use Rattle.names.proofs.calendars.stars_of.Goals as goal
 pub returns : goal.returns
 returns c =
     let a = c.args in
-    stars_row a.out.now a.c (root_at a.s.now a.root) a.row (element_at a.s.now a.at) c.main_row.ensures c.section_row-k.ensures c.place_of_row-p.ensures c.stars_at.ensures
+    stars_row a.out.now a.c (root_at a.root) a.row (meaning a.e) c.main_row.ensures c.section_row-k.ensures c.place_of_row-p.ensures c.stars_at.ensures

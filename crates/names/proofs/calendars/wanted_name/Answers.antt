@@ -1,16 +1,16 @@
 -- `names::calendars::wanted_name` meets its contract. Assumes nothing.
 use Rattle.std.proofs.Common.{rules}
 use Rattle.definition.specs.Ascii.{bytes}
-use Rattle.tree.specs.Place.{element_at}
+use Rattle.tree.specs.Place.{meaning}
 use Rattle.names.proofs.Found.{wanted_given, wanted_not}
 use Rattle.names.proofs.calendars.wanted_name.Goals as goal
 
 pub returns-then-is_empty : goal.returns-then-is_empty
 returns-then-is_empty c =
     let a = c.args in
-    wanted_not (element_at a.s.now a.at) (bytes "Name") a.unnamed.now c.text_of-n.ensures (search rules)
+    wanted_not (meaning a.e) (bytes "Name") a.unnamed.now c.text_of-n.ensures (search rules)
 
 pub returns-else-is_empty : goal.returns-else-is_empty
 returns-else-is_empty c =
     let a = c.args in
-    wanted_given (element_at a.s.now a.at) (bytes "Name") a.unnamed.now c.text_of-n.ensures (search rules)
+    wanted_given (meaning a.e) (bytes "Name") a.unnamed.now c.text_of-n.ensures (search rules)

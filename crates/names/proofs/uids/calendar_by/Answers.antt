@@ -3,7 +3,9 @@ use Rattle.names.proofs.Wording.{by_table, by_scan}
 use Rattle.names.proofs.uids.calendar_by.Goals as goal
 
 pub returns-in-Some : goal.returns-in-Some
-returns-in-Some c = let a = c.args in by_table a.s.now (root_at a.s.now a.root) _ a.uid.now c.in-Some.is _ c.seek.ensures c.in_order.ensures
+returns-in-Some c =
+    let a = c.args in by_table a.root.tree.now (root_at a.root) _ a.uid.now c.in-Some.is c.seek.ensures c.in_order.ensures
 
 pub returns-in-None : goal.returns-in-None
-returns-in-None c = let a = c.args in by_scan a.s.now (root_at a.s.now a.root) _ a.uid.now c.in-None.is _ c.calendar_with.ensures
+returns-in-None c =
+    let a = c.args in by_scan a.root.tree.now (root_at a.root) _ a.uid.now c.in-None.is c.calendar_with.ensures

@@ -11,7 +11,7 @@ loop-row-smaller c = omega arith
 
 pub loop-row-preserved : goal.loop-row-preserved
 loop-row-preserved c =
-    (omega arith, chained_more c.loop-row.invariant.1 (omega (arith, c.loop-row-test.true, c.requires.1)) c.place-at.ensures c.text_of.ensures c.hash_of-hash.ensures c.put.ensures)
+    (omega arith, chained_more c.loop-row.invariant.1 (omega (arith, c.loop-row-test.true, c.requires.1)) c.place-place.ensures c.text_of.ensures c.hash_of-hash.ensures c.put.ensures)
 
 pub shape_of-words : goal.shape_of-words
 shape_of-words c = c.loop-row.invariant.1.stays.long ∙ c.clear.auto.words

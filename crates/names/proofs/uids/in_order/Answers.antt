@@ -1,8 +1,10 @@
-use Rattle.names.proofs.Wording.{row_there, row_absent}
+use Rattle.rows.specs.Rows.{calendar_meaning}
 use Rattle.names.proofs.uids.in_order.Goals as goal
 
-pub returns-in-Some : goal.returns-in-Some
-returns-in-Some c = row_there _ _ c.in-Some.is c.order_row.ensures c.place.ensures
+pub returns-in_err-r : goal.returns-in_err-r
+unfolding calendar_meaning
+returns-in_err-r c = rw (c.from_residual.ensures, c.in_err-r.was)
 
-pub returns-in-None : goal.returns-in-None
-returns-in-None c = row_absent _ _ c.in-None.is
+pub returns : goal.returns
+unfolding calendar_meaning
+returns c = rw (c.in_ok-r.was, c.order_row.ensures, c.part.ensures, c.place.ensures)

@@ -9,10 +9,10 @@ pub returns-in_default : goal.returns-in_default
 returns-in_default c = uids_none c.room_for.ensures c.in_default.is
 
 pub note_places-count-requires : goal.note_places-count-requires
-note_places-count-requires c = let a = c.args in made_ripe a.s.now (root_at a.s.now a.root) (length a.words.now) a.at (sym c.in-Some.is ∙ c.room_for.ensures)
+note_places-count-requires c = let a = c.args in made_ripe a.root.tree.now (root_at a.root) (length a.words.now) a.at (sym c.in-Some.is ∙ c.room_for.ensures)
 
 pub chain_rows-requires : goal.chain_rows-requires
-chain_rows-requires c = chain_fits (let a = c.args in made_ripe a.s.now (root_at a.s.now a.root) (length a.words.now) a.at (sym c.in-Some.is ∙ c.room_for.ensures)) c.note_places-count.ensures
+chain_rows-requires c = chain_fits (let a = c.args in made_ripe a.root.tree.now (root_at a.root) (length a.words.now) a.at (sym c.in-Some.is ∙ c.room_for.ensures)) c.note_places-count.ensures
 
 pub returns : goal.returns
-returns c = uids_ready c.room_for.ensures c.in-Some.is (uids_made (let a = c.args in made_ripe a.s.now (root_at a.s.now a.root) (length a.words.now) a.at (sym c.in-Some.is ∙ c.room_for.ensures)) c.note_places-count.ensures c.chain_rows.ensures)
+returns c = uids_ready c.room_for.ensures c.in-Some.is (uids_made (let a = c.args in made_ripe a.root.tree.now (root_at a.root) (length a.words.now) a.at (sym c.in-Some.is ∙ c.room_for.ensures)) c.note_places-count.ensures c.chain_rows.ensures)

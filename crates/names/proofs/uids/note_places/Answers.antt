@@ -1,30 +1,31 @@
-use native.Mathlib.Omega.{arith}
-use Rattle.rows.specs.Turns.{order_less}
+use Rattle.std.proofs.Common.{sym, ap, ◌∙◌, arith}
+use Rattle.rows.specs.Walks.{calendars_left}
+use Rattle.rows.specs.declared.built.CalendarsInOrder.{CalendarsInOrder}
 use Rattle.names.proofs.Placing.{placing_begin, placing_end, placing_more, placing_at, placing_turn}
 use Rattle.names.proofs.uids.note_places.Goals as goal
 
 pub loop-e-init : goal.loop-e-init
-loop-e-init c = placing_begin c.requires c.first_calendar-e.ensures
+loop-e-init c =
+    let e = c.into_iter-e-iterator.ensures.into_iter_gives in
+    (placing_begin c.requires (sym (ap (λ (k : CalendarsInOrder). calendars_left k) e ∙ c.calendars-e-items.ensures.is)), rw e c.calendars-e-items.ensures.of)
 
 pub overflow_sub-result : goal.overflow_sub-result
-overflow_sub-result c = c.loop-e.invariant.few
+overflow_sub-result c = c.loop-e.invariant.0.few
 
 pub shape_of-words : goal.shape_of-words
-shape_of-words c = c.loop-e.invariant.stays.long
+shape_of-words c = c.loop-e.invariant.0.stays.long
 
 pub returns : goal.returns
-returns c = placing_end c.requires c.loop-e.invariant c.in_default.is
+returns c = placing_end c.requires c.loop-e.invariant.0 c.in-None.ensures.steps.0
 
 pub overflow_sub-left : goal.overflow_sub-left
-overflow_sub-left c = omega (arith, placing_more c.requires c.loop-e.invariant c.in-Some.is)
+overflow_sub-left c = omega (arith, placing_more c.requires c.loop-e.invariant.0 c.in-Some.e c.in-Some.ensures.steps.0)
 
-pub overflow_cast-at : goal.overflow_cast-at
-overflow_cast-at c =
-    omega (arith, placing_at c.requires c.loop-e.invariant c.in-Some.is)
-
-pub loop-e-smaller : goal.loop-e-smaller
-loop-e-smaller c = order_less c.in-Some.is c.next_calendar-e.ensures
+pub overflow_cast-e : goal.overflow_cast-e
+overflow_cast-e c =
+    omega (arith, placing_at c.requires c.loop-e.invariant.0 c.in-Some.e c.in-Some.ensures.steps.0 (c.in-Some.ensures.steps.1 _ c.loop-e.invariant.1).0)
 
 pub loop-e-preserved : goal.loop-e-preserved
 loop-e-preserved c =
-    placing_turn c.requires c.loop-e.invariant c.in-Some.is c.set_word.ensures c.next_calendar-e.ensures
+    let at = c.in-Some.ensures.steps.1 _ c.loop-e.invariant.1 in
+    (placing_turn c.requires c.loop-e.invariant.0 c.in-Some.e c.in-Some.ensures.steps.0 at.0 c.set_word.ensures, at.1)
