@@ -16,7 +16,7 @@ use Rattle.std.specs.Prelude.{Ok, Err}
 
 -- ---- the loops: with what is left, the count is that of all
 
-module _ {find : Finder} {t n : Fates} {ls : List Element} (h : t ≡ counted_in find n ls) where
+module _ (find : Finder) {t : Fates} (n : Fates) {ls : List Element} (h : t ≡ counted_in find n ls) where
   pub count_next : {l : Element} {k : List Element} {f : LinkFate} {n' : Fates} → ls ≡ l ∷ k → f ≡ fate_for find l → n' ≡ counted_by n f → t ≡ counted_in find n' k
   unfolding counted_in
   count_next {k = k} e i j = h ∙ ap (counted_in find n) e ∙ ap (λ (m : Fates). counted_in find m k) (ap (counted_by n) (sym i) ∙ sym j)
@@ -25,9 +25,9 @@ module _ {find : Finder} {t n : Fates} {ls : List Element} (h : t ≡ counted_in
   unfolding counted_in
   count_end e = sym (h ∙ ap (counted_in find n) e)
 
-pub tasks_next : {find : Finder} {t n : Fates} {ts : List Element} → t ≡ counted_of find n ts → {u : Element} {k : List Element} {n' : Fates} → ts ≡ u ∷ k → n' ≡ counted_in find n (all u (bytes "PredecessorLink")) → t ≡ counted_of find n' k
+pub tasks_next : (find : Finder) {t : Fates} (n : Fates) {ts : List Element} → t ≡ counted_of find n ts → {u : Element} {k : List Element} {n' : Fates} → ts ≡ u ∷ k → n' ≡ counted_in find n (all u (bytes "PredecessorLink")) → t ≡ counted_of find n' k
 unfolding counted_of
-tasks_next {find} {n = n} h {k = k} e j = h ∙ ap (counted_of find n) e ∙ ap (λ (m : Fates). counted_of find m k) (sym j)
+tasks_next find n h {k = k} e j = h ∙ ap (counted_of find n) e ∙ ap (λ (m : Fates). counted_of find m k) (sym j)
 
 -- ---- what was counted
 

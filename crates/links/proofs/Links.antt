@@ -1,5 +1,5 @@
 -- Link elements: what becomes of one, and the kept ones written one after another. Assumes nothing.
-use Rattle.std.proofs.Common.{◌≡◌, ℕ, ◌+◌, ◌%◌, ◌^◌, Bool, true, false, List, [], ◌∷◌, length, sym, ap, ◌∙◌}
+use Rattle.std.proofs.Common.{◌≡◌, ℕ, ◌+◌, ◌%◌, ◌^◌, ◌==◌, Bool, true, false, List, [], ◌∷◌, length, sym, ap, ◌∙◌}
 use Rattle.std.specs.Prelude.{Option}
 use Rattle.definition.specs.Base.{◌>>=◌, ◌or◌, some?}
 use Rattle.definition.specs.Ascii.{bytes}
@@ -36,14 +36,14 @@ module _ (find : Finder) (l : Element) where
   fate_across e = rw e
 
   module _ (e : yes_in l "CrossProject" ≡ false) (t : Text) (j : t ≡ (text_in l "PredecessorUID" or [])) where
-    pub fate_none : length t ≡ 0 → Err Dangling ≡ fate_for find l
+    pub fate_none : {b : Bool} → b ≡ (length t == 0) → b ≡ true → Err Dangling ≡ fate_for find l
     unfolding fate_for
-    fate_none h = rw (e, ← text_missing (text_in l "PredecessorUID") find (given_none l (bytes "PredecessorUID") t j h))
+    fate_none h k = rw (e, ← text_missing (text_in l "PredecessorUID") find (given_none l (bytes "PredecessorUID") t j h k))
 
-    pub fate_row : (length t ≡ 0 → ⊥) → {a : Option ℕ} → a ≡ find t → {r : LinkFate} → r ≡ ok_or a Dangling → r ≡ fate_for find l
+    pub fate_row : {b : Bool} → b ≡ (length t == 0) → b ≡ false → {a : Option ℕ} → a ≡ find t → {r : LinkFate} → r ≡ ok_or a Dangling → r ≡ fate_for find l
     unfolding fate_for
-    fate_row h {a} k m =
-        let z : a ≡ (text_in l "PredecessorUID" >>= find) = k ∙ text_given (text_in l "PredecessorUID") find (given_some l (bytes "PredecessorUID") t j h) j in
+    fate_row h g {a} k m =
+        let z : a ≡ (text_in l "PredecessorUID" >>= find) = k ∙ text_given (text_in l "PredecessorUID") find (given_some l (bytes "PredecessorUID") t j h g) j in
         rw e (m ∙ ap (λ (o : Option ℕ). ok_or o Dangling) z)
 
   pub fate_kept : {f : LinkFate} {b v : Bool} → f ≡ fate_for find l → b ≡ is_ok f → b ≡ v → is_kept_link find l ≡ v
@@ -51,7 +51,7 @@ module _ (find : Finder) (l : Element) where
 
 -- ---- whether one of those that are left is kept
 
-module _ {find : Finder} {b : Bool} {ls : List Element} (h : b ≡ some? (is_kept_link find) ls) where
+module _ (find : Finder) {b : Bool} {ls : List Element} (h : b ≡ some? (is_kept_link find) ls) where
   pub entered_end : ls ≡ [] → false ≡ b
   unfolding some?
   entered_end e = sym (h ∙ rw e)
@@ -83,7 +83,7 @@ module _ (per_day row : ℕ) (l : Element) {d : List ℕ} {done : Records} where
   pub put_one : (x : Link) {d' : List ℕ} {q : Place} {n : ℕ} → link_kind_code x.kind ≡ link_kind l → lag_means x.lag ≡ link_lag per_day l → x.successor ≡ row → Puts (whole link) (link_by x) d done.next d' q → n ≡ (done.count + 1) % 2 ^ 32
       → More (whole link) (links_for per_day row l (Ok x.predecessor)) d done d' (record { count = n; next = q })
   unfolding links_for
-  put_one x e h k i j = more_one (put_same (rw k (link_is per_day l x e h)) i) j
+  put_one x e h k i j = more_one (put_same (link_is per_day l x e h ∙ ap (λ (r : ℕ). link_of (day_only per_day) x.predecessor r l) k) i) j
 
   pub put_none : {f : LinkFate} {why : LeftOut} → f ≡ Err why → More (whole link) (links_for per_day row l f) d done d done
   unfolding links_for

@@ -11,11 +11,10 @@ mod writing; // the kept ones
 
 pub use counting::count_fates;
 pub use fate::is_entered;
-pub use writing::put_links;
-
 use index::Table;
 use rows::Listed;
 use tree::Root;
+pub use writing::put_links;
 
 // How many link elements dangle, and how many go across. pack's Skips has these two among its four: to hold this would give them a longer name.
 #[derive(Clone, Copy, Debug, PartialEq, Eq)]

@@ -8,8 +8,8 @@ returns-then-is_across c = fate_across _ (meaning c.args.link) (sym c.is_across.
 
 pub returns-then-is_empty : goal.returns-then-is_empty
 returns-then-is_empty c =
-    fate_none _ (meaning c.args.link) (sym c.is_across.ensures ∙ c.if-is_across.false) _ c.text_of-uid.ensures (is_empty c.if-is_empty.true)
+    fate_none _ (meaning c.args.link) (sym c.is_across.ensures ∙ c.if-is_across.false) _ c.text_of-uid.ensures c.is_empty.ensures c.if-is_empty.true
 
 pub returns : goal.returns
 returns c =
-    fate_row _ (meaning c.args.link) (sym c.is_across.ensures ∙ c.if-is_across.false) _ c.text_of-uid.ensures c.if-is_empty.false c.row.ensures c.ok_or.ensures.value
+    fate_row _ (meaning c.args.link) (sym c.is_across.ensures ∙ c.if-is_across.false) _ c.text_of-uid.ensures c.is_empty.ensures c.if-is_empty.false c.row.ensures c.ok_or.ensures.value

@@ -1,4 +1,6 @@
 use Rattle.std.proofs.Common.{refl, ◌∙◌, sym, ap, length, arith}
+use Rattle.laws.specs.FitTrees.{tasks_most}
+use Rattle.tree.specs.Root.{root_at}
 use Rattle.rows.specs.Walks.{kept_left}
 use Rattle.rows.specs.declared.kept.KeptTasks.{KeptTasks}
 use Rattle.links.specs.More.{more_all}
@@ -6,7 +8,9 @@ use Rattle.links.proofs.Links.{from_begin, from_next, from_end}
 use Rattle.links.proofs.writing.put_links.Goals as goal
 
 pub loop-task-init : goal.loop-task-init
-loop-task-init c = (refl, from_begin _ _ c.per_day-per_day.ensures (sym (ap (λ (x : KeptTasks). kept_left x) c.into_iter-task-iterator.ensures.into_iter_gives ∙ c.kept_tasks-task-items.ensures.is)), ?)
+loop-task-init c =
+    let e = ap (λ (k : KeptTasks). kept_left k) c.into_iter-task-iterator.ensures.into_iter_gives ∙ c.kept_tasks-task-items.ensures.is in
+    (refl, from_begin _ _ c.per_day-per_day.ensures (sym e), omega (arith, ap length e, tasks_most (root_at c.args.tasks.root)))
 
 pub shape_of-out : goal.shape_of-out
 shape_of-out c = c.loop-task.invariant.0
