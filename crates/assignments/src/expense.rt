@@ -44,7 +44,8 @@ impl<'a> Key<'a> {
         ensures { result ≡ is_expense_at out.now p self.entry.activity self.entry.name.now }
     {
         let row = bits::take(out, p, 32);
-        u64::from(self.activity) == row.value && text::same(self.name, names::raw_text(out, row.next))
+        u64::from(self.activity) == row.value
+            && text::same(self.name, names::raw_text(out, row.next))
     }
 
     // Whether one of so many from a place on has it, where they stand there.
@@ -171,6 +172,7 @@ fn put_new(out: &mut [u8], start: Place, used: Used, words: &mut [u32], x: Expen
 fn put_all(out: &mut [u8], p: Place, tables: Tables<'_>, words: &mut [u32]) -> Done
     ensures { WroteBeside (ends_at tables.entry) (expenses_by (finders_at words.old tables.entry) (root_at tables.entry.root)) out.old p words.old out.new result words.new }
 {
+    rows::are_bytes(tables.root.tree);
     let section = tables.root.part(tables.root.assignments);
     let end = tables.end(words.len());
     let made = table_behind(words, end, count_assignments(section));

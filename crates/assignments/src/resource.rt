@@ -82,7 +82,8 @@ impl<'a> Section<'a> {
         ensures { given_by starred result ≡ bind (text_in (meaning e.entry) "CalendarUID") (section_names self.entry out.now words.now) }
     {
         let uid = said(e, b"CalendarUID")?;
-        names::calendar_in(out, self.calendars, self.root, words, self.names, uid)
+        let name = names::calendar_in(out, self.calendars, self.root, words, self.names, uid);
+        Starred::named(name.text, name.stars)
     }
 
     // One more.
@@ -103,6 +104,7 @@ impl<'a> Section<'a> {
     fn put(self, out: &mut [u8], words: &mut [u32]) -> Done
         ensures { PutsResources self.entry out.old words.old out.new words.new result }
     {
+        rows::are_bytes(self.root.tree);
         let mut done = Done::none(self.start);
         for e in rows::elements(self.root, Listed::Work) {
             done = self.put_one(out, words, done, e);
