@@ -1,6 +1,6 @@
 -- Expenses: whether one stands in the buffer, and one after another, the first of equal ones. Assumes nothing.
 use Rattle.std.specs.Prelude.{if◌then◌else◌}
-use Rattle.std.proofs.Common.{◌≡◌, ℕ, ◌+◌, ◌-◌, ◌%◌, ◌^◌, ◌<◌, ◌≤◌, Bool, true, false, ◌&&◌, ◌||◌, eqb, List, [], ◌∷◌, ◌++◌, map, length, drop, sym, refl, ap, ◌∙◌, append-nil, mod-eq_of_lt, arith, drop_of_length-le}
+use Rattle.std.proofs.Common.{◌≡◌, ℕ, ◌+◌, ◌-◌, ◌%◌, ◌^◌, ◌<◌, ◌≤◌, Bool, true, false, ◌&&◌, ◌||◌, eqb, List, [], ◌∷◌, ◌++◌, map, length, drop, sym, refl, ap, ◌∙◌, append-nil, mod-eq_of_lt, arith, eq-eqb, eqb-true, drop_of_length-le}
 use native.Mathlib.Nat.{sub-zero}
 use Rattle.std.specs.Prelude.{Option, Some, None}
 use Rattle.definition.specs.Base.{◌or◌, present, some?, same}
@@ -39,10 +39,20 @@ use Rattle.assignments.specs.InUse.{is_of}
 
 -- ---- the expense at a place
 
-pub expense_at : (d : List ℕ) (p : Place) (activity : ℕ) (name : Text) {x : Field ℕ Place} {t : Text} {b : Bool} → x ≡ taken_at d p 32 → t ≡ ((read_at raw d x.next).0 or []) → b ≡ same name t
-    → (eqb activity x.value && b) ≡ is_expense_at d p activity name
-unfolding is_expense_at
-expense_at d p activity name e h i = rw (i, h, e)
+module _ (d : List ℕ) (p : Place) (activity : ℕ) (name : Text) {x : Field ℕ Place} (e : x ≡ taken_at d p 32) {v : ℕ} (f : v ≡ activity) where
+  pub expense_at : v ≡ x.value → {t : Text} {b : Bool} → t ≡ ((read_at raw d x.next).0 or []) → b ≡ same name t → b ≡ is_expense_at d p activity name
+  unfolding is_expense_at
+  expense_at z h i =
+      let k : eqb activity (taken_at d p 32).value ≡ true = eq-eqb _ _ (sym f ∙ z ∙ ap (λ x. x.value) e) in
+      rw (k, i, h, e)
+
+  pub expense_not : (v ≡ x.value → ⊥) → eqb v x.value ≡ is_expense_at d p activity name
+  unfolding is_expense_at
+  expense_not z = rw (f, e) (by (eqb activity (taken_at d p 32).value) refl)
+    where
+      by : (b : Bool) → eqb activity (taken_at d p 32).value ≡ b → b ≡ (b && same name ((read_at raw d (taken_at d p 32).next).0 or []))
+      by true k = absurd (z (f ∙ eqb-true _ _ k ∙ sym (ap (λ x. x.value) e)))
+      by false k = refl
 
 pub key_at : {d : List ℕ} {p : Place} {t : ExpenseFields} (activity : ℕ) (name : Text) → Stands plain_expenses d p t → is_expense_at d p activity name ≡ is_key activity name t
 unfolding is_expense_at expense_parts

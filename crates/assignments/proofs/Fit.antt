@@ -88,8 +88,8 @@ pub record FineResources (rows : ℕ) (left : List Element) (xs : List Resource)
   pub few : length xs + length left ≤ rows
   pub most : rows ≤ most_elements
 
-pub fine_all : {es fs : List Element} → length fs ≡ length es → length es ≤ most_elements → FineResources (length es) fs []
-fine_all e h = record { fit = empty; few = omega arith; most = h }
+pub fine_all : (es : List Element) {fs : List Element} → length fs ≡ length es → length es ≤ most_elements → FineResources (length es) fs []
+fine_all es e h = record { fit = empty; few = omega arith; most = h }
 
 pub fine_on : {rows : ℕ} (x : Context) → Each (λ (n : Named). Short n.1.name) x.built → {e : Element} (fs : List Element) → Small e → (xs : List Resource) → FineResources rows (e ∷ fs) xs
     → FineResources rows fs (resources_after x xs (e ∷ []))

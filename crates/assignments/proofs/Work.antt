@@ -1,10 +1,8 @@
 -- The work resources: how many there are, and one by one. Assumes nothing.
 use Rattle.index.specs.declared.Table.{Table}
 use Rattle.names.specs.declared.ids.Ids.{Ids}
-use Rattle.std.proofs.Common.{◌≡◌, ℕ, suc, ◌+◌, ◌%◌, ◌^◌, ◌<◌, ◌≤◌, min, Bool, true, false, not, ◌&&◌, ◌||◌, leb, ltb, List, [], ◌∷◌, ◌++◌, map, length, ℤ, sym, refl, ap, ◌∙◌, subst, mod-eq_of_lt, arith, length-append, le-ltb, lt-ltb, leb-false, leb-true}
-use mathlib.Core.Bool.{and-eq-true_iff}
+use Rattle.std.proofs.Common.{◌≡◌, ℕ, suc, ◌+◌, ◌%◌, ◌^◌, ◌<◌, ◌≤◌, min, Bool, true, false, not, ◌&&◌, ◌||◌, leb, ltb, List, [], ◌∷◌, ◌++◌, map, length, ℤ, sym, refl, ap, ◌∙◌, subst, mod-eq_of_lt, arith, length-append, le-leb}
 use Rattle.std.specs.Prelude.{Option, Some, None}
-use borrow.Author.Tests.{not-true, not-false}
 use Rattle.definition.specs.Base.{◌>>=◌, ◌or◌}
 use Rattle.definition.specs.Text.{Text}
 use Rattle.definition.specs.Tree.{Element}
@@ -29,7 +27,7 @@ use Rattle.model.specs.declared.records.Kind.TheVariants.{Resources}
 use Rattle.tree.specs.Root.{root_at}
 use Rattle.tree.specs.declared.root.Root.{Root}
 use Rattle.pack.specs.Value.{starred_by}
-use Rattle.pack.specs.Writes.{no_records, WritesIf, put_any, writes_if, writes_not}
+use Rattle.pack.specs.Writes.{WritesIf, put_any, writes_if}
 use Rattle.pack.specs.declared.record.Records.{Records}
 use Rattle.names.specs.Texts.{texts_at}
 use Rattle.names.specs.Cleared.{below_cleared, cleared_below, below_less}
@@ -49,16 +47,6 @@ use Rattle.assignments.specs.Section.{Wrote}
 use Rattle.assignments.specs.Resources.{wanted_id, resource_with, HeldIn, section_names, FewResources, Adds, PutsResources}
 use Rattle.assignments.proofs.Turns.{wrote_more, wrote_as, writes, Going, going_all, going_more, going_end}
 use Rattle.assignments.proofs.Fit.{each_head, each_rest, FineResources, fine_all, fine_on, fine_few}
-
--- ---- how many
-
--- at most so many
-pub few_is : (m n : ℕ) → n ≡ min m 4294967295 → ltb most_elements n ≡ not (leb m most_elements)
-few_is m n e = by (leb m most_elements) refl
-  where
-    by : (t : Bool) → leb m most_elements ≡ t → ltb most_elements n ≡ not t
-    by true h = let k = leb-true m most_elements h in le-ltb n most_elements (omega arith)
-    by false h = let k = leb-false m most_elements h in lt-ltb most_elements n (omega arith)
 
 -- ---- one
 
@@ -109,19 +97,7 @@ module _ (k : Section) {d : List ℕ} {r : Done} {d' : List ℕ} {q : Place} {r'
     (named : name ≡ (text_in a "CalendarUID" >>= section_names k d w)) (puts : Puts (whole resource) (resource_with name (starred_by (wanted_id a) stars) a) d r.next d' q)
     (notes : w' ≡ noted_by w k.ids (r.count % 2 ^ 32) (wanted_id a) stars (r.next.byte % 2 ^ 32))
     (n : (r'.count ≡ (r.count + 1) % 2 ^ 64) × (r'.next ≡ q)) where
-  abbrev c : Place
-  c = k.calendars
-
-  abbrev root : Element
-  root = root_at k.root
-
-  abbrev start : Place
-  start = k.start
-
-  abbrev m : Option Ids
-  m = k.ids
-
-  module _ (rows : ℕ) (d₀ : List ℕ) (xs : List Resource) (ok : FewResources k w rows 1 d₀ xs) (held : HeldIn m start d w r) (wrote : Wrote (whole resource) true xs d₀ start d r) where
+  module _ (rows : ℕ) (d₀ : List ℕ) (xs : List Resource) (ok : FewResources k w rows 1 d₀ xs) (held : HeldIn k.ids k.start d w r) (wrote : Wrote (whole resource) true xs d₀ k.start d r) where
     few : length xs < rows
     few = omega (arith, ok.room)
 
@@ -135,40 +111,40 @@ module _ (k : Section) {d : List ℕ} {r : Done} {d' : List ℕ} {q : Place} {r'
     low_now = low_is count_now short
 
     made : Resource
-    made = resource_of (context_at d₀ c root) (names_of xs) a
+    made = resource_of (context_at d₀ k.calendars (root_at k.root)) (names_of xs) a
 
     module _ (i : inside (length d) r.next ≡ true) where
-      texts_are : texts_at Resources d start (length xs) ≡ names_of xs
+      texts_are : texts_at Resources d k.start (length xs) ≡ names_of xs
       texts_are = texts_resources (length xs) wrote.puts i ok.fit
 
-      stars_are : starred_by (wanted_id a) stars ≡ free (texts_at Resources d start (length xs)) (wanted_id a)
+      stars_are : starred_by (wanted_id a) stars ≡ free (texts_at Resources d k.start (length xs)) (wanted_id a)
       stars_are =
-          say ∙ ap (λ (i : ℕ). starred_in Resources d start r.next w m i (wanted_id a)) low_now ∙ stars_free (rw count_now at (held.noted i)) r.next i (wanted_id a)
+          say ∙ ap (λ (i : ℕ). starred_in Resources d k.start r.next w k.ids i (wanted_id a)) low_now ∙ stars_free (rw count_now at (held.noted i)) r.next i (wanted_id a)
 
     put_made : Puts (whole resource) made d r.next d' q
     unfolding made
     put_made = by_end (inside (length d) r.next) refl
       where
-        by_end : (i : Bool) → inside (length d) r.next ≡ i → Puts (whole resource) (resource_of (context_at d₀ c root) (names_of xs) a) d r.next d' q
+        by_end : (i : Bool) → inside (length d) r.next ≡ i → Puts (whole resource) (resource_of (context_at d₀ k.calendars (root_at k.root)) (names_of xs) a) d r.next d' q
         by_end false i = put_any _ i puts
         by_end true i =
-            let x = context_at d₀ c root in
+            let x = context_at d₀ k.calendars (root_at k.root) in
             let y : name ≡ (text_in a "CalendarUID" >>= name_of x.built >>= unless_main x) =
-            named ∙ ap (λ (x : Context). text_in a "CalendarUID" >>= named_in x k.root.tree.now w k.names) (context_carried wrote.puts.step c root ok.stand) ∙ name_found_lem x ok.finds (text_in a "CalendarUID") in
+            named ∙ ap (λ (x : Context). text_in a "CalendarUID" >>= named_in x k.root.tree.now w k.names) (context_carried wrote.puts.step k.calendars (root_at k.root) ok.stand) ∙ name_found_lem x ok.finds (text_in a "CalendarUID") in
             put_same (resource_free x (names_of xs) a y (stars_are i ∙ ap (λ (ids : List Text). free ids (wanted_id a)) (texts_are i))) puts
 
-    wrote_made : Wrote (whole resource) true (xs ++ (made ∷ [])) d₀ start d' r'
+    wrote_made : Wrote (whole resource) true (xs ++ (made ∷ [])) d₀ k.start d' r'
     wrote_made = wrote_more wrote put_made n
 
-    after_is : xs ++ (made ∷ []) ≡ resources_after (context_at d₀ c root) xs (a ∷ [])
+    after_is : xs ++ (made ∷ []) ≡ resources_after (context_at d₀ k.calendars (root_at k.root)) xs (a ∷ [])
     unfolding made
-    after_is = one_after (context_at d₀ c root) xs a
+    after_is = one_after (context_at d₀ k.calendars (root_at k.root)) xs a
 
     id_made : inside (length d) r.next ≡ true → made.id ≡ starred_by (wanted_id a) stars
     unfolding made resource_of
     id_made i = sym (stars_are i ∙ ap (λ (ids : List Text). free ids (wanted_id a)) (texts_are i))
 
-    holds_made : Each (FitsResourceBy Short) (xs ++ (made ∷ [])) → HeldIn m start d' w' r'
+    holds_made : Each (FitsResourceBy Short) (xs ++ (made ∷ [])) → HeldIn k.ids k.start d' w' r'
     holds_made f = record {
       opened = rw puts.step.same held.opened;
       noted = λ there.
@@ -182,7 +158,7 @@ module _ (k : Section) {d : List ℕ} {r : Done} {d' : List ℕ} {q : Place} {r'
   adds_work = record {
     adds = λ rows. record { goes = λ d₀ xs ok wrote. wrote_as (after_is rows d₀ xs ok.0 ok.1 wrote) (wrote_made rows d₀ xs ok.0 ok.1 wrote) };
     holds = λ rows d₀ xs ok held wrote f. holds_made rows d₀ xs ok held wrote (subst (Each (FitsResourceBy Short)) (sym (after_is rows d₀ xs ok held wrote)) f);
-    keeps = λ from h. ap (cleared from) notes ∙ cleared_below (notes_below w m (r.count % 2 ^ 32) (wanted_id a) stars (r.next.byte % 2 ^ 32) h);
+    keeps = λ from h. ap (cleared from) notes ∙ cleared_below (notes_below w k.ids (r.count % 2 ^ 32) (wanted_id a) stars (r.next.byte % 2 ^ 32) h);
   }
 
 -- ---- what the callees say, about the element's own texts
@@ -212,7 +188,7 @@ pub record Going-in (k : Section) (es fs : List Element) (d w d' w' : List ℕ) 
 
 module _ (k : Section) {es : List Element} {d w : List ℕ} where
   pub go_all : {fs : List Element} → fs ≡ es → Each Small es → Going-in k es fs d w d w (record { count = 0; next = k.start })
-  go_all e s = record { going = λ b h held f l. (going_all e (fine_all (ap length e) h), held); keeps = λ from h. refl; small = rw e s }
+  go_all e s = record { going = λ b h held f l. (going_all e (fine_all es (ap length e) h), held); keeps = λ from h. refl; small = rw e s }
 
   module _ {e : Element} {l fs : List Element} {d1 w1 : List ℕ} {r1 : Done} {d2 w2 : List ℕ} {r2 : Done} (z : l ≡ e ∷ fs) (g' : Going-in k es l d w d1 w1 r1) (h : Adds k e d1 w1 r1 d2 w2 r2) where
     g : Going-in k es (e ∷ fs) d w d1 w1 r1
@@ -253,38 +229,22 @@ behind_less k h i e = let (a, b) = h i e in (omega arith, omega arith)
 
 -- ---- all
 
-abbrev Tested : List ℕ → Place → Element → Place → Bool
-Tested d c root p = leb (length (work_resources root)) most_elements && calendars_before d c root p
-
 module _ (d : List ℕ) (c : Place) (root : Root) (p : Place) {n : ℕ} {u : Bool} (count : n ≡ min (length (work_resources (root_at root))) 4294967295) (eu : u ≡ calendars_before d c (root_at root) p) where
   abbrev e : Element
   e = root_at root
 
-  tested : (ltb most_elements n || not u) ≡ not (Tested d c e p)
-  tested = rw (few_is (length (work_resources e)) n count, eu) (by (leb (length (work_resources e)) most_elements) (calendars_before d c e p))
-    where
-      by : (a b : Bool) → (not a || not b) ≡ not (a && b)
-      by true b = refl
-      by false b = refl
-
-  pub resources_not : (ltb most_elements n || not u) ≡ true → WritesIf (Tested d c e p) (whole resource) (resources (context_at d c e) e) d p d no_records
-  resources_not h = writes_not (whole resource) (not-true (Tested d c e p) (sym tested ∙ h)) refl
-
-  module _ (h : (ltb most_elements n || not u) ≡ false) where
-    holds : Tested d c e p ≡ true
-    holds = not-false (Tested d c e p) (sym tested ∙ h)
-
-    pub resources_all : {from : ℕ} {t : CalendarTable} {m : Option Ids} {w w₁ w₂ w₃ d' : List ℕ} {r : Done} {a : Records}
-        → Makes d c root.tree.now e from w w₁ t → (m ≡ ids_for (length d) p (length w₁) t.end n) × (w₂ ≡ begun w₁ m)
-        → PutsResources (record { root = root; calendars = c; start = p; names = t.table; ids = m }) d w₂ d' w₃ r → (a.count ≡ r.count % 2 ^ 32) × (a.next ≡ r.next)
-        → WritesIf (Tested d c e p) (whole resource) (resources (context_at d c e) e) d p d' a × (cleared from w₃ ≡ cleared from w)
-    resources_all {from} {t} {m} {w} {w₁} {w₂} i (j, v) g o =
-        let (most, stand) = (and-eq-true_iff (leb (length (work_resources e)) most_elements) (calendars_before d c e p)).0 holds in
-        let held : HeldIn m p d w₂ (record { count = 0; next = p }) = record { opened = begun_open (length d) p w₁ t.end n j; noted = λ there. rw v (begun_noted (length d) p w₁ t.end n j Resources d) } in
-        let behind = begun_behind (length d) p w₁ t.end n j in
-        let (at, end) = makes_behind i in
-        let ids : SameBelow t.end w₁ w₂ = rw v (begun_same (length d) p w₁ t.end n j (λ l h. omega arith)) in
-        let found = finds_kept (below_less end ids) (makes_finds i) in (
-          writes_if (whole resource) holds (writes (g.puts stand (leb-true _ _ most) held found (behind_less end behind)) o),
-          g.keeps from (behind_less at behind) ∙ cleared_below (below_less at ids) ∙ cleared_below (makes_below i),
-        )
+  pub resources_all : n ≤ most_elements → u ≡ true → {from : ℕ} {t : CalendarTable} {m : Option Ids} {w w₁ w₂ w₃ d' : List ℕ} {r : Done} {a : Records}
+      → Makes d c root.tree.now e from w w₁ t → (m ≡ ids_for (length d) p (length w₁) t.end n) × (w₂ ≡ begun w₁ m)
+      → PutsResources (record { root = root; calendars = c; start = p; names = t.table; ids = m }) d w₂ d' w₃ r → (a.count ≡ r.count % 2 ^ 32) × (a.next ≡ r.next)
+      → WritesIf (leb (length (work_resources e)) most_elements && calendars_before d c e p) (whole resource) (resources (context_at d c e) e) d p d' a × (cleared from w₃ ≡ cleared from w)
+  resources_all few eb {from} {t} {m} {w} {w₁} {w₂} i (j, v) g o =
+      let most : length (work_resources e) ≤ most_elements = omega arith in
+      let stand : calendars_before d c e p ≡ true = sym eu ∙ eb in
+      let held : HeldIn m p d w₂ (record { count = 0; next = p }) = record { opened = begun_open (length d) p w₁ t.end n j; noted = λ there. rw v (begun_noted (length d) p w₁ t.end n j Resources d) } in
+      let behind = begun_behind (length d) p w₁ t.end n j in
+      let (at, end) = makes_behind i in
+      let ids : SameBelow t.end w₁ w₂ = rw v (begun_same (length d) p w₁ t.end n j (λ l h. omega arith)) in
+      let found = finds_kept (below_less end ids) (makes_finds i) in (
+        writes_if (whole resource) (rw (le-leb _ _ most, stand)) (writes (g.puts stand most held found (behind_less end behind)) o),
+        g.keeps from (behind_less at behind) ∙ cleared_below (below_less at ids) ∙ cleared_below (makes_below i),
+      )

@@ -77,9 +77,6 @@ go_all {n} f {es} e {w = w} h k = record {
 }
 
 module _ (t : Tables) (b : Bytes t.root.tree.now) {w : List ℕ} {es : List Element} (few : length es < 2 ^ 63) {d : List ℕ} {p : Place} where
-  abbrev f : Finders
-  f = finders_at w t
-
   module _ {e : Element} {l fs : List Element} {d1 : List ℕ} {u1 : Used} {w1 : List ℕ} (z : l ≡ e ∷ fs) (g' : Writing (ends_at t) (finders_at w t) es l d p w d1 u1 w1)
       {d2 : List ℕ} {u2 : Used} {w2 : List ℕ} (h : Notes p (expense_for (finders_at w1 t) e) d1 u1 w1 d2 u2 w2) where
     g : Writing (ends_at t) (finders_at w t) es (e ∷ fs) d p w d1 u1 w1

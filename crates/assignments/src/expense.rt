@@ -54,10 +54,11 @@ impl<'a> Key<'a> {
     {
         let mut q = p;
         for _ in 0..count {
+            let next = model::records::skip_record::<false>(out, q, Kind::Expenses);
             if self.is_at(out, q) {
                 return true;
             }
-            q = model::records::skip_record::<false>(out, q, Kind::Expenses);
+            q = next;
         }
         false
     }
@@ -100,6 +101,7 @@ impl<'a> Key<'a> {
 // ---- the table
 
 // One more at a place, where the table has a row for it and 32 bits hold its byte; else no table from here on.
+#[tactic(auto, unfolding(crate::specs::InUse::noted_by))]
 fn note(words: &mut [u32], made: Option<Table>, row: usize, p: Place, key: u32) -> Option<Table>
     ensures { (result ≡ (noted_by words.old made row p key).0) × (words.new ≡ (noted_by words.old made row p key).1) }
 {

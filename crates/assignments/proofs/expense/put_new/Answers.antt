@@ -7,4 +7,4 @@ pub returns-then-in_use : goal.returns-then-in_use
 returns-then-in_use c = notes_known (expense_by c.args.x) (omega arith) c.in_use.ensures c.if-in_use.true
 
 pub returns : goal.returns
-returns c = ?
+returns c = notes_new (expense_by c.args.x) (omega arith) c.in_use.ensures c.if-in_use.false c.put-next.ensures c.more.ensures c.hash.ensures c.note.ensures
