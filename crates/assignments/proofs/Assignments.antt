@@ -2,8 +2,7 @@
 use Rattle.std.proofs.Common.{◌≡◌, ℕ, ◌+◌, ◌%◌, ◌^◌, true, List, [], ◌∷◌, ◌++◌, map, sym, refl, ap, ◌∙◌, append_assoc, append-nil, subst, true≢false, false}
 use Rattle.std.specs.Prelude.{ℤ}
 use Rattle.std.specs.Prelude.{Option, Some, None}
-use Rattle.definition.specs.Base.{◌>>=◌, present}
-use Rattle.definition.specs.Text.{Text}
+use Rattle.definition.specs.Base.{present}
 use Rattle.definition.specs.Tree.{Element}
 use Rattle.definition.specs.Format.{whole}
 use Rattle.definition.specs.Pack.{assignment}

@@ -1,5 +1,5 @@
 -- Texts that may be missing: what is looked up by one, and the first of two. Assumes nothing.
-use Rattle.std.proofs.Common.{◌≡◌, Bool, true, false, not, eqb, List, [], ◌∷◌, ℕ, suc, arith, eqb-true, length, sym, refl, ap, ◌∙◌, true≢false, Bor}
+use Rattle.std.proofs.Common.{◌≡◌, Bool, true, false, not, eqb, [], ◌∷◌, suc, arith, eqb-true, length, sym, refl, ap, ◌∙◌, true≢false, Bor}
 use Rattle.std.specs.Prelude.{Option, Some, None}
 use Rattle.std.specs.Option.{option_map}
 use Rattle.std.specs.Bool.{then_some}

@@ -1,15 +1,13 @@
 -- The expenses in use, by a table: what it says of those that were written, and one more. Assumes nothing.
 use Rattle.std.specs.Prelude.{if◌then◌else◌}
-use Rattle.std.proofs.Common.{◌≡◌, ℕ, suc, ◌+◌, ◌*◌, ◌%◌, ◌^◌, ◌<◌, ◌≤◌, Bool, true, false, not, ◌&&◌, ◌||◌, eqb, ltb, leb, List, [], ◌∷◌, ◌++◌, map, length, get_or, take, drop, sym, refl, ap, ◌∙◌, subst, true≢false, mod-eq_of_lt, arith, length-append, ltb-false, ltb-true, le-ltb, lt-ltb, eq-eqb, eqb-true, leb-false}
+use Rattle.std.proofs.Common.{◌≡◌, ℕ, suc, ◌+◌, ◌*◌, ◌%◌, ◌^◌, ◌<◌, ◌≤◌, Bool, true, false, not, ◌&&◌, ◌||◌, eqb, ltb, leb, List, [], ◌∷◌, ◌++◌, map, length, get_or, take, drop, sym, refl, ap, ◌∙◌, true≢false, mod-eq_of_lt, arith, length-append, ltb-false, ltb-true, le-ltb, lt-ltb, eq-eqb, eqb-true, leb-false}
 use mathlib.Core.List.{map-append}
 use Rattle.std.specs.Prelude.{Option, Some, None}
 use borrow.Author.Tests.{lt-leb, not-false}
 use lib.ListN.{get_or-append}
 use lib.Seq.{split_at, take-append-le, take-append_seam, get_or-append_seam}
-use Rattle.definition.specs.Base.{◌>>=◌, ◌or◌, ◌or_else◌, when, given, find, find_last, present, some?, same, numbered}
+use Rattle.definition.specs.Base.{◌>>=◌, ◌or_else◌, when, given, find, find_last, present, some?, same, numbered}
 use Rattle.definition.specs.Text.{Text}
-use Rattle.definition.specs.Tree.{Element}
-use Rattle.definition.specs.Field.{text_in}
 use Rattle.definition.specs.Format.{whole}
 use Rattle.definition.specs.Model.{Expense}
 use Rattle.definition.specs.Pack.{expense}

@@ -1,6 +1,5 @@
 -- The records of a section, one after another: none, one more, and the turns of a loop over elements. Assumes nothing.
 use Rattle.std.proofs.Common.{◌≡◌, ℕ, ◌+◌, ◌*◌, ◌%◌, ◌^◌, Bool, true, false, ◌||◌, List, [], ◌∷◌, ◌++◌, length, sym, refl, ap, ◌∙◌, subst, true≢false, append_assoc, append-nil, length-append}
-use Rattle.std.specs.Prelude.{Ok}
 use native.Mathlib.Nat.{mod-add-mod}
 use lib.Pow.{mod-mod-pow}
 use Rattle.definition.specs.Tree.{Element}

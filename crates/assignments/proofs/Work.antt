@@ -1,7 +1,7 @@
 -- The work resources: how many there are, and one by one. Assumes nothing.
 use Rattle.index.specs.declared.Table.{Table}
 use Rattle.names.specs.declared.ids.Ids.{Ids}
-use Rattle.std.proofs.Common.{◌≡◌, ℕ, suc, ◌+◌, ◌%◌, ◌^◌, ◌<◌, ◌≤◌, min, Bool, true, false, not, ◌&&◌, ◌||◌, leb, ltb, List, [], ◌∷◌, ◌++◌, map, length, ℤ, sym, refl, ap, ◌∙◌, subst, mod-eq_of_lt, arith, length-append, le-leb}
+use Rattle.std.proofs.Common.{◌≡◌, ℕ, ◌+◌, ◌%◌, ◌^◌, ◌<◌, ◌≤◌, min, Bool, true, false, ◌&&◌, leb, List, [], ◌∷◌, ◌++◌, map, length, ℤ, sym, refl, ap, ◌∙◌, subst, mod-eq_of_lt, arith, length-append, le-leb}
 use Rattle.std.specs.Prelude.{Option, Some, None}
 use Rattle.definition.specs.Base.{◌>>=◌, ◌or◌}
 use Rattle.definition.specs.Text.{Text}
@@ -14,7 +14,7 @@ use Rattle.definition.specs.Calendar.{name_of, free}
 use Rattle.definition.specs.Refusal.{most_elements}
 use Rattle.definition.specs.Task.{Context, unless_main}
 use Rattle.definition.specs.Resource.{work_resources, resource_kind, max_units, price_of, resource_of, resources_after, resources}
-use Rattle.laws.specs.Each.{Each, empty, next}
+use Rattle.laws.specs.Each.{Each}
 use Rattle.laws.specs.Formats.{fills_whole}
 use Rattle.laws.specs.FitRecords.{Short, FitsResourceBy}
 use Rattle.laws.specs.FitTrees.{Small}

@@ -1,12 +1,11 @@
 -- The expenses of elements, one after another, with a table behind the tables of the section. Assumes nothing.
-use Rattle.std.proofs.Common.{◌≡◌, ℕ, suc, ◌+◌, ◌-◌, ◌%◌, ◌^◌, ◌<◌, ◌≤◌, min, max, Bool, true, false, leb, List, [], ◌∷◌, map, length, take, sym, refl, ap, ◌∙◌, subst, arith, take_all, leb-false, leb-true}
+use Rattle.std.proofs.Common.{◌≡◌, ℕ, ◌-◌, ◌^◌, ◌<◌, ◌≤◌, min, max, Bool, true, false, leb, List, [], ◌∷◌, map, length, take, sym, refl, ap, ◌∙◌, subst, arith, take_all, leb-false, leb-true}
 use Rattle.std.specs.Prelude.{Option, Some, None}
 use Rattle.std.specs.Option.{option_map}
 use Rattle.pack.specs.Record.{expense_by}
 use Rattle.pack.specs.declared.record.Expense.{Expense as X}
 use lib.Seq.{take-length}
 use Rattle.definition.specs.Base.{present}
-use Rattle.definition.specs.Text.{Text}
 use Rattle.definition.specs.Tree.{Element}
 use Rattle.definition.specs.Format.{whole}
 use Rattle.definition.specs.Model.{Expense}
@@ -20,7 +19,6 @@ use Rattle.index.specs.Chains.{table_of, zeros}
 use Rattle.index.specs.Law.{table_placed}
 use Rattle.index.specs.Below.{SameBelow, below_refl, below_then, below_zeros, below_take}
 use Rattle.tree.specs.Root.{root_at}
-use Rattle.assignments.specs.declared.section.Done.{Done}
 use Rattle.assignments.specs.declared.section.Tables.{Tables}
 use Rattle.assignments.specs.declared.expense.Used.{Used}
 use Rattle.assignments.specs.Section.{Wrote}

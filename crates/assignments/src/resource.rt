@@ -93,7 +93,16 @@ impl<'a> Section<'a> {
         let id = wanted_id(e);
         let row = done.row();
         let p = done.next;
-        let stars = names::stars_for(out, Kind::Resources, self.start, p, words, self.ids, row, id);
+        let stars = names::stars_for(
+            out,
+            Kind::Resources,
+            self.start,
+            p,
+            words,
+            self.ids,
+            row,
+            id,
+        );
         let calendar = self.calendar_of(out, words, e);
         let next = resource_of(e, stars, calendar).put(out, p);
         names::note_stars(words, self.ids, row, id, stars, p);

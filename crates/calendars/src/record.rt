@@ -1,21 +1,21 @@
 // One calendar over its base. What is right is said in the crate definition, specs/Calendar.antt.
-ghost use Rattle.std.specs.Prelude.{◌≡◌, ◌∷◌};
+ghost use Rattle.std.specs.Prelude.{◌≡◌};
 ghost use Rattle.definition.specs.Base.{find_last};
-ghost use Rattle.definition.specs.Ascii.{bytes};
 ghost use Rattle.definition.specs.Format.{periods};
 ghost use Rattle.definition.specs.Calendar.{week_days};
-ghost use Rattle.tree.specs.Place.{element_at, later_at};
+ghost use Rattle.tree.specs.Place.{meaning};
 ghost use Rattle.bits.specs.Clear.{cleared};
 ghost use Rattle.bits.specs.Steps.{Puts};
 ghost use Rattle.rows.specs.Rows.{found_meaning};
 ghost use Rattle.calendars.specs.Base.{days_place};
-ghost use Rattle.calendars.specs.Record.{is_place, on_place, later_found, hours_of, WeekRead, CopiesHours, BaseHours, PutsHours, PutsWeekHours, PutsCalendar};
+ghost use Rattle.calendars.specs.Record.{on_place, hours_of, WeekRead, CopiesHours, BaseHours, PutsHours, PutsWeekHours, PutsCalendar};
 
 use crate::plain::{WORKDAYS, put_week};
 use bits::{PAST, Place};
 use calendar_days::{put_days, put_periods};
 use model::parts::CalendarPlaces;
-use pack::put_count;
+use pack::{Starred, put_count};
+use tree::Element;
 
 // ---- the week
 
@@ -33,32 +33,30 @@ fn base_week(out: &[u8], base: Option<CalendarPlaces>) -> u32
 // ---- the hours: of each day the last WeekDay of its place decides
 
 // Whether a WeekDay is of a day, 0 for Monday.
-fn is_of(s: &[u8], at: usize, day: u32) -> bool
-    ensures { result ≡ on_place day (element_at s.now at) }
+fn is_of(e: Element<'_>, day: u32) -> bool
+    ensures { result ≡ on_place day (meaning e.entry) }
 {
-    calendar::day_place(s, at) == Some(day)
+    calendar::day_place(e) == Some(day)
 }
 
 // The last WeekDay of a Calendar for a day.
-fn last_day(s: &[u8], at: usize, day: u32) -> Option<usize>
-    ensures { found_meaning s.now result ≡ find_last (on_place day) (week_days (element_at s.now at)) }
+fn last_day(e: Element<'_>, day: u32) -> Option<Element<'_>>
+    ensures { found_meaning result ≡ find_last (on_place day) (week_days (meaning e.entry)) }
 {
     let mut found = None;
-    let mut next = rows::first_in(s, at, b"WeekDays", b"WeekDay");
-    while let Some(at) = next {
-        let named = is_of(s, at, day).then_some(at);
+    for d in e.child(b"WeekDays")?.children(b"WeekDay") {
+        let named = is_of(d, day).then_some(d);
         found = named.or(found);
-        next = tree::next_child(s, at, b"WeekDay");
     }
     found
 }
 
 // The hours of a WeekDay, none where it is not worked.
-fn put_own_hours(out: &mut [u8], p: Place, s: &[u8], at: usize) -> Place
-    ensures { Puts periods (hours_of (element_at s.now at)) out.old p out.new result }
+fn put_own_hours(out: &mut [u8], p: Place, e: Element<'_>) -> Place
+    ensures { Puts periods (hours_of (meaning e.entry)) out.old p out.new result }
 {
-    if calendar::day_working(s, at) {
-        put_periods(out, p, s, at)
+    if calendar::day_working(e) {
+        put_periods(out, p, e)
     } else {
         put_count(out, p, 0)
     }
@@ -76,36 +74,11 @@ fn copy_hours(out: &mut [u8], p: Place, hours: Place, day: u32) -> Place
 fn put_base_hours(out: &mut [u8], p: Place, base: Option<CalendarPlaces>, day: u32) -> Place
     ensures { BaseHours base day out.old p out.new result }
 {
+    // Both arms write, so that a closure would borrow what the other writes.
     match base {
         Some(c) => copy_hours(out, p, c.hours, day),
         None => put_count(out, p, 0),
     }
-}
-
-fn put_hours_of(
-    out: &mut [u8],
-    p: Place,
-    s: &[u8],
-    at: usize,
-    day: u32,
-    base: Option<CalendarPlaces>,
-) -> Place
-    ensures { PutsHours (week_days (element_at s.now at)) day base out.old p out.new result }
-{
-    match last_day(s, at, day) {
-        None => put_base_hours(out, p, base, day),
-        Some(w) => put_own_hours(out, p, s, w),
-    }
-}
-
-fn put_hours(out: &mut [u8], p: Place, s: &[u8], at: usize, base: Option<CalendarPlaces>) -> Place
-    ensures { PutsWeekHours (week_days (element_at s.now at)) base out.old p out.new result }
-{
-    let mut q = p;
-    for day in 0..7 {
-        q = put_hours_of(out, q, s, at, day, base);
-    }
-    q
 }
 
 // ---- the whole
@@ -118,24 +91,49 @@ fn days_place(base: Option<CalendarPlaces>) -> Place
     base.map_or(PAST, |c| c.holidays)
 }
 
-// A Calendar over its base, its name with so many `*` behind it; the words from `from` on are free.
-pub(crate) fn put_calendar(
-    out: &mut [u8],
-    p: Place,
-    s: &[u8],
-    at: usize,
-    stars: u32,
-    base: Option<CalendarPlaces>,
-    words: &mut [u32],
-    from: usize,
-) -> Place
-    ensures written { PutsCalendar (element_at s.now at) stars base out.old p out.new result }
-    ensures clears { cleared from words.new ≡ cleared from words.old }
-{
-    let a = pack::put_starred(out, p, names::wanted_name(s, at, b"Calendar"), stars);
-    let week = calendar::week_of(s, at, base_week(out, base));
-    let b = put_week(out, a, week);
-    let c = put_hours(out, b, s, at, base);
-    let d = put_days(out, c, s, at, week, days_place(base), words, from);
-    bits::pad(out, d)
+// A Calendar that is written over its base, its name with so many `*` behind it.
+#[derive(Clone, Copy)]
+pub(crate) struct Entry<'a> {
+    pub calendar: Element<'a>,
+    pub base: Option<CalendarPlaces>,
+    pub stars: u32,
+}
+
+impl Entry<'_> {
+    fn put_hours_of(self, out: &mut [u8], p: Place, day: u32) -> Place
+        ensures { PutsHours (week_days (meaning self.entry.calendar)) day self.entry.base out.old p out.new result }
+    {
+        match last_day(self.calendar, day) {
+            Some(d) => put_own_hours(out, p, d),
+            None => put_base_hours(out, p, self.base, day),
+        }
+    }
+
+    fn put_hours(self, out: &mut [u8], p: Place) -> Place
+        ensures { PutsWeekHours (week_days (meaning self.entry.calendar)) self.entry.base out.old p out.new result }
+    {
+        let mut q = p;
+        for day in 0..7 {
+            q = self.put_hours_of(out, q, day);
+        }
+        q
+    }
+
+    // The words from `from` on are free.
+    pub(crate) fn put(self, out: &mut [u8], p: Place, words: &mut [u32], from: usize) -> Place
+        ensures written { PutsCalendar (meaning self.entry.calendar) self.entry.stars self.entry.base out.old p out.new result }
+        ensures clears { cleared from words.new ≡ cleared from words.old }
+    {
+        let e = self.calendar;
+        let name = Starred {
+            text: names::wanted_name(e, b"Calendar"),
+            stars: self.stars,
+        };
+        let a = name.put(out, p);
+        let week = calendar::week_of(e, base_week(out, self.base));
+        let b = put_week(out, a, week);
+        let c = self.put_hours(out, b);
+        let d = put_days(out, c, e, week, days_place(self.base), words, from);
+        bits::pad(out, d)
+    }
 }

@@ -5,7 +5,7 @@ use Rattle.definition.specs.Resource.{assignment_elements}
 use Rattle.tree.specs.Few.{children_few}
 use Rattle.tree.specs.Place.{meaning, left}
 use Rattle.tree.specs.Root.{root_at, in_assignments}
-use Rattle.assignments.specs.Records.{finders_at, ends_at}
+use Rattle.assignments.specs.Records.{ends_at}
 use Rattle.assignments.proofs.Writing.{go_all, go_more, go_end, notes_not, notes_said, table_behind, table_none, table_below}
 use Rattle.assignments.proofs.expense.put_all.Goals as goal
 

@@ -1,8 +1,0 @@
-use Rattle.std.proofs.Common.{◌≡◌, length}
-use Rattle.definition.specs.Calendar.{week_days}
-use Rattle.tree.specs.Place.{element_at}
-use Rattle.calendars.proofs.WeekHours.{PutsDays}
-use Rattle.calendars.proofs.record.put_hours.Given as goal
-
-abbrev pub invariant-loop-day : goal.invariant-loop-day
-invariant-loop-day l = (length l.out ≡ length l.initial.out) × PutsDays (week_days (element_at l.s l.at)) l.day l.base l.initial.out l.initial.q l.out l.q
