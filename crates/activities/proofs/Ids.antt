@@ -112,10 +112,10 @@ module _ {own : Own} {row at : ℕ} {o : Option ℕ} {u : Text} {byte : ℕ} {ta
   row_below b = below_then (noted_below own.columns row at o w b) (ids_below (λ h. let z = b h in omega arith))
 
   pub row_held : {s : Text} {root : Element} {bytes : ℕ} → Room own.columns (length w) bytes → (row ≤ own.columns.rows → Held s root own.columns.at row w) → element_at s at ≡ task_at root row
-      → row ≤ length (kept_tasks root) → o ≡ parent_of (map level_of (take row (kept_tasks root))) (level_of (element_at s at)) → row + 1 ≤ own.columns.rows → Held s root own.columns.at (row + 1) w₂
+      → row ≤ length (kept_tasks root) → o ≡ parent_of (map level_of (take row (kept_tasks root))) (level_of (task_at root row)) → row + 1 ≤ own.columns.rows → Held s root own.columns.at (row + 1) w₂
   row_held {root = root} r h e few i k =
       let z = r.room (omega arith) in
-      held_kept (held_more own.columns row at o w (omega arith) z (h (omega arith)) e (i ∙ parents_are root row _ few ∙ ap (λ (l : ℕ). last_below (lower (level_at root) l) row) (ap level_of e)))
+      held_kept (held_more own.columns row at o w (omega arith) z (h (omega arith)) e (i ∙ parents_are root row _ few))
       {m = end_of own.columns} (omega arith) (ids_below (λ h. omega arith))
 
 -- ---- the words are cleared behind the table

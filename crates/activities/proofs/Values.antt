@@ -58,15 +58,16 @@ third_text None (Some t) c g h = absurd (true≢false h)
 third_text None None c g h = refl
 
 module _ (e : Element) (wbs : Text) (i : wbs ≡ (text_in e "WBS" or [])) where
-  pub first_id : (length wbs ≡ 0 → ⊥) → wbs ≡ wanted_id e
-  first_id h = i ∙ first_text (text_in e "WBS") (text_in e "ID") (text_in e "UID") (given_some e (bytes "WBS") wbs i h)
+  module _ {a : Bool} (x : a ≡ eqb (length wbs) 0) where
+    pub first_id : not a ≡ true → wbs ≡ wanted_id e
+    first_id h = i ∙ first_text (text_in e "WBS") (text_in e "ID") (text_in e "UID") (given_some e (bytes "WBS") wbs i x (not-true a h))
 
-  module _ (h : length wbs ≡ 0) (id : Text) (j : id ≡ (text_in e "ID" or [])) where
-    pub second_id : (length id ≡ 0 → ⊥) → id ≡ wanted_id e
-    second_id k = j ∙ second_text (text_in e "WBS") (text_in e "ID") (text_in e "UID") (given_none e (bytes "WBS") wbs i h) (given_some e (bytes "ID") id j k)
+    module _ (h : not a ≡ false) (id : Text) (j : id ≡ (text_in e "ID" or [])) {b : Bool} (y : b ≡ eqb (length id) 0) where
+      pub second_id : not b ≡ true → id ≡ wanted_id e
+      second_id k = j ∙ second_text (text_in e "WBS") (text_in e "ID") (text_in e "UID") (given_none e (bytes "WBS") wbs i x (not-false a h)) (given_some e (bytes "ID") id j y (not-true b k))
 
-    pub third_id : length id ≡ 0 → {uid : Text} → uid ≡ (text_in e "UID" or []) → uid ≡ wanted_id e
-    third_id k l = l ∙ third_text (text_in e "WBS") (text_in e "ID") (text_in e "UID") (given_none e (bytes "WBS") wbs i h) (given_none e (bytes "ID") id j k)
+      pub third_id : not b ≡ false → {uid : Text} → uid ≡ (text_in e "UID" or []) → uid ≡ wanted_id e
+      third_id k l = l ∙ third_text (text_in e "WBS") (text_in e "ID") (text_in e "UID") (given_none e (bytes "WBS") wbs i x (not-false a h)) (given_none e (bytes "ID") id j y (not-false b k))
 
 -- ---- the calendar's name
 
@@ -94,9 +95,8 @@ module _ (x : Context) (s : Text) (w : List ℕ) (k : Option Table) (t : Element
     pub by_none : not b ≡ true → None ≡ calendar_in x s w k e t
     by_none h = rw (i, no_calendar (text_in t "CalendarUID") (named_in x s w k) (sym names_is ∙ not-true b h))
 
-    pub by_own : not b ≡ false → (r : CalendarName) → calendar_name s r ≡ named_in x s w k u → {text : Text} → text ≡ wanted_name (element_at s r.at) → name_meaning text r.name ≡ calendar_in x s w k e t
-    by_own h r m l =
-        rw (i, own_calendar (text_in t "CalendarUID") (named_in x s w k) (sym names_is ∙ not-false b h)) (ap (λ (text : Text). name_meaning text r.name) l ∙ m ∙ ap (named_in x s w k) j)
+    pub by_own : not b ≡ false → (r : CalendarName) → calendar_name r ≡ named_in x s w k u → name_meaning r.text.now r.stars ≡ calendar_in x s w k e t
+    by_own h r m = rw (i, own_calendar (text_in t "CalendarUID") (named_in x s w k) (sym names_is ∙ not-false b h)) (m ∙ ap (named_in x s w k) j)
 
 -- words that say the names give the calendar's
 pub calendar_found : {x : Context} {s : Text} {k : Option Table} {w : List ℕ} → Finds x s k w → (e : Bool) (t : Element) → calendar_in x s w k e t ≡ calendar_by x e t

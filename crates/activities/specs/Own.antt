@@ -6,6 +6,7 @@ use Rattle.std.specs.Prelude.{Option}
 use Rattle.definition.specs.Calendar.{free}
 use Rattle.definition.specs.Text.{Text}
 use Rattle.definition.specs.Task.{per_day_of}
+use Rattle.laws.specs.Bits.{Bytes}
 use Rattle.bits.specs.Places.{inside}
 use Rattle.bits.specs.declared.Place.{Place}
 use Rattle.tree.specs.Root.{root_at}
@@ -48,6 +49,7 @@ pub record SectionRoom (x : Section) (d : List ℕ) (w : List ℕ) : Type 0 wher
   pub room : OwnRoom x.own x.tasks d x.start w (length x.root.tree.now)
   pub finds : Finds (context_at d x.calendars (root_at x.root)) x.root.tree.now x.own.calendars w
   pub day : x.per_day ≡ per_day_of (root_at x.root)
+  pub bytes : Bytes x.root.tree.now
 
 -- the next row can be put at p
 pub record RowReady (x : Section) (task : Element) (row : ℕ) (p : Place) (d w : List ℕ) : Type 0 where

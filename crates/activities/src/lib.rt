@@ -15,7 +15,7 @@ ghost use Rattle.pack.specs.Writes.{Writes, WritesIf};
 ghost use Rattle.names.specs.Context.{context_at, calendars_before};
 ghost use Rattle.activities.specs.Own.{SectionRoom};
 
-use crate::own::{Section, section_for};
+use crate::own::{Section, own_for};
 use crate::record::put_row;
 use bits::{PAST, Place};
 use index::Table;
@@ -33,6 +33,7 @@ fn put_tasks(out: &mut [u8], words: &mut [u32], section: Section<'_>) -> Records
     ensures { Writes (whole activity) (activities_of (context_at out.old section.entry.calendars (root_at section.entry.root)) (entered (links_by (task_in section.entry.root words.old section.entry.tasks) (context_of (root_at section.entry.root))))) out.old section.entry.start out.new result × SameBelow (end_in section.entry.tasks) words.old words.new }
 {
     let mut q = section.start;
+    // Counted by hand: `enumerate` counts in usize.
     let mut row: u32 = 0;
     for task in rows::kept_tasks(section.root) {
         q = put_row(out, q, words, section, task, row);
@@ -64,7 +65,14 @@ pub fn put_activities(
             next: PAST,
         };
     }
-    let section = section_for(out, p, root, c, words, tasks);
+    let section = Section {
+        root,
+        start: p,
+        calendars: c,
+        tasks,
+        own: own_for(out, p, root, c, words, tasks),
+        per_day: tasks::per_day(root),
+    };
     let r = put_tasks(out, words, section);
     bits::fill_from(words, end, 0);
     r

@@ -1,8 +1,12 @@
 // The section's own words, behind the table of the kept tasks: a table of the calendars, columns of parents, and tables of the ids that are taken.
-ghost use Rattle.std.specs.Prelude.{◌≡◌};
+ghost use Rattle.std.specs.Prelude.{length};
+ghost use Rattle.laws.specs.Bits.{Bytes};
 ghost use Rattle.index.specs.Below.{SameBelow};
 ghost use Rattle.index.specs.Chains.{end_in};
-ghost use Rattle.activities.specs.Own.{SectionRoom};
+ghost use Rattle.names.specs.Context.{context_at};
+ghost use Rattle.names.specs.Naming.{Finds};
+ghost use Rattle.tree.specs.Root.{root_at};
+ghost use Rattle.activities.specs.Own.{OwnRoom};
 
 use crate::parents::{Columns, columns_for};
 use bits::Place;
@@ -29,32 +33,25 @@ pub(crate) struct Section<'a> {
     pub per_day: u64,
 }
 
-pub(crate) fn section_for<'a>(
+// For a section that begins at p. The calendars stand at c.
+pub(crate) fn own_for(
     out: &[u8],
-    start: Place,
-    root: Root<'a>,
-    calendars: Place,
+    p: Place,
+    root: Root<'_>,
+    c: Place,
     words: &mut [u32],
     tasks: Option<Table>,
-) -> Section<'a>
-    ensures made { SectionRoom result out.now words.new × SameBelow (end_in tasks) words.old words.new }
-    ensures of { (result.root ≡ root.entry) × (result.start ≡ start) × (result.calendars ≡ calendars) × (result.tasks ≡ tasks) }
+) -> Own
+    ensures { OwnRoom result tasks out.now p words.new (length root.entry.tree.now) × SameBelow (end_in tasks) words.old words.new × Finds (context_at out.now c (root_at root.entry)) root.entry.tree.now result.calendars words.new × Bytes root.entry.tree.now }
 {
     let end = index::end_of(tasks, words.len());
-    let made = names::index_calendars(out, calendars, root, words, end);
-    let columns = columns_for(tasks, made.end, words.len(), root.tree.len());
+    let made = names::index_calendars(out, c, root, words, end);
+    let columns = columns_for(tasks, made.end, words.len(), root.tree);
     let behind = columns.at + 2 * (columns.rows as usize);
-    let ids = names::ids_for(out.len(), start, words, behind, columns.rows);
-    Section {
-        root,
-        start,
-        calendars,
-        tasks,
-        own: Own {
-            calendars: made.table,
-            columns,
-            ids,
-        },
-        per_day: tasks::per_day(root),
+    let ids = names::ids_for(out.len(), p, words, behind, columns.rows);
+    Own {
+        calendars: made.table,
+        columns,
+        ids,
     }
 }

@@ -1,7 +1,8 @@
 // The nearest row before a task that has a lower level, without a look at all rows: for each row two lent words, where its element stands in the tree
 // and its parent row plus 1, 0 for none (words, as there is no heap for pairs with an Option). A row is made a place by `as usize`, which has no From. The parent of a row is the row before it, or a row above that one.
-ghost use Rattle.std.specs.Prelude.{◌≡◌, map, ◌<◌, take};
+ghost use Rattle.std.specs.Prelude.{◌≡◌, map, ◌<◌, take, length};
 ghost use Rattle.definition.specs.Task.{level_of, kept_tasks, parent_of};
+ghost use Rattle.laws.specs.Bits.{Bytes};
 ghost use Rattle.index.specs.Last.{last_below, word_of};
 ghost use Rattle.tree.specs.Place.{meaning};
 ghost use Rattle.tree.specs.Root.{root_at};
@@ -18,12 +19,13 @@ pub(crate) struct Columns {
 }
 
 // From a place on, for as many rows as the table of the kept tasks has, where there is room and 32 bits hold each position in the tree.
-pub(crate) fn columns_for(tasks: Option<Table>, from: usize, len: usize, bytes: usize) -> Columns
-    ensures { Room result len bytes × Behind result from }
+pub(crate) fn columns_for(tasks: Option<Table>, from: usize, len: usize, tree: &[u8]) -> Columns
+    ensures made { Room result len (length tree.now) × Behind result from }
+    ensures bytes { Bytes tree.now }
 {
     let rows = tasks.map_or(0, |t| t.rows);
     let room = len.saturating_sub(from) / 2;
-    if 4294967295 < bytes || room < rows as usize {
+    if 4294967295 < tree.len() || room < rows as usize {
         return Columns { at: from, rows: 0 };
     }
     Columns { at: from, rows }

@@ -58,7 +58,7 @@ pub(crate) fn calendar_for<'a>(
         return None;
     }
     let found = names::calendar_in(out, c, root, words, table, uid);
-    Starred::named(names::wanted_name(root.part(found.at), b"Calendar"), found.name)
+    Starred::named(found.text, found.stars)
 }
 
 // ---- what an activity is

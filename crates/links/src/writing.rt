@@ -67,6 +67,7 @@ pub fn put_links(out: &mut [u8], p: Place, tasks: TaskFinder<'_>) -> Records
 {
     let per_day = tasks::per_day(tasks.root);
     let mut r = Records { count: 0, next: p };
+    // Counted by hand: `enumerate` counts in usize.
     let mut row: u32 = 0;
     for task in rows::kept_tasks(tasks.root) {
         r = put_links_in(out, r, task, tasks, per_day, row);

@@ -15,12 +15,12 @@ returns-then-not-calendars_before c =
 
 pub put_tasks-r-requires : goal.put_tasks-r-requires
 put_tasks-r-requires c =
-    (sym c.calendars_before.ensures ∙ not-false _ c.if-not-calendars_before.false-raw, c.section_for-section.ensures.made.0)
+    (sym c.calendars_before.ensures ∙ not-false _ c.if-not-calendars_before.false-raw, record { room = c.own_for.ensures.0; finds = c.own_for.ensures.2; day = c.per_day.ensures; bytes = c.own_for.ensures.3 })
 
 pub returns : goal.returns
 returns c =
     let a = c.args in
-    let same = c.section_for-section.ensures.made.1 in (
+    let same = c.own_for.ensures.1 in (
       writes_if (whole activity) (sym c.calendars_before.ensures ∙ not-false _ c.if-not-calendars_before.false-raw) (writes_found (root_at a.root) (found_same a.root a.tasks same) _ c.put_tasks-r.ensures.0),
       cleared_behind (below_then same c.put_tasks-r.ensures.1) c.end_of-end.ensures c.fill_from-2.ensures,
     )

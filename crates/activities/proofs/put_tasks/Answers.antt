@@ -1,12 +1,17 @@
 use native.Mathlib.Omega.{arith}
-use mathlib.Core.Path.{refl, sym, ap, ◌∙◌}
-use lib.ListN.{length}
+use mathlib.Core.Path.{refl, sym, ap, subst, ◌∙◌}
+use mathlib.Core.List.{map}
+use lib.ListN.{length, take}
+use Rattle.definition.specs.Task.{level_of, kept_tasks, parent_of}
+use Rattle.definition.specs.Text.{Text}
+use Rattle.definition.specs.Tree.{Element}
+use Rattle.laws.specs.FitTrees.{Small, tasks_most}
 use Rattle.index.specs.Below.{below_then}
-use Rattle.names.specs.Seen.{bytes_of_lem}
 use Rattle.names.specs.Context.{context_at}
 use Rattle.rows.specs.Small.{small_at, small_root}
 use Rattle.rows.specs.Walks.{kept_left, KeptOf}
 use Rattle.rows.specs.declared.kept.KeptTasks.{KeptTasks}
+use Rattle.tree.specs.Place.{element_at}
 use Rattle.tree.specs.Root.{root_at}
 use Rattle.activities.proofs.Ids.{row_below, row_held}
 use Rattle.activities.proofs.Loop.{written_none, written_all}
@@ -17,7 +22,7 @@ pub loop-task-init : goal.loop-task-init
 unfolding context_at
 loop-task-init c =
     let e = ap (λ (k : KeptTasks). kept_left k) c.into_iter-task-iterator.ensures.into_iter_gives ∙ c.kept_tasks-task-items.ensures.is in
-    (refl, ?, written_none (sym e), stays_begin c.requires.1.room, ?)
+    (refl, omega (arith, ap length e, tasks_most (root_at c.args.section.root)), written_none (sym e), stays_begin c.requires.1.room, rw c.into_iter-task-iterator.ensures.into_iter_gives c.kept_tasks-task-items.ensures.of)
 
 pub returns : goal.returns
 returns c =
@@ -26,7 +31,7 @@ returns c =
 pub put_row-q-requires : goal.put_row-q-requires
 put_row-q-requires c =
     let x = c.args.section in
-    let bytes = bytes_of_lem x.root.tree.now (λ i. ?) in
+    let bytes = c.requires.1.bytes in
     let root = root_at x.root in
     let small = small_root x.root bytes in
     let w = rw c.in-Some.ensures.steps.0 at c.loop-task.invariant.2 in
@@ -51,10 +56,10 @@ loop-task-preserved c =
     let root = root_at x.root in
     let at = c.in-Some.task.at in
     let k = ap length c.in-Some.ensures.steps.0 in
-    let bytes = bytes_of_lem x.root.tree.now (λ i. ?) in
+    let bytes = c.requires.1.bytes in
     let small = small_root x.root bytes in
     let there = c.in-Some.ensures.steps.1 x.root.tree.now c.loop-task.invariant.4 in
-    let own = rw (sym there.0.tree) at small_at x.root.tree.now bytes at in
+    let own = subst (λ (s : Text). Small (element_at s at)) (sym there.0.tree) (small_at x.root.tree.now bytes at) in
     let y = c.loop-task.invariant.3 in
     let w = rw c.in-Some.ensures.steps.0 at c.loop-task.invariant.2 in
     let g = goes_task _ x.calendars root c.requires.0 small w in
@@ -69,7 +74,7 @@ loop-task-preserved c =
       record {
         same = same;
         names = below_then y.names (row_below n opened room.behind_names);
-        held = row_held n opened (rw (sym y.same.long) at room.room) y.held (rw there.0.tree at g.0) g.1 refl;
+        held = row_held n opened (rw (sym y.same.long) at room.room) y.held (ap (λ (s : Text). element_at s at) (sym there.0.tree) ∙ g.0) g.1 (ap (λ (t : Element). parent_of (map level_of (take c.loop-task.row (kept_tasks root))) (level_of t)) g.0);
         ids = ids_on _ x.calendars root c.requires.0 small w found c.put_row-q.ensures.0 (omega (arith, c.loop-task.invariant.1)) own n opened y.ids;
       },
       there.1,

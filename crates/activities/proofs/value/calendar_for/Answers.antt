@@ -22,4 +22,4 @@ pub returns : goal.returns
 returns c =
     let a = c.args in
     let x = a.section in
-    c.named.ensures ∙ by_own (context_at a.out.now x.calendars (root_at x.root)) x.root.tree.now a.words.now x.own.calendars (meaning a.task) c.if-elapsed.false _ c.text_of-uid.ensures c.names_calendar.ensures c.if-not-names_calendar.false-raw c.calendar_in-found.result c.calendar_in-found.ensures (rw c.part.ensures at c.wanted_name.ensures)
+    c.named-2.ensures ∙ by_own (context_at a.out.now x.calendars (root_at x.root)) x.root.tree.now a.words.now x.own.calendars (meaning a.task) c.if-elapsed.false _ c.text_of-uid.ensures c.names_calendar.ensures c.if-not-names_calendar.false-raw c.calendar_in-found.result c.calendar_in-found.ensures

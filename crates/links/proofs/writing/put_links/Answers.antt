@@ -12,9 +12,6 @@ loop-task-init c =
     let e = ap (λ (k : KeptTasks). kept_left k) c.into_iter-task-iterator.ensures.into_iter_gives ∙ c.kept_tasks-task-items.ensures.is in
     (refl, from_begin _ _ c.per_day-per_day.ensures (sym e), omega (arith, ap length e, tasks_most (root_at c.args.tasks.root)))
 
-pub shape_of-out : goal.shape_of-out
-shape_of-out c = c.loop-task.invariant.0
-
 pub returns : goal.returns
 returns c = more_all (from_end _ _ _ c.loop-task.invariant.1 c.in-None.ensures.steps.0)
 
