@@ -16,12 +16,12 @@ ghost use Rattle.read.specs.Tables.{Tasked};
 
 use bits::Place;
 use definition::Date;
-use index::Table;
-use pack::Skips;
+use links::TaskFinder;
+use pack::{Project, Skips};
 use tree::Root;
 
 // The title, else the name.
-fn project_name<'a>(root: Root<'a>) -> &'a [u8]
+fn project_name(root: Root<'_>) -> &[u8]
     ensures { result.now ≡ ((text_in (root_at root.entry) "Title" or_else text_in (root_at root.entry) "Name") or []) }
 {
     let title = root.part(root.title).own_text();
@@ -39,27 +39,30 @@ fn start_of(root: Root<'_>) -> Date
     fields::date_at(root.part(root.start)).unwrap_or(Date(0))
 }
 
-fn skips_of(root: Root<'_>, words: &[u32], tasks: Option<Table>) -> Skips
-    requires { Tasked root.entry.tree.now root wordroot.entry.tree.now tasks }
-    ensures { Skipped (root_at root.entry) result }
+fn skips_of(tasks: TaskFinder<'_>) -> Skips
+    requires { Tasked tasks.root tasks.words.now tasks.table }
+    ensures { Skipped (root_at tasks.entry.root) result }
 {
-    let fates = links::count_fates(root, words, tasks);
+    let fates = links::count_fates(tasks);
     Skips {
-        skipped: calendar::skipped(root),
+        skipped: calendar::skipped(tasks.root),
         dangling: fates.dangling,
         across: fates.across,
-        fractional: rows::count_fractional(root),
+        fractional: rows::count_fractional(tasks.root),
     }
 }
 
-pub(crate) fn put_project(out: &mut [u8], p: Place, root: Root<'_>, words: &[u32], tasks: Option<Table>) -> Place
-    requires { Tasked root.entry.tree.now root wordroot.entry.tree.now tasks }
-    ensures { Puts (whole project) (project_of (context_of (root_at root.entry)) (root_at root.entry)) out.old p out.new result }
+pub(crate) fn put_project(out: &mut [u8], p: Place, tasks: TaskFinder<'_>) -> Place
+    requires { Tasked tasks.root tasks.words.now tasks.table }
+    ensures { Puts (whole project) (project_of (context_of (root_at tasks.entry.root)) (root_at tasks.entry.root)) out.old p out.new result }
 {
-    let name = project_name(root);
-    let start = start_of(root);
-    let currency = root.part(root.currency).own_text();
-    let skips = skips_of(root, words, tasks);
-    let status = fields::date_at(root.part(root.status));
-    pack::put_project(out, p, name, start, currency, skips, status)
+    let root = tasks.root;
+    let record = Project {
+        name: project_name(root),
+        start: start_of(root),
+        currency: root.part(root.currency).own_text(),
+        skips: skips_of(tasks),
+        data_date: fields::date_at(root.part(root.status)),
+    };
+    record.put(out, p)
 }

@@ -7,6 +7,7 @@ use crate::assigned::put_assigned;
 use crate::project::put_project;
 use bits::Place;
 use index::Table;
+use links::TaskFinder;
 use pack::Counts;
 use rows::Listed;
 use tree::Root;
@@ -19,14 +20,27 @@ pub(crate) struct Sections {
 }
 
 // The calendars stand at p; activities and resources read their names there. The words behind the table of the kept tasks are lent to each section.
-fn put_sections(out: &mut [u8], p: Place, root: Root<'_>, words: &mut [u32], tasks: Option<Table>) -> Sections
-    requires { Tasked root.entry.tree.now root words.old tasks }
+// Tasked stands in five contracts and in no struct: each section borrows the words anew, and writes behind the table.
+fn put_sections(
+    out: &mut [u8],
+    p: Place,
+    root: Root<'_>,
+    words: &mut [u32],
+    tasks: Option<Table>,
+) -> Sections
+    requires { Tasked root words.old tasks }
     ensures { SectionsPut (root_at root.entry) out.old p out.new result }
 {
+    rows::are_bytes(root.tree);
     let behind = index::end_of(tasks, words.len());
     let a = calendars::put_calendars(out, p, root, words, behind);
     let b = activities::put_activities(out, a.next, root, p, words, tasks);
-    let c = links::put_links(out, b.next, root, words, tasks);
+    let finder = TaskFinder {
+        root,
+        words,
+        table: tasks,
+    };
+    let c = links::put_links(out, b.next, finder);
     let d = put_assigned(out, c.next, root, p, words, tasks);
     let next = d.expenses.next;
     Sections {
@@ -56,7 +70,12 @@ pub(crate) fn put_all(out: &mut [u8], root: Root<'_>, words: &mut [u32]) -> Sect
     };
     let p = pack::put_counts(out, Place { byte: 0, bit: 0 }, open);
     let tasks = rows::index_rows(root, Listed::Tasks, words, 0);
-    let q = put_project(out, p, root, words, tasks);
+    let finder = TaskFinder {
+        root,
+        words,
+        table: tasks,
+    };
+    let q = put_project(out, p, finder);
     put_sections(out, q, root, words, tasks)
 }
 

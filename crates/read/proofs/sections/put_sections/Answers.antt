@@ -23,7 +23,7 @@ returns c =
     let w2 = activities_written t1 _ c.put_activities-b.ensures.0 in
     let w3 = links_written t2 c.put_links-c.ensures in
     let w4 = c.put_assigned-d.ensures in
-    let fit : Few e → Fit e = fit_tree a.root (λ i. omega (arith, c.shared_slice_known-1.given i)) in
+    let fit : Few e → Fit e = fit_tree a.root c.are_bytes.ensures.bytes in
     record {
       same = six_same e w1 w2 w3 w4.resources_put w4.assignments_put w4.expenses_put;
       puts = λ few. six_put e w1 w2 w3 w4.resources_put w4.assignments_put w4.expenses_put (fit few) few;
