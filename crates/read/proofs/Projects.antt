@@ -1,20 +1,14 @@
 -- The project's record from what its element says. Assumes nothing.
-use mathlib.Core.Path.{◌≡◌, refl, sym, ap, ◌∙◌}
+use Rattle.std.proofs.Common.{◌≡◌, ℕ, suc, ◌+◌, ◌%◌, ◌^◌, true, false, eqb, eqb-true, true≢false, List, [], ◌∷◌, ◌++◌, length, ℤ, pos, refl, sym, ap, ◌∙◌, arith}
 use Rattle.definition.specs.declared.Date.{Date as DayNumber}
-use mathlib.Core.Bool.{true, false}
-use mathlib.Core.List.{List, [], ◌++◌}
 use Rattle.std.specs.Prelude.{Option, Some, None}
-use Prim.Native.Nat.{ℕ, ◌+◌, ◌%◌, ◌^◌}
 use Prim.Native.String.{String}
-use native.Mathlib.Omega.{arith}
-use lib.IntN.{ℤ, pos}
-use lib.ListN.{length}
 use Rattle.definition.specs.Base.{◌>>=◌, ◌or◌, ◌or_else◌, given as present}
 use Rattle.definition.specs.Bits.{Bits, pad}
 use Rattle.definition.specs.Text.{Text}
 use Rattle.definition.specs.Date.{Date, date_of, epoch, from_days}
 use Rattle.definition.specs.Field.{text_in, date_in}
-use Rattle.definition.specs.Tree.{Element}
+use Rattle.definition.specs.Tree.{Element, non_empty}
 use Rattle.definition.specs.Format.{Format, field, via, ◌⊗◌, whole}
 use Rattle.definition.specs.Model.{Project}
 use Rattle.definition.specs.Pack.{project}
@@ -35,6 +29,15 @@ use Rattle.std.specs.Option.{unwrap_or}
 use Rattle.read.specs.Project.{Skipped}
 
 -- ---- its fields
+
+-- the first of two texts, where it is there
+pub name_first : (o p : Option Text) {t : Text} → t ≡ (o or []) → eqb (length t) 0 ≡ false → t ≡ ((o or_else p) or [])
+name_first None p i h = absurd (true≢false (sym (ap (λ (t : Text). eqb (length t) 0) i) ∙ h))
+name_first (Some u) p i h = i
+
+pub name_second : (u : Text) (p : Option Text) {t v : Text} → t ≡ (non_empty u or []) → eqb (length t) 0 ≡ true → v ≡ (p or []) → v ≡ ((non_empty u or_else p) or [])
+name_second [] p i h j = j
+name_second (b ∷ u) p {t} i h j = let k : length t ≡ suc (length u) = ap length i in absurd (omega (arith, eqb-true (length t) 0 h))
 
 epoch_is : date_by (pos 0) ≡ epoch
 unfolding from_days

@@ -9,13 +9,14 @@ use mathlib.Core.List.{List}
 use Rattle.std.specs.Prelude.{Option}
 use lib.ListN.{length, take, replicate, length-append, length-replicate, get_or-append}
 use lib.Seq.{length-take-le, get_or-take}
-use Rattle.definition.specs.Format.{Format}
+use Rattle.definition.specs.Format.{Format, whole}
 use Rattle.definition.specs.Model.{Activity, Link, Expense}
+use Rattle.definition.specs.Pack.{assignment, expense}
 use Rattle.definition.specs.Text.{Text}
 use Rattle.definition.specs.Tree.{Element}
 use Rattle.definition.specs.Task.{Context, context_of, activities}
 use Rattle.definition.specs.Link.{Fate, fates, links, entered}
-use Rattle.definition.specs.Resource.{expenses}
+use Rattle.definition.specs.Resource.{assignments, expenses}
 use Rattle.index.specs.declared.Table.{Table}
 use Rattle.index.specs.Chains.{end_of, end_in}
 use Rattle.index.specs.Frame.{SameIn}
@@ -32,7 +33,7 @@ use Rattle.links.specs.Fates.{task_in, fates_by, links_by, Counted}
 use Rattle.links.specs.declared.Fates.{Fates}
 use Rattle.links.specs.Entered.{fates_found, links_found}
 use Rattle.assignments.specs.Section.{WritesIn}
-use Rattle.assignments.specs.Finders.{Finders, finders_in, expenses_by, Finds, expenses_found}
+use Rattle.assignments.specs.Finders.{Finders, finders_in, assignments_by, expenses_by, Finds, assignments_found, expenses_found}
 use Rattle.read.specs.Tables.{Tasked}
 
 -- ---- a table that was made
@@ -126,6 +127,10 @@ module _ {root : Root} {w : List ℕ} {tasks : Option Table} (x : Tasked root w 
         cost = λ u. tabled_cost u k;
       }
 
-pub expenses_written : {root : Element} {find : Finders} {f : Format Expense} {d : List ℕ} {p : Place} {d' : List ℕ} {r : Records} → Finds root find
-    → WritesIn f (expenses_by find root) d p d' r → WritesIn f (expenses (context_of root) root) d p d' r
-expenses_written {f = f} {d} {p} {d'} {r} h = subst (λ (l : List Expense). WritesIn f l d p d' r) (expenses_found h)
+-- by the tables of a root
+module _ {root r : Root} {find : Finders} (e : r ≡ root) (h : Finds (root_at root) find) {d : List ℕ} {p : Place} {d' : List ℕ} {n : Records} where
+  pub assignments_written : Writes (whole assignment) (assignments_by find (root_at r)) d p d' n → Writes (whole assignment) (assignments (context_of (root_at root)) (root_at root)) d p d' n
+  assignments_written w = assignments_found h (subst (λ (r : Root). Writes (whole assignment) (assignments_by find (root_at r)) d p d' n) e w)
+
+  pub expenses_written : WritesIn (whole expense) (expenses_by find (root_at r)) d p d' n → WritesIn (whole expense) (expenses (context_of (root_at root)) (root_at root)) d p d' n
+  expenses_written w = subst (λ (l : List Expense). WritesIn (whole expense) l d p d' n) (expenses_found h) (subst (λ (r : Root). WritesIn (whole expense) (expenses_by find (root_at r)) d p d' n) e w)
