@@ -21,7 +21,7 @@ use Rattle.bits.specs.Places.{room_fits, at, inside, place_at_lem}
 use Rattle.bits.specs.Steps.{Puts}
 use Rattle.bits.specs.declared.Place.{Place}
 use Rattle.index.specs.declared.Table.{Table}
-use Rattle.index.specs.Chains.{zeros, added, first_of, next_of, place_of, chain_of, as_row}
+use Rattle.index.specs.Chains.{zeros, added, first_of, next_of, place_of, chain_of}
 use Rattle.index.specs.Last.{last_below, rows_of}
 use Rattle.index.specs.Law.{Fits, Seeks, seeks_first, seeks_none, seeks_here, seeks_next}
 use Rattle.index.proofs.Law.{indexed_none, indexed_by, indexed_same, find_like}
@@ -107,14 +107,6 @@ used_at d v t activity name r = is_expense_at d (byte_at (place_of v t r)) activ
 abbrev pub used_row : List ℕ → List ℕ → Table → ℕ → Text → Option ℕ
 used_row d v t activity name = find (used_at d v t activity name) (chain_of v t (key_of activity name))
 
-as_given : (o : Option ℕ) {r : ℕ} → Some r ≡ as_row o → true ≡ given o
-as_given None e = let y : ◌≡◌ {A = ℕ} 0 1 = cc in absurd (omega arith)
-as_given (Some k) e = refl
-
-as_none : (o : Option ℕ) → None ≡ as_row o → false ≡ given o
-as_none None e = refl
-as_none (Some k) e = let y : ◌≡◌ {A = ℕ} 0 1 = cc in absurd (omega arith)
-
 module _ (d : List ℕ) {v : List ℕ} {t : Table} (activity : ℕ) (name : Text) where
   pub used_first : {key : ℕ} {at : Option ℕ} → key ≡ key_of activity name → at ≡ first_of v t key → Seeks v t (used_at d v t activity name) (used_row d v t activity name) at
   used_first i e = rw (← i) (seeks_first _ e)
@@ -122,7 +114,7 @@ module _ (d : List ℕ) {v : List ℕ} {t : Table} (activity : ℕ) (name : Text
   module _ {at : Option ℕ} (h : Seeks v t (used_at d v t activity name) (used_row d v t activity name) at) where
     pub used_none : at ≡ None → false ≡ is_used d v t activity name
     unfolding is_used
-    used_none e = as_none (used_row d v t activity name) (seeks_none h e)
+    used_none e = ap given (seeks_none h e)
 
     module _ {r : ℕ} (e : at ≡ Some r) {p : ℕ} (i : p ≡ place_of v t r) {b : Bool} (j : b ≡ is_expense_at d (byte_at p) activity name) where
       here : used_at d v t activity name r ≡ b
@@ -130,7 +122,7 @@ module _ (d : List ℕ) {v : List ℕ} {t : Table} (activity : ℕ) (name : Text
 
       pub used_here : b ≡ true → true ≡ is_used d v t activity name
       unfolding is_used
-      used_here k = as_given (used_row d v t activity name) (seeks_here h e (here ∙ k))
+      used_here k = ap given (seeks_here h e (here ∙ k))
 
       pub used_on : b ≡ false → {on : Option ℕ} → on ≡ next_of v t r → Seeks v t (used_at d v t activity name) (used_row d v t activity name) on
       used_on k n = seeks_next h e (here ∙ k) n

@@ -14,7 +14,7 @@ mod zeros; // what is written over up to the end
 
 pub use copying::copy_bits;
 pub use places::inside;
-pub use reading::{take, take_flag, take_pad};
+pub use reading::{take, take_flag, take_pad, take_u32};
 pub use rotation::rotate;
 pub use signs::{put_i32, put_i64, take_i32};
 pub use texts::{put_bytes, put_text, take_text};

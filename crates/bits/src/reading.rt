@@ -77,13 +77,19 @@ fn take_five(s: &[u8], p: Place) -> Field<u64>
     }
 }
 
-// A count: the field of 32 bits at a place, at once where five bytes are there.
-pub(crate) fn take_count(s: &[u8], p: Place) -> Field<u64>
+// The field of 32 bits at a place, at once where five bytes are there.
+pub fn take_u32(s: &[u8], p: Place) -> Field<u32>
     ensures { result ≡ taken_at s.now p 32 }
 {
-    if p.bit < 8 && 5 <= s.len() && p.byte <= s.len() - 5 {
+    let five = p.bit < 8 && 5 <= s.len() && p.byte <= s.len() - 5;
+    let Field { value, next } = if five {
         take_five(s, p)
     } else {
         take(s, p, 32)
+    };
+    // 32 bits fit, so that `try_from` would need a case for what never is.
+    Field {
+        value: value as u32,
+        next,
     }
 }

@@ -5,7 +5,7 @@ ghost use Rattle.definition.specs.Format.{field};
 ghost use Rattle.bits.specs.Reads.{int32_at};
 ghost use Rattle.bits.specs.Steps.{Puts};
 
-use crate::reading::take;
+use crate::reading::take_u32;
 use crate::writing::put;
 use crate::{Field, Place};
 
@@ -26,9 +26,9 @@ pub fn put_i32(out: &mut [u8], p: Place, v: i32) -> Place
 pub fn take_i32(s: &[u8], p: Place) -> Field<i32>
     ensures { result ≡ int32_at s.now p }
 {
-    let Field { value, next } = take(s, p, 32);
+    let Field { value, next } = take_u32(s, p);
     Field {
-        value: (value as u32).cast_signed(),
+        value: value.cast_signed(),
         next,
     }
 }

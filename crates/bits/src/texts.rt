@@ -6,7 +6,7 @@ ghost use Rattle.bits.specs.Reads.{span_in, Spans};
 ghost use Rattle.bits.specs.Steps.{Laid, Step, Puts};
 ghost use Rattle.laws.specs.Buf.{◌▷◌};
 
-use crate::reading::{take_count, take_pad};
+use crate::reading::{take_pad, take_u32};
 use crate::writing::{pad, put};
 use crate::{PAST, Place, Span};
 
@@ -59,6 +59,7 @@ pub fn put_bytes(out: &mut [u8], p: Place, s: &[u8]) -> Place
 pub fn put_text(out: &mut [u8], p: Place, s: &[u8]) -> Place
     ensures { Puts text s.now out.old p out.new result }
 {
+    // There is no From from usize to u64.
     let a = put(out, p, 32, s.len() as u64);
     let b = pad(out, a);
     put_bytes(out, b, s)
@@ -85,7 +86,8 @@ fn bytes_at(n: usize, p: Place, len: usize) -> Span
 pub fn take_text(s: &[u8], p: Place) -> Span
     ensures { Spans s.now p result }
 {
-    let c = take_count(s, p);
+    let c = take_u32(s, p);
     let b = take_pad(s, c.next);
+    // There is no From from u32 to usize.
     bytes_at(s.len(), b, c.value as usize)
 }

@@ -1,97 +1,149 @@
--- The elements of a calendar's exceptions, found one by one. Assumes nothing.
-use Rattle.std.proofs.Common.{◌≡◌, ℕ, ◌+◌, ◌<◌, ◌≤◌, Bool, true, false, not, eqb, List, [], ◌∷◌, length, drop, sym, refl, ap, ◌∙◌, subst, arith, drop-drop}
+-- The exceptions of a calendar, found one by one; whether an element names hours. Assumes nothing.
+use Rattle.std.proofs.Common.{◌≡◌, ℕ, zero, suc, ◌+◌, ◌≤◌, Bool, true, false, not, eqb, List, [], ◌∷◌, ◌++◌, length, map, take, drop, sym, refl, ap, ◌∙◌, subst, append-nil, arith}
 use Rattle.recurrence.specs.declared.Range.{Range}
 use Rattle.recurrence.specs.declared.Rule.{Rule}
-use Rattle.std.specs.Prelude.{None, Some}
-use Rattle.std.specs.Prelude.{Option}
-use Rattle.definition.specs.Base.{◌or◌, given, some?}
+use Rattle.calendar.specs.declared.hours.WorkingTime.{WorkingTime}
+use Rattle.calendar.specs.Hours.{working_meaning}
+use Rattle.std.specs.Prelude.{Option, None, Some, is_some, MatchOption, slice_get}
+use Rattle.std.specs.Option.{option_map}
+use Rattle.std.proofs.lemmas.List.{length-append, length-map}
+use Rattle.std.proofs.lemmas.Iterator.{YieldsList}
+use Rattle.std.proofs.lemmas.Iterator.Consumers.{YieldsList-from_shown, count_from_yields_List, nth_from_yields_List}
+use Rattle.std.specs.Iterator.{Drains, SkipsThenYields}
+use mathlib.Core.List.{flat_map}
+use Rattle.definition.specs.Base.{◌or◌, given, some?, present}
 use Rattle.definition.specs.Ascii.{bytes}
 use Rattle.definition.specs.Text.{Text}
-use Rattle.definition.specs.Tree.{Element, all_in, child}
-use Rattle.definition.specs.Format.{Period}
+use Rattle.definition.specs.Tree.{Element, all, all_in, child}
 use Rattle.definition.specs.Calendar.{week_days, recurring, periods_of, is_empty, day_type, working_time}
-use Rattle.tree.specs.Place.{later_at, list_of, Past, Starts}
-use Rattle.tree.specs.Answer.{found_list, none_list, found_on}
+use Rattle.tree.specs.Place.{meaning, later, list_of, Past, Starts}
+use Rattle.tree.specs.Answer.{found_child, none_child, found_on}
+use Rattle.tree.specs.Few.{children_few}
+use Rattle.tree.specs.declared.element.Element.{Element as Place}
 use Rattle.recurrence.specs.Element.{rule_days, RuleRead, RangeRead}
-use Rattle.calendar_days.specs.Exceptions.{name_of, items_of, On, days_at, days_in, Ruled, is_time}
+use Rattle.calendar_days.specs.declared.exceptions.Exceptions.{Exceptions}
+use Rattle.calendar_days.specs.declared.exceptions.Exception.{Exception as Given}
+use Rattle.calendar_days.specs.declared.exceptions.Exception.TheVariants.{WeekDay, Recurring}
+use Rattle.calendar_days.specs.Exceptions.{Item, item_of, items_of, items_by, items_left, ItemsOf, GivesItems, placed, is_old, old_days, days_at, days_in, is_time}
 use Rattle.calendar_days.proofs.Changes.{names_hours}
+use Rattle.calendar_days.proofs.RuleDays.{ruled_by, ruled}
 
-past_less : (s : Text) (m k : ℕ) → k ≤ m → (r : Option ℕ) → Past s m r → Past s k r
+-- ---- the iterator over a calendar's exceptions
+
+past_all : (s : Text) (m : ℕ) (r : Option Place) → Past s m r → Past s 0 r
 unfolding Past
-past_less s m k h (Some p) o = (omega (arith, o.0), o.1)
-past_less s m k h None o = tt
+past_all s m (Some p) o = record { tree = o.tree; after = omega arith; inside = o.inside }
+past_all s m None o = tt
 
-module _ {s n : Text} where
-  pub starts_from : {l : List Element} {m : ℕ} {r : Option ℕ} (k : ℕ) → k ≤ m → Starts s n l m r → Starts s n l k r
-  starts_from {m = m} {r = r} k h x = record { is = x.is; on = past_less s m k h r x.on }
+-- the elements of a name in a section, from the first on
+abbrev In : Text → Option Place → Option Place → Type 0
+In n o r = MatchOption o (r ≡ None) (λ x. Starts x.tree.now n (all (meaning x) n) (x.at + 1) r)
 
-  starts_none : Starts s n [] 0 None
-  unfolding list_of Past
-  starts_none = record { is = refl; on = tt }
+record Found (s n : Text) (l : List Element) (r : Option Place) : Type 0 where
+  is : list_of n r ≡ l
+  there : Past s 0 r
+  few : length (list_of n r) ≤ length s
 
-  -- the next one
-  pub on_at : {f r : Option ℕ} {p m : ℕ} → f ≡ Some p → Starts s n (later_at s n p) m r → On s n f r
-  on_at {r = r} e x = record { on = λ l h. subst (λ t. Starts s n (drop 1 t) 0 r) (sym (found_list h e)) (starts_from 0 (omega arith) x) }
+found_in : (n : Text) (e : Element) {s section : Text} {m : ℕ} {o r : Option Place} → Starts s section (all e section) m o → In n o r → Found s n (all_in (child e section) n) r
+unfolding Past list_of
+found_in n e {o = None} h k = rw (k, none_child e h refl) (record { is = refl; there = tt; few = omega arith })
+found_in n e {s} {o = Some x} {r} h k =
+    let t : x.tree.now ≡ s = (found_on h refl).tree in
+    let f : length (all (meaning x) n) ≤ length s = subst (λ (u : Text). length (all (meaning x) n) ≤ length u) t (children_few x.tree.now x.at n) in
+    rw (found_child e h refl) (record { is = sym k.is; there = rw t at (past_all x.tree.now (x.at + 1) r k.on); few = rw (sym k.is) f })
 
-  pub on_none : {f : Option ℕ} → f ≡ None → On s n f None
-  on_none e = record { on = λ l h. subst (λ t. Starts s n (drop 1 t) 0 None) (sym (none_list h e)) starts_none }
+pub in_by : (n : Text) (o r : Option Place) {φ : Place → Type 0} → MatchOption o (r ≡ None) φ → ((x : Place) → φ x → Starts x.tree.now n (all (meaning x) n) (x.at + 1) r) → In n o r
+in_by n None r h k = h
+in_by n (Some x) r h k = k x h
 
--- ---- how many
+module _ (e : Element) {s : Text} {m k : ℕ} {o p : Option Place} (w x : Option Place) (h : Starts s (bytes "WeekDays") (all e (bytes "WeekDays")) m o) (i : In (bytes "WeekDay") o w)
+    (j : Starts s (bytes "Exceptions") (all e (bytes "Exceptions")) k p) (l : In (bytes "Exception") p x) where
+  both : Found s (bytes "WeekDay") (week_days e) w × Found s (bytes "Exception") (recurring e) x
+  both = (found_in (bytes "WeekDay") e h i, found_in (bytes "Exception") e j l)
 
-pub record Counting (s n : Text) (l : List Element) (f : Option ℕ) (k : ℕ) : Type 0 where
-  pub others : List Element
-  pub starts : Starts s n others k f
-  pub all : length l ≡ k + length others
+  pub items_begun : items_by w x ≡ items_of e
+  unfolding items_by items_of
+  items_begun = let (a, b) = both in
+      ap (λ (l : List Element). map (λ w. (true, w)) l ++ map (λ x. (false, x)) (list_of (bytes "Exception") x)) a.is
+      ∙ ap (λ (l : List Element). map (λ w. (true, w)) (week_days e) ++ map (λ x. (false, x)) l) b.is
 
-module _ {s n : Text} where
-  pub count_none : {l : List Element} {f : Option ℕ} → Starts s n l 0 f → Counting s n l f 0
-  count_none {l} h = record { others = l; starts = h; all = omega arith }
+  pub items_there : Past s 0 w × Past s 0 x
+  items_there = let (a, b) = both in (a.there, b.there)
 
-  pub count_end : {l : List Element} {f : Option ℕ} {k : ℕ} → Counting s n l f k → f ≡ None → k ≡ length l
-  count_end h e = omega (arith, h.all, ap length (none_list h.starts e))
+  pub items_few : length (items_by w x) ≤ length s + length s
+  unfolding items_by
+  items_few = let (a, b) = both in
+      omega (arith, a.few, b.few, length-append {A = Item} (map (λ w. (true, w)) (list_of (bytes "WeekDay") w)) (map (λ x. (false, x)) (list_of (bytes "Exception") x)), length-map {B = Item} (list_of (bytes "WeekDay") w) (λ w. (true, w)), length-map {B = Item} (list_of (bytes "Exception") x) (λ x. (false, x)))
 
-  module _ {l : List Element} {f : Option ℕ} {k p : ℕ} (h : Counting s n l f k) (e : f ≡ Some p) where
-    pub count_less : k < length l
-    count_less = omega (arith, h.all, ap length (found_list h.starts e))
+-- a WeekDay more
+module _ {w : Option Place} (x : Option Place) {w' : Option Place} {e : Place} {m : ℕ} (i : w ≡ Some e) (h : Starts e.tree.now (bytes "WeekDay") (later (bytes "WeekDay") e) m w') where
+  pub week_day_more : items_by w x ≡ item_of (WeekDay e) ∷ items_by w' x
+  unfolding items_by list_of is_old placed
+  week_day_more = rw i (ap (λ (l : List Element). (true, meaning e) ∷ (map (λ w. (true, w)) l ++ map (λ x. (false, x)) (list_of (bytes "Exception") x))) h.is)
 
-    pub count_within : k < length s
-    count_within = omega (arith, found_on h.starts e)
+  pub week_day_of : (u : Text) → Past u 0 w × Past u 0 x → ((placed (WeekDay e)).tree.now ≡ u) × (Past u 0 w' × Past u 0 x)
+  unfolding Past placed
+  week_day_of u (o, p) = let a = rw i at o in (a.tree, (rw (sym a.tree) (past_all _ m w' h.on), p))
 
-    pub count_more : {r : Option ℕ} → Starts s n (later_at s n p) (p + 1) r → Counting s n l r (k + 1)
-    count_more x = record {
-      others = later_at s n p;
-      starts = starts_from (k + 1) (omega (arith, found_on h.starts e)) x;
-      all = omega (arith, h.all, ap length (found_list h.starts e));
-    }
+-- an Exception more, behind the WeekDays
+module _ {w x x' : Option Place} {e : Place} {m : ℕ} (n : w ≡ None) (i : x ≡ Some e) (h : Starts e.tree.now (bytes "Exception") (later (bytes "Exception") e) m x') where
+  pub recurring_more : items_by w x ≡ item_of (Recurring e) ∷ items_by w x'
+  unfolding items_by list_of is_old placed
+  recurring_more = rw (n, i) (ap (λ (l : List Element). (false, meaning e) ∷ map (λ x. (false, x)) l) h.is)
 
--- ---- by the kind of element
+  pub recurring_of : (u : Text) → Past u 0 w × Past u 0 x → ((placed (Recurring e)).tree.now ≡ u) × (Past u 0 w × Past u 0 x')
+  unfolding Past placed
+  recurring_of u (o, p) = let a = rw i at p in (a.tree, (o, rw (sym a.tree) (past_all _ m x' h.on)))
 
-module _ {s : Text} {o : Bool} where
-  pub old_first : (e : Element) {m : ℕ} {r : Option ℕ} → o ≡ true → Starts s (bytes "WeekDay") (week_days e) m r → Starts s (name_of o) (items_of o e) 0 r
-  unfolding name_of items_of
-  old_first e h x = rw h (starts_from 0 (omega arith) x)
+pub no_more : {w x : Option Place} → w ≡ None → x ≡ None → items_by w x ≡ []
+unfolding items_by list_of
+no_more n i = rw (n, i)
 
-  pub new_first : (e : Element) {m : ℕ} {r : Option ℕ} → o ≡ false → Starts s (bytes "Exception") (recurring e) m r → Starts s (name_of o) (items_of o e) 0 r
-  unfolding name_of items_of
-  new_first e h x = rw h (starts_from 0 (omega arith) x)
+-- before a loop over it all are left, and all of the tree
+module _ {d items : Exceptions} (is : d ≡ items) where
+  pub all_items_left : {l : List Item} → items_left items ≡ l → l ≡ items_left d
+  all_items_left h = sym (ap (λ (x : Exceptions). items_left x) is ∙ h)
 
-  pub old_next : (p : ℕ) {m : ℕ} {r : Option ℕ} → o ≡ true → Starts s (bytes "WeekDay") (later_at s (bytes "WeekDay") p) m r → Starts s (name_of o) (later_at s (name_of o) p) m r
-  unfolding name_of
-  old_next p h x = rw h x
+  pub all_items_of : (u : Text) → ItemsOf items u → ItemsOf d u
+  all_items_of u h = subst (λ (x : Exceptions). ItemsOf x u) (sym is) h
 
-  pub new_next : (p : ℕ) {m : ℕ} {r : Option ℕ} → o ≡ false → Starts s (bytes "Exception") (later_at s (bytes "Exception") p) m r → Starts s (name_of o) (later_at s (name_of o) p) m r
-  unfolding name_of
-  new_next p h x = rw h x
+-- what it gives are those
+pub all_given : (s : Exceptions) → YieldsList GivesItems item_of s (items_left s)
+all_given s = YieldsList-from_shown GivesItems item_of items_left (λ s t h. ap length h.0) (λ s x t h. h.0) s
+
+-- the one behind the first i
+nth_take : {X B : Type 0} (g : X → List B) (l : List X) (i : ℕ) → flat_map g (take 1 (drop i l)) ≡ flat_map g (present (slice_get l i ∷ []))
+unfolding flat_map present
+nth_take g [] zero = refl
+nth_take g [] (suc i) = refl
+nth_take g (x ∷ l) zero = refl
+nth_take g (x ∷ l) (suc i) = nth_take g l i
+
+module _ {items : Exceptions} {l : List Item} (are : items_left items ≡ l) where
+  pub counted : (n : ℕ) → ((xs : List Given) × Drains GivesItems items xs × (n ≡ length xs)) → n ≡ length l
+  counted n h = count_from_yields_List items n h (all_given items) ∙ ap length are
+
+  module _ {B : Type 0} (g : Item → List B) (i : ℕ) (r : Option Given) (u : Exceptions) (h : SkipsThenYields GivesItems items i r u) where
+    nth_is : option_map item_of r ≡ slice_get l i
+    nth_is = nth_from_yields_List r u i h (all_given items) ∙ ap (λ (m : List Item). slice_get m i) are
+
+    pub nth_none : r ≡ None → flat_map g (take 1 (drop i l)) ≡ []
+    unfolding flat_map present
+    nth_none e = nth_take g l i ∙ ap (λ (o : Option Item). flat_map g (present (o ∷ []))) (sym nth_is ∙ ap (option_map item_of) e)
+
+    pub nth_some : {x : Given} → r ≡ Some x → g (item_of x) ≡ flat_map g (take 1 (drop i l))
+    unfolding flat_map present
+    nth_some {x} e = sym (nth_take g l i ∙ ap (λ (o : Option Item). flat_map g (present (o ∷ []))) (sym nth_is ∙ ap (option_map item_of) e) ∙ append-nil (g (item_of x)))
 
 -- ---- working times
 
-pub time_here : (t : Element) (l : List Element) → is_time t ≡ true → some? is_time (t ∷ l) ≡ true
+pub time_here : {t : Element} {l m : List Element} → l ≡ t ∷ m → is_time t ≡ true → some? is_time l ≡ true
 unfolding some?
-time_here t l h = rw h
+time_here e h = rw (e, h)
 
-pub time_on : (t : Element) (l : List Element) → is_time t ≡ false → some? is_time (t ∷ l) ≡ some? is_time l
+pub time_on : {t : Element} {l m : List Element} → l ≡ t ∷ m → is_time t ≡ false → some? is_time l ≡ some? is_time m
 unfolding some?
-time_on t l h = rw h
+time_on e h = rw (e, h)
 
 no_time : some? is_time [] ≡ false
 unfolding some?
@@ -100,34 +152,50 @@ no_time = refl
 pub no_times : {l : List Element} → l ≡ [] → some? is_time l ≡ false
 no_times e = ap (some? is_time) e ∙ no_time
 
-pub hours_none : (e : Element) → all_in (child e (bytes "WorkingTimes")) (bytes "WorkingTime") ≡ [] → false ≡ not (is_empty (periods_of e))
-hours_none e h = sym (no_times h) ∙ names_hours e
+times_in : Option Element → Bool
+times_in o = some? is_time (all_in o (bytes "WorkingTime"))
 
-pub hours_some : (e : Element) {l : List Element} → all_in (child e (bytes "WorkingTimes")) (bytes "WorkingTime") ≡ l → some? is_time l ≡ not (is_empty (periods_of e))
-hours_some e h = ap (some? is_time) (sym h) ∙ names_hours e
+pub hours_none : (e : Element) → child e (bytes "WorkingTimes") ≡ None → false ≡ not (is_empty (periods_of e))
+unfolding times_in some?
+hours_none e h = sym no_time ∙ sym (ap times_in h) ∙ names_hours e
 
-pub time_is : {r : Bool} {o : Option Period} (t : Element) → r ≡ given o → o ≡ working_time t → is_time t ≡ r
-time_is t e h = sym (e ∙ ap given h)
+pub hours_some : (e : Element) {c : Element} → child e (bytes "WorkingTimes") ≡ Some c → some? is_time (all c (bytes "WorkingTime")) ≡ not (is_empty (periods_of e))
+unfolding times_in some?
+hours_some e h = sym (ap times_in h) ∙ names_hours e
 
--- the one behind the first
-module _ {s n : Text} (l : List Element) where
-  pub nth_more : (i : ℕ) {f r : Option ℕ} → Starts s n (drop i l) 0 f → On s n f r → Starts s n (drop (i + 1) l) 0 r
-  nth_more i {f} {r} h k = subst (λ t. Starts s n t 0 r) (drop-drop 1 i l) (k.on (drop i l) h)
+given_some : (o : Option WorkingTime) → given (working_meaning o) ≡ is_some o
+unfolding working_meaning
+given_some None = refl
+given_some (Some t) = refl
 
-  pub nth_end : (i m : ℕ) {f : Option ℕ} → i ≤ m → m ≤ i → Starts s n (drop i l) 0 f → Starts s n (drop m l) 0 f
-  nth_end i m {f} a b h = let e : i ≡ m = omega arith in subst (λ k. Starts s n (drop k l) 0 f) e h
+pub time_is : {r : Bool} (o : Option WorkingTime) (t : Element) → r ≡ is_some o → working_meaning o ≡ working_time t → is_time t ≡ r
+time_is o t e h = sym (e ∙ sym (given_some o) ∙ ap given h)
 
 -- ---- their days
 
-module _ {o : Bool} (x : Element) where
-  pub new_days : {r : Option Rule} → o ≡ false → RuleRead x r → days_in r ≡ days_at o x
+module _ (x : Element) where
+  pub new_days : {r : Option Rule} → RuleRead x r → days_in r ≡ days_at (false, x)
   unfolding days_in days_at
-  new_days e h = rw (e, h.days)
+  new_days h = rw h.days
 
-  pub not_old : {t : Bool} → o ≡ true → t ≡ eqb (day_type x or 1) 0 → t ≡ false → days_in None ≡ days_at o x
-  unfolding days_in days_at rule_days
-  not_old e h k = let z : eqb (day_type x or 1) 0 ≡ false = sym h ∙ k in rw (e, z)
+  pub not_old : {t : Bool} → t ≡ eqb (day_type x or 1) 0 → t ≡ false → days_in None ≡ old_days x
+  unfolding days_in old_days rule_days
+  not_old h k = let z : eqb (day_type x or 1) 0 ≡ false = sym h ∙ k in rw z
 
-  pub old_days : {t : Bool} {a : Option Range} {r : Option Rule} → o ≡ true → t ≡ eqb (day_type x or 1) 0 → t ≡ true → RangeRead x a → Ruled a r → days_in r ≡ days_at o x
-  unfolding days_at
-  old_days e h k i j = let z : eqb (day_type x or 1) 0 ≡ true = sym h ∙ k in rw (e, z) (j.days x i)
+  pub are_old : {t : Bool} {a : Option Range} {r : Option Rule} → t ≡ eqb (day_type x or 1) 0 → t ≡ true → RangeRead x a → r ≡ ruled_by a → days_in r ≡ old_days x
+  unfolding old_days
+  are_old h k i j = let z : eqb (day_type x or 1) 0 ≡ true = sym h ∙ k in rw (j, z) (ruled x i)
+
+pub of_week_day : {y : Given} {e : Place} → y ≡ WeekDay e → old_days (meaning e) ≡ days_at (item_of y)
+unfolding days_at is_old placed
+of_week_day i = rw i
+
+pub of_recurring : {y : Given} {e : Place} → y ≡ Recurring e → days_at (false, meaning e) ≡ days_at (item_of y)
+unfolding days_at is_old placed
+of_recurring i = rw i
+
+-- whether a WorkingTimes, if there is one, has a time
+pub times_if : (e : Element) {s : Text} {m : ℕ} {o : Option Place} {r : Bool} → Starts s (bytes "WorkingTimes") (all e (bytes "WorkingTimes")) m o
+    → MatchOption o (r ≡ false) (λ x. r ≡ some? is_time (all (meaning x) (bytes "WorkingTime"))) → r ≡ not (is_empty (periods_of e))
+times_if e {o = None} h k = k ∙ hours_none e (none_child e h refl)
+times_if e {o = Some x} h k = k ∙ hours_some e (found_child e h refl)

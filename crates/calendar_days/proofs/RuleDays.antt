@@ -1,7 +1,9 @@
 -- The days of a rule, one after the other, and the rule of days in a row. Assumes nothing.
 use Rattle.std.specs.Prelude.{if◌then◌else◌}
 use Rattle.std.proofs.Common.{◌≡◌, ℕ, zero, suc, ◌+◌, ◌-◌, ◌/◌, ◌%◌, ◌<◌, ◌≤◌, min, max, Bool, true, false, ◌&&◌, eqb, ltb, leb, List, [], ◌∷◌, length, take, pos, sym, refl, ap, ◌∙◌, subst, arith, lt-ltb, leb-true}
-use Rattle.std.specs.Prelude.{Option, Some, None}
+use Rattle.std.specs.Prelude.{Option, Some, None, MatchOption, IsSomeAnd}
+use Rattle.std.specs.Option.{option_map}
+use mathlib.Core.Logic.{◌⊎◌, inl, inr}
 use Rattle.definition.specs.Base.{◌>>=◌, ◌or◌, when, within, keep, count}
 use Rattle.definition.specs.Ascii.{bytes}
 use Rattle.definition.specs.Date.{Date, day_number, first_date, last_date}
@@ -15,7 +17,7 @@ use Rattle.definition.specs.Recurrence.{is_rule, fits, days_of_rule, days_of, re
 use Rattle.laws.specs.Bools.{within_is, is_within, both}
 use Rattle.laws.specs.Each.{Each, empty, next, each_take}
 use Rattle.laws.specs.Fields.{InYears, days_day}
-use Rattle.laws.specs.Options.{Some-injective, never}
+use Rattle.laws.specs.Options.{never}
 use Rattle.date.specs.Scale.{day_count, count_of_number}
 use Rattle.pack.specs.Value.{date_by}
 use Rattle.recurrence.proofs.Rules.{field_in}
@@ -28,7 +30,8 @@ use Rattle.recurrence.specs.declared.Range.{Range}
 use Rattle.recurrence.specs.declared.Cursor.{Cursor}
 use Rattle.recurrence.specs.declared.Step.{Step}
 use Rattle.recurrence.specs.declared.Step.TheVariants.{Day, Done, Skipped}
-use Rattle.calendar_days.specs.Exceptions.{days_at, days_in, daily, Ruled, coming, Next, Follows}
+use Rattle.calendar_days.specs.declared.exceptions.Days.{Days}
+use Rattle.calendar_days.specs.Exceptions.{Item, old_days, days_at, days_in, daily, coming, coming_by, days_left}
 use Rattle.calendar_days.proofs.Runs.{each_count, each_kept, kept_length, count_length, rises_count, rises_keep, rises_take, first_run}
 
 -- ---- the days to come
@@ -52,21 +55,12 @@ come_years r c = by_sound (sound (scaled_by r) && is_rule (as_rule (scaled_by r)
         let at = max m.from (day_count c.at.0) in
         each_take c.left (each_kept (fits m) (λ k u t. u) (each_count at (suc m.last - at) (λ k u v. (omega arith, omega arith))))
 
-fewer : (r : Rule) (c : Cursor) (x : Date) (l : List Date) → to_come r c ≡ Some (x ∷ l) → 0 < c.left
-unfolding to_come
-fewer r c x l e = by_left c.left refl (meaning r) e
-  where
-    by_left : (n : ℕ) → c.left ≡ n → (o : Option D.Rule) → (o >>= λ m. Some (take c.left (from_on (fits m) m.last (max m.from (day_count c.at.0))))) ≡ Some (x ∷ l) → 0 < c.left
-    by_left zero z None e = never e
-    by_left zero z (Some m) e = let w : Some [] ≡ Some (x ∷ l) = sym (ap (λ (n : ℕ). Some (take n (from_on (fits m) m.last (max m.from (day_count c.at.0))))) z) ∙ e in let n : ◌≡◌ {A = ℕ} 0 1 = cc in absurd (omega arith)
-    by_left (suc n) z o e = omega arith
-
 module _ (r : Rule) (c : Cursor) {s : Step} (h : (s ≡ step_of r c) × (said r s ≡ to_come r c)) where
-  next_day : {d : DateIs} {c' : Cursor} → s ≡ Day d c' → Next r c d c'
+  next_day : {d : DateIs} {c' : Cursor} → s ≡ Day d c' → coming r c ≡ date_by d.0 ∷ coming r c'
   unfolding step_of said
   next_day {d} {c'} e = by_come (to_come r c) refl (come_years r c)
     where
-      by_come : (o : Option (List Date)) → to_come r c ≡ o → Each InYears (o or []) → Next r c d c'
+      by_come : (o : Option (List Date)) → to_come r c ≡ o → Each InYears (o or []) → coming r c ≡ date_by d.0 ∷ coming r c'
       by_come None z y = let w : Day d c' ≡ Skipped = sym e ∙ h.0 ∙ ap (step_by c) z in let n : ◌≡◌ {A = ℕ} 0 1 = cc in absurd (omega arith)
       by_come (Some []) z y = let w : Day d c' ≡ Done = sym e ∙ h.0 ∙ ap (step_by c) z in let n : ◌≡◌ {A = ℕ} 0 1 = cc in absurd (omega arith)
       by_come (Some (x ∷ l)) z (next yx ys) = by_rest (to_come r c') refl
@@ -77,26 +71,18 @@ module _ (r : Rule) (c : Cursor) {s : Step} (h : (s ≡ step_of r c) × (said r 
           ed : d ≡ day_date x
           ed = cc
 
-          ec : c' ≡ after c x
-          ec = cc
-
           day : date_by d.0 ≡ x
           day = ap (λ (t : DateIs). date_by t.0) ed ∙ ap (λ (o : Option Date). o or 0) (days_day x yx)
 
           told : (to_come r c' >>= λ l. Some (day_count d.0 ∷ l)) ≡ Some (x ∷ l)
           told = sym (ap (said r) e) ∙ h.1 ∙ z
 
-          by_rest : (o : Option (List Date)) → to_come r c' ≡ o → Next r c d c'
+          by_rest : (o : Option (List Date)) → to_come r c' ≡ o → coming r c ≡ date_by d.0 ∷ coming r c'
           by_rest None k = never (sym (ap (λ (o : Option (List Date)). o >>= λ l. Some (day_count d.0 ∷ l)) k) ∙ told)
           by_rest (Some l') k =
               let t : Some (day_count d.0 ∷ l') ≡ Some (x ∷ l) = sym (ap (λ (o : Option (List Date)). o >>= λ l. Some (day_count d.0 ∷ l)) k) ∙ told in
               let u : l' ≡ l = cc in
-              let n : c'.left ≡ c.left - 1 = ap (λ (t : Cursor). t.left) ec in
-              record {
-                is = ap (λ (o : Option (List Date)). o or []) z ∙ ap (λ (t : Date). t ∷ l) (sym day) ∙ ap (λ (t : List Date). date_by d.0 ∷ t) (sym u ∙ sym (ap (λ (o : Option (List Date)). o or []) k));
-                years = subst InYears (sym day) yx;
-                less = omega (arith, fewer r c x l z);
-              }
+              ap (λ (o : Option (List Date)). o or []) z ∙ ap (λ (t : Date). t ∷ l) (sym day) ∙ ap (λ (t : List Date). date_by d.0 ∷ t) (sym u ∙ sym (ap (λ (o : Option (List Date)). o or []) k))
 
   no_day : ((d : DateIs) (c' : Cursor) → s ≡ Day d c' → ⊥) → coming r c ≡ []
   unfolding step_of
@@ -107,32 +93,66 @@ module _ (r : Rule) (c : Cursor) {s : Step} (h : (s ≡ step_of r c) × (said r 
       by_come (Some []) z = ap (λ (o : Option (List Date)). o or []) z
       by_come (Some (x ∷ l)) z = absurd (n (day_date x) (after c x) (h.0 ∙ ap (step_by c) z))
 
-  -- the next day, or none
-  pub day_follows : (d : DateIs) (c' : Cursor) → s ≡ Day d c' → Follows r c (Some (d, c'))
-  day_follows d c' e = record {
-    day = λ d2 c2 z.
-        let p : ◌≡◌ {A = DateIs × Cursor} (d, c') (d2, c2) = Some-injective _ _ z in
-        let ed : d ≡ d2 = ap (λ (x : DateIs × Cursor). x.0) p in
-        let ec : c' ≡ c2 = ap (λ (x : DateIs × Cursor). x.1) p in
-        subst (λ x. Next r c x c2) ed (subst (λ y. Next r c d y) ec (next_day e));
-    none = λ z. let n : ◌≡◌ {A = ℕ} 0 1 = cc in absurd (omega arith);
-  }
-
-  pub none_follows : {t : Step} → s ≡ t → ((d : DateIs) (c' : Cursor) → t ≡ Day d c' → ⊥) → Follows r c None
-  none_follows e n = record {
-    day = λ d2 c2 z. let n : ◌≡◌ {A = ℕ} 0 1 = cc in absurd (omega arith);
-    none = λ z. no_day (λ d c' k. n d c' (sym e ∙ k));
-  }
-
-pub no_done : (d : DateIs) (c' : Cursor) → Done ≡ Day d c' → ⊥
-no_done d c' e = let n : ◌≡◌ {A = ℕ} 0 1 = cc in omega arith
-
-pub no_skipped : (d : DateIs) (c' : Cursor) → Skipped ≡ Day d c' → ⊥
-no_skipped d c' e = let n : ◌≡◌ {A = ℕ} 0 1 = cc in omega arith
-
 pub from_start : (r : Rule) (c : Cursor) → to_come r c ≡ days_by r → coming r c ≡ days_in (Some r)
 unfolding days_in rule_days
 from_start r c e = ap (λ (o : Option (List Date)). o or []) e
+
+pub mapped : {A B : Type 0} (f : A → B) (o : Option A) (r : Option B) → MatchOption o (r ≡ None) (λ x. IsSomeAnd r (λ y. y ≡ f x)) → r ≡ option_map f o
+mapped f None r h = h
+mapped f (Some x) (Some y) h = ap Some h
+mapped f (Some x) None h = absurd h
+
+-- an iterator over a rule's days that is begun
+pub begun : {φ : Rule → Rule × Cursor → Type 0} (o : Option Rule) (r : Option (Rule × Cursor)) → MatchOption o (r ≡ None) (λ x. IsSomeAnd r (φ x)) → ((x : Rule) (y : Rule × Cursor) → φ x y → coming y.0 y.1 ≡ days_in (Some x)) → coming_by r ≡ days_in o
+unfolding coming_by days_in rule_days
+begun None r h k = rw h
+begun (Some x) (Some y) h k = k x y h
+begun (Some x) None h k = absurd h
+
+pub no_rule : days_in None ≡ []
+unfolding days_in rule_days
+no_rule = refl
+
+-- ---- an iterator over the days of a rule
+
+pub none_left : (d : Days) → d.left ≡ None → days_left d ≡ []
+unfolding coming_by
+none_left d e = rw e
+
+pub some_left : (d : Days) {r : Rule} {c : Cursor} → d.left ≡ Some (r, c) → days_left d ≡ coming r c
+unfolding coming_by
+some_left d e = rw e
+
+no_done : (d : DateIs) (c' : Cursor) → Done ≡ Day d c' → ⊥
+no_done d c' e = let n : ◌≡◌ {A = ℕ} 0 1 = cc in omega arith
+
+no_skipped : (d : DateIs) (c' : Cursor) → Skipped ≡ Day d c' → ⊥
+no_skipped d c' e = let n : ◌≡◌ {A = ℕ} 0 1 = cc in omega arith
+
+-- its next day, or none
+module _ (d : Days) {r : Rule} {c : Cursor} (is : d.left ≡ Some (r, c)) {s : Step} (h : (s ≡ step_of r c) × (said r s ≡ to_come r c)) where
+  pub day_left : (after : Days) {day : DateIs} {c' : Cursor} → s ≡ Day day c' → after.left ≡ Some (r, c') → days_left d ≡ date_by day.0 ∷ days_left after
+  day_left after {day} e k = some_left d is ∙ next_day r c h e ∙ ap (λ (l : List Date). date_by day.0 ∷ l) (sym (some_left after k))
+
+  pub done_left : (s ≡ Done) ⊎ (s ≡ Skipped) → days_left d ≡ []
+  done_left (inl e) = some_left d is ∙ no_day r c h (λ day c' k. no_done day c' (sym e ∙ k))
+  done_left (inr e) = some_left d is ∙ no_day r c h (λ day c' k. no_skipped day c' (sym e ∙ k))
+
+-- before a loop over it all are left
+pub all_left : {d items : Days} {l : List Date} → d ≡ items → days_left items ≡ l → l ≡ days_left d
+all_left e h = sym (ap (λ (x : Days). days_left x) e ∙ h)
+
+-- each is a date
+years_left : (o : Option (Rule × Cursor)) → Each InYears (coming_by o)
+unfolding coming_by
+years_left None = empty
+years_left (Some (r, c)) = come_years r c
+
+pub year_left : (d : Days) {x : Date} {l : List Date} → days_left d ≡ x ∷ l → InYears x
+year_left d {x} {l} e = first (subst (Each InYears) e (years_left d.left))
+  where
+    first : Each InYears (x ∷ l) → InYears x
+    first (next h k) = h
 
 -- ---- the days of a WeekDay of DayType 0
 
@@ -233,23 +253,24 @@ module _ (r : Range) where
           days_are (daily r) (daily_is first) ∙ daily_run n e first last.1 (omega (arith, run.short, count_length from (suc n))) ∙ h.days
 
 -- the rule of an answer
-pub ruled : {a : Option Range} (r : Range) → a ≡ Some r → {b : Option Rule} → b ≡ Some (daily r) → Ruled a b
-ruled r e {b} f = subst (λ a. Ruled a b) (sym e) (subst (λ b. Ruled (Some r) b) (sym f) (record { days = daily_days r }))
+abbrev pub ruled_by : Option Range → Option Rule
+ruled_by a = option_map daily a
 
-pub not_ruled : {a : Option Range} → a ≡ None → Ruled a None
+pub ruled : (w : Element) {a : Option Range} → RangeRead w a → days_in (ruled_by a) ≡ days_of w
 unfolding days_in rule_days range_days
-not_ruled e = subst (λ a. Ruled a None) (sym e) (record { days = λ w h. h.days })
+ruled w {a = Some r} h = daily_days r w h
+ruled w {a = None} h = h.days
 
 -- ---- the days of an element rise
 
-pub days_rise : (old : Bool) (x : Element) → rises ltb (days_at old x) ≡ true
-unfolding days_at rises recurrence_days days_of_rule
-days_rise true w = by_type (eqb (day_type w or 1) 0)
+pub days_rise : (y : Item) → rises ltb (days_at y) ≡ true
+unfolding days_at old_days rises recurrence_days days_of_rule
+days_rise (true, w) = by_type (eqb (day_type w or 1) 0)
   where
     by_type : (t : Bool) → rises ltb (if t then days_of w else []) ≡ true
     by_type true = (old_run w).rise
     by_type false = refl
-days_rise false x = by_rule (rule_of x)
+days_rise (false, x) = by_rule (rule_of x)
   where
     by_rule : (o : Option D.Rule) → rises ltb ((o >>= λ r. Some (take r.most (keep (fits r) (count r.from (suc r.last - r.from))))) or []) ≡ true
     by_rule None = refl

@@ -1,48 +1,80 @@
 -- The exceptions of a calendar by its elements: WeekDays, of which those of DayType 0 are exceptions in the old form, or Exceptions. Assumes
 -- nothing: these are definitions.
-use Rattle.std.specs.Prelude.{if◌then◌else◌, ◌≡◌, ◌<◌, Bool, true, false, not, List, [], ◌∷◌, drop, pos, ◌==◌}
-use Rattle.std.specs.Prelude.{None, Option, Some, ℕ}
-use Rattle.definition.specs.Base.{◌or◌, given}
+use Rattle.std.specs.Prelude.{if◌then◌else◌, ◌≡◌, Bool, true, false, not, ◌&&◌, List, [], ◌∷◌, ◌++◌, map, pos, ◌==◌}
+use Rattle.std.specs.Prelude.{None, Option, Some, MatchOption}
+use mathlib.Core.List.{flat_map}
+use Rattle.definition.specs.Base.{◌or◌, given, keep}
 use Rattle.definition.specs.Ascii.{bytes}
 use Rattle.definition.specs.Text.{Text}
 use Rattle.definition.specs.Date.{Date}
 use Rattle.definition.specs.Format.{Period}
 use Rattle.definition.specs.Tree.{Element}
+use Rattle.definition.specs.Field.{yes_in}
 use Rattle.definition.specs.Recurrence.{recurrence_days, days_of}
 use Rattle.definition.specs.Calendar as C
-use Rattle.definition.specs.Calendar.{Exception, exception_on, day_type, week_days, recurring, working_time, works}
-use Rattle.laws.specs.Fields.{InYears}
+use Rattle.definition.specs.Calendar.{Exception, exception_on, day_type, week_days, recurring, working_time, periods_of, is_empty}
 use Rattle.pack.specs.Value.{date_by}
 use Rattle.definition.specs.declared.Date.{Date as DateIs}
-use Rattle.tree.specs.Place.{Starts}
-use Rattle.recurrence.specs.Element.{rule_days, RangeRead}
+use Rattle.tree.specs.Place.{meaning, list_of, Past}
+use Rattle.tree.specs.declared.element.Element.{Element as Place}
+use Rattle.recurrence.specs.Element.{rule_days}
 use Rattle.recurrence.specs.Meaning.{to_come}
 use Rattle.recurrence.specs.declared.Cursor.{Cursor}
 use Rattle.recurrence.specs.declared.Rule.{Rule}
 use Rattle.recurrence.specs.declared.Range.{Range}
+use Rattle.calendar_days.specs.declared.exceptions.Days.{Days}
+use Rattle.calendar_days.specs.declared.exceptions.Exceptions.{Exceptions}
+use Rattle.calendar_days.specs.declared.exceptions.Exception.{Exception as Given}
+use Rattle.calendar_days.specs.declared.exceptions.Exception.TheVariants.{WeekDay, Recurring}
 
 -- ---- the elements
 
-unfoldable pub name_of : Bool → Text
-name_of true = bytes "WeekDay"
-name_of false = bytes "Exception"
+-- a WeekDay or an Exception: whether it is of the old form, and the element
+abbrev pub Item : Type 0
+Item = Bool × Element
 
-unfoldable pub items_of : Bool → Element → List Element
-items_of true e = week_days e
-items_of false e = recurring e
+unfoldable pub placed : Given → Place
+placed (WeekDay e) = e
+placed (Recurring e) = e
 
--- the next of some elements
-pub record On (s n : Text) (f r : Option ℕ) : Type 0 where
-  pub on : (l : List Element) → Starts s n l 0 f → Starts s n (drop 1 l) 0 r
+unfoldable pub is_old : Given → Bool
+is_old (WeekDay e) = true
+is_old (Recurring e) = false
+
+abbrev pub item_of : Given → Item
+item_of x = (is_old x, meaning (placed x))
+
+-- those of a calendar
+unfoldable pub items_of : Element → List Item
+items_of e = map (λ w. (true, w)) (week_days e) ++ map (λ x. (false, x)) (recurring e)
+
+-- those that are left to an iterator
+unfoldable pub items_by : Option Place → Option Place → List Item
+items_by w x = map (λ e. (true, e)) (list_of (bytes "WeekDay") w) ++ map (λ e. (false, e)) (list_of (bytes "Exception") x)
+
+abbrev pub items_left : Exceptions → List Item
+items_left s = items_by s.week_day s.recurring
+
+-- all of them are of a tree
+abbrev pub ItemsOf : Exceptions → Text → Type 0
+ItemsOf s u = Past u 0 s.week_day × Past u 0 s.recurring
+
+-- a step of the iterator
+abbrev pub GivesItems : Exceptions → Option Given → Exceptions → Type 0
+GivesItems s r t =
+    MatchOption r ((items_left s ≡ []) × (items_left t ≡ [])) (λ x. (items_left s ≡ item_of x ∷ items_left t) × ((u : Text) → ItemsOf s u → ((placed x).tree.now ≡ u) × ItemsOf t u))
 
 -- ---- their days
 
-unfoldable pub days_at : Bool → Element → List Date
-days_at true w = if (day_type w or 1) == 0 then days_of w else []
-days_at false x = recurrence_days x or []
+unfoldable pub old_days : Element → List Date
+old_days w = if (day_type w or 1) == 0 then days_of w else []
 
-abbrev pub exception_at : Bool → Element → Exception
-exception_at old x = exception_on x (days_at old x)
+unfoldable pub days_at : Item → List Date
+days_at (true, w) = old_days w
+days_at (false, x) = recurrence_days x or []
+
+abbrev pub exception_at : Item → Exception
+exception_at y = exception_on y.1 (days_at y)
 
 -- those of a rule, if there is one
 unfoldable pub days_in : Option Rule → List Date
@@ -64,37 +96,49 @@ daily r =
       weekdays = 0;
     }
 
-pub record Ruled (r : Option Range) (a : Option Rule) : Type 0 where
-  pub days : (w : Element) → RangeRead w r → days_in a ≡ days_of w
-
 -- the days of a rule that are still to come
 abbrev pub coming : Rule → Cursor → List Date
 coming r c = to_come r c or []
 
--- the next of them, and those behind it
-pub record Next (r : Rule) (c : Cursor) (d : DateIs) (c' : Cursor) : Type 0 where
-  pub is : coming r c ≡ date_by d.0 ∷ coming r c'
-  pub years : InYears (date_by d.0)
-  pub less : c'.left < c.left
+-- those that are left to an iterator over a rule's days
+unfoldable pub coming_by : Option (Rule × Cursor) → List Date
+coming_by None = []
+coming_by (Some (r, c)) = coming r c
 
-pub record Follows (r : Rule) (c : Cursor) (a : Option (DateIs × Cursor)) : Type 0 where
-  pub day : (d : DateIs) (c' : Cursor) → a ≡ Some (d, c') → Next r c d c'
-  pub none : a ≡ None → coming r c ≡ []
+abbrev pub days_left : Days → List Date
+days_left d = coming_by d.left
+
+-- a day by its date
+abbrev pub day_of : DateIs → Date
+day_of d = date_by d.0
 
 abbrev pub is_time : Element → Bool
 is_time t = given (working_time t)
 
--- ---- what they say of a list of dates: extra days or holidays
+-- ---- which of them a list wants
 
--- the days that count
-unfoldable pub wanted : Bool → List Bool → Date → Bool
-wanted true week d = not (works week d)
-wanted false week d = works week d
+-- an element's days are holidays, extra days or days with hours
+unfoldable pub such_off : Element → Bool
+such_off x = not (yes_in x "DayWorking")
 
-unfoldable pub dates_of : Bool → List Bool → Exception → List Date
-dates_of true week x = C.days_on week x
-dates_of false week x = C.days_off week x
+unfoldable pub such_on : Element → Bool
+such_on x = yes_in x "DayWorking" && is_empty (periods_of x)
+
+unfoldable pub such_hours : Element → Bool
+such_hours x = yes_in x "DayWorking" && not (is_empty (periods_of x))
+
+-- the days of an element, if they are such
+unfoldable pub such_days : (Element → Bool) → Item → List Date
+such_days such y = if such y.1 then days_at y else []
+
+-- those that count
+abbrev pub wanted_days : (Element → Bool) → (Date → Bool) → Item → List Date
+wanted_days such test y = keep test (such_days such y)
+
+-- those of a calendar
+abbrev pub own_days : (Element → Bool) → (Date → Bool) → Element → List Date
+own_days such test e = flat_map (wanted_days such test) (items_of e)
 
 -- the days with hours
-unfoldable pub hours_of : Bool → Element → List (Date × List Period)
-hours_of old x = C.days_with_hours (exception_at old x)
+unfoldable pub hours_of : Item → List (Date × List Period)
+hours_of y = C.days_with_hours (exception_at y)

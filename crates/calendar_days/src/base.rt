@@ -1,10 +1,12 @@
 // The lists of days of the calendar that another one is based on.
 ghost use Rattle.std.specs.Prelude.{◌≡◌};
-ghost use Rattle.calendar_days.specs.Lists.{not_behind, lists_at, BaseLists};
+ghost use Rattle.calendar_days.specs.Days.{holidays_in, extra_days_in};
+ghost use Rattle.calendar_days.specs.Lists.{lists_at, BaseLists};
 
 use bits::Place;
 
-// Where its holidays, its extra days and its days with hours stand.
+// Where its holidays, its extra days and its days with hours stand. Not model's CalendarPlaces, which has a calendar's week and hours too: these are
+// read alone, behind those.
 #[derive(Clone, Copy)]
 pub(crate) struct Lists {
     pub(crate) holidays: Place,
@@ -12,11 +14,31 @@ pub(crate) struct Lists {
     pub(crate) exceptions: Place,
 }
 
-// Whether a place is not behind another.
-fn not_behind(p: Place, q: Place) -> bool
-    ensures { result ≡ not_behind p q }
-{
-    (p.byte < q.byte) | ((p.byte == q.byte) & (p.bit <= q.bit))
+// Where a list of dates stands: from a place to another.
+#[derive(Clone, Copy)]
+pub(crate) struct Stretch {
+    pub(crate) from: Place,
+    pub(crate) to: Place,
+}
+
+impl Lists {
+    pub(crate) fn holidays(self) -> Stretch
+        ensures { result ≡ holidays_in self }
+    {
+        Stretch {
+            from: self.holidays,
+            to: self.extra,
+        }
+    }
+
+    pub(crate) fn extra_days(self) -> Stretch
+        ensures { result ≡ extra_days_in self }
+    {
+        Stretch {
+            from: self.extra,
+            to: self.exceptions,
+        }
+    }
 }
 
 // The lists that stand from a place on, if they end before p.
@@ -26,10 +48,7 @@ pub(crate) fn base_at(s: &[u8], from: Place, p: Place) -> Option<Lists>
     let extra = model::lists::skip_dates(s, from);
     let exceptions = model::lists::skip_dates(s, extra);
     let end = model::lists::skip_days(s, exceptions);
-    if !bits::inside(s.len(), end) {
-        return None;
-    }
-    if !not_behind(end, p) {
+    if !bits::inside(s.len(), end) || p < end {
         return None;
     }
     Some(Lists {

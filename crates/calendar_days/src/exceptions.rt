@@ -1,75 +1,103 @@
-// The exceptions of a calendar, one by one: its WeekDays, of which those of DayType 0 are exceptions in the old form, or its Exceptions. What
+// The exceptions of a calendar, one by one: its WeekDays, of which those of DayType 0 are exceptions in the old form, and its Exceptions. What
 // is right is said in the crate definition, specs/Calendar.antt.
-ghost use Rattle.std.specs.Prelude.{◌≡◌, ◌+◌, not, ◌∷◌, length, drop};
-ghost use Rattle.definition.specs.Base.{given, some?};
+ghost use Rattle.std.specs.Prelude.{◌≡◌, ◌+◌, ◌≤◌, not, length};
+ghost use Rattle.std.specs.Iterator.{YieldsFirstBy, item_count};
+ghost use Rattle.definition.specs.Base.{some?};
 ghost use Rattle.definition.specs.Ascii.{bytes};
+ghost use Rattle.definition.specs.Tree.{all};
 ghost use Rattle.definition.specs.Calendar.{periods_of, is_empty};
-ghost use Rattle.tree.specs.Place.{element_at, later_at, Starts};
-ghost use Rattle.calendar.specs.Hours.{working_meaning};
-ghost use Rattle.calendar_days.specs.Exceptions.{name_of, items_of, days_at, days_in, daily as daily_by, Ruled, Follows, is_time, On};
+ghost use Rattle.tree.specs.Place.{meaning};
+ghost use Rattle.calendar_days.specs.Exceptions.{placed, item_of, items_of, items_left, ItemsOf, GivesItems, old_days, days_at, days_in, daily as daily_by, days_left, day_of, such_days, is_time};
 
-use calendar::WorkingTime;
+use crate::wanted::Wanted;
 use definition::Date;
 use recurrence::{Cursor, Range, Rule, Step};
+use tree::Element;
 
 // ---- the elements
 
-// The first WeekDay or Exception of a Calendar.
-pub(crate) fn first_of(s: &[u8], at: usize, old: bool) -> Option<usize>
-    ensures { Starts s.now (name_of «old») (items_of «old» (element_at s.now at)) 0 result }
-{
-    if old {
-        return rows::first_in(s, at, b"WeekDays", b"WeekDay");
-    }
-    rows::first_in(s, at, b"Exceptions", b"Exception")
+// An exception of a calendar: a WeekDay, which has days where it is of DayType 0, or an Exception.
+#[derive(Clone, Copy)]
+pub(crate) enum Exception<'a> {
+    WeekDay(Element<'a>),
+    Recurring(Element<'a>),
 }
 
-pub(crate) fn next_of(s: &[u8], at: usize, old: bool) -> Option<usize>
-    ensures { Starts s.now (name_of «old») (later_at s.now (name_of «old») at) (at + 1) result }
-{
-    if old {
-        return tree::next_child(s, at, b"WeekDay");
+impl<'a> Exception<'a> {
+    pub(crate) fn element(self) -> Element<'a>
+        ensures { result ≡ placed self.entry }
+    {
+        match self {
+            Exception::WeekDay(e) => e,
+            Exception::Recurring(e) => e,
+        }
     }
-    tree::next_child(s, at, b"Exception")
+
+    // The rule of its days; none where there are no days.
+    pub(crate) fn rule(self) -> Option<Rule>
+        ensures { days_in result ≡ days_at (item_of self.entry) }
+    {
+        match self {
+            Exception::WeekDay(e) => old_rule(e),
+            Exception::Recurring(e) => recurrence::rule_of(e),
+        }
+    }
 }
 
-fn after(s: &[u8], f: Option<usize>, old: bool) -> Option<usize>
-    ensures { On s.now (name_of «old») f result }
+// The rule of a WeekDay's days.
+fn old_rule(e: Element<'_>) -> Option<Rule>
+    ensures { days_in result ≡ old_days (meaning e.entry) }
 {
-    match f {
-        Some(p) => next_of(s, p, old),
-        None => None,
+    if !calendar::is_old_exception(e) {
+        return None;
+    }
+    recurrence::days_of(e).map(daily)
+}
+
+// The exceptions of a calendar, the WeekDays first.
+#[derive(Clone, Copy)]
+pub(crate) struct Exceptions<'a> {
+    week_day: Option<Element<'a>>,
+    recurring: Option<Element<'a>>,
+}
+
+impl<'a> Exceptions<'a> {
+    pub(crate) fn of(calendar: Element<'a>) -> Exceptions<'a>
+        ensures are { items_left result ≡ items_of (meaning calendar.entry) }
+        ensures of { ItemsOf result calendar.entry.tree.now }
+        ensures few { length (items_left result) ≤ length calendar.entry.tree.now + length calendar.entry.tree.now }
+    {
+        let week_days = calendar.child(b"WeekDays");
+        let all = calendar.child(b"Exceptions");
+        Exceptions {
+            week_day: week_days.and_then(|w| w.child(b"WeekDay")),
+            recurring: all.and_then(|x| x.child(b"Exception")),
+        }
     }
 }
 
-// The one behind the first n.
-pub(crate) fn nth_of(s: &[u8], at: usize, old: bool, n: usize) -> Option<usize>
-    ensures { Starts s.now (name_of «old») (drop n (items_of «old» (element_at s.now at))) 0 result }
-{
-    let mut f = first_of(s, at, old);
-    let mut i = 0;
-    while i < n {
-        f = after(s, f, old);
-        i += 1;
-    }
-    f
-}
+impl<'a> Iterator for Exceptions<'a> {
+    type Item = Exception<'a>;
 
-pub(crate) fn count_of(s: &[u8], at: usize, old: bool) -> usize
-    ensures { result ≡ length (items_of «old» (element_at s.now at)) }
-{
-    let mut f = first_of(s, at, old);
-    let mut n = 0;
-    loop {
-        let Some(p) = f else {
-            return n;
-        };
-        f = next_of(s, p, old);
-        n += 1;
+    ghost next_gives = { GivesItems };
+
+    ghost remaining = { item_count items_left };
+
+    fn next(&mut self) -> Option<Exception<'a>> {
+        if let Some(e) = self.week_day {
+            self.week_day = e.next(b"WeekDay");
+            return Some(Exception::WeekDay(e));
+        }
+        let e = self.recurring?;
+        self.recurring = e.next(b"Exception");
+        Some(Exception::Recurring(e))
     }
 }
 
 // ---- the days
+
+// The kind of a daily rule.
+pub(crate) const DAILY: u32 = 1;
 
 // Days in a row, as a rule.
 fn daily(r: Range) -> Rule
@@ -77,7 +105,7 @@ fn daily(r: Range) -> Rule
 {
     let from = r.first;
     Rule {
-        kind: 1,
+        kind: DAILY,
         from,
         last: Date(2932896),
         most: r.count,
@@ -90,71 +118,68 @@ fn daily(r: Range) -> Rule
     }
 }
 
-fn rule_by(r: Option<Range>) -> Option<Rule>
-    ensures { Ruled r result }
-{
-    match r {
-        Some(r) => Some(daily(r)),
-        None => None,
+// The days of a rule, one after another; none where there is no rule.
+#[derive(Clone, Copy)]
+pub(crate) struct Days {
+    left: Option<(Rule, Cursor)>,
+}
+
+impl Days {
+    pub(crate) fn of(rule: Option<Rule>) -> Days
+        ensures { days_left result ≡ days_in rule }
+    {
+        Days {
+            left: rule.map(|r| (r, recurrence::start(r))),
+        }
     }
 }
 
-// The rule of the days of a WeekDay or an Exception; none where there are no days.
-pub(crate) fn rule_at(s: &[u8], at: usize, old: bool) -> Option<Rule>
-    ensures { days_in result ≡ days_at «old» (element_at s.now at) }
-{
-    if !old {
-        return recurrence::rule_of(s, at);
+impl Iterator for Days {
+    type Item = Date;
+
+    ghost next_gives = { YieldsFirstBy day_of days_left };
+
+    ghost remaining = { item_count days_left };
+
+    fn next(&mut self) -> Option<Date> {
+        let (rule, cursor) = self.left?;
+        match recurrence::next(rule, cursor) {
+            Step::Day(day, after) => {
+                self.left = Some((rule, after));
+                Some(day)
+            }
+            Step::Done | Step::Skipped => None,
+        }
     }
-    if !calendar::is_old_exception(s, at) {
-        return None;
-    }
-    rule_by(recurrence::days_of(s, at))
 }
 
-pub(crate) fn day_after(r: Rule, c: Cursor) -> Option<(Date, Cursor)>
-    ensures { Follows r c result }
+// The days of an exception, if they are such; else none.
+pub(crate) fn such_days<W: Wanted>(x: Exception<'_>) -> Days
+    ensures { days_left result ≡ such_days W.such (item_of x.entry) }
 {
-    match recurrence::next(r, c) {
-        Step::Day(d, after) => Some((d, after)),
-        Step::Done => None,
-        Step::Skipped => None,
+    if !W::are_such(x.element()) {
+        return Days::of(None);
     }
+    Days::of(x.rule())
 }
 
 // ---- the hours
 
-fn is_time(t: Option<WorkingTime>) -> bool
-    ensures { result ≡ given (working_meaning t) }
+// Whether a WorkingTimes has a time.
+fn any_time(times: Element<'_>) -> bool
+    ensures { result ≡ some? is_time (all (meaning times.entry) (bytes "WorkingTime")) }
 {
-    match t {
-        Some(_) => true,
-        None => false,
-    }
-}
-
-// Whether a WorkingTime or one of its later siblings is one.
-fn any_time(s: &[u8], first: usize) -> bool
-    ensures { result ≡ some? is_time (element_at s.now first ∷ later_at s.now (bytes "WorkingTime") first) }
-{
-    let mut at = first;
-    loop {
-        if is_time(calendar::working_time(s, at)) {
+    for t in times.children(b"WorkingTime") {
+        if calendar::working_time(t).is_some() {
             return true;
         }
-        let Some(next) = tree::next_child(s, at, b"WorkingTime") else {
-            return false;
-        };
-        at = next;
     }
+    false
 }
 
 // Whether a WeekDay or an Exception names hours.
-pub(crate) fn has_periods(s: &[u8], at: usize) -> bool
-    ensures { result ≡ not (is_empty (periods_of (element_at s.now at))) }
+pub(crate) fn has_periods(e: Element<'_>) -> bool
+    ensures { result ≡ not (is_empty (periods_of (meaning e.entry))) }
 {
-    match rows::first_in(s, at, b"WorkingTimes", b"WorkingTime") {
-        None => false,
-        Some(first) => any_time(s, first),
-    }
+    e.child(b"WorkingTimes").is_some_and(any_time)
 }

@@ -11,6 +11,8 @@ mod notes;
 mod own;
 mod pass;
 mod reach;
+mod span;
+mod wanted;
 mod whole;
 
 pub use hours::put_periods;

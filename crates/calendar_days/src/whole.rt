@@ -2,7 +2,7 @@
 ghost use Rattle.std.specs.Prelude.{◌≡◌};
 ghost use Rattle.bits.specs.Clear.{cleared};
 ghost use Rattle.bits.specs.Steps.{Puts};
-ghost use Rattle.tree.specs.Place.{element_at};
+ghost use Rattle.tree.specs.Place.{meaning};
 ghost use Rattle.calendar.specs.Week.{flags_in};
 ghost use Rattle.calendar_days.specs.Over.{Over};
 ghost use Rattle.calendar_days.specs.Lists.{day_lists, days_over, lists_at, BaseLists};
@@ -10,43 +10,43 @@ ghost use Rattle.calendar_days.specs.Lists.{day_lists, days_over, lists_at, Base
 use crate::base::{Lists, base_at};
 use crate::dates::{put_extra_days, put_holidays};
 use crate::days::put_exceptions;
-use crate::reach::{Reach, reach_in};
+use crate::reach::Reach;
 use bits::Place;
+use tree::Element;
 
-// Holidays, extra days and days with hours of a Calendar, whose week is given, over its base's.
+// Holidays, extra days and days with hours of a Calendar, whose week is given, over its base's. The buffer, the tree and the words are parameters of
+// their own in this crate: they are lent apart, and a struct of them would be lent as a whole to each call.
 fn put_lists(
     out: &mut [u8],
     p: Place,
-    s: &[u8],
-    at: usize,
+    calendar: Element<'_>,
     week: u32,
     base: Option<Lists>,
     words: &mut [u32],
     own: Reach,
 ) -> Place
-    ensures fact_1 { Over day_lists (BaseLists base) (days_over (element_at s.now at) (flags_in week)) out.old p out.new result }
-    ensures fact_2 { cleared own.at words.new ≡ cleared own.at words.old }
+    ensures { Over day_lists (BaseLists base) (days_over (meaning calendar.entry) (flags_in week)) out.old p out.new result }
 {
-    let a = put_holidays(out, p, s, at, week, base, words, own);
-    let b = put_extra_days(out, a, s, at, week, base, words, own);
-    put_exceptions(out, b, s, at, base, words, own)
+    let a = put_holidays(out, p, calendar, week, base, words, own);
+    let b = put_extra_days(out, a, calendar, week, base, words, own);
+    put_exceptions(out, b, calendar, base, words, own)
 }
 
 // The same, over the lists that stand from `base` on and end before p, or over none where there are none. The words from `from` on are free.
 pub fn put_days(
     out: &mut [u8],
     p: Place,
-    s: &[u8],
-    at: usize,
+    calendar: Element<'_>,
     week: u32,
     base: Place,
     words: &mut [u32],
     from: usize,
 ) -> Place
-    ensures fact_1 { Puts day_lists (days_over (element_at s.now at) (flags_in week) (lists_at out.old base p)) out.old p out.new result }
-    ensures fact_2 { cleared from words.new ≡ cleared from words.old }
+    ensures puts { Puts day_lists (days_over (meaning calendar.entry) (flags_in week) (lists_at out.old base p)) out.old p out.new result }
+    ensures kept { cleared from words.new ≡ cleared from words.old }
 {
     let found = base_at(out, base, p);
-    let own = reach_in(s, at, from);
-    put_lists(out, p, s, at, week, found, words, own)
+    let own = Reach::of(calendar);
+    let free = from.min(words.len());
+    put_lists(out, p, calendar, week, found, &mut words[free..], own)
 }

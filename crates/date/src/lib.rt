@@ -9,6 +9,7 @@ ghost use Rattle.laws.specs.Calendar.{MarchDay, IsDay};
 ghost use Rattle.definition.specs.Answer.{date_meaning, day_number_of};
 ghost use Rattle.date.specs.Answer.{ymd_at, weekday_at, length_at, days_between};
 ghost use Rattle.date.specs.Answer.{is_day, placed, day_part, month_part};
+ghost use Rattle.date.specs.Scale.{day_count};
 
 use definition::{Date, Ymd};
 
@@ -78,12 +79,12 @@ fn march_of(d: u32) -> March
 }
 
 // The difference, with its sign.
-fn lowered(n: u32, by: u32) -> i32
+pub fn lowered(n: u32, by: u32) -> i32
     requires small { n < 2 ^ 31 }
     requires by_small { by < 2 ^ 31 }
     ensures { result ≡ pos n -ℤ pos by }
 {
-    n as i32 - by as i32
+    n.cast_signed() - by.cast_signed()
 }
 
 // Year, month and day of a date.
@@ -181,6 +182,14 @@ pub fn days_between(a: Date, b: Date) -> u32
     ensures { result ≡ days_between a.0 b.0 }
 {
     u32::try_from(i64::from(b.0) - i64::from(a.0)).unwrap_or(0)
+}
+
+// How many days a date lies behind 1 January of the year -10000.
+#[tactic(auto, unfolding(crate::specs::Scale::day_count))]
+pub fn count_of(d: Date) -> u32
+    ensures { result ≡ day_count d.0 }
+{
+    days_between(Date(-4371953), d)
 }
 
 // ---- date texts

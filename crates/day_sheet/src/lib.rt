@@ -19,7 +19,9 @@ ghost use Rattle.day_sheet.specs.Answer.{start, Found, Finished, leaves, left_by
 
 use bits::{PAST, Place};
 use definition::{Date, Refusal};
-use model::parts::{Period, calendar_places, hours_place, skip_periods, take_date, take_period};
+use model::parts::{
+    Period, calendar_places, hours_place, put_period, skip_periods, take_date, take_period,
+};
 use model::records::{Kind, skip_records};
 
 // ---- what a calendar says of a date
@@ -32,7 +34,7 @@ fn has_date(s: &[u8], p: Place, day: Date) -> bool
     let mut q = n.next;
     for _ in 0..n.value {
         let t = take_date(s, q);
-        if t.date == Some(day) {
+        if t.value == Some(day) {
             return true;
         }
         q = t.next;
@@ -48,7 +50,7 @@ fn exception_place(s: &[u8], p: Place, day: Date) -> Place
     let mut q = n.next;
     for _ in 0..n.value {
         let t = take_date(s, q);
-        if t.date == Some(day) {
+        if t.value == Some(day) {
             return t.next;
         }
         q = skip_periods(s, t.next);
@@ -114,13 +116,6 @@ fn find_day(s: &[u8], calendar: u32, date: Date) -> Result<Day, Refusal>
 
 // ---- the sheet written
 
-fn put_period(out: &mut [u8], p: Place, from: u64, to: u64) -> Place
-    ensures { Puts period (from, to) out.old p out.new result }
-{
-    let q = bits::put(out, p, 11, from);
-    bits::put(out, q, 11, to)
-}
-
 // The hours of a working day that names none.
 fn put_default(out: &mut [u8], p: Place) -> Place
     ensures { Puts periods default_periods out.old p out.new result }
@@ -148,7 +143,7 @@ fn copy_periods(s: &[u8], from: Place, count: u64, out: &mut [u8], p: Place) -> 
     let mut at = p;
     for _ in 0..count {
         let t = take_period(s, q);
-        at = put_taken(out, at, t.period);
+        at = put_taken(out, at, t.value);
         q = t.next;
     }
     at

@@ -5,7 +5,7 @@ use Rattle.std.specs.Prelude.{Option, Some, None}
 use Rattle.std.proofs.lemmas.Bool.{eqb-false}
 use Rattle.definition.specs.Base.{keep, find}
 use Rattle.index.specs.declared.Table.{Table}
-use Rattle.index.specs.Chains.{next_at, place_at, zeros, added, row_below, first_of, next_of, place_of, as_row, chain, chain_of}
+use Rattle.index.specs.Chains.{next_at, place_at, zeros, added, row_below, first_of, next_of, place_of, chain, chain_of}
 use Rattle.index.specs.Last.{last_below, down, word_of, last_none, down_none, down_yes, down_no}
 use Rattle.index.proofs.Last.{last_yes, last_no, last_in, last_same, find_down}
 use Rattle.index.specs.Steps.{length_zeros, zeros_are}
@@ -109,31 +109,31 @@ last_small p n = go (last_below p n) refl
     go (Some r) e = omega (arith, (last_in p n e).0)
 
 module _ {t : Table} {f g : ℕ → ℕ} {n : ℕ} {w : List ℕ} (x : Indexed t f g n w) where
-  pub first_is : (h : ℕ) → first_of w t h ≡ as_row (last_below (in_bucket t f (h % t.rows)) n)
+  pub first_is : (h : ℕ) → first_of w t h ≡ last_below (in_bucket t f (h % t.rows)) n
   first_is h =
       let q : ℕ → Bool = in_bucket t f (h % t.rows) in
       ap (row_below t.rows) (x.chains.head (h % t.rows) (mod-lt h x.fits.some))
       ∙ row_word t.rows (last_below q n) (omega (arith, last_small q n, x.few))
 
-  pub next_is : (r : ℕ) → r < n → next_of w t r ≡ as_row (last_below (in_bucket t f (f r % t.rows)) r)
+  pub next_is : (r : ℕ) → r < n → next_of w t r ≡ last_below (in_bucket t f (f r % t.rows)) r
   next_is r h =
       let q : ℕ → Bool = in_bucket t f (f r % t.rows) in
       ap (row_below r) (x.chains.next r h) ∙ row_word r (last_below q r) (last_small q r)
 
-  chain_from : (b m : ℕ) → m ≤ n → chain w t (as_row (last_below (in_bucket t f b) m)) ≡ keep (in_bucket t f b) (down m)
-  chain_from b zero h = ap (λ (o : Option ℕ). chain w t (as_row o)) (last_none (in_bucket t f b)) ∙ chain_none w t ∙ sym (down_none (in_bucket t f b))
+  chain_from : (b m : ℕ) → m ≤ n → chain w t (last_below (in_bucket t f b) m) ≡ keep (in_bucket t f b) (down m)
+  chain_from b zero h = ap (chain w t) (last_none (in_bucket t f b)) ∙ chain_none w t ∙ sym (down_none (in_bucket t f b))
   chain_from b (suc m) h = go (in_bucket t f b m) refl (chain_from b m (omega arith))
     where
-      go : (e : Bool) → in_bucket t f b m ≡ e → chain w t (as_row (last_below (in_bucket t f b) m)) ≡ keep (in_bucket t f b) (down m)
-          → chain w t (as_row (last_below (in_bucket t f b) (suc m))) ≡ keep (in_bucket t f b) (down (suc m))
+      go : (e : Bool) → in_bucket t f b m ≡ e → chain w t (last_below (in_bucket t f b) m) ≡ keep (in_bucket t f b) (down m)
+          → chain w t (last_below (in_bucket t f b) (suc m)) ≡ keep (in_bucket t f b) (down (suc m))
       go true e before =
           let z : f m % t.rows ≡ b = eqb-true (f m % t.rows) b e in
-          ap (λ (o : Option ℕ). chain w t (as_row o)) (last_yes (in_bucket t f b) m e)
+          ap (chain w t) (last_yes (in_bucket t f b) m e)
           ∙ chain_at w t m
-          ∙ ap (λ (a : Option ℕ). m ∷ chain w t a) (next_is m (omega arith) ∙ ap (λ (b : ℕ). as_row (last_below (in_bucket t f b) m)) z)
+          ∙ ap (λ (a : Option ℕ). m ∷ chain w t a) (next_is m (omega arith) ∙ ap (λ (b : ℕ). last_below (in_bucket t f b) m) z)
           ∙ ap (λ (l : List ℕ). m ∷ l) before
           ∙ sym (down_yes (in_bucket t f b) m e)
-      go false e before = ap (λ (o : Option ℕ). chain w t (as_row o)) (last_no (in_bucket t f b) m e) ∙ before ∙ sym (down_no (in_bucket t f b) m e)
+      go false e before = ap (chain w t) (last_no (in_bucket t f b) m e) ∙ before ∙ sym (down_no (in_bucket t f b) m e)
 
   -- THE LAW: the chain of a hash is the rows of its bucket, from the last to the first
   pub chain_is : (h : ℕ) → chain_of w t h ≡ keep (in_bucket t f (h % t.rows)) (down n)

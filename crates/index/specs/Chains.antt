@@ -48,10 +48,6 @@ place_of w t row = get_or w (place_at t row) 0
 
 -- ---- walks
 
-abbrev pub as_row : Option ℕ → Option ℕ
-as_row None = None
-as_row (Some r) = Some r
-
 -- the rows of a walk from a row on, k at most
 unfoldable pub walk : List ℕ → Table → ℕ → Option ℕ → List ℕ
 walk w t zero at = []

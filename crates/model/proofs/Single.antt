@@ -362,7 +362,7 @@ module _ (s : List ℕ) (p : Place) {x : Field Bool Place} (e : x ≡ flag_at s 
 
   -- ---- names
 
-  pub name_missing : x.value ≡ false → NameTaken s p (record { name = None; next = x.next })
+  pub name_missing : x.value ≡ false → NameTaken s p (record { value = None; next = x.next })
   unfolding name_at
   name_missing h =
       record {
@@ -388,7 +388,7 @@ module _ (s : List ℕ) (p : Place) {x : Field Bool Place} (e : x ≡ flag_at s 
         by_utf8 true z = refused (k.reads z) (far s t.next b)
         by_utf8 false z = k.refuses z
 
-    pub name_cut : 7 < t.next.bit → NameTaken s p (record { name = None; next = past })
+    pub name_cut : 7 < t.next.bit → NameTaken s p (record { value = None; next = past })
     name_cut b =
         record {
           is = sym (name_by ∙ rw (lt-ltb 7 t.next.bit b));
@@ -399,7 +399,7 @@ module _ (s : List ℕ) (p : Place) {x : Field Bool Place} (e : x ≡ flag_at s 
         no_name : {a b : ℕ} → ◌≡◌ {A = Option (ℕ × ℕ)} None (Some (a, b)) → ⊥
         no_name = never
 
-    pub name_given : t.next.bit ≤ 7 → NameTaken s p (record { name = Some (t.start, t.len); next = t.next })
+    pub name_given : t.next.bit ≤ 7 → NameTaken s p (record { value = Some (t.start, t.len); next = t.next })
     name_given b =
         record {
           is = sym (name_by ∙ rw (le-ltb 7 t.next.bit b));

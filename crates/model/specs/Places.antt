@@ -12,6 +12,7 @@ use Rattle.definition.specs.Pack.{calendar, activity, link, resource, assignment
 use Rattle.bits.specs.Reads.{Reads, Spans, pad_at, read_some, refuse_some}
 pub use Rattle.bits.specs.Reads.{span_ends, between}
 use Rattle.bits.specs.declared.Place.{Place}
+use Rattle.bits.specs.declared.Field.{Field}
 use Rattle.bits.specs.declared.Span.{Span}
 use Rattle.model.specs.Lax.{regroup_none, regroup_more}
 use Rattle.model.specs.Passes.{Passes, pass_as, ◌⨾◌, ended}
@@ -19,7 +20,6 @@ use Rattle.model.specs.Answers.{name_at, rows_at}
 use Rattle.model.specs.Parts.{text_by, activity_head, activity_parts, activity_notes, resource_head, record_of, regroup_five, lax_text, lax_activity_head, lax_resource_head}
 use Rattle.model.specs.Splits.{Stands, not_refused, stands_is, stands_reads, stands_first, stands_next, stands_pass, stands_named, stands_whole, stands_regroup, stands_or}
 use Rattle.model.specs.declared.records.Kind.TheVariants.{Activities}
-use Rattle.model.specs.declared.parts.NameField.{NameField}
 use Rattle.model.specs.declared.parts.CalendarPlaces.{CalendarPlaces}
 
 -- ---- answers
@@ -32,10 +32,10 @@ abbrev pub name_in : List ℕ → Option (ℕ × ℕ) → Option Text
 name_in s o = o >>= λ x. Some (text_in s x)
 
 -- a flag, and where the text behind it stands if it is set; where an optional text stands, it is that
-pub record NameTaken (s : List ℕ) (p : Place) (r : NameField) : Type 0 where
-  pub is : (r.name, r.next) ≡ name_at s p
-  pub within : (start len : ℕ) → r.name ≡ Some (start, len) → start + len ≤ length s
-  pub text : (o : Option Text) → Stands (optional text) s p o → o ≡ name_in s r.name
+pub record NameTaken (s : List ℕ) (p : Place) (r : Field (Option (ℕ × ℕ)) Place) : Type 0 where
+  pub is : (r.value, r.next) ≡ name_at s p
+  pub within : (start len : ℕ) → r.value ≡ Some (start, len) → start + len ≤ length s
+  pub text : (o : Option Text) → Stands (optional text) s p o → o ≡ name_in s r.value
 
 pub record CalendarAt (s : List ℕ) (p : Place) (r : CalendarPlaces) : Type 0 where
   pub name : Passes (text_by false) s p r.week

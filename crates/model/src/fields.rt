@@ -86,7 +86,7 @@ fn date_of(v: u64) -> Option<u64>
 }
 
 // A date by its number, counted from the year -10000; 0, and a place past every end, where it is outside the years.
-pub(crate) fn take_date_key(s: &[u8], p: Place) -> Field<u64>
+pub fn take_date_key(s: &[u8], p: Place) -> Field<u64>
     ensures { Finds date (DayKey false) s.now p result }
 {
     let f = bits::take(s, p, 32);
@@ -104,7 +104,7 @@ pub(crate) fn skip_date(s: &[u8], p: Place) -> Place
 }
 
 // A period by one number: 2048 times from, and to; 0, and a place past every end, where none is.
-pub(crate) fn take_period_key(s: &[u8], p: Place) -> Field<u64>
+pub fn take_period_key(s: &[u8], p: Place) -> Field<u64>
     ensures { Finds period PeriodKey s.now p result }
 {
     let from = bits::take(s, p, 11);

@@ -4,7 +4,7 @@ ghost use Rattle.definition.specs.Format.{Format, Period, period, earlier, list_
 ghost use Rattle.model.specs.Passes.{Passes};
 ghost use Rattle.model.specs.Rising.{Finds, Keys, PeriodKey, DayOf, DayKey, day_of, day_before, days_of, by_period, by_day_lem};
 
-use crate::fields::{take_date_key, take_period_key};
+pub use crate::fields::{take_date_key, take_period_key};
 use bits::{Field, PAST, Place};
 
 // What a list holds in rising order, each item above the one before by a number of its own.

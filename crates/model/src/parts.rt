@@ -5,6 +5,7 @@ ghost use Rattle.definition.specs.Base.{given};
 ghost use Rattle.definition.specs.Date.{from_days};
 ghost use Rattle.definition.specs.Answer.{date_meaning};
 ghost use Rattle.definition.specs.Format.{row, times, period, periods};
+ghost use Rattle.bits.specs.Steps.{Puts};
 ghost use Rattle.model.specs.Passes.{Passes};
 ghost use Rattle.model.specs.Parts.{text_by, activity_head, resource_head};
 ghost use Rattle.model.specs.Answers.{read_at, row_at, rows_at, date_at, period_meaning};
@@ -12,99 +13,77 @@ ghost use Rattle.model.specs.Places.{NameTaken, CalendarAt};
 
 use crate::fields::{skip, skip_code, skip_optional, skip_text};
 use crate::lists::{skip_dates, skip_hours};
-use bits::{PAST, Place};
+use bits::{Field, PAST, Place};
 use definition::Date;
 
 // ---- what stands at a place. Where nothing can be read, a value is missing or 0, and the next place is past every end
 
-// An optional row, and the place behind it.
-#[derive(Clone, Copy)]
-pub struct RowField {
-    pub row: Option<u32>,
-    pub next: Place,
-}
-
-pub fn take_row(s: &[u8], p: Place) -> RowField
-    ensures { (result.row, result.next) ≡ row_at s.now p }
+// An optional row.
+pub fn take_row(s: &[u8], p: Place) -> Field<Option<u32>>
+    ensures { (result.value, result.next) ≡ row_at s.now p }
 {
     let f = bits::take_flag(s, p);
     let at = f.next;
     if !f.value {
-        return RowField {
-            row: None,
+        return Field {
+            value: None,
             next: at,
         };
     }
-    let v = bits::take(s, at, 32);
-    let next = v.next;
+    let Field { value, next } = bits::take_u32(s, at);
     if 7 < next.bit {
-        return RowField {
-            row: None,
+        return Field {
+            value: None,
             next: PAST,
         };
     }
-    RowField {
-        row: Some(v.value as u32),
+    Field {
+        value: Some(value),
         next,
     }
 }
 
-// An optional text, and the place behind it. It is not tested for UTF-8.
-#[derive(Clone, Copy)]
-pub struct NameField {
-    pub name: Option<(usize, usize)>,
-    pub next: Place,
-}
-
-pub fn take_name(s: &[u8], p: Place) -> NameField
+// Where an optional text starts, and its length. It is not tested for UTF-8.
+pub fn take_name(s: &[u8], p: Place) -> Field<Option<(usize, usize)>>
     ensures { NameTaken s.now p result }
 {
     let f = bits::take_flag(s, p);
     let at = f.next;
     if !f.value {
-        return NameField {
-            name: None,
+        return Field {
+            value: None,
             next: at,
         };
     }
     let t = bits::take_text(s, at);
     let next = t.next;
     if 7 < next.bit {
-        return NameField {
-            name: None,
+        return Field {
+            value: None,
             next: PAST,
         };
     }
-    NameField {
-        name: Some((t.start, t.len)),
+    Field {
+        value: Some((t.start, t.len)),
         next,
     }
 }
 
 // The two rows at the start of a link and of an assignment.
-#[derive(Clone, Copy)]
-pub struct Rows {
-    pub first: u32,
-    pub second: u32,
-    pub next: Place,
-}
-
-pub fn take_rows(s: &[u8], p: Place) -> Rows
-    ensures { ((result.first, result.second), result.next) ≡ rows_at s.now p }
+pub fn take_rows(s: &[u8], p: Place) -> Field<(u32, u32)>
+    ensures { (result.value, result.next) ≡ rows_at s.now p }
 {
-    let a = bits::take(s, p, 32);
-    let b = bits::take(s, a.next, 32);
+    let a = bits::take_u32(s, p);
+    let b = bits::take_u32(s, a.next);
     let next = b.next;
     if 7 < next.bit {
-        return Rows {
-            first: 0,
-            second: 0,
+        return Field {
+            value: (0, 0),
             next: PAST,
         };
     }
-    Rows {
-        first: a.value as u32,
-        second: b.value as u32,
+    Field {
+        value: (a.value, b.value),
         next,
     }
 }
@@ -116,70 +95,60 @@ fn is_date(n: i32) -> bool
     (-4_371_587..=2_932_896).contains(&n)
 }
 
-// A date, and the place behind it.
-#[derive(Clone, Copy)]
-pub struct DateField {
-    pub date: Option<Date>,
-    pub next: Place,
-}
-
-pub fn take_date(s: &[u8], p: Place) -> DateField
-    ensures { (date_meaning result.date, result.next) ≡ date_at s.now p }
+// A date.
+pub fn take_date(s: &[u8], p: Place) -> Field<Option<Date>>
+    ensures { (date_meaning result.value, result.next) ≡ date_at s.now p }
 {
     let f = bits::take_i32(s, p);
     let next = f.next;
     let day = f.value;
-    if 7 < next.bit {
-        return DateField {
-            date: None,
+    if 7 < next.bit || !is_date(day) {
+        return Field {
+            value: None,
             next: PAST,
         };
     }
-    if !is_date(day) {
-        return DateField {
-            date: None,
-            next: PAST,
-        };
-    }
-    DateField {
-        date: Some(Date(day)),
+    Field {
+        value: Some(Date(day)),
         next,
     }
 }
 
 // From a minute of the day to another.
-#[derive(Clone, Copy)]
+#[derive(Clone, Copy, Debug, PartialEq, Eq)]
 pub struct Period {
     pub from: u16,
     pub to: u16,
 }
 
-// A period, and the place behind it.
-#[derive(Clone, Copy)]
-pub struct PeriodField {
-    pub period: Option<Period>,
-    pub next: Place,
-}
-
-pub fn take_period(s: &[u8], p: Place) -> PeriodField
-    ensures { (period_meaning result.period, result.next) ≡ read_at period s.now p }
+// A period.
+pub fn take_period(s: &[u8], p: Place) -> Field<Option<Period>>
+    ensures { (period_meaning result.value, result.next) ≡ read_at period s.now p }
 {
     let from = bits::take(s, p, 11);
     let to = bits::take(s, from.next, 11);
     let next = to.next;
     if to.value <= from.value || 1440 < to.value {
-        return PeriodField {
-            period: None,
+        return Field {
+            value: None,
             next: PAST,
         };
     }
-    PeriodField {
-        period: Some(Period {
+    Field {
+        value: Some(Period {
             from: from.value as u16,
             to: to.value as u16,
         }),
         next,
     }
+}
+
+// A period written, by its two minutes: a day sheet holds periods as a model does.
+pub fn put_period(out: &mut [u8], p: Place, from: u64, to: u64) -> Place
+    ensures { Puts period (from, to) out.old p out.new result }
+{
+    let q = bits::put(out, p, 11, from);
+    bits::put(out, q, 11, to)
 }
 
 // The place behind a list of periods.

@@ -14,12 +14,12 @@ use Rattle.definition.specs.Check.{if_given, is_calendar, link_right, assignment
 use Rattle.laws.specs.Tests.{some_map}
 use Rattle.laws.specs.FitNames.{same_turned}
 use Rattle.bits.specs.declared.Place.{Place}
+use Rattle.bits.specs.declared.Field.{Field}
 use Rattle.model.specs.Splits.{Stands, stands_or}
 use Rattle.model.specs.Sections.{Decoded}
 use Rattle.model.specs.Answers.{row_at, rows_at}
 use Rattle.model.specs.Places.{NameTaken, text_in, link_rows, assignment_rows}
 use Rattle.model.specs.declared.Sections.{Sections}
-use Rattle.model.specs.declared.parts.NameField.{NameField}
 use Rattle.model.specs.declared.records.Kind.{Kind}
 use Rattle.model_check.specs.Kinds.{Item}
 use Rattle.model_check.specs.Keys.{same_key}
@@ -45,11 +45,11 @@ module _ (m : Model) (n : Text) where
   pub named_in : some? (same_key (0, n)) (map (λ (c : Calendar). (0, c.name)) m.calendars) ≡ is_calendar m n
   named_in = some_map (same_key (0, n)) (λ (c : Calendar). (0, c.name)) m.calendars ∙ named
 
-module _ {s : List ℕ} {p : Place} {r : NameField} {o : Option Text} (m : Model) (h : Stands (optional text) s p o) (e : NameTaken s p r) where
-  pub no_name : r.name ≡ None → true ≡ if_given (is_calendar m) o
+module _ {s : List ℕ} {p : Place} {r : Field (Option (ℕ × ℕ)) Place} {o : Option Text} (m : Model) (h : Stands (optional text) s p o) (e : NameTaken s p r) where
+  pub no_name : r.value ≡ None → true ≡ if_given (is_calendar m) o
   no_name g = rw (e.text o h, g)
 
-  pub a_name : (start len : ℕ) → r.name ≡ Some (start, len) → is_calendar m (text_in s (start, len)) ≡ if_given (is_calendar m) o
+  pub a_name : (start len : ℕ) → r.value ≡ Some (start, len) → is_calendar m (text_in s (start, len)) ≡ if_given (is_calendar m) o
   a_name start len g = rw (e.text o h, g)
 
 -- ---- rows

@@ -14,7 +14,7 @@ use lib.Seq.{take-length}
 use Rattle.definition.specs.Base.{given, find, some?}
 use Rattle.definition.specs.Format.{whole}
 use Rattle.index.specs.declared.Table.{Table}
-use Rattle.index.specs.Chains.{table_of, zeros, added, first_of, next_of, place_of, as_row, up_to, chain}
+use Rattle.index.specs.Chains.{table_of, zeros, added, first_of, next_of, place_of, up_to, chain}
 use Rattle.index.specs.Law.{Seeks, table_placed, first_less, next_less, seeks_none, seeks_here}
 use Rattle.index.proofs.Law.{indexed_none, indexed_by, indexed_same, find_chain, find_next}
 use Rattle.index.specs.Frame.{same_zeros}
@@ -121,20 +121,12 @@ module _ {kind : Kind} {s : List ℕ} {key : Item kind → Key} {xs : List (Item
 
 -- ---- a walk over a chain
 
-abbrev is_row : Option ℕ → Bool
-is_row None = false
-is_row (Some r) = true
-
-row_given : (o : Option ℕ) → is_row (as_row o) ≡ given o
-row_given None = refl
-row_given (Some r) = refl
-
 module _ {w : List ℕ} {t : Table} {p : ℕ → Bool} {o : Option ℕ} {at : Option ℕ} (s : Seeks w t p o at) where
   pub walk_ends : at ≡ None → false ≡ given o
-  walk_ends e = ap is_row (seeks_none s e) ∙ row_given o
+  walk_ends e = ap given (seeks_none s e)
 
   pub walk_hits : {r : ℕ} → at ≡ Some r → p r ≡ true → true ≡ given o
-  walk_hits e h = ap is_row (seeks_here s e h) ∙ row_given o
+  walk_hits e h = ap given (seeks_here s e h)
 
 pub row_in : {at : Option ℕ} {r n : ℕ} → at ≡ Some r → up_to at ≤ n → r < n
 row_in e h = let z = ap up_to e in omega arith

@@ -23,6 +23,7 @@ use Rattle.index.specs.Frame.{same_refl, same_then, same_added, apart_before, in
 use Rattle.bits.specs.Places.{room_short}
 use Rattle.bits.specs.Reads.{Spans, rest, rest_out}
 use Rattle.bits.specs.declared.Place.{Place}
+use Rattle.bits.specs.declared.Field.{Field}
 use Rattle.bits.specs.declared.Span.{Span}
 use Rattle.model.specs.Answers.{counts_at}
 use Rattle.model.specs.Lax.{like_times}
@@ -37,7 +38,6 @@ use Rattle.model.specs.declared.Places.{Places}
 use Rattle.model.specs.declared.Section.{Section}
 use Rattle.model.specs.declared.Sections.{Sections}
 use Rattle.model.specs.declared.records.Kind.TheVariants.{Calendars, Activities}
-use Rattle.model_check.specs.declared.rules.Judged.{Judged}
 use Rattle.model_check.specs.declared.walk.Walked.{Walked}
 use Rattle.model_check.specs.Keys.{Key, Keyed}
 use Rattle.model_check.specs.Kinds.{Run, run}
@@ -148,25 +148,25 @@ module _ {s : List ℕ} {at n : ℕ} {w w₂ : List ℕ} where
   made_kept names None e a = rw (e.none refl) (kept_none w)
   made_kept names (Some u) e a = record { same = λ k g. (e.ready u refl).stays k (a k g) }
 
-  ids_in : (ids : Option Table) {p : Place} {x : Section} {names : Option Table} {w₃ : List ℕ} {r : Judged} → EmptyAt s at n w w₂ ids → JudgedAll s p n x names (table_in ids) w₂ w₃ r → p.bit % 8 ≡ 0
+  ids_in : (ids : Option Table) {p : Place} {x : Section} {names : Option Table} {w₃ : List ℕ} {r : Field Bool Place} → EmptyAt s at n w w₂ ids → JudgedAll s p n x names (table_in ids) w₂ w₃ r → p.bit % 8 ≡ 0
       → (xs : List Activity) {next : ℕ} → Run Activities s p n xs next → TableFor 0 s (map id_key xs) ids w₃
   ids_in None e j z xs u = tt
   ids_in (Some t) e j z xs u = let v = e.ready t refl in j.keys v.small z (ap (λ (t : Table). t.rows) v.is) v.empty xs _ u
 
 -- ---- the walk
 
-pub walked : {s : List ℕ} {n : Counts} {head : Head} {at : ℕ} {names ids : Option Table} {t : Table} {w w₁ w₂ w₃ : List ℕ} {r : Judged} {places : Places} → Heads s n head
+pub walked : {s : List ℕ} {n : Counts} {head : Head} {at : ℕ} {names ids : Option Table} {t : Table} {w w₁ w₂ w₃ : List ℕ} {r : Field Bool Place} {places : Places} → Heads s n head
     → ((key : Calendar → Key) → Keyed Calendars s key → (xs : List Calendar) (end : ℕ) → Holds calendar s (record { count = n.calendars; at = head.calendars.byte }) xs end → TableFor 0 s (map key xs) names w₁)
     → at ≡ min (end_in names) (length w₁) → EmptyAt s at n.activities w₁ w₂ ids → t ≡ table_in ids
     → JudgedAll s head.activities n.activities (record { count = n.calendars; at = head.calendars.byte }) names t w₂ w₃ r → Behind s n head r.next places
-    → ModelWalked s n w w₃ (record { places = places; names = names; ids = ids; right = r.right })
+    → ModelWalked s n w w₃ (record { places = places; names = names; ids = ids; right = r.value })
 walked {s} {n} {head} {at} {names} {ids} {t} {w} {w₁} {w₂} {w₃} {r} {places} h i f e g k b =
     record { walks = walks h (pass_like (like_times _ strict_activities) k.passes) b; looked = looks }
   where
     j : JudgedAll s head.activities n.activities (record { count = n.calendars; at = head.calendars.byte }) names (table_in ids) w₂ w₃ r
     j = subst (λ (t : Table). JudgedAll s head.activities n.activities (record { count = n.calendars; at = head.calendars.byte }) names t w₂ w₃ r) g k
 
-    looks : (m : Model) → Decoded s m (sections_of n places) → places.activities ≡ byte_at places.activities.byte → Looked s m names ids r.right w₃
+    looks : (m : Model) → Decoded s m (sections_of n places) → places.activities ≡ byte_at places.activities.byte → Looked s m names ids r.value w₃
     looks m d z =
         let ks : List Key = map (λ (c : Calendar). (0, c.name)) m.calendars in
         let c : Holds calendar s (record { count = n.calendars; at = head.calendars.byte }) m.calendars places.activities.byte =

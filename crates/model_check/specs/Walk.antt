@@ -9,6 +9,7 @@ use Rattle.definition.specs.Check.{activity_right}
 use Rattle.index.specs.declared.Table.{Table}
 use Rattle.index.specs.Frame.{SameIn, Apart}
 use Rattle.bits.specs.declared.Place.{Place}
+use Rattle.bits.specs.declared.Field.{Field}
 use Rattle.model.specs.Passes.{Passes}
 use Rattle.model.specs.Parts.{record_of}
 use Rattle.model.specs.Splits.{Stands}
@@ -16,7 +17,6 @@ use Rattle.model.specs.Sections.{Holds, Decoded, Walks, byte_at, sections_of}
 use Rattle.model.specs.declared.Counts.{Counts}
 use Rattle.model.specs.declared.Section.{Section}
 use Rattle.model.specs.declared.records.Kind.TheVariants.{Activities}
-use Rattle.model_check.specs.declared.rules.Judged.{Judged}
 use Rattle.model_check.specs.declared.walk.Walked.{Walked}
 use Rattle.model_check.specs.Kinds.{Run}
 use Rattle.model_check.specs.Keys.{Key}
@@ -42,17 +42,17 @@ abbrev pub id_key : Activity → Key
 id_key a = (0, a.id)
 
 -- the activity of a row at a place: whether it is right, and the place behind its record
-pub record JudgedAt (s : List ℕ) (p : Place) (own : ℕ) (x : Section) (names : Option Table) (w : List ℕ) (r : Judged) : Type 0 where
-  pub right : (m : Model) (end : ℕ) → Holds calendar s x m.calendars end → NamesIn s m names w → (a : Activity) → Stands (whole activity) s p a → r.right ≡ activity_right m (own, a)
+pub record JudgedAt (s : List ℕ) (p : Place) (own : ℕ) (x : Section) (names : Option Table) (w : List ℕ) (r : Field Bool Place) : Type 0 where
+  pub right : (m : Model) (end : ℕ) → Holds calendar s x m.calendars end → NamesIn s m names w → (a : Activity) → Stands (whole activity) s p a → r.value ≡ activity_right m (own, a)
   pub next : Passes (record_of true Activities) s p r.next
   pub even : r.next.bit % 8 ≡ 0
 
 -- n activities are passed over; where they stand there, whether all are right, and their ids in an empty table of as many rows
-pub record JudgedAll (s : List ℕ) (p : Place) (n : ℕ) (x : Section) (names : Option Table) (t : Table) (w w' : List ℕ) (r : Judged) : Type 0 where
+pub record JudgedAll (s : List ℕ) (p : Place) (n : ℕ) (x : Section) (names : Option Table) (t : Table) (w w' : List ℕ) (r : Field Bool Place) : Type 0 where
   pub passes : Passes (times n (record_of true Activities)) s p r.next
   pub kept : ApartFrom names t → Kept names w w'
   pub right : ApartFrom names t → (m : Model) (end : ℕ) → Holds calendar s x m.calendars end → NamesIn s m names w
-      → (next : ℕ) → Run Activities s p n m.activities next → r.right ≡ every? (activity_right m) (numbered 0 m.activities)
+      → (next : ℕ) → Run Activities s p n m.activities next → r.value ≡ every? (activity_right m) (numbered 0 m.activities)
   pub keys : length s < 2 ^ 32 → p.bit % 8 ≡ 0 → t.rows ≡ n → Emptied t w
       → (xs : List Activity) (next : ℕ) → Run Activities s p n xs next → KeyTable 0 s (map id_key xs) t w'
 

@@ -69,6 +69,6 @@ pub fn check(s: &[u8], work: &mut [u32]) -> Result<(), Refusal>
     ensures { ◌≡◌ {A = ℕ × List ℕ} (answer_number result, work.new) (check_answer s.now, replicate (length work.old) 0) }
 {
     let r = answer(s, work);
-    bits::fill_from(work, 0, 0);
+    work.fill(0);
     r
 }

@@ -17,7 +17,7 @@ ghost use Rattle.model_check.specs.Walk.{JudgedAt};
 
 use crate::keys::{Calendars, KeyBytes, some_has_key};
 use crate::tables::table_has_key;
-use bits::Place;
+use bits::{Field, Place};
 use index::Table;
 use model::parts::{parent_place_by, resource_calendar_place, take_name, take_row, take_rows};
 use model::records::{Kind, skip_from_notes, skip_record};
@@ -39,7 +39,7 @@ fn is_calendar(s: &[u8], x: Section, words: &[u32], names: Option<Table>, name: 
 fn calendar_known(s: &[u8], p: Place, x: Section, words: &[u32], names: Option<Table>) -> bool
     ensures { (m : Model) (end : ℕ) → Holds calendar s.now x m.calendars end → NamesIn s.now m names words.now → (o : Option Text) → Stands (optional text) s.now p o → result ≡ if_given (is_calendar m) o }
 {
-    let Some((start, len)) = take_name(s, p).name else {
+    let Some((start, len)) = take_name(s, p).value else {
         return true;
     };
     let end = start + len;
@@ -53,14 +53,7 @@ fn is_below(row: Option<u32>, own: u32) -> bool
     row.is_none_or(|n| n < own)
 }
 
-// Whether an activity is right, or all of several are, and the place behind.
-#[derive(Clone, Copy)]
-pub(crate) struct Judged {
-    pub(crate) right: bool,
-    pub(crate) next: Place,
-}
-
-// The activity at a place, the one of a row. Its texts are tested: the model is not decoded yet.
+// Whether the activity at a place, the one of a row, is right, and the place behind it. Its texts are tested: the model is not decoded yet.
 pub(crate) fn judge_activity(
     s: &[u8],
     p: Place,
@@ -68,17 +61,17 @@ pub(crate) fn judge_activity(
     calendars: Section,
     words: &[u32],
     names: Option<Table>,
-) -> Judged
+) -> Field<bool>
     ensures { JudgedAt s.now p own calendars names words.now result }
 {
     let parent = take_row(s, parent_place_by::<true>(s, p));
-    let row = parent.row;
+    let row = parent.value;
     let calendar = bits::take_text(s, parent.next).next;
     let known = calendar_known(s, calendar, calendars, words, names);
     let end = skip_from_notes::<true>(s, parent.next);
     let next = bits::take_pad(s, end);
-    Judged {
-        right: is_below(row, own) & known,
+    Field {
+        value: is_below(row, own) & known,
         next,
     }
 }
@@ -88,7 +81,7 @@ fn rows_below(s: &[u8], p: Place, first: u32, second: u32) -> bool
     ensures { result ≡ rows_below (rows_at s.now p).0 first second }
 {
     let r = take_rows(s, p);
-    r.first < first && r.second < second
+    r.value.0 < first && r.value.1 < second
 }
 
 // Whether the row at a place is below a count.
@@ -112,7 +105,7 @@ fn is_right(
 {
     match kind {
         Kind::Calendars => true,
-        Kind::Activities => judge_activity(s, p, own, w.calendars, words, names).right,
+        Kind::Activities => judge_activity(s, p, own, w.calendars, words, names).value,
         Kind::Links => rows_below(s, p, w.activities.count, w.activities.count),
         Kind::Resources => calendar_known(
             s,

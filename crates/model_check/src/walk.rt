@@ -3,9 +3,9 @@ ghost use Rattle.std.specs.Prelude.{◌≡◌};
 ghost use Rattle.model_check.specs.Walk.{table_in, JudgedAll, ModelWalked};
 
 use crate::keys::{Activities, Calendars};
-use crate::rules::{Judged, judge_activity};
+use crate::rules::judge_activity;
 use crate::tables::{empty_table, hash_at, index_keys};
-use bits::Place;
+use bits::{Field, Place};
 use index::Table;
 use model::{Counts, Places, Section, walk_behind, walk_head};
 
@@ -16,7 +16,8 @@ fn table_of(made: Option<Table>) -> Table
     made.unwrap_or(Table { at: 0, rows: 0 })
 }
 
-// Passes over so many activities, and puts the id of each into a table. It ends at the first that is refused.
+// Passes over so many activities, and puts the id of each into a table: whether all are right, and the place behind. It ends at the first that
+// is refused.
 fn judge_activities(
     s: &[u8],
     p: Place,
@@ -25,7 +26,7 @@ fn judge_activities(
     words: &mut [u32],
     names: Option<Table>,
     t: Table,
-) -> Judged
+) -> Field<bool>
     ensures { JudgedAll s.now p count calendars names t words.old words.new result }
 {
     let mut q = p;
@@ -34,13 +35,19 @@ fn judge_activities(
         let hash = hash_at::<Activities>(s, q);
         t.put(words, i, hash, (q.byte % 4294967296) as u32);
         let a = judge_activity(s, q, i, calendars, words, names);
-        right = right & a.right;
+        right &= a.value;
         q = a.next;
         if 7 < q.bit {
-            return Judged { right, next: q };
+            return Field {
+                value: right,
+                next: q,
+            };
         }
     }
-    Judged { right, next: q }
+    Field {
+        value: right,
+        next: q,
+    }
 }
 
 // The places between the sections, as model::open finds them; the tables of names and of ids; whether all activities are right.
@@ -72,7 +79,7 @@ pub(crate) fn walk_model(s: &[u8], n: Counts, words: &mut [u32]) -> Walked
         table_of(ids),
     );
     let places = walk_behind(s, n, head, a.next);
-    let right = a.right;
+    let right = a.value;
     Walked {
         places,
         names,

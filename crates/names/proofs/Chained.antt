@@ -16,7 +16,7 @@ use Rattle.definition.specs.Text.{Text}
 use Rattle.index.specs.Hash.{hash_of}
 use Rattle.bits.specs.Places.{inside}
 use Rattle.bits.specs.declared.Place.{Place}
-use Rattle.index.specs.Chains.{as_row, added, place_of, end_in}
+use Rattle.index.specs.Chains.{added, place_of, end_in}
 use Rattle.index.specs.Law.{Seeks, seeks_none, seeks_here}
 use Rattle.index.specs.declared.Table.{Table}
 use Rattle.pack.specs.Value.{starred_by}
@@ -28,27 +28,19 @@ use Rattle.names.proofs.Starred.{seen_text}
 
 -- ---- what was found
 
-is_none : (o : Option ℕ) → None ≡ as_row o → o ≡ None
-is_none None e = refl
-is_none (Some r) e = let z : ◌≡◌ {A = ℕ} 0 1 = cc in absurd (omega arith)
-
-is_some : (o : Option ℕ) {r : ℕ} → Some r ≡ as_row o → o ≡ Some r
-is_some None e = let z : ◌≡◌ {A = ℕ} 0 1 = cc in absurd (omega arith)
-is_some (Some s) {r} e = let z : s ≡ r = cc in ap Some z
-
 module _ {w : List ℕ} {t : Table} {p : ℕ → Bool} {o : Option ℕ} {at : Option ℕ} (s : Seeks w t p o at) where
   pub not_given : at ≡ None → false ≡ given o
-  not_given e = sym (ap given (is_none o (seeks_none s e)))
+  not_given e = ap given (seeks_none s e)
 
   pub is_given_lem : {r : ℕ} → at ≡ Some r → p r ≡ true → true ≡ given o
-  is_given_lem e h = sym (ap given (is_some o (seeks_here s e h)))
+  is_given_lem e h = ap given (seeks_here s e h)
 
   -- a number of the row
   pub no_number : (f : ℕ → ℕ) → at ≡ None → 0 ≡ ((o >>= λ r. Some (f r)) or 0)
-  no_number f e = sym (ap (λ (o : Option ℕ). (o >>= λ r. Some (f r)) or 0) (is_none o (seeks_none s e)))
+  no_number f e = ap (λ (o : Option ℕ). (o >>= λ r. Some (f r)) or 0) (seeks_none s e)
 
   pub its_number : (f : ℕ → ℕ) {r : ℕ} → at ≡ Some r → p r ≡ true → f r ≡ ((o >>= λ r. Some (f r)) or 0)
-  its_number f e h = sym (ap (λ (o : Option ℕ). (o >>= λ r. Some (f r)) or 0) (is_some o (seeks_here s e h)))
+  its_number f e h = ap (λ (o : Option ℕ). (o >>= λ r. Some (f r)) or 0) (seeks_here s e h)
 
 -- a text was compared with an id, which has no `*` more
 pub seen_id : (t : Text) {x y : Text} {r b : Bool} → r ≡ same t (starred_by x 0) → x ≡ y → r ≡ b → same t y ≡ b

@@ -17,7 +17,6 @@ use Rattle.definition.specs.Model.{Activity, Model}
 use Rattle.definition.specs.Pack.{activity, decode}
 use Rattle.definition.specs.Outline.{outline_of, outline}
 use Rattle.definition.specs.Refusal.{refused, gives, result, left, row_count, row_words, outline_by, outline_answer}
-use Rattle.bits.specs.Clear.{cleared, cleared_all}
 use Rattle.model.specs.Answers.{counts_at}
 use Rattle.model.specs.Sections.{Opens, Sectioned, Holds, start, counts_in, sections_by}
 use Rattle.model.specs.Opening.{opened, opened_at}
@@ -92,8 +91,8 @@ gives_none {rows = rows} a e z f g =
     record { refusal = e ∙ sym (ap result a); count = z ∙ sym (ap row_count a); given = f ∙ sym (ap (left (length rows)) a); cleared = g }
 
 -- words of the same length cleared, and judged
-zeros : {n : ℕ} (work₁ : List ℕ) {work' : List ℕ} → length work₁ ≡ n → work' ≡ cleared 0 work₁ → work' ≡ replicate n 0
-zeros work₁ l g = g ∙ cleared_all work₁ ∙ ap (λ (n : ℕ). replicate n 0) l
+zeros : {n : ℕ} (work₁ : List ℕ) {work' : List ℕ} → length work₁ ≡ n → work' ≡ replicate (length work₁) 0 → work' ≡ replicate n 0
+zeros work₁ l g = g ∙ ap (λ (n : ℕ). replicate n 0) l
 
 same_short : (n rows : ℕ) {a b : ℕ} {short t : Bool} → a ≡ b → short ≡ is_short n rows a → short ≡ t → is_short n rows b ≡ t
 same_short n rows l e u = sym (e ∙ ap (is_short n rows) l) ∙ u
@@ -118,10 +117,10 @@ module _ {s rows work work₁ : List ℕ} {n : Counts} {w : Places} (c : (counts
           cleared = o.cleared ∙ ap (λ (k : ℕ). replicate k 0) filled.long;
         }
 
-    pub gives_short : {rows' work' : List ℕ} → rows' ≡ cleared 0 rows → work' ≡ cleared 0 work₁ → short ≡ true → Gives s rows work rows' work' (Err NoRoom)
+    pub gives_short : {rows' work' : List ℕ} → rows' ≡ replicate (length rows) 0 → work' ≡ replicate (length work₁) 0 → short ≡ true → Gives s rows work rows' work' (Err NoRoom)
     gives_short f g u =
         gives_none (answer_by s (length rows) (length work) ((opened_by c k b).model m ok) (same_short m.activities.count (length rows) k.filled.long e u)) refl refl
-        (f ∙ cleared_all rows) (zeros work₁ k.filled.long g)
+        f (zeros work₁ k.filled.long g)
 
-  pub gives_no_model : {rows' work' : List ℕ} → rows' ≡ cleared 0 rows → work' ≡ cleared 0 work₁ → o ≡ None → Gives s rows work rows' work' (Err NoModel)
-  gives_no_model f g z = gives_none (answer_none s (length rows) (length work) ((opened_by c k b).refused z)) refl refl (f ∙ cleared_all rows) (zeros work₁ k.filled.long g)
+  pub gives_no_model : {rows' work' : List ℕ} → rows' ≡ replicate (length rows) 0 → work' ≡ replicate (length work₁) 0 → o ≡ None → Gives s rows work rows' work' (Err NoModel)
+  gives_no_model f g z = gives_none (answer_none s (length rows) (length work) ((opened_by c k b).refused z)) refl refl f (zeros work₁ k.filled.long g)

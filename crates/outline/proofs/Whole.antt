@@ -53,13 +53,13 @@ written_words (refused k) = refl
 written_words (gives l) = refl
 
 pub outlined : (n : ℕ) (rows work : List ℕ) → n ≤ no_row → {rows₁ work₁ rows₂ work₂ : List ℕ} {r : ℕ} → Wrote n rows work rows₁ work₁ r
-    → rows₂ ≡ take (2 * r) rows₁ ++ replicate (length rows₁ - 2 * r) 0 → work₂ ≡ take 0 work₁ ++ replicate (length work₁ - 0) 0
+    → rows₂ ≡ take (2 * r) rows₁ ++ replicate (length rows₁ - 2 * r) 0 → work₂ ≡ replicate (length work₁) 0
     → Outlined n rows work rows₂ work₂ r
 outlined n rows work few {rows₁ = rows₁} {work₁ = work₁} {r = r} w e f =
     let a : Answer = outline_words n (length rows) work in
     let t : length (words_of a) ≡ 2 * r = ap length w.words ∙ length-take-le (2 * r) rows₁ (omega (arith, w.room, w.long_rows)) in
     let u : length rows₁ - 2 * r ≡ length rows - length (words_of a) = omega (arith, w.long_rows) in
-    let v : length work₁ - 0 ≡ length work = omega (arith, w.long_work) in
+    let v : length work₁ ≡ length work = omega (arith, w.long_work) in
     let s : written a ≡ 2 * r = written_words a ∙ t in
     let d : r ≡ (2 * r) / 2 = omega arith in
     record {

@@ -5,6 +5,7 @@ use Rattle.definition.specs.Format.{whole, times}
 use Rattle.definition.specs.Model.{Activity}
 use Rattle.definition.specs.Pack.{activity}
 use Rattle.bits.specs.declared.Place.{Place}
+use Rattle.bits.specs.declared.Field.{Field}
 use Rattle.model.specs.Passes.{Passes}
 use Rattle.model.specs.Parts.{record_of}
 use Rattle.model.specs.Splits.{Stands}
@@ -12,15 +13,14 @@ use Rattle.model.specs.Sections.{Holds, Walks, byte_at}
 use Rattle.model.specs.declared.Counts.{Counts}
 use Rattle.model.specs.declared.Places.{Places}
 use Rattle.model.specs.declared.records.Kind.TheVariants.{Activities}
-use Rattle.outline.specs.declared.parents.Parent.{Parent}
 use Rattle.outline.specs.Steps.{word_of}
 
 abbrev pub parents : List Activity → List (Option ℕ)
 parents = map (λ (a : Activity). a.parent)
 
 -- the word for the parent of the activity that stands at a place, and the place behind its record
-pub record ParentAt (s : List ℕ) (p : Place) (r : Parent) : Type 0 where
-  pub word : (a : Activity) → Stands (whole activity) s p a → r.word ≡ word_of a.parent
+pub record ParentAt (s : List ℕ) (p : Place) (r : Field ℕ Place) : Type 0 where
+  pub word : (a : Activity) → Stands (whole activity) s p a → r.value ≡ word_of a.parent
   pub next : Passes (record_of true Activities) s p r.next
 
 -- the first words of i rows name the activities' parents

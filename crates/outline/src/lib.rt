@@ -181,7 +181,7 @@ fn outline_rows(n: u32, rows: &mut [u32], work: &mut [u32]) -> u32
 {
     let count = write_rows(n, rows, work);
     fill_from(rows, 2 * (count as usize), 0);
-    fill_from(work, 0, 0);
+    work.fill(0);
     count
 }
 
@@ -203,7 +203,7 @@ pub fn outline(s: &[u8], rows: &mut [u32], work: &mut [u32]) -> Result<u32, Refu
         Some(m) if is_short(m.activities.count, rows.len(), work.len()) => Refusal::NoRoom,
         Some(m) => return Ok(outline_rows(m.activities.count, rows, work)),
     };
-    fill_from(rows, 0, 0);
-    fill_from(work, 0, 0);
+    rows.fill(0);
+    work.fill(0);
     Err(refusal)
 }

@@ -4,7 +4,7 @@ ghost use Rattle.outline.specs.Steps.{word_of};
 ghost use Rattle.outline.specs.Filled.{ParentAt, Filled, ModelWalked};
 
 use crate::{NONE, PARENT, set_field};
-use bits::{Place, take_pad};
+use bits::{Field, Place, take_pad};
 use model::parts::{parent_place_by, take_row};
 use model::records::skip_from_notes;
 use model::{Counts, Places, walk_behind, walk_head};
@@ -17,22 +17,16 @@ fn word_of(parent: Option<u32>) -> u32
 }
 
 // The word for the parent of the activity at a place, and the place of the next activity.
-#[derive(Clone, Copy)]
-struct Parent {
-    word: u32,
-    next: Place,
-}
-
-fn take_parent(s: &[u8], p: Place) -> Parent
+fn take_parent(s: &[u8], p: Place) -> Field<u32>
     ensures { ParentAt s.now p result }
 {
     let at = parent_place_by::<true>(s, p);
     let parent = take_row(s, at);
-    let row = parent.row;
+    let row = parent.value;
     let end = skip_from_notes::<true>(s, parent.next);
     let next = take_pad(s, end);
-    Parent {
-        word: word_of(row),
+    Field {
+        value: word_of(row),
         next,
     }
 }
@@ -44,7 +38,7 @@ fn fill(s: &[u8], p: Place, count: u32, work: &mut [u32]) -> Place
     let mut q = p;
     for i in 0..count {
         let parent = take_parent(s, q);
-        set_field(work, i, PARENT, parent.word);
+        set_field(work, i, PARENT, parent.value);
         q = parent.next;
         if 7 < q.bit {
             return q;

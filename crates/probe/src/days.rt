@@ -1,33 +1,19 @@
 // Rules and their days. A rule goes out and comes in by its fields; a day goes as its count from 1 January of the
 // year -10000 on, 0 for none, and what lies past 31 December 9999 comes in as the day behind that; a month goes by
 // its number, 13 for none.
-ghost use Rattle.std.specs.Prelude.{◌≡◌, ◌<◌, ◌^◌, pos, ◌-ℤ◌};
+ghost use Rattle.std.specs.Prelude.{◌≡◌};
 ghost use Rattle.definition.specs.Base.{◌or◌};
 ghost use Rattle.definition.specs.Recurrence.{rule_of, days_of};
-ghost use Rattle.date.specs.Scale.{day_count};
 ghost use Rattle.tree.specs.Place.{element_at};
 ghost use Rattle.recurrence.specs.Meaning.{step_of};
 ghost use Rattle.recurrence.specs.Element.{rule_by, range_by};
 ghost use Rattle.probe.specs.Fields.{day_at, month_at, fields_of, run_of, Told, rule, cursor};
 
+use date::{count_of, lowered};
 use definition::Date;
 use recurrence::{Cursor, Range, Rule, Step};
 
 // ---- days
-
-fn count(d: Date) -> u32
-    ensures { result ≡ day_count d.0 }
-{
-    date::days_between(Date(-4371953), d)
-}
-
-fn lowered(n: u32, by: u32) -> i32
-    requires small { n < 2 ^ 31 }
-    requires small_by { by < 2 ^ 31 }
-    ensures { result ≡ pos n -ℤ pos by }
-{
-    (i64::from(n) - i64::from(by)) as i32
-}
 
 fn day_at(n: u32) -> Date
     ensures { result ≡ day_at n }
@@ -64,8 +50,8 @@ fn fields_by(r: Rule) -> Fields
 {
     Fields {
         kind: r.kind,
-        from: count(r.from),
-        last: count(r.last),
+        from: count_of(r.from),
+        last: count_of(r.last),
         most: r.most,
         period: r.period,
         month: r.month.unwrap_or(13),
@@ -118,9 +104,9 @@ fn told(s: Step, at: &mut u32, left: &mut u32, day: &mut u32) -> u32
 {
     match s {
         Step::Day(d, c) => {
-            *at = count(c.at);
+            *at = count_of(c.at);
             *left = c.left;
-            *day = count(d);
+            *day = count_of(d);
             0
         }
         Step::Done => {
@@ -202,7 +188,7 @@ fn run_of(a: Option<Range>) -> Run
     a.map_or(
         Run::default(),
         |r| Run {
-            first: count(r.first),
+            first: count_of(r.first),
             count: r.count,
         },
     )

@@ -50,6 +50,6 @@ pub fn read(tree: &[u8], model: &mut [u8], work: &mut [u32]) -> Result<usize, Re
     ensures { Gives tree.now model.old work.old model.new work.new result }
 {
     let r = answer(tree, model, work);
-    bits::fill_from(work, 0, 0);
+    work.fill(0);
     r
 }

@@ -1,11 +1,11 @@
 // Days and years as the arithmetic of this crate counts them: from 1 January of the year -10000 on, so that nothing is negative.
-ghost use Rattle.std.specs.Prelude.{◌≡◌, ◌≤◌, ◌<◌, ◌^◌, pos, ◌-ℤ◌};
+ghost use Rattle.std.specs.Prelude.{◌≡◌, ◌≤◌, pos, ◌-ℤ◌};
 ghost use Rattle.definition.specs.Base.{◌or◌};
 ghost use Rattle.definition.specs.Date.{month_length, year_of};
-ghost use Rattle.date.specs.Scale.{day_count};
 ghost use Rattle.recurrence.specs.Scale.{InDates, IsYear, IsMonth, YearNumber, day_date, count_by, scaled_by, month_on, month_at, day_in};
 
 use crate::Rule;
+use date::{count_of, lowered};
 use definition::Date;
 
 // The last date, 31 December 9999.
@@ -35,26 +35,11 @@ pub(crate) struct Month {
 
 // ---- to and fro
 
-// The difference, with its sign.
-fn lowered(n: u32, by: u32) -> i32
-    requires small { n < 2 ^ 31 }
-    requires small_by { by < 2 ^ 31 }
-    ensures { result ≡ pos n -ℤ pos by }
-{
-    (i64::from(n) - i64::from(by)) as i32
-}
-
 pub(crate) fn date_at(n: u32) -> Date
     requires { n ≤ 7304850 }
     ensures { result ≡ day_date n }
 {
     Date(lowered(n, 4371953))
-}
-
-pub(crate) fn count_of(d: Date) -> u32
-    ensures { result ≡ day_count d.0 }
-{
-    date::days_between(Date(-4371953), d)
 }
 
 pub(crate) fn count_by(a: Option<Date>) -> Option<u32>

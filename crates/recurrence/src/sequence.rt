@@ -3,8 +3,9 @@ ghost use Rattle.std.specs.Prelude.{◌≡◌};
 ghost use Rattle.recurrence.specs.Meaning.{sound, days_by, to_come, said, start_of, step_of};
 
 use crate::kind::{first_fit, kind_of};
-use crate::scale::{LAST, Scaled, count_of, date_at, to_scale};
+use crate::scale::{LAST, Scaled, date_at, to_scale};
 use crate::{Cursor, Rule, Step};
+use date::count_of;
 
 // Its dates are such, and its Period is held.
 fn is_sound(r: Scaled) -> bool

@@ -5,7 +5,7 @@ use Rattle.definition.specs.Base.{same}
 use Rattle.definition.specs.Text.{Text}
 use Rattle.index.specs.declared.Table.{Table}
 use Rattle.index.specs.Hash.{hash_of}
-use Rattle.index.specs.Chains.{first_of, next_of, place_of, as_row}
+use Rattle.index.specs.Chains.{first_of, next_of, place_of}
 use Rattle.index.specs.Law.{Seeks, seeks_first, seeks_none, seeks_here, seeks_next}
 use Rattle.tree.specs.Place.{element_at}
 use Rattle.rows.specs.Tables.{uid_of, sought_in}
@@ -14,27 +14,19 @@ use Rattle.rows.specs.Tables.{uid_of, sought_in}
 abbrev pub named : Text → List ℕ → Table → Text → ℕ → Bool
 named s w t u r = same (uid_of (element_at s (place_of w t r))) u
 
-row_is : (o : Option ℕ) {r : ℕ} → Some r ≡ as_row o → (Some r) ≡ o
-row_is None {r} e = let y : ◌≡◌ {A = ℕ} 0 1 = cc in absurd (omega arith)
-row_is (Some k) {r} e = let y : r ≡ k = cc in ap Some y
-
-row_none : (o : Option ℕ) → None ≡ as_row o → None ≡ o
-row_none None e = refl
-row_none (Some k) e = let y : ◌≡◌ {A = ℕ} 0 1 = cc in absurd (omega arith)
-
 pub sought_first : (s : Text) {w : List ℕ} {t : Table} (u : Text) {h : ℕ} {at : Option ℕ} → h ≡ hash_of u → at ≡ first_of w t h → Seeks w t (named s w t u) (sought_in s w t u) at
 sought_first s u i e = rw (← i) (seeks_first _ e)
 
 module _ (s : Text) {w : List ℕ} {t : Table} (u : Text) {at : Option ℕ} (h : Seeks w t (named s w t u) (sought_in s w t u) at) where
   pub sought_none : at ≡ None → None ≡ sought_in s w t u
-  sought_none e = row_none _ (seeks_none h e)
+  sought_none e = seeks_none h e
 
   module _ {r : ℕ} (e : at ≡ Some r) {p : ℕ} (i : p ≡ place_of w t r) {b : Bool} (j : b ≡ same (uid_of (element_at s p)) u) where
     here : named s w t u r ≡ b
     here = sym (j ∙ ap (λ (p : ℕ). same (uid_of (element_at s p)) u) i)
 
     pub sought_here : b ≡ true → (Some r) ≡ sought_in s w t u
-    sought_here k = row_is _ (seeks_here h e (here ∙ k))
+    sought_here k = seeks_here h e (here ∙ k)
 
     pub sought_on : b ≡ false → {at' : Option ℕ} → at' ≡ next_of w t r → Seeks w t (named s w t u) (sought_in s w t u) at'
     sought_on k n = seeks_next h e (here ∙ k) n

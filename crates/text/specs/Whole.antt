@@ -1,6 +1,6 @@
--- Whole numbers read digit by digit: a size of up to 64 bits behind a sign, and what it is in a type of w bits. Assumes nothing.
+-- Whole numbers read digit by digit: a size behind a sign, at most the largest that the sign has in a type of w bits, and what it is there. Assumes nothing.
 use Rattle.std.specs.Prelude.{◌≡◌, refl, Bool, true, false, ℕ, suc, ◌-◌, ◌^◌, ◌<◌, leb, ltb, ℤ, pos, neg_ℤ, drop}
-use Rattle.std.proofs.Common.{ap, arith, leb-true, leb-false}
+use Rattle.std.proofs.Common.{ap, arith, leb-false}
 use Rattle.std.proofs.lemmas.Bool.{lt-leb}
 use Rattle.std.specs.Prelude.{Option, Some, None}
 use Rattle.definition.specs.Base.{◌>>=◌, when}
@@ -8,73 +8,72 @@ use Rattle.definition.specs.Text.{Text, Sign, plus, minus, bare, sign_of, digits
 use Rattle.definition.specs.Number.{unsigned}
 use Rattle.text.specs.Signs.{minus?}
 
--- the largest number of 64 bits
-abbrev pub largest : ℕ
-largest = 18446744073709551615
-
 -- the number, where it is at most `most`
 abbrev pub up_to : ℕ → Option ℕ → Option ℕ
 up_to most o = o >>= λ n. when (leb n most) n
 
--- the digits s written after those of v
-unfoldable pub digits_to : ℕ → Text → Option ℕ
-digits_to v s = up_to largest (digits_after v s)
+-- the digits s written after those of v, of a number that is at most `most`
+unfoldable pub digits_to : ℕ → ℕ → Text → Option ℕ
+digits_to most v s = up_to most (digits_after v s)
 
-unfoldable pub size_of : Text → Option ℕ
-size_of s = up_to largest (digits s)
+unfoldable pub size_to : ℕ → Text → Option ℕ
+size_to most s = up_to most (digits s)
 
--- what a size is behind a `-` or none, in an unsigned type of w bits, and in a signed one
+-- the largest size behind a `-` or none, in an unsigned type of w bits, and in a signed one
+abbrev pub unsigned_most : ℕ → Bool → Option ℕ
+unsigned_most w true = None
+unsigned_most w false = Some (2 ^ w - 1)
+
+abbrev pub signed_most : ℕ → Bool → Option ℕ
+signed_most w true = Some (2 ^ (w - 1))
+signed_most w false = Some (2 ^ (w - 1) - 1)
+
+-- what a size is behind a `-` or none
 abbrev pub unsigned_sized : ℕ → Bool → ℕ → Option ℕ
-unsigned_sized w true n = None
-unsigned_sized w false n = when (ltb n (2 ^ w)) n
+unsigned_sized w m n = when (ltb n (2 ^ w)) n
 
 abbrev pub signed_sized : ℕ → Bool → ℕ → Option ℤ
 signed_sized w true n = when (leb n (2 ^ (w - 1))) (neg_ℤ (pos n))
 signed_sized w false n = when (ltb n (2 ^ (w - 1))) (pos n)
 
-abbrev pub whole_by : {A : Type 0} → (Bool → ℕ → Option A) → Text → Option A
-whole_by sized s = size_of (unsigned (sign_of s) s) >>= sized (minus? (sign_of s))
+abbrev pub whole_by : {A : Type 0} → (Bool → Option ℕ) → (Bool → ℕ → Option A) → Text → Option A
+whole_by most sized s = most (minus? (sign_of s)) >>= λ m. size_to m (unsigned (sign_of s) s) >>= sized (minus? (sign_of s))
 
--- ---- no type has a size of more than 64 bits
+-- ---- a size past the largest is no number
 
-module _ {A : Type 0} (f : ℕ → Option A) (past : (n : ℕ) → largest < n → f n ≡ None) where
-  small : (o : Option ℕ) → (o >>= f) ≡ (up_to largest o >>= f)
+module _ {A : Type 0} (m : ℕ) (f : ℕ → Option A) (past : (n : ℕ) → m < n → f n ≡ None) where
+  small : (o : Option ℕ) → (o >>= f) ≡ (up_to m o >>= f)
   small None = refl
-  small (Some n) = go (leb n largest) refl
+  small (Some n) = go (leb n m) refl
     where
-      go : (b : Bool) → leb n largest ≡ b → f n ≡ (when b n >>= f)
+      go : (b : Bool) → leb n m ≡ b → f n ≡ (when b n >>= f)
       go true e = refl
-      go false e = past n (leb-false n largest e)
+      go false e = past n (leb-false n m e)
 
-never : {A : Type 0} (o : Option ℕ) → None ≡ (o >>= λ n. let z : Option A = None in z)
-never None = refl
-never (Some n) = refl
+module _ (w : ℕ) where
+  unsigned_past : (n : ℕ) → 2 ^ w - 1 < n → unsigned_sized w false n ≡ None
+  unsigned_past n h = ap (λ (b : Bool). when b n) (lt-leb (suc n) (2 ^ w) (omega arith))
 
-module _ (w : ℕ) (fits : leb (2 ^ w) (suc largest) ≡ true) where
-  unsigned_past : (n : ℕ) → largest < n → unsigned_sized w false n ≡ None
-  unsigned_past n h = ap (λ (b : Bool). when b n) (lt-leb (suc n) (2 ^ w) (let k = leb-true (2 ^ w) (suc largest) fits in omega arith))
-
-  pub unsigned_reads : (s : Text) → unsigned_of w s ≡ whole_by (unsigned_sized w) s
-  unfolding unsigned_of size_of
+  pub unsigned_reads : (s : Text) → unsigned_of w s ≡ whole_by (unsigned_most w) (unsigned_sized w) s
+  unfolding unsigned_of size_to
   unsigned_reads s = go (sign_of s)
     where
-      go : (x : Sign) → unsigned_by x w s ≡ (up_to largest (digits (unsigned x s)) >>= unsigned_sized w (minus? x))
-      go plus = small (unsigned_sized w false) unsigned_past (digits (drop 1 s))
-      go minus = never (up_to largest (digits (drop 1 s)))
-      go bare = small (unsigned_sized w false) unsigned_past (digits s)
+      go : (x : Sign) → unsigned_by x w s ≡ (unsigned_most w (minus? x) >>= λ m. up_to m (digits (unsigned x s)) >>= unsigned_sized w (minus? x))
+      go plus = small (2 ^ w - 1) (unsigned_sized w false) unsigned_past (digits (drop 1 s))
+      go minus = refl
+      go bare = small (2 ^ w - 1) (unsigned_sized w false) unsigned_past (digits s)
 
-module _ (w : ℕ) (fits : leb (2 ^ (w - 1)) largest ≡ true) where
-  positive_past : (n : ℕ) → largest < n → signed_sized w false n ≡ None
-  positive_past n h = ap (λ (b : Bool). when b (pos n)) (lt-leb (suc n) (2 ^ (w - 1)) (let k = leb-true (2 ^ (w - 1)) largest fits in omega arith))
+  positive_past : (n : ℕ) → 2 ^ (w - 1) - 1 < n → signed_sized w false n ≡ None
+  positive_past n h = ap (λ (b : Bool). when b (pos n)) (lt-leb (suc n) (2 ^ (w - 1)) (omega arith))
 
-  negative_past : (n : ℕ) → largest < n → signed_sized w true n ≡ None
-  negative_past n h = ap (λ (b : Bool). when b (neg_ℤ (pos n))) (lt-leb n (2 ^ (w - 1)) (let k = leb-true (2 ^ (w - 1)) largest fits in omega arith))
+  negative_past : (n : ℕ) → 2 ^ (w - 1) < n → signed_sized w true n ≡ None
+  negative_past n h = ap (λ (b : Bool). when b (neg_ℤ (pos n))) (lt-leb n (2 ^ (w - 1)) (omega arith))
 
-  pub signed_reads : (s : Text) → signed_of w s ≡ whole_by (signed_sized w) s
-  unfolding signed_of size_of
+  pub signed_reads : (s : Text) → signed_of w s ≡ whole_by (signed_most w) (signed_sized w) s
+  unfolding signed_of size_to
   signed_reads s = go (sign_of s)
     where
-      go : (x : Sign) → signed_by x w s ≡ (up_to largest (digits (unsigned x s)) >>= signed_sized w (minus? x))
-      go plus = small (signed_sized w false) positive_past (digits (drop 1 s))
-      go minus = small (signed_sized w true) negative_past (digits (drop 1 s))
-      go bare = small (signed_sized w false) positive_past (digits s)
+      go : (x : Sign) → signed_by x w s ≡ (signed_most w (minus? x) >>= λ m. up_to m (digits (unsigned x s)) >>= signed_sized w (minus? x))
+      go plus = small (2 ^ (w - 1) - 1) (signed_sized w false) positive_past (digits (drop 1 s))
+      go minus = small (2 ^ (w - 1)) (signed_sized w true) negative_past (digits (drop 1 s))
+      go bare = small (2 ^ (w - 1) - 1) (signed_sized w false) positive_past (digits s)

@@ -1,4 +1,5 @@
-// Texts, as bytes: trimming, parts, whole numbers, comparing, UTF-8.
+// Texts: trimming, parts, whole numbers, comparing, UTF-8. A text is bytes, as a tree and a model hold it, and whether it is UTF-8 is tested here:
+// so no `&str`.
 #![tactic(auto)]
 
 mod compare;

@@ -17,7 +17,7 @@ pub fn place(s: &[u8], b: u8) -> usize
     s.iter().position(|x| b == *x).unwrap_or(s.len())
 }
 
-// What stands before the first byte b, the whole text where there is none.
+// What stands before the first byte b, the whole text where there is none; `split` would take a closure and give an Option.
 pub fn before(s: &[u8], b: u8) -> &[u8]
     ensures { result.now ≡ before_of (eqb b) s.now }
 {

@@ -1,4 +1,6 @@
-// White_Space, taken away at both ends of a text.
+// White_Space, taken away at both ends of a text. A text is bytes that need not be UTF-8, so that `char::is_whitespace` and `str::trim` do not
+// serve: white space is told by its one, two or three bytes, and from either end, a function for each, as only the byte that is read first tells
+// where the others stand.
 ghost use Rattle.std.specs.Prelude.{◌≡◌, reverse, ◌≤◌, ◌<◌, length, get_or, take, drop};
 ghost use Rattle.definition.specs.Base.{within};
 ghost use Rattle.definition.specs.Text.{white1 as is_white1, white2 as is_white2, white3 as is_white3, trim_front, trim_back, trim as trimmed};
@@ -10,37 +12,37 @@ use crate::parts::byte_at;
 fn white1(a: u8) -> bool
     ensures { result ≡ is_white1 a }
 {
-    ((9 <= a) & (a <= 13)) | (a == 32)
+    matches!(a, 9..=13 | 32)
 }
 
 // U+0085, U+00A0
 fn white2(a: u8, b: u8) -> bool
     ensures { result ≡ is_white2 a b }
 {
-    (a == 0xC2) & ((b == 0x85) | (b == 0xA0))
+    matches!((a, b), (0xC2, 0x85 | 0xA0))
 }
 
 // U+1680; U+2000 to U+200A, U+2028, U+2029, U+202F; U+205F; U+3000
 fn white3(a: u8, b: u8, c: u8) -> bool
     ensures { result ≡ is_white3 a b c }
 {
-    let ogham = (a == 0xE1) & ((b == 0x9A) & (c == 0x80));
-    let spaces = (a == 0xE2)
-        & ((b == 0x80)
-            & (((0x80 <= c) & (c <= 0x8A)) | (((0xA8 <= c) & (c <= 0xA9)) | (c == 0xAF))));
-    let mathematical = (a == 0xE2) & ((b == 0x81) & (c == 0x9F));
-    let ideographic = (a == 0xE3) & ((b == 0x80) & (c == 0x80));
-    ogham | (spaces | (mathematical | ideographic))
+    matches!(
+        (a, b, c),
+        (0xE1, 0x9A, 0x80)
+            | (0xE2, 0x80, 0x80..=0x8A | 0xA8..=0xA9 | 0xAF)
+            | (0xE2, 0x81, 0x9F)
+            | (0xE3, 0x80, 0x80)
+    )
 }
 
 // A byte that neither begins nor ends white space: nearly every first and last byte of a text.
 fn plain(a: u8) -> bool
     ensures { result ≡ within 33 127 a }
 {
-    (33 <= a) & (a <= 127)
+    (33..=127).contains(&a)
 }
 
-// How many bytes white space takes, by the tests on one, two and three bytes.
+// How many bytes white space takes, by the tests on one, two and three bytes; 0 for none, as the definition has it, so that the loops go on by it.
 fn width(one: bool, two: bool, three: bool) -> usize
     ensures { result ≡ width_by one two three }
 {
@@ -56,7 +58,7 @@ fn width(one: bool, two: bool, three: bool) -> usize
     0
 }
 
-// The byte that stands k places before the last of the first e, 0 before the start.
+// The byte that stands k places before the last of the first e, 0 before the start. By its index: the same with `rev` and `nth` was not proved.
 fn byte_before(s: &[u8], e: usize, k: usize) -> u8
     requires { e ≤ length s.now }
     ensures { result ≡ get_or (reverse (take e s.now)) k 0 }

@@ -3,7 +3,7 @@ ghost use Rattle.std.specs.Prelude.{◌≡◌, refl, ◌-◌, ◌≤◌, ℕ, Bo
 ghost use Rattle.definition.specs.Base.{when};
 ghost use Rattle.definition.specs.Text.{Text, is_digit, sign_of, unsigned_of, signed_of};
 ghost use Rattle.definition.specs.Number.{unsigned};
-ghost use Rattle.text.specs.Whole.{digits_to, size_of, unsigned_sized, signed_sized, whole_by, unsigned_reads, signed_reads};
+ghost use Rattle.text.specs.Whole.{digits_to, size_to, unsigned_most, signed_most, unsigned_sized, signed_sized, whole_by, unsigned_reads, signed_reads};
 
 use crate::parts::byte_at;
 
@@ -27,101 +27,136 @@ fn digit(b: u8) -> Option<u64>
     None
 }
 
-// The digits s, so few that their number fits.
-fn few_digits(s: &[u8]) -> Option<u64>
+// The digits s of a number that is at most `most`: so few that the number fits 64 bits.
+fn few_digits(s: &[u8], most: u64) -> Option<u64>
     requires { length s.now ≤ 18 }
-    ensures { result ≡ digits_to 0 s.now }
+    ensures { result ≡ digits_to most 0 s.now }
 {
     let mut n = 0;
     for b in s {
         n = n * 10 + digit(*b)?;
     }
-    Some(n)
+    (n <= most).then_some(n)
 }
 
-fn many_digits(s: &[u8]) -> Option<u64>
-    ensures { result ≡ digits_to 0 s.now }
+// The same, as many as there may be, read no further than `most`.
+fn many_digits(s: &[u8], most: u64) -> Option<u64>
+    ensures { result ≡ digits_to most 0 s.now }
 {
     let mut n: u64 = 0;
     for b in s {
         n = n.checked_mul(10)?.checked_add(digit(*b)?)?;
+        if most < n {
+            return None;
+        }
     }
     Some(n)
 }
 
-// Digits, one at least, of a number that fits 64 bits.
-fn size_of(s: &[u8]) -> Option<u64>
-    ensures { result ≡ size_of s.now }
+// Digits, one at least, of a number that is at most `most`.
+fn size_to(s: &[u8], most: u64) -> Option<u64>
+    ensures { result ≡ size_to most s.now }
 {
     match s.len() {
         0 => None,
-        1..=18 => few_digits(s),
-        _ => many_digits(s),
+        1..=18 => few_digits(s, most),
+        _ => many_digits(s, most),
     }
 }
 
-// A type of whole numbers: what a text is in it, and what a size is behind a `-` or none.
+// A type of whole numbers: what a text is in it, the largest size behind a `-` or none, which no `-` has in an unsigned type, and what a
+// size is.
 pub trait Whole: Sized {
     ghost means: { Text → Option Self };
 
+    ghost most: { Bool → Option ℕ };
+
     ghost sized: { Bool → ℕ → Option Self };
+
+    fn most(minus: bool) -> Option<u64>
+        ensures { result ≡ most minus };
 
     fn sized(minus: bool, size: u64) -> Option<Self>
         ensures { result ≡ sized minus size };
 
-    ghost reads: { (s : Text) → means s ≡ whole_by sized s };
+    ghost reads: { (s : Text) → means s ≡ whole_by most sized s };
 }
 
 impl Whole for u64 {
     ghost means = { unsigned_of 64 };
 
+    ghost most = { unsigned_most 64 };
+
     ghost sized = { unsigned_sized 64 };
 
-    ghost reads = { unsigned_reads 64 refl };
+    ghost reads = { unsigned_reads 64 };
 
-    fn sized(minus: bool, size: u64) -> Option<u64> {
-        if minus { None } else { Some(size) }
+    fn most(minus: bool) -> Option<u64> {
+        if minus { None } else { Some(u64::MAX) }
+    }
+
+    fn sized(_minus: bool, size: u64) -> Option<u64> {
+        Some(size)
     }
 }
 
 impl Whole for u32 {
     ghost means = { unsigned_of 32 };
 
+    ghost most = { unsigned_most 32 };
+
     ghost sized = { unsigned_sized 32 };
 
-    ghost reads = { unsigned_reads 32 refl };
+    ghost reads = { unsigned_reads 32 };
 
-    fn sized(minus: bool, size: u64) -> Option<u32> {
+    fn most(minus: bool) -> Option<u64> {
         if minus {
             None
         } else {
-            u32::try_from(size).ok()
+            Some(u64::from(u32::MAX))
         }
+    }
+
+    fn sized(_minus: bool, size: u64) -> Option<u32> {
+        u32::try_from(size).ok()
     }
 }
 
 impl Whole for u16 {
     ghost means = { unsigned_of 16 };
 
+    ghost most = { unsigned_most 16 };
+
     ghost sized = { unsigned_sized 16 };
 
-    ghost reads = { unsigned_reads 16 refl };
+    ghost reads = { unsigned_reads 16 };
 
-    fn sized(minus: bool, size: u64) -> Option<u16> {
+    fn most(minus: bool) -> Option<u64> {
         if minus {
             None
         } else {
-            u16::try_from(size).ok()
+            Some(u64::from(u16::MAX))
         }
+    }
+
+    fn sized(_minus: bool, size: u64) -> Option<u16> {
+        u16::try_from(size).ok()
     }
 }
 
 impl Whole for i64 {
     ghost means = { signed_of 64 };
 
+    ghost most = { signed_most 64 };
+
     ghost sized = { signed_sized 64 };
 
-    ghost reads = { signed_reads 64 refl };
+    ghost reads = { signed_reads 64 };
+
+    fn most(minus: bool) -> Option<u64> {
+        let end = if minus { i64::MIN } else { i64::MAX };
+        Some(end.unsigned_abs())
+    }
 
     fn sized(minus: bool, size: u64) -> Option<i64> {
         if minus {
@@ -135,9 +170,16 @@ impl Whole for i64 {
 impl Whole for i32 {
     ghost means = { signed_of 32 };
 
+    ghost most = { signed_most 32 };
+
     ghost sized = { signed_sized 32 };
 
-    ghost reads = { signed_reads 32 refl };
+    ghost reads = { signed_reads 32 };
+
+    fn most(minus: bool) -> Option<u64> {
+        let end = if minus { i32::MIN } else { i32::MAX };
+        Some(u64::from(end.unsigned_abs()))
+    }
 
     fn sized(minus: bool, size: u64) -> Option<i32> {
         let n = i64::sized(minus, size)?;
@@ -150,5 +192,6 @@ pub fn whole_of<W: Whole>(s: &[u8]) -> Option<W>
     ensures { result ≡ W.means s.now }
 {
     let minus = byte_at(s, 0) == b'-';
-    W::sized(minus, size_of(without_sign(s))?)
+    let most = W::most(minus)?;
+    W::sized(minus, size_to(without_sign(s), most)?)
 }

@@ -8,10 +8,10 @@ pub loop-init : goal.loop-init
 loop-init c = let a = c.args in (omega arith, unmet (date ⊗ periods) (λ x. x.0) a.s.now a.day.0 c.take-n.result.next c.take-n.result.value)
 
 pub returns-then-eq : goal.returns-then-eq
-returns-then-eq c = let a = c.args in λ d k l h. hours_found (met days_dated c.loop.invariant.1 c.loop-test.true c.take_date-t.ensures (on_day c.take_date-t.result.date a.day c.eq.ensures) c.if-eq.true d k l (exceptions_ahead a.s.now a.p c.take-n.ensures h)) (date_passed a.s.now _ c.take_date-t.ensures)
+returns-then-eq c = let a = c.args in λ d k l h. hours_found (met days_dated c.loop.invariant.1 c.loop-test.true c.take_date-t.ensures (on_day c.take_date-t.result.value a.day c.eq.ensures) c.if-eq.true d k l (exceptions_ahead a.s.now a.p c.take-n.ensures h)) (date_passed a.s.now _ c.take_date-t.ensures)
 
 pub loop-preserved : goal.loop-preserved
-loop-preserved c = let a = c.args in (omega arith, unmet_more days_dated c.loop.invariant.1 c.loop-test.true c.take_date-t.ensures (on_day c.take_date-t.result.date a.day c.eq.ensures) c.if-eq.false (date_passed a.s.now _ c.take_date-t.ensures ⨾ c.skip_periods-q.ensures))
+loop-preserved c = let a = c.args in (omega arith, unmet_more days_dated c.loop.invariant.1 c.loop-test.true c.take_date-t.ensures (on_day c.take_date-t.result.value a.day c.eq.ensures) c.if-eq.false (date_passed a.s.now _ c.take_date-t.ensures ⨾ c.skip_periods-q.ensures))
 
 pub returns : goal.returns
 returns c = let a = c.args in λ d k l h. hours_missing a.s.now d l (unmet_all days_dated c.loop.invariant.1 (omega arith) d k l (exceptions_ahead a.s.now a.p c.take-n.ensures h))

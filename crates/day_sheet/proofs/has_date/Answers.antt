@@ -7,10 +7,10 @@ pub loop-init : goal.loop-init
 loop-init c = let a = c.args in (omega arith, unmet date (λ d. d) a.s.now a.day.0 c.take-n.result.next c.take-n.result.value)
 
 pub returns-then-eq : goal.returns-then-eq
-returns-then-eq c = let a = c.args in λ d k l h. date_found d l (met dates_dated c.loop.invariant.1 c.loop-test.true c.take_date-t.ensures (on_day c.take_date-t.result.date a.day c.eq.ensures) c.if-eq.true d k l (dates_ahead a.s.now a.p c.take-n.ensures h)).is
+returns-then-eq c = let a = c.args in λ d k l h. date_found d l (met dates_dated c.loop.invariant.1 c.loop-test.true c.take_date-t.ensures (on_day c.take_date-t.result.value a.day c.eq.ensures) c.if-eq.true d k l (dates_ahead a.s.now a.p c.take-n.ensures h)).is
 
 pub loop-preserved : goal.loop-preserved
-loop-preserved c = let a = c.args in (omega arith, unmet_more dates_dated c.loop.invariant.1 c.loop-test.true c.take_date-t.ensures (on_day c.take_date-t.result.date a.day c.eq.ensures) c.if-eq.false (date_passed a.s.now _ c.take_date-t.ensures))
+loop-preserved c = let a = c.args in (omega arith, unmet_more dates_dated c.loop.invariant.1 c.loop-test.true c.take_date-t.ensures (on_day c.take_date-t.result.value a.day c.eq.ensures) c.if-eq.false (date_passed a.s.now _ c.take_date-t.ensures))
 
 pub returns : goal.returns
 returns c = let a = c.args in λ d k l h. date_missing d l (unmet_all dates_dated c.loop.invariant.1 (omega arith) d k l (dates_ahead a.s.now a.p c.take-n.ensures h))

@@ -9,6 +9,6 @@ returns-in-Some-2 c = gives_rows c.take_counts-counts.ensures c.walk_model-place
 pub returns : goal.returns
 returns c =
     elim c.match-sections_of.branch [
-      | in-None w ↦ rw w.refusal-is (gives_no_model c.take_counts-counts.ensures c.walk_model-places.ensures c.sections_of.ensures c.fill_from.ensures c.fill_from-2.ensures w.in-None.is)
-      | in-Some w ↦ rw w.refusal-is (gives_short c.take_counts-counts.ensures c.walk_model-places.ensures c.sections_of.ensures w.in-Some.is w.is_short.ensures c.fill_from.ensures c.fill_from-2.ensures w.if-is_short.true)
+      | in-None w ↦ rw w.refusal-is (gives_no_model c.take_counts-counts.ensures c.walk_model-places.ensures c.sections_of.ensures (c.fill.ensures.after (λ y e. e)) (c.fill-2.ensures.after (λ y e. e)) w.in-None.is)
+      | in-Some w ↦ rw w.refusal-is (gives_short c.take_counts-counts.ensures c.walk_model-places.ensures c.sections_of.ensures w.in-Some.is w.is_short.ensures (c.fill.ensures.after (λ y e. e)) (c.fill-2.ensures.after (λ y e. e)) w.if-is_short.true)
     ]

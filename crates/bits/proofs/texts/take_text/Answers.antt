@@ -6,5 +6,5 @@ use Rattle.bits.proofs.texts.take_text.Goals as goal
 pub returns : goal.returns
 returns c =
     let a = c.args in
-    found (λ i. omega (arith, c.shared_slice_known-1.given i)) (read_whole (read_field a.s.now a.p 32 c.take_count-c.ensures) (skip_pad a.s.now c.take_count-c.result.next c.take_pad-b.ensures))
-    (pad_whole a.s.now c.take_count-c.result.next c.take_pad-b.ensures) c.bytes_at.ensures
+    found (λ i. omega (arith, c.type_inv.s i)) (read_whole (read_field a.s.now a.p 32 c.take_u32-c.ensures) (skip_pad a.s.now c.take_u32-c.result.next c.take_pad-b.ensures))
+    (pad_whole a.s.now c.take_u32-c.result.next c.take_pad-b.ensures) c.bytes_at.ensures

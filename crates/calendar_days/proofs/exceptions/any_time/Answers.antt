@@ -1,24 +1,16 @@
-use Rattle.std.proofs.Common.{sym, refl, ap, ◌∙◌, arith}
+use Rattle.std.proofs.Common.{sym, ap, ◌∙◌}
 use Rattle.definition.specs.Base.{some?}
-use Rattle.tree.specs.Answer.{found_list, none_list, found_on}
 use Rattle.calendar_days.specs.Exceptions.{is_time}
 use Rattle.calendar_days.proofs.Elements.{time_here, time_on, time_is, no_times}
 use Rattle.calendar_days.proofs.exceptions.any_time.Goals as goal
 
-pub loop-first-init : goal.loop-first-init
-loop-first-init c = refl
+pub returns-then-is_some : goal.returns-then-is_some
+returns-then-is_some c =
+    sym (c.loop-t.invariant ∙ time_here c.in-Some.ensures.steps (time_is _ _ c.is_some.ensures c.working_time.ensures ∙ c.if-is_some.true))
 
-pub returns-then-is_time : goal.returns-then-is_time
-returns-then-is_time c =
-    sym (c.loop-first.invariant ∙ time_here _ _ (time_is _ c.is_time.ensures c.working_time.ensures ∙ c.if-is_time.true))
+pub returns : goal.returns
+returns c = sym (c.loop-t.invariant ∙ no_times c.in-None.ensures.steps.0)
 
-pub returns-in_default : goal.returns-in_default
-returns-in_default c =
-    sym (c.loop-first.invariant ∙ time_on _ _ (time_is _ c.is_time.ensures c.working_time.ensures ∙ c.if-is_time.false) ∙ no_times (none_list c.next_child.ensures c.in_default.is))
-
-pub loop-first-smaller : goal.loop-first-smaller
-loop-first-smaller c = omega (arith, found_on c.next_child.ensures c.in-Some.is)
-
-pub loop-first-preserved : goal.loop-first-preserved
-loop-first-preserved c =
-    c.loop-first.invariant ∙ time_on _ _ (time_is _ c.is_time.ensures c.working_time.ensures ∙ c.if-is_time.false) ∙ ap (some? is_time) (found_list c.next_child.ensures c.in-Some.is)
+pub loop-t-preserved : goal.loop-t-preserved
+loop-t-preserved c =
+    c.loop-t.invariant ∙ time_on c.in-Some.ensures.steps (time_is _ _ c.is_some.ensures c.working_time.ensures ∙ c.if-is_some.false)

@@ -4,7 +4,7 @@ use Rattle.probe.proofs.days.told.Goals as goal
 
 pub returns-in-Day : goal.returns-in-Day
 unfolding Told
-returns-in-Day c = rw c.in-Day.is (refl, c.count-in-Day.ensures, c.count.ensures, refl)
+returns-in-Day c = rw c.in-Day.is (refl, c.count_of-in-Day.ensures, c.count_of.ensures, refl)
 
 pub returns-in-Done : goal.returns-in-Done
 unfolding Told

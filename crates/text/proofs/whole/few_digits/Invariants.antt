@@ -6,4 +6,4 @@ use Rattle.text.specs.Whole.{digits_to}
 use Rattle.text.proofs.whole.few_digits.Given as goal
 
 abbrev pub invariant-loop-b : goal.invariant-loop-b
-invariant-loop-b l = (l.n < 10 ^ l.b-index) × (digits_to 0 l.s ≡ digits_to l.n (drop l.b-index l.s))
+invariant-loop-b l = (l.n < 10 ^ l.b-index) × (digits_to l.most 0 l.s ≡ digits_to l.most l.n (drop l.b-index l.s))

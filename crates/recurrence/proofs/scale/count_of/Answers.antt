@@ -1,6 +1,0 @@
-use Rattle.date.specs.Scale.{day_count}
-use Rattle.recurrence.proofs.scale.count_of.Goals as goal
-
-pub returns : goal.returns
-unfolding day_count
-returns c = c.days_between.ensures
