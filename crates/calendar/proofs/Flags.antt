@@ -1,10 +1,9 @@
 -- The flags of a word: one of them, and a word with one of them replaced, tried at all 128 words and seven places. Assumes nothing.
-use Rattle.std.proofs.Common.{◌≡◌, ℕ, zero, suc, ◌+◌, ◌-◌, ◌*◌, ◌/◌, ◌%◌, ◌^◌, ◌<◌, ◌≤◌, Bool, true, false, not, ◌&&◌, T, eqb, List, [], ◌∷◌, length, get_or, set, sym, refl, ap, ◌∙◌, subst, lt_of_le_of_lt, mod-lt, mod-eq_of_lt, zero-lt-suc, mul-le-mul, one-mul, div-le_self, div-one, arith, eqb→eq, pow_pos, pow_mono, eq-eqb, ne_eqb, eqb-true}
+use Rattle.std.proofs.Common.{◌≡◌, ℕ, zero, suc, ◌+◌, ◌-◌, ◌*◌, ◌/◌, ◌%◌, ◌^◌, ◌<◌, ◌≤◌, Bool, true, false, not, ◌&&◌, T, eqb, List, [], ◌∷◌, length, get_or, set, sym, refl, ap, ◌∙◌, subst, lt_of_le_of_lt, mod-lt, mod-eq_of_lt, zero-lt-suc, mul-le-mul, div-le_self, div-one, arith, eqb→eq, pow_pos, pow_mono, eq-eqb, ne_eqb, eqb-true}
 use Rattle.std.specs.Prelude.{Option, Some, None}
 use Rattle.std.specs.Int.{from_bool}
 use lib.ListN.{get_or-eq_default}
 use lib.Bits.{bit_and, bit_or, and_mask, or_shifted}
-use lib.Pow.{pow-lt}
 use lib.Ieee.Fits.{and_l, and_r}
 use borrow.Author.Tests.{eqb-false}
 use Rattle.definition.specs.Base.{◌>>=◌, ◌or◌}
@@ -135,11 +134,6 @@ word_back w week e =
     ∙ ap word_of (flags_mod w ∙ e)
 
 -- ---- shifts and masks
-
-pub masked : (w n : ℕ) → n < 32 → bit_and w ((1 * 2 ^ n) % 2 ^ 32 - 1) ≡ w % 2 ^ n
-masked w n h =
-    let e : (1 * 2 ^ n) % 2 ^ 32 ≡ 2 ^ n = rw one-mul (mod-eq_of_lt (pow-lt h)) in
-    rw e (and_mask w n)
 
 pub low_bit : (w : ℕ) → bit_and w 1 ≡ w % 2
 low_bit w = and_mask w 1

@@ -1,4 +1,5 @@
-// The days of a week. What is right is said in the crate definition, specs/Calendar.antt. A week is a word: bit 6 for Monday, bit 0 for Sunday.
+// The days of a week. What is right is said in the crate definition, specs/Calendar.antt. A week is a word: bit 6 for Monday, bit 0 for Sunday;
+// no type of its own, as it is taken from a model and put into one as these seven bits.
 ghost use Rattle.std.specs.Prelude.{◌≡◌, ◌+◌, ◌-◌, ◌*◌, ◌/◌, ◌%◌, ◌^◌, ◌<◌, ◌≤◌, false, ◌∷◌, set, ◌==◌, slice_index_or, slice_set};
 ghost use Rattle.definition.specs.Base.{◌or◌};
 ghost use Rattle.definition.specs.Ascii.{bytes};
@@ -56,7 +57,7 @@ fn low(w: u32, n: u32) -> u32
     requires { n < 32 }
     ensures { result ≡ w % 2 ^ n }
 {
-    w & ((1 << n) - 1)
+    w % (1 << n)
 }
 
 // The flag of a place in the week; none is set past Sunday's.
@@ -69,7 +70,7 @@ fn flag_at(week: u32, k: u32) -> bool
     (week >> (6 - k)) & 1 == 1
 }
 
-// The bit above the n low ones replaced.
+// The bit above the n low ones replaced: by the parts above and below it, as masks would be no plainer.
 fn with_bit(w: u32, n: u32, on: bool) -> u32
     requires small { w < 128 }
     requires place { n ≤ 6 }

@@ -1,4 +1,5 @@
 // A value in a child.
+// Each reader has its own answer, and a name that callers read: one generic function would need a trait over the answers, which is no plainer.
 ghost use Rattle.std.specs.Prelude.{◌≡◌, []};
 ghost use Rattle.definition.specs.Base.{◌>>=◌ as bind, same, ◌or◌, given as present};
 ghost use Rattle.definition.specs.Tree.{text_of};
@@ -27,7 +28,7 @@ pub fn given(e: Element<'_>, name: &[u8]) -> bool
 pub fn text_is(e: Element<'_>, name: &[u8], value: &[u8]) -> bool
     ensures { result ≡ same (text_of (meaning e.entry) name.now or []) value.now }
 {
-    text::same(e.text_of(name), value)
+    e.text_of(name) == value
 }
 
 // A UID other than `0`.

@@ -70,10 +70,11 @@ pub fn wanted_name<'a>(e: Element<'a>, unnamed: &'a [u8]) -> &'a [u8]
     if n.is_empty() { unnamed } else { n }
 }
 
-// The row of the main calendar among those in the order in which they are built.
+// The row of the main calendar among those in the order in which they are built; 0 where there is none, as the definition has it.
 fn main_row(root: Root<'_>) -> usize
     ensures { result ≡ main_row (root_at root.entry) }
 {
+    // `map_or` was tried: of a closure over an element the proof learns nothing.
     let Some((row, _)) = rows::main_calendar(root) else {
         return 0;
     };
@@ -99,7 +100,8 @@ pub(crate) fn stars_at(out: &[u8], p: Place, e: Element<'_>) -> u32
     long.saturating_sub(short) as u32
 }
 
-// That of the calendar of a row.
+// That of the calendar of a row. The buffer, where the calendars stand in it, and the root go together and are no struct: records are put into the
+// buffer between the calls, so that one that borrows it would be made anew for each.
 pub(crate) fn stars_of(out: &[u8], c: Place, root: Root<'_>, row: usize, e: Element<'_>) -> u32
     ensures { result ≡ stars_in out.now c (root_at root.entry) row (meaning e.entry) }
 {

@@ -1,6 +1,6 @@
 // Which ids are taken, by tables in lent words, so that a new id asks no record before it but those of its chain. One table has the rows by their ids,
 // and for each row the byte where its record stands; the id is the text there. The other has them by the texts that they wanted, and for each row how
-// many `*` its id has behind that text, so that the next of the same text begins behind them.
+// many `*` its id has behind that text, so that the next of the same text begins behind them. No maps: there is no heap.
 ghost use Rattle.std.specs.Prelude.{◌≡◌, ◌%◌, ◌^◌, length};
 ghost use Rattle.pack.specs.Value.{starred_by};
 ghost use Rattle.names.specs.Ids.{ids_of, no_ids, noted, id_at, taken_in, stars_from, behind, free_in, ids_for, begun, end_ids, starred_in, place_in, noted_by};

@@ -18,7 +18,7 @@ use index::Table;
 use model::records::{Kind, skip_record};
 use tree::{Element, Root};
 
-// ---- the words of the names
+// ---- the words of the names: numbers, as words are lent. Rows are cast, as usize has no From<u32>.
 
 // The main calendar: its row in the order in which they are built, the name that it wants, and how many `*` its name has behind that.
 #[derive(Clone, Copy)]
@@ -198,6 +198,7 @@ pub fn elapsed_in(
 ) -> Option<u32>
     ensures { name_meaning elapsed_name result ≡ elapsed_in (context_at out.now c (root_at root.entry)) words.now table }
 {
+    // as in `calendar_in`
     match table {
         Some(t) => by_word(index::word(words, t.at, 4 * (t.rows as usize))),
         None => elapsed_named(out, c, root),

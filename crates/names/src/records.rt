@@ -27,7 +27,7 @@ fn skip_rows(out: &[u8], p: Place, kind: Kind, row: usize) -> Place
     q
 }
 
-// The place of the record of a row, past every end where there is none.
+// The place of the record of a row, past every end where there is none. Nothing keeps the places, as there is no memory for them.
 pub fn place_of_row(out: &[u8], p: Place, kind: Kind, row: usize) -> Place
     ensures { result ≡ place_of_row kind out.now p row }
 {
@@ -38,7 +38,7 @@ pub fn place_of_row(out: &[u8], p: Place, kind: Kind, row: usize) -> Place
     PAST
 }
 
-// The text at a place, whatever its bytes are; no text where there is none.
+// The text at a place, whatever its bytes are; no text where there is none. By start and length, as `bits` says where it stands.
 pub fn raw_text(out: &[u8], p: Place) -> &[u8]
     ensures { result.now ≡ ((read_at raw out.now p).0 or []) }
 {

@@ -66,7 +66,7 @@ fn chain_rows(tree: &[u8], words: &mut [u32], t: Table, count: u32)
     }
 }
 
-// A table, and where the words behind it begin.
+// A table, and where the words behind it begin: a position and no slice, as the words are lent anew at each call.
 #[derive(Clone, Copy)]
 pub struct CalendarTable {
     pub table: Option<Table>,

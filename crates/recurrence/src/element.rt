@@ -29,6 +29,7 @@ fn mask_of(a: Option<i64>) -> u32
     (a.unwrap_or(0).cast_unsigned() % 128) as u32
 }
 
+// Here and below as the readers of `fields`, held to what a rule has.
 fn number_in(e: Element<'_>, name: &[u8], most: u32, below: u32, absent: u32) -> u32
     ensures { result ≡ pick_of most below absent (whole_said (meaning e.entry) name.now) }
 {
@@ -41,7 +42,7 @@ fn day_said(e: Element<'_>, name: &[u8]) -> Option<u32>
     count_by(fields::date_in(e, name))
 }
 
-// By occurrences, a century on, if that is a date.
+// By occurrences, a century on, if that is a date. By the flag that the element says, here and in `most_by`: an `if` in `rule_at` would split its one literal.
 fn last_by(by_count: bool, from: u32, to: u32) -> u32
     ensures { result ≡ last_by by_count from to }
 {

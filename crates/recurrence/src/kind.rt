@@ -8,7 +8,7 @@ ghost use Rattle.recurrence.specs.Scale.{IsMonth};
 ghost use Rattle.recurrence.specs.Kind.{UpTo, Ready, daily_fits, yearly_fits, monthly_fits, weekly_fits, WeekDay, on_mask, IsKind, Chosen};
 ghost use Rattle.recurrence.specs.Meaning.{as_rule};
 
-use crate::position::{candidate_in, sunday_first};
+use crate::position::{ByDay, ByPosition, Candidate, sunday_first};
 use crate::scale::{Scaled, month_at, year_of};
 
 // How many steps reach n.
@@ -32,15 +32,15 @@ fn daily(r: Scaled, at: u32) -> Option<u32>
     None
 }
 
-// A candidate a year, 200 years on at most. Whether it is by position is a flag, as in `candidate` of specs/Kind.antt.
-fn yearly(r: Scaled, at: u32, positioned: bool) -> Option<u32>
+// A candidate a year, 200 years on at most.
+fn yearly<C: Candidate>(r: Scaled, at: u32) -> Option<u32>
     requires ready { Ready r at }
     requires month { IsMonth r.month }
-    ensures { FirstFound (yearly_fits positioned r) r.last at result }
+    ensures { FirstFound (yearly_fits C.positioned r) r.last at result }
 {
     let end = year_of(r.last).min(year_of(r.from) + 200) + 1;
     for y in year_of(at)..end {
-        if let Some(x) = candidate_in(positioned, r, y, r.month) {
+        if let Some(x) = C::candidate_in(r, y, r.month) {
             if at <= x {
                 return Some(x);
             }
@@ -50,9 +50,9 @@ fn yearly(r: Scaled, at: u32, positioned: bool) -> Option<u32>
 }
 
 // A candidate every Period-th month, 2,400 steps on at most.
-fn monthly(r: Scaled, at: u32, positioned: bool) -> Option<u32>
+fn monthly<C: Candidate>(r: Scaled, at: u32) -> Option<u32>
     requires { Ready r at }
-    ensures { FirstFound (monthly_fits positioned r) r.last at result }
+    ensures { FirstFound (monthly_fits C.positioned r) r.last at result }
 {
     let first = month_at(r.from);
     let end = month_at(r.last);
@@ -61,7 +61,7 @@ fn monthly(r: Scaled, at: u32, positioned: bool) -> Option<u32>
         if end < k {
             return None;
         }
-        if let Some(x) = candidate_in(positioned, r, k / 12, k % 12 + 1) {
+        if let Some(x) = C::candidate_in(r, k / 12, k % 12 + 1) {
             if at <= x {
                 return Some(x);
             }
@@ -150,10 +150,10 @@ pub(crate) fn first_fit(kind: Kind, r: Scaled, at: u32) -> Option<u32>
 {
     match kind {
         Kind::Daily => daily(r, at),
-        Kind::YearlyByDay => yearly(r, at, false),
-        Kind::YearlyByPosition => yearly(r, at, true),
-        Kind::MonthlyByDay => monthly(r, at, false),
-        Kind::MonthlyByPosition => monthly(r, at, true),
+        Kind::YearlyByDay => yearly::<ByDay>(r, at),
+        Kind::YearlyByPosition => yearly::<ByPosition>(r, at),
+        Kind::MonthlyByDay => monthly::<ByDay>(r, at),
+        Kind::MonthlyByPosition => monthly::<ByPosition>(r, at),
         Kind::Weekly => weekly(r, at),
     }
 }

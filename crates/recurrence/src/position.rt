@@ -1,5 +1,5 @@
 // The item at a position of a month.
-ghost use Rattle.std.specs.Prelude.{◌≡◌, ◌-◌, pos};
+ghost use Rattle.std.specs.Prelude.{◌≡◌, ◌-◌, Bool, true, false, pos};
 ghost use Rattle.std.specs.Prelude.{slice_get};
 ghost use Rattle.definition.specs.Base.{◌or◌, within, keep, count};
 ghost use Rattle.definition.specs.Date.{sunday_first};
@@ -22,6 +22,7 @@ fn is_workday(w: u32) -> bool
     (1..=5).contains(&w)
 }
 
+// The item stays the number that a rule has: an enum would be made of it at each day.
 // Item 0 is any day, 1 Monday to Friday, 2 the weekend, 3 to 9 Sunday to Saturday.
 fn item_fits(item: u32, d: u32) -> bool
     ensures { result ≡ item_fits (pos item) d }
@@ -82,14 +83,34 @@ fn nth_of(y: u32, m: u32, item: u32, position: u32) -> Option<u32>
     None
 }
 
-// The candidate of a month: by the item at the position, or by the day.
-pub(crate) fn candidate_in(positioned: bool, r: Scaled, y: u32, m: u32) -> Option<u32>
-    requires year { IsYear y }
-    requires month { IsMonth m }
-    ensures { result ≡ candidate_of positioned r y m }
-{
-    if positioned {
-        return nth_of(y, m, r.item, r.position);
+// How a rule names its candidate of a month: what the searches are generic over.
+pub(crate) trait Candidate {
+    ghost positioned: { Bool };
+
+    fn candidate_in(r: Scaled, y: u32, m: u32) -> Option<u32>
+        requires year { IsYear y }
+        requires month { IsMonth m }
+        ensures { result ≡ candidate_of positioned r y m };
+}
+
+// By the day of the month.
+pub(crate) struct ByDay;
+
+// By the item at a position.
+pub(crate) struct ByPosition;
+
+impl Candidate for ByDay {
+    ghost positioned = { false };
+
+    fn candidate_in(r: Scaled, y: u32, m: u32) -> Option<u32> {
+        day_in(y, m, r.day)
     }
-    day_in(y, m, r.day)
+}
+
+impl Candidate for ByPosition {
+    ghost positioned = { true };
+
+    fn candidate_in(r: Scaled, y: u32, m: u32) -> Option<u32> {
+        nth_of(y, m, r.item, r.position)
+    }
 }

@@ -8,10 +8,10 @@ use crate::Rule;
 use date::{count_of, lowered};
 use definition::Date;
 
-// The last date, 31 December 9999.
+// The last date, 31 December 9999. Clauses write the number, as their arithmetic reads it.
 pub(crate) const LAST: u32 = 7304849;
 
-// A rule whose days are counted so. The month stays a number, since 0 and those past 12 are none either; 13 stands for a missing one.
+// A rule whose days are counted so; not one generic type with Rule, as the month differs too. The month stays a number, since 0 and those past 12 are none either; 13 stands for a missing one.
 #[derive(Clone, Copy)]
 pub(crate) struct Scaled {
     pub kind: u32,
@@ -26,14 +26,14 @@ pub(crate) struct Scaled {
     pub weekdays: u32,
 }
 
-// A month of a year.
+// A month of a year. March of `date` has its fields, but its years begin in March.
 #[derive(Clone, Copy)]
 pub(crate) struct Month {
     pub year: u32,
     pub month: u32,
 }
 
-// ---- to and fro
+// ---- to and fro: by functions and no From, as a number does not say from which day it counts
 
 pub(crate) fn date_at(n: u32) -> Date
     requires { n ≤ 7304850 }

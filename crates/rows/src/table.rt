@@ -165,6 +165,7 @@ pub fn row_with(
 ) -> Option<u32>
     ensures { result ≡ row_in root.entry.tree.now (root_at root.entry) list words.now made uid.now }
 {
+    // One way needs the words, the other the tree alone: a closure for each is no plainer.
     match made {
         Some(t) => seek(root.tree, words, t, uid),
         None => scan(root, list, uid),

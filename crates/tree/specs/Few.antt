@@ -4,7 +4,7 @@ use Rattle.std.proofs.Common.{arith, length-drop}
 use Rattle.std.proofs.Math.Dec.{eqb, ltb}
 use Rattle.definition.specs.Base.{keep, same}
 use Rattle.definition.specs.Text.{Text}
-use Rattle.definition.specs.Tree.{Rec, record_of, and_then, records_up_to, records, Element, Forest, one, nothing, elements, level, element, all}
+use Rattle.definition.specs.Tree.{Rec, record_of, and_then, records_up_to, records, one, nothing, elements, level, element, all}
 use Rattle.tree.specs.Place.{element_at, named, siblings, later_at}
 
 named_few : (n : Text) (w : ℕ) (rs : List Rec) → length (named n (level w rs)) ≤ length rs

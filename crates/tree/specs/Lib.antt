@@ -2,3 +2,4 @@ pub mod Place
 pub mod Answer
 pub mod Root
 pub mod Few
+pub mod Lists

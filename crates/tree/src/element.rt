@@ -7,6 +7,7 @@ ghost use Rattle.tree.specs.Place.{meaning, later, left, Starts};
 ghost use Rattle.tree.specs.Root.{own_text as own};
 
 // An element: its tree's bytes, and where its record begins. Where no record is whole there stands an element with no name, text or child.
+// Names and texts are bytes and no &str: `judge` tests once that they are UTF-8, and what is said here holds for any bytes.
 #[derive(Clone, Copy)]
 pub struct Element<'a> {
     pub tree: &'a [u8],

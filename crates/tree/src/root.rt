@@ -71,6 +71,7 @@ fn note(was: usize, e: Element<'_>, name: &[u8]) -> usize
     was
 }
 
+// By hand, and no list of names: each part has a field of its own.
 fn note_all<'a>(was: Root<'a>, e: Element<'_>) -> Root<'a>
     ensures tree { result.tree.now ≡ was.entry.tree.now }
     ensures parts { Notes e.entry.tree.now e.entry.at was.entry result }

@@ -7,77 +7,72 @@ use Rattle.recurrence.proofs.Units.{Passed, pass_none_there, pass_unit}
 use Prim.Native.Nat.{ℕ, suc, ◌+◌, ◌-◌, ◌*◌, ◌<◌}
 use native.Mathlib.Nat.{mul-le-mul, le_of_lt}
 use native.Mathlib.Numerals.{add-one}
-use mathlib.Core.Path.{◌≡◌, ap, subst, ◌∙◌}
+use mathlib.Core.Path.{ap, subst, ◌∙◌}
 use native.Mathlib.Omega.{arith}
 use Rattle.recurrence.proofs.kind.monthly.Goals as goal
-use Rattle.recurrence.proofs.kind.monthly.Goals.{After-candidate_in, in-Some+else-at-x, in_default}
-
-candidate_is : (c : After-candidate_in) →
-    c.candidate_in.result ≡ candidate_at c.args.positioned c.args.r (step_month c.args.r c.loop-q.q)
-candidate_is c =
-    c.candidate_in.ensures ∙ ap (λ (n : ℕ). candidate_at c.args.positioned c.args.r (n + c.loop-q.q * c.args.r.period)) c.month_at-first.ensures
+use Rattle.recurrence.proofs.kind.monthly.Goals.{in-Some+else-at-x, in_default}
 
 pub month_at-first-requires : goal.month_at-first-requires
-month_at-first-requires c = let s = c.requires in record { low = s.first; high = omega (arith, s.from, s.until, s.last) }
+month_at-first-requires g c = let s = c.requires in record { low = s.first; high = omega (arith, s.from, s.until, s.last) }
 
 pub month_at-end-requires : goal.month_at-end-requires
-month_at-end-requires c = let s = c.requires in record { low = omega (arith, s.first, s.from, s.until); high = s.last }
+month_at-end-requires g c = let s = c.requires in record { low = omega (arith, s.first, s.from, s.until); high = s.last }
 
 pub month_at-requires : goal.month_at-requires
-month_at-requires c = let s = c.requires in record { low = omega (arith, s.first, s.from); high = omega (arith, s.until, s.last) }
+month_at-requires g c = let s = c.requires in record { low = omega (arith, s.first, s.from); high = omega (arith, s.until, s.last) }
 
 pub overflow_sub-month_at : goal.overflow_sub-month_at
-overflow_sub-month_at c =
+overflow_sub-month_at g c =
     omega (arith, c.month_at.ensures, c.month_at-first.ensures, month_rises c.args.r.from c.args.at c.requires.from)
 
 pub steps_up-q-requires : goal.steps_up-q-requires
-steps_up-q-requires c =
+steps_up-q-requires g c =
     record { days = omega (arith, c.month_at.ensures, month_bound c.args.at (omega (arith, c.requires.until, c.requires.last))); step = c.requires.step; most = c.requires.most }
 
 pub loop-q-init : goal.loop-q-init
-loop-q-init c =
+loop-q-init g c =
     let r = c.args.r in
     let q = c.steps_up-q.result in
     let u = subst (λ (n : ℕ). UpTo (n - c.month_at-first.result) r.period q) c.month_at.ensures c.steps_up-q.ensures in
-    monthly_first c.args.positioned r c.args.at c.requires.step q c.requires.from (subst (λ (n : ℕ). UpTo (month_at c.args.at - n) r.period q) c.month_at-first.ensures u)
+    monthly_first g.C.Candidate.positioned r c.args.at c.requires.step q c.requires.from (subst (λ (n : ℕ). UpTo (month_at c.args.at - n) r.period q) c.month_at-first.ensures u)
 
 pub overflow_mul-k : goal.overflow_mul-k
-overflow_mul-k c =
+overflow_mul-k g c =
     omega (arith, mul-le-mul (le_of_lt c.loop-q-test.true) c.requires.most)
 
 pub overflow_add-k : goal.overflow_add-k
-overflow_add-k c =
+overflow_add-k g c =
     omega (arith, mul-le-mul (le_of_lt c.loop-q-test.true) c.requires.most, c.month_at-first.ensures, month_bound c.args.r.from (omega (arith, c.requires.from, c.requires.until, c.requires.last)))
 
 pub returns-then-end-k : goal.returns-then-end-k
-returns-then-end-k c =
+returns-then-end-k g c =
     let q = c.loop-q.q in
     let past : month_at c.args.r.last < step_month c.args.r q = omega (arith, c.if-end-k.true, c.month_at-end.ensures, c.month_at-first.ensures) in
-    (monthly_past c.args.positioned c.args.r c.args.at c.requires.step q past c.loop-q.invariant)
+    (monthly_past g.C.Candidate.positioned c.args.r c.args.at c.requires.step q past c.loop-q.invariant)
 
 pub candidate_in-requires : goal.candidate_in-requires
-candidate_in-requires c =
+candidate_in-requires g c =
     record { year = (omega (arith, c.month_at-first.ensures, month_first c.args.r.from c.requires.first), omega (arith, c.if-end-k.false, c.month_at-end.ensures, month_last c.args.r.last c.requires.last)); month = omega arith }
 
 pub returns-then-at-x : goal.returns-then-at-x
-returns-then-at-x c =
+returns-then-at-x g c =
     let q = c.loop-q.q in
     let r = c.args.r in
-    let is = candidate_is (goal.at.returns-then-at-x c).After-candidate_in in
-    monthly_fit c.args.positioned r c.args.at c.requires.step q c.in-Some.x c.candidate_in.result is c.in-Some.is c.if-at-x.true c.loop-q-test.true c.loop-q.invariant
+    let is = c.candidate_in.ensures ∙ ap (λ (n : ℕ). candidate_at g.C.Candidate.positioned r (n + q * r.period)) c.month_at-first.ensures in
+    monthly_fit g.C.Candidate.positioned r c.args.at c.requires.step q c.in-Some.x c.candidate_in.result is c.in-Some.is c.if-at-x.true c.loop-q-test.true c.loop-q.invariant
 
 pub loop-q-preserved : goal.loop-q-preserved
-loop-q-preserved c =
+loop-q-preserved g c =
     let q = c.loop-q.q in
     let r = c.args.r in
-    let is = candidate_is (goal.at.loop-q-preserved c).After-candidate_in in
-    let u = monthly_units c.args.positioned r in
-    let p : Passed (monthly_fits c.args.positioned r) month_at c.args.at (suc (step_month r q)) = elim c.match-candidate_in.branch [
+    let is = c.candidate_in.ensures ∙ ap (λ (n : ℕ). candidate_at g.C.Candidate.positioned r (n + q * r.period)) c.month_at-first.ensures in
+    let u = monthly_units g.C.Candidate.positioned r in
+    let p : Passed (monthly_fits g.C.Candidate.positioned r) month_at c.args.at (suc (step_month r q)) = elim c.match-candidate_in.branch [
       | in-Some+else-at-x w ↦ pass_unit _ _ _ _ u c.args.at (step_month r q) c.candidate_in.result c.loop-q.invariant is w.in-Some.x w.in-Some.is w.if-at-x.false
       | in_default w ↦ pass_none_there _ _ _ _ u c.args.at (step_month r q) c.candidate_in.result c.loop-q.invariant is w.in_default.is
     ] in
-    rw add-one (monthly_next c.args.positioned r c.args.at c.requires.step q p)
+    rw add-one (monthly_next g.C.Candidate.positioned r c.args.at c.requires.step q p)
 
 pub returns : goal.returns
-returns c =
-    (monthly_none c.args.positioned c.args.r c.args.at c.requires.step c.loop-q.q c.loop-q-test.false c.loop-q.invariant)
+returns g c =
+    (monthly_none g.C.Candidate.positioned c.args.r c.args.at c.requires.step c.loop-q.q c.loop-q-test.false c.loop-q.invariant)

@@ -5,4 +5,4 @@ use Rattle.recurrence.proofs.Units.{Passed}
 use Rattle.recurrence.proofs.kind.monthly.Given as goal
 
 abbrev pub invariant-loop-q : goal.invariant-loop-q
-invariant-loop-q l = Passed (monthly_fits l.positioned l.r) month_at l.at (step_month l.r l.q)
+invariant-loop-q g l = Passed (monthly_fits g.C.Candidate.positioned l.r) month_at l.at (step_month l.r l.q)

@@ -12,48 +12,48 @@ use Rattle.recurrence.proofs.kind.yearly.Goals as goal
 use Rattle.recurrence.proofs.kind.yearly.Goals.{in-Some+else-at-x, in_default}
 
 pub year_of-requires : goal.year_of-requires
-year_of-requires c = let s = c.requires.ready in record { low = omega (arith, s.first, s.from, s.until); high = s.last }
+year_of-requires g c = let s = c.requires.ready in record { low = omega (arith, s.first, s.from, s.until); high = s.last }
 
 pub year_of-requires-2 : goal.year_of-requires-2
-year_of-requires-2 c = let s = c.requires.ready in record { low = s.first; high = omega (arith, s.from, s.until, s.last) }
+year_of-requires-2 g c = let s = c.requires.ready in record { low = s.first; high = omega (arith, s.from, s.until, s.last) }
 
 pub overflow_add-year_of : goal.overflow_add-year_of
-overflow_add-year_of c =
+overflow_add-year_of g c =
     omega (arith, c.year_of-2.ensures, year_bound c.args.r.from (omega (arith, c.requires.ready.from, c.requires.ready.until, c.requires.ready.last)))
 
 pub overflow_add-end : goal.overflow_add-end
-overflow_add-end c =
+overflow_add-end g c =
     omega (arith, c.min-end.ensures, c.year_of.ensures, year_last c.args.r.last c.requires.ready.last)
 
 pub year_of-y-requires : goal.year_of-y-requires
-year_of-y-requires c =
+year_of-y-requires g c =
     let s = c.requires.ready in
     record { low = omega (arith, s.first, s.from); high = omega (arith, s.until, s.last) }
 
 pub loop-y-init : goal.loop-y-init
-loop-y-init c =
-    subst⁻¹ (λ (y : ℕ). Passed (yearly_fits c.args.positioned c.args.r) year_of c.args.at y × (1 ≤ y)) c.year_of-y.ensures
-    (pass_none _ _ _ _ (yearly_units c.args.positioned c.args.r c.requires.month) c.args.at, year_first c.args.at (omega (arith, c.requires.ready.first, c.requires.ready.from)))
+loop-y-init g c =
+    subst⁻¹ (λ (y : ℕ). Passed (yearly_fits g.C.Candidate.positioned c.args.r) year_of c.args.at y × (1 ≤ y)) c.year_of-y.ensures
+    (pass_none _ _ _ _ (yearly_units g.C.Candidate.positioned c.args.r c.requires.month) c.args.at, year_first c.args.at (omega (arith, c.requires.ready.first, c.requires.ready.from)))
 
 pub candidate_in-requires : goal.candidate_in-requires
-candidate_in-requires c =
+candidate_in-requires g c =
     record { year = (c.loop-y.invariant.1, omega (arith, c.loop-y-test.true, c.min-end.ensures, c.year_of.ensures, year_last c.args.r.last c.requires.ready.last)); month = c.requires.month }
 
 pub returns-then-at-x : goal.returns-then-at-x
-returns-then-at-x c =
+returns-then-at-x g c =
     let low : c.loop-y.y ≤ year_of c.args.r.from + 200 = omega (arith, c.loop-y-test.true, c.min-end.ensures, c.year_of-2.ensures) in
-    fit_unit _ _ _ _ (yearly_units c.args.positioned c.args.r c.requires.month) c.args.at c.loop-y.y c.candidate_in.result c.loop-y.invariant.0 c.candidate_in.ensures c.in-Some.x c.args.r.last c.in-Some.is c.if-at-x.true (le-leb _ _ low)
+    fit_unit _ _ _ _ (yearly_units g.C.Candidate.positioned c.args.r c.requires.month) c.args.at c.loop-y.y c.candidate_in.result c.loop-y.invariant.0 c.candidate_in.ensures c.in-Some.x c.args.r.last c.in-Some.is c.if-at-x.true (le-leb _ _ low)
 
 pub loop-y-preserved : goal.loop-y-preserved
-loop-y-preserved c =
-    let u = yearly_units c.args.positioned c.args.r c.requires.month in
-    let p : Passed (yearly_fits c.args.positioned c.args.r) year_of c.args.at (suc c.loop-y.y) = elim c.match-candidate_in.branch [
+loop-y-preserved g c =
+    let u = yearly_units g.C.Candidate.positioned c.args.r c.requires.month in
+    let p : Passed (yearly_fits g.C.Candidate.positioned c.args.r) year_of c.args.at (suc c.loop-y.y) = elim c.match-candidate_in.branch [
       | in-Some+else-at-x w ↦ pass_unit _ _ _ _ u c.args.at c.loop-y.y c.candidate_in.result c.loop-y.invariant.0 c.candidate_in.ensures w.in-Some.x w.in-Some.is w.if-at-x.false
       | in_default w ↦ pass_none_there _ _ _ _ u c.args.at c.loop-y.y c.candidate_in.result c.loop-y.invariant.0 c.candidate_in.ensures w.in_default.is
     ] in
     (rw add-one p, omega (arith, c.loop-y.invariant.1))
 
 pub returns : goal.returns
-returns c =
+returns g c =
     let end : c.min-end.result ≡ min (year_of c.args.r.last) (year_of c.args.r.from + 200) = c.min-end.ensures ∙ ap (λ (a : ℕ). min a (c.year_of-2.result + 200)) c.year_of.ensures ∙ ap (λ (b : ℕ). min (year_of c.args.r.last) (b + 200)) c.year_of-2.ensures in
-    (yearly_none c.args.positioned c.args.r c.args.at c.loop-y.y c.min-end.result c.requires.month c.loop-y.invariant.0 end (omega (arith, c.loop-y-test.false)))
+    (yearly_none g.C.Candidate.positioned c.args.r c.args.at c.loop-y.y c.min-end.result c.requires.month c.loop-y.invariant.0 end (omega (arith, c.loop-y-test.false)))

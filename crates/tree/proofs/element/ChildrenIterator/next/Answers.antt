@@ -1,4 +1,3 @@
-use Rattle.std.proofs.Common.{◌≡◌, [], ◌∷◌}
 use Rattle.tree.proofs.Left.{left_none, left_step, left_less}
 use Rattle.tree.proofs.element.ChildrenIterator.next.Goals as goal
 
