@@ -9,14 +9,6 @@ use Rattle.activities.proofs.Turn.{found_same, writes_found}
 use borrow.Author.Tests.{not-true, not-false}
 use Rattle.activities.proofs.put_activities.Goals as goal
 
-pub returns-then-not-calendars_before : goal.returns-then-not-calendars_before
-returns-then-not-calendars_before c =
-    (writes_not (whole activity) (sym c.calendars_before.ensures ∙ not-true _ c.if-not-calendars_before.true-raw) refl, cleared_behind (below_refl _ _) c.end_of-end.ensures c.fill_from.ensures)
-
-pub put_tasks-r-requires : goal.put_tasks-r-requires
-put_tasks-r-requires c =
-    (sym c.calendars_before.ensures ∙ not-false _ c.if-not-calendars_before.false-raw, record { room = c.own_for.ensures.0; finds = c.own_for.ensures.2; day = c.per_day.ensures; bytes = c.own_for.ensures.3 })
-
 pub returns : goal.returns
 returns c =
     let a = c.args in

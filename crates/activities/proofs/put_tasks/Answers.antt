@@ -45,11 +45,6 @@ put_row-q-requires c =
       ids = c.loop-task.invariant.3.ids;
     }
 
-pub overflow_add-row : goal.overflow_add-row
-overflow_add-row c =
-    let k = ap length c.in-Some.ensures.steps.0 in
-    record { fits = omega (arith, k, c.loop-task.invariant.1) }
-
 pub loop-task-preserved : goal.loop-task-preserved
 loop-task-preserved c =
     let x = c.args.section in

@@ -2,9 +2,6 @@ use native.Mathlib.Omega.{arith}
 use Rattle.activities.proofs.Ids.{end_small, own_begun}
 use Rattle.activities.proofs.own.own_for.Goals as goal
 
-pub overflow_add-behind : goal.overflow_add-behind
-overflow_add-behind c = let z = end_small c.columns_for-columns.ensures.made.0 (omega arith) (omega arith) in omega (arith, z)
-
 pub returns : goal.returns
 returns c =
     let o = own_begun c.end_of-end.ensures c.index_calendars-made.ensures c.columns_for-columns.ensures.made c.ids_for-ids.ensures in

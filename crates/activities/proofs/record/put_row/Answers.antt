@@ -14,10 +14,6 @@ use Rattle.activities.proofs.Ids.{stars_moved, row_noted}
 use Rattle.activities.proofs.Values.{calendar_found, row_puts}
 use Rattle.activities.proofs.record.put_row.Goals as goal
 
-pub shape_of-words : goal.shape_of-words
-shape_of-words c =
-    c.note_stars.auto.words ∙ c.parent_of-parent.auto.words
-
 pub returns : goal.returns
 unfolding context_at
 returns c =

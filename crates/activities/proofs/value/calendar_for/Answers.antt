@@ -6,12 +6,6 @@ use Rattle.tree.specs.Root.{root_at}
 use Rattle.activities.proofs.Values.{by_elapsed, by_none, by_own}
 use Rattle.activities.proofs.value.calendar_for.Goals as goal
 
-pub returns-then-elapsed : goal.returns-then-elapsed
-returns-then-elapsed c =
-    let a = c.args in
-    let x = a.section in
-    c.named.ensures ∙ by_elapsed (context_at a.out.now x.calendars (root_at x.root)) x.root.tree.now a.words.now x.own.calendars (meaning a.task) c.if-elapsed.true c.elapsed_in-name.result c.elapsed_in-name.ensures
-
 pub returns-then-not-names_calendar : goal.returns-then-not-names_calendar
 returns-then-not-names_calendar c =
     let a = c.args in

@@ -15,10 +15,6 @@ loop-task-init c =
 pub returns : goal.returns
 returns c = more_all (from_end _ _ _ c.loop-task.invariant.1 c.in-None.ensures.steps.0)
 
-pub overflow_add-row : goal.overflow_add-row
-overflow_add-row c =
-    omega (arith, c.loop-task.invariant.2, ap length c.in-Some.ensures.steps.0)
-
 pub loop-task-preserved : goal.loop-task-preserved
 loop-task-preserved c =
     (c.put_links_in-r.auto.out ∙ c.loop-task.invariant.0, from_next _ _ _ c.loop-task.invariant.1 c.in-Some.ensures.steps.0 c.put_links_in-r.ensures, omega (arith, c.loop-task.invariant.2, ap length c.in-Some.ensures.steps.0))

@@ -8,9 +8,6 @@ use Rattle.links.specs.More.{More}
 use Rattle.links.proofs.Links.{in_begin, in_next, in_end, put_none, put_fate}
 use Rattle.links.proofs.writing.put_links_in.Goals as goal
 
-pub loop-link-init : goal.loop-link-init
-loop-link-init c = (refl, in_begin _ _ _ (sym (ap (λ (x : Children). left x) c.into_iter-link-iterator.ensures.into_iter_gives ∙ c.children-link-items.ensures)))
-
 pub returns : goal.returns
 returns c = in_end _ _ _ c.loop-link.invariant.1 c.in-None.ensures.steps.0
 
