@@ -75,6 +75,7 @@ impl<'a> Key<'a> {
     {
         let mut row = t.first(words, self.hash());
         while let Some(r) = row {
+            // `as`: usize has no `From<u32>`.
             let byte = t.place(words, r) as usize;
             if self.is_at(out, Place { byte, bit: 0 }) {
                 return true;
@@ -91,6 +92,7 @@ impl<'a> Key<'a> {
         if 7 < used.done.next.bit {
             return true;
         }
+        // One way needs the words, the other the number of records: a trait over both is no plainer.
         match used.made {
             Some(t) => self.seek(out, words, t),
             None => self.is_there(out, start, used.done.count),

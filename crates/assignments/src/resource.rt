@@ -38,7 +38,7 @@ fn count_work(root: Root<'_>) -> u32
 
 // ---- what a Resource says
 
-// Its ID, else its UID.
+// Its ID, else its UID. names::wanted_name falls back on a text, not on a child: one function for both would take a closure for two lines.
 fn wanted_id(e: Element<'_>) -> &[u8]
     ensures { result.now ≡ wanted_id (meaning e.entry) }
 {
@@ -122,7 +122,7 @@ impl<'a> Section<'a> {
     }
 }
 
-// All of them, with the calendars and the ids in the words from a place on.
+// All of them, with the calendars and the ids in the words from a place on; a place and no slice, since tables count from the front of the words.
 fn put_all(
     out: &mut [u8],
     p: Place,

@@ -32,6 +32,7 @@ pub struct Tables<'a> {
     pub cost: Option<Table>,
 }
 
+// Two lines each: one function over the list and the name would have to pick the table by them.
 impl<'a> Tables<'a> {
     // The row of its task.
     pub(crate) fn task_of(self, words: &[u32], e: Element<'_>) -> Option<u32>
@@ -97,6 +98,7 @@ impl Done {
     pub(crate) fn row(self) -> u32
         ensures { result ≡ self.count % 2 ^ 32 }
     {
+        // `u32::try_from` would refuse what 32 bits hold in part.
         (self.count % 4294967296) as u32
     }
 }

@@ -1,10 +1,9 @@
 -- Calendars built one after another behind each other; the default one, the main one and the elapsed one. Assumes nothing.
 use Rattle.std.specs.Prelude.{if◌then◌else◌}
 use Rattle.names.specs.declared.ids.Ids.{Ids}
-use Rattle.std.proofs.Common.{◌≡◌, ℕ, suc, ◌+◌, ◌%◌, ◌^◌, ◌<◌, ◌≤◌, Bool, true, false, not, ◌&&◌, eqb, leb, List, [], ◌∷◌, ◌++◌, map, length, take, drop, sym, refl, ap, ◌∙◌, subst, true≢false, append_assoc, append-nil, arith, length-append, eqb-true, leb-true}
+use Rattle.std.proofs.Common.{◌≡◌, ℕ, suc, ◌+◌, ◌%◌, ◌^◌, ◌<◌, ◌≤◌, Bool, true, false, not, ◌&&◌, eqb, leb, List, [], ◌∷◌, ◌++◌, map, length, take, drop, sym, refl, ap, ◌∙◌, subst, true≢false, append_assoc, append-nil, arith, length-append, le-leb}
 use mathlib.Core.List.{map-append}
 use Rattle.std.specs.Prelude.{Option, Some, None}
-use borrow.Author.Tests.{not-false}
 use Rattle.std.specs.Prelude.{slice_get}
 use lib.ListN.{length-map}
 use Rattle.definition.specs.Base.{◌>>=◌, ◌or◌, ◌or_else◌, given, keep, first, same, some?}
@@ -19,7 +18,6 @@ use Rattle.definition.specs.Read.{calendars_of}
 use Rattle.definition.specs.Refusal.{most_elements}
 use Rattle.definition.specs.Task.{context_of, kept_tasks, is_elapsed}
 use Rattle.definition.specs.Calendar.{Named, base_of, with_uid, build, built_calendars, main_calendar, calendar_elements, calendar_of, renamed, free, default_calendar, elapsed_calendar}
-use Rattle.laws.specs.Bools.{both}
 use Rattle.laws.specs.Each.{Each, empty, next, each_append, each_front}
 use Rattle.laws.specs.Formats.{fills_whole}
 use Rattle.bits.specs.Clear.{cleared}
@@ -375,9 +373,6 @@ elapsed_length root = by_test (some? is_elapsed (kept_tasks root))
 
 -- ---- the whole
 
-pub few_counted : (n : ℕ) (b : Bool) → not (leb n 5000000 && b) ≡ false → n ≤ 5000000
-few_counted n b h = leb-true n 5000000 (both (leb n 5000000) b (not-false _ h)).0
-
 pub calendars_written : (root : Element) → Small root → length (calendar_elements root) ≤ most_elements → {d : List ℕ} {p : Place} {d1 : List ℕ} {r : Records} {d2 d3 : List ℕ} {r' : Records}
     → p.bit % 8 ≡ 0 → PutsBuilt root d p d1 r → TurnsMain root p d1 d2 → AddsElapsed root d2 r d3 r' → Writes (whole calendar) (calendars_of (context_of root)) d p d3 r'
 unfolding calendars_of context_of
@@ -394,13 +389,8 @@ calendars_written root small few {d} {p} b built t e =
     record { puts = z.puts; counts = z.counts ∙ omega (arith, elapsed_length root) }
 
 module _ (root : Element) {d : List ℕ} {p : Place} {n : ℕ} (is : n ≡ length (calendar_elements root)) where
-  pub calendars_if : Small root → (leb n 5000000 && eqb (p.bit % 8) 0) ≡ true → {d1 : List ℕ} {r : Records} {d2 d3 : List ℕ} {r' : Records}
+  pub calendars_if : Small root → n ≤ 5000000 → p.bit % 8 ≡ 0 → {d1 : List ℕ} {r : Records} {d2 d3 : List ℕ} {r' : Records}
       → PutsBuilt root d p d1 r → TurnsMain root p d1 d2 → AddsElapsed root d2 r d3 r' → WritesIf (leb (length (calendar_elements root)) most_elements && eqb (p.bit % 8) 0) (whole calendar) (calendars_of (context_of root)) d p d3 r'
-  calendars_if small e built t el =
-      let e' : (leb (length (calendar_elements root)) most_elements && eqb (p.bit % 8) 0) ≡ true = rw is at e in
-      let (few, begins) = both (leb (length (calendar_elements root)) most_elements) (eqb (p.bit % 8) 0) e' in
-      writes_if (whole calendar) e' (calendars_written root small (leb-true _ _ few) (eqb-true _ _ begins) built t el)
-
-  pub calendars_not : (leb n 5000000 && eqb (p.bit % 8) 0) ≡ false → {r : Records} → r ≡ no_records
-      → WritesIf (leb (length (calendar_elements root)) most_elements && eqb (p.bit % 8) 0) (whole calendar) (calendars_of (context_of root)) d p d r
-  calendars_not e z = let e' : (leb (length (calendar_elements root)) most_elements && eqb (p.bit % 8) 0) ≡ false = rw is at e in writes_not (whole calendar) e' z
+  calendars_if small k begins built t el =
+      let few : length (calendar_elements root) ≤ most_elements = omega arith in
+      writes_if (whole calendar) (rw (le-leb _ _ few, begins)) (calendars_written root small few begins built t el)

@@ -124,6 +124,7 @@ fn or_default(out: &mut [u8], done: Records) -> Records
     done
 }
 
+// From a place in the words on, and not in a slice of them, since tables count from the front of the words.
 fn put_built(
     out: &mut [u8],
     p: Place,
@@ -202,7 +203,7 @@ pub fn put_calendars(
 {
     rows::are_bytes(root.tree);
     let n = names::count_calendars(root);
-    if !(n <= 5_000_000 && p.bit % 8 == 0) {
+    if 5_000_000 < n || p.bit % 8 != 0 {
         bits::fill_from(words, at, 0);
         return Records {
             count: 0,

@@ -66,6 +66,7 @@ fn put_own_hours(out: &mut [u8], p: Place, e: Element<'_>) -> Place
 fn copy_hours(out: &mut [u8], p: Place, hours: Place, day: u32) -> Place
     ensures { CopiesHours day hours out.old p out.new result }
 {
+    // `as`: usize has no `From<u32>`.
     let from = model::parts::hours_place(out, hours, day as usize);
     let to = model::parts::skip_periods(out, from);
     bits::copy_bits(out, from, to, p)

@@ -1,8 +1,12 @@
 use Rattle.std.proofs.Common.{sym, ap, ◌∙◌}
-use Rattle.tree.specs.Root.{root_at}
 use Rattle.rows.specs.Rows.{calendar_meaning}
 use Rattle.calendars.specs.Built.{TurnsBy}
 use Rattle.calendars.proofs.built.turn_main.Goals as goal
 
-pub returns : goal.returns
-returns c = ?
+pub returns-in-Some : goal.returns-in-Some
+unfolding TurnsBy calendar_meaning
+returns-in-Some c = rw (← c.in-Some.ensures) c.turn.ensures
+
+pub returns-in_default : goal.returns-in_default
+unfolding TurnsBy calendar_meaning
+returns-in_default c = rw (← c.main_calendar.ensures, c.in_default.is)
