@@ -34,8 +34,22 @@ impl<'a> Reader<'a> {
         Field {
             value,
             next: Reader {
-                model: self.model,
                 place: next,
+                ..self
+            },
+        }
+    }
+
+    // The field of 32 bits, as a number of 32.
+    pub fn take_u32(self) -> Field<u32, Reader<'a>>
+        ensures { result ≡ took self.entry 32 }
+    {
+        let Field { value, next } = bits::take_u32(self.model, self.place);
+        Field {
+            value,
+            next: Reader {
+                place: next,
+                ..self
             },
         }
     }
