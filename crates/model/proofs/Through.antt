@@ -1,9 +1,10 @@
 -- What the places make together that the readers of `past_project` and `past_records` answer, and the fields that a reader takes. Assumes nothing.
-use Rattle.std.specs.Prelude.{◌≡◌, ℕ, List, ◌^◌, ◌<◌}
-use Rattle.std.proofs.Common.{◌∙◌, ap, refl, subst}
+use Rattle.std.specs.Prelude.{◌≡◌, ℕ, List, ◌<◌, ◌≤◌}
+use Rattle.std.proofs.Common.{◌∙◌, ap, refl, subst, lt-ltb, le-ltb}
+use Rattle.bits.specs.Places.{past}
 use Rattle.bits.specs.declared.Field.{Field}
 use Rattle.bits.specs.declared.Place.{Place}
-use Rattle.bits.specs.Reads.{field_lt, taken_at}
+use Rattle.bits.specs.Reads.{taken_at}
 use Rattle.reader.specs.declared.Reader.{Reader}
 use Rattle.reader.specs.Read.{took, moved_by}
 use Rattle.model.specs.Lax.{like_times}
@@ -75,18 +76,14 @@ module _ (s : List ℕ) (r : Reader) (e : r.model.now ≡ s) (p : r.place ≡ st
   g_is : field_in g ≡ taken_at s f.next.place 32
   g_is = taken_field s 32 f.next g hg f_same
 
-  pub six_fit : (a.value < 2 ^ 32) × (b.value < 2 ^ 32) × (c.value < 2 ^ 32) × (d.value < 2 ^ 32) × (f.value < 2 ^ 32) × (g.value < 2 ^ 32)
-  six_fit = (
-    field_lt s start 32 a_is,
-    field_lt s a.next.place 32 b_is,
-    field_lt s b.next.place 32 c_is,
-    field_lt s c.next.place 32 d_is,
-    field_lt s d.next.place 32 f_is,
-    field_lt s f.next.place 32 g_is,
-  )
-
-  pub six_are : counts_by (a.value, (b.value, (c.value, (d.value, (f.value, g.value))))) g.next.place ≡ counts_at s start
+  six_are : counts_by (a.value, (b.value, (c.value, (d.value, (f.value, g.value))))) g.next.place ≡ counts_at s start
   six_are = counts_are s a_is b_is c_is d_is f_is g_is
+
+  pub six_cut : 7 < g.next.place.bit → ((0, (0, (0, (0, (0, 0))))), past) ≡ counts_at s start
+  six_cut h = rw (lt-ltb 7 g.next.place.bit h) at six_are
+
+  pub six_given : g.next.place.bit ≤ 7 → ((a.value, (b.value, (c.value, (d.value, (f.value, g.value))))), g.next.place) ≡ counts_at s start
+  six_given h = rw (le-ltb 7 g.next.place.bit h) at six_are
 
 -- ---- what the places make
 

@@ -1,5 +1,7 @@
-// Fields: how each is passed over, and what is read of it where the next field depends on it.
-ghost use Rattle.std.specs.Prelude.{◌≡◌, ◌^◌, ◌≤◌, ◌<◌, false};
+// Fields: how each is passed over, and what is read of it where the next field depends on it. The bytes and the place stay two parameters, here and in
+// the files above: a function gives the place alone, and a Reader that came back would need a promise that its bytes are the same ones. A code is the
+// number that the format has: what it means is for the crates that write it.
+ghost use Rattle.std.specs.Prelude.{◌≡◌, ◌+◌, ◌≤◌, length, false};
 ghost use Rattle.definition.specs.Bits.{signed};
 ghost use Rattle.definition.specs.Date.{in_years, from_days};
 ghost use Rattle.definition.specs.Format.{field, code, optional, date, period};
@@ -9,8 +11,9 @@ ghost use Rattle.model.specs.Rising.{Finds, PeriodKey, DayKey};
 ghost use Rattle.definition.specs.Pack.{lag_kind};
 ghost use Rattle.model.specs.Parts.{text_by};
 ghost use Rattle.model.specs.Passes.{Flagged};
+ghost use Rattle.model.specs.Places.{text_in};
 
-use bits::{Field, PAST, Place};
+use bits::{Field, PAST, Place, Span};
 
 // Nothing can be read. No Option: 0 is below every item, so a list's one test of its order refuses it too.
 const NOTHING: Field<u64> = Field {
@@ -18,7 +21,8 @@ const NOTHING: Field<u64> = Field {
     next: PAST,
 };
 
-// The place behind so many bits. Both ends are tested, before the sum and after it, so `bits::take` is not needed, which reads the bits too.
+// The place behind so many bits. Both ends are tested, before the sum and after it, so `bits::take` is not needed, which reads the bits
+// too; `place_after` of that crate asks for a bit below 8, and is private to it.
 pub(crate) fn skip(s: &[u8], p: Place, width: usize) -> Place
     requires { width ≤ 64 }
     ensures { Passes (field width) s.now p result }
@@ -48,6 +52,14 @@ pub(crate) fn skip_code(s: &[u8], p: Place, lo: u64, hi: u64) -> Place
     PAST
 }
 
+// The bytes that a span tells.
+pub fn text_in(s: &[u8], t: Span) -> &[u8]
+    requires { t.start + t.len ≤ length s.now }
+    ensures { result.now ≡ text_in s.now (t.start, t.len) }
+{
+    &s[t.start..t.start + t.len]
+}
+
 // A text. It is tested for UTF-8 where CHECK says so: a model that was opened needs no test.
 pub(crate) fn skip_text<const CHECK: bool>(s: &[u8], p: Place) -> Place
     ensures { Passes (text_by CHECK) s.now p result }
@@ -56,9 +68,7 @@ pub(crate) fn skip_text<const CHECK: bool>(s: &[u8], p: Place) -> Place
     if !CHECK {
         return t.next;
     }
-    let start = t.start;
-    let end = start + t.len;
-    if !text::is_utf8(&s[start..end]) {
+    if !text::is_utf8(text_in(s, t)) {
         return PAST;
     }
     t.next
@@ -68,13 +78,11 @@ pub(crate) fn skip_text<const CHECK: bool>(s: &[u8], p: Place) -> Place
 fn in_years(d: u64) -> Option<u64>
     ensures { result ≡ in_years d }
 {
-    if (366..=7304849).contains(&d) {
-        return Some(d);
-    }
-    None
+    (366..=7304849).contains(&d).then_some(d)
 }
 
-// The date of a day number of 32 bits, counted from the year -10000, if it lies in the years.
+// The date of a day number of 32 bits, counted from the year -10000, if it lies in the years. By the halves of a u32: for a sum in i64, which was tried,
+// the proof did not close.
 fn date_of(v: u32) -> Option<u64>
     ensures { result ≡ from_days (signed 32 v) }
 {
@@ -85,7 +93,8 @@ fn date_of(v: u32) -> Option<u64>
     in_years(n.checked_sub(0x1_0000_0000)?)
 }
 
-// A date by its number, counted from the year -10000; 0, and a place past every end, where it is outside the years. `take_date` gives the day number.
+// A date by its number, counted from the year -10000; 0, and a place past every end, where it is outside the years.
+// `take_date` gives the day number, and tests it by the years' first and last: a date by either function would need the other number proved of it.
 pub fn take_date_key(s: &[u8], p: Place) -> Field<u64>
     ensures { Finds date (DayKey false) s.now p result }
 {

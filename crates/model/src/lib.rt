@@ -6,10 +6,10 @@ pub mod lists; // lists of periods and days
 pub mod records; // records, one and many
 pub mod parts; // the parts of records
 
-ghost use Rattle.std.specs.Prelude.{◌≡◌, ◌^◌, ◌<◌};
+ghost use Rattle.std.specs.Prelude.{◌≡◌};
 ghost use Rattle.reader.specs.Read.{moved_by};
 ghost use Rattle.model.specs.Answers.{counts_at};
-ghost use Rattle.model.specs.Sections.{start, counts_in, counts_by, sections_by, PassesProject, PassesRecords, Heads, Behind, Walks, Opens};
+ghost use Rattle.model.specs.Sections.{start, counts_in, sections_by, PassesProject, PassesRecords, Heads, Behind, Walks, Opens};
 
 use crate::records::{Kind, skip_project, skip_records};
 use bits::{Field, PAST, Place};
@@ -56,47 +56,31 @@ const NO_COUNTS: Counts = Field {
     next: PAST,
 };
 
-// Six counts that were read, fields of 32 bits, and the place behind them. A function of its own: what a reader gives is proved apart from what
-// becomes of it.
-fn counts_of(n: PerKind<u64>, next: Place) -> Counts
-    requires { (n.calendars < 2 ^ 32) × (n.activities < 2 ^ 32) × (n.links < 2 ^ 32) × (n.resources < 2 ^ 32) × (n.assignments < 2 ^ 32) × (n.expenses < 2 ^ 32) }
-    ensures { (counts_in result, result.next) ≡ counts_by (n.calendars, (n.activities, (n.links, (n.resources, (n.assignments, n.expenses))))) next }
+// Read one after another by a reader at the first bit.
+pub fn take_counts(s: &[u8]) -> Counts
+    ensures { (counts_in result, result.next) ≡ counts_at s.now start }
 {
+    let calendars = Reader::new(s).take_u32();
+    let activities = calendars.next.take_u32();
+    let links = activities.next.take_u32();
+    let resources = links.next.take_u32();
+    let assignments = resources.next.take_u32();
+    let expenses = assignments.next.take_u32();
+    let next = expenses.next.place;
     if 7 < next.bit {
         return NO_COUNTS;
     }
     Field {
         value: PerKind {
-            calendars: n.calendars as u32,
-            activities: n.activities as u32,
-            links: n.links as u32,
-            resources: n.resources as u32,
-            assignments: n.assignments as u32,
-            expenses: n.expenses as u32,
+            calendars: calendars.value,
+            activities: activities.value,
+            links: links.value,
+            resources: resources.value,
+            assignments: assignments.value,
+            expenses: expenses.value,
         },
         next,
     }
-}
-
-// Read one after another by a reader at the first bit.
-pub fn take_counts(s: &[u8]) -> Counts
-    ensures { (counts_in result, result.next) ≡ counts_at s.now start }
-{
-    let calendars = Reader::new(s).take(32);
-    let activities = calendars.next.take(32);
-    let links = activities.next.take(32);
-    let resources = links.next.take(32);
-    let assignments = resources.next.take(32);
-    let expenses = assignments.next.take(32);
-    let counts = PerKind {
-        calendars: calendars.value,
-        activities: activities.value,
-        links: links.value,
-        resources: resources.value,
-        assignments: assignments.value,
-        expenses: expenses.value,
-    };
-    counts_of(counts, expenses.next.place)
 }
 
 // Where the first two sections begin.
@@ -110,20 +94,18 @@ pub struct Head {
 fn past_project<'a>(r: Reader<'a>) -> Reader<'a>
     ensures { moved_by PassesProject r.entry result }
 {
-    let place = skip_project(r.model, r.place);
     Reader {
-        model: r.model,
-        place,
+        place: skip_project(r.model, r.place),
+        ..r
     }
 }
 
 fn past_records<'a>(r: Reader<'a>, kind: Kind, count: u32) -> Reader<'a>
     ensures { moved_by (PassesRecords kind count) r.entry result }
 {
-    let place = skip_records::<true>(r.model, r.place, kind, count);
     Reader {
-        model: r.model,
-        place,
+        place: skip_records::<true>(r.model, r.place, kind, count),
+        ..r
     }
 }
 
@@ -185,33 +167,19 @@ fn walk(s: &[u8], n: Counts) -> Places
 pub fn sections_of(len: usize, n: Counts, w: Places) -> Option<Sections>
     ensures { result ≡ sections_by len n w }
 {
+    let section = |count: u32, place: Place| Section {
+        count,
+        at: place.byte,
+    };
     let end = w.next;
     if (end.bit == 0) & (end.byte == len) {
         return Some(PerKind {
-            calendars: Section {
-                count: n.value.calendars,
-                at: w.value.calendars.byte,
-            },
-            activities: Section {
-                count: n.value.activities,
-                at: w.value.activities.byte,
-            },
-            links: Section {
-                count: n.value.links,
-                at: w.value.links.byte,
-            },
-            resources: Section {
-                count: n.value.resources,
-                at: w.value.resources.byte,
-            },
-            assignments: Section {
-                count: n.value.assignments,
-                at: w.value.assignments.byte,
-            },
-            expenses: Section {
-                count: n.value.expenses,
-                at: w.value.expenses.byte,
-            },
+            calendars: section(n.value.calendars, w.value.calendars),
+            activities: section(n.value.activities, w.value.activities),
+            links: section(n.value.links, w.value.links),
+            resources: section(n.value.resources, w.value.resources),
+            assignments: section(n.value.assignments, w.value.assignments),
+            expenses: section(n.value.expenses, w.value.expenses),
         });
     }
     None

@@ -11,6 +11,7 @@ ghost use Rattle.model.specs.Parts.{text_by, activity_head, resource_head};
 ghost use Rattle.model.specs.Answers.{read_at, row_at, rows_at, date_at, period_meaning};
 ghost use Rattle.model.specs.Places.{NameTaken, CalendarAt};
 
+pub use crate::fields::text_in;
 use crate::fields::{skip, skip_code, skip_optional, skip_text};
 use crate::lists::skip_dates;
 pub use crate::lists::{skip_hours, skip_periods};
@@ -18,7 +19,7 @@ use bits::{Field, PAST, Place};
 use definition::Date;
 
 // ---- what stands at a place. Where nothing can be read, a value is missing or 0, and the next place is past every end. A row and a name are two
-// functions: one over what is taken behind the flag would be no shorter
+// functions: skip_flagged's form would take a closure that gives a Field, and a contract of its own for what an Option of either is
 
 // An optional row.
 pub fn take_row(s: &[u8], p: Place) -> Field<Option<u32>>
@@ -45,8 +46,8 @@ pub fn take_row(s: &[u8], p: Place) -> Field<Option<u32>>
     }
 }
 
-// Where an optional text starts, and its length. It is not tested for UTF-8.
-pub fn take_name(s: &[u8], p: Place) -> Field<Option<(usize, usize)>>
+// An optional text. It is not tested for UTF-8.
+pub fn take_name(s: &[u8], p: Place) -> Field<Option<&[u8]>>
     ensures { NameTaken s.now p result }
 {
     let f = bits::take_flag(s, p);
@@ -66,12 +67,12 @@ pub fn take_name(s: &[u8], p: Place) -> Field<Option<(usize, usize)>>
         };
     }
     Field {
-        value: Some((t.start, t.len)),
+        value: Some(text_in(s, t)),
         next,
     }
 }
 
-// The two rows at the start of a link and of an assignment.
+// The two rows at the start of a link and of an assignment. Zeros and no Option where they cannot be read: callers ask in a model that was opened.
 pub fn take_rows(s: &[u8], p: Place) -> Field<(u32, u32)>
     ensures { (result.value, result.next) ≡ rows_at s.now p }
 {
@@ -123,7 +124,7 @@ pub struct Period {
     pub to: u16,
 }
 
-// A period.
+// A period. lists' take_period_key is not this with another result: that both minutes are below 2048 would have to be promised too.
 pub fn take_period(s: &[u8], p: Place) -> Field<Option<Period>>
     ensures { (period_meaning result.value, result.next) ≡ read_at period s.now p }
 {

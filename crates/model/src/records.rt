@@ -1,4 +1,5 @@
-// Records, each with the zero bits up to a whole byte.
+// Records, each with the zero bits up to a whole byte. That a record ends at a whole byte stands in each contract: a type for such a place would be
+// one more beside Place.
 ghost use Rattle.std.specs.Prelude.{◌≡◌, ◌%◌};
 ghost use Rattle.definition.specs.Format.{times, whole};
 ghost use Rattle.definition.specs.Pack.{project};
@@ -110,7 +111,7 @@ fn skip_expense<const CHECK: bool>(s: &[u8], p: Place) -> Place
     bits::take_pad(s, skip_code(s, e, 0, 2))
 }
 
-// The six sections of records.
+// The six sections of records. The kind is a value to the functions below, as callers have it as one.
 #[derive(Clone, Copy, Debug, PartialEq, Eq)]
 pub enum Kind {
     Calendars,

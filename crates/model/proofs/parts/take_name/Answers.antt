@@ -1,4 +1,5 @@
 use borrow.Author.Tests.{not-true, not-false}
+use Rattle.model.specs.Places.{span_ends}
 use Rattle.model.proofs.Single.{name_missing, name_cut, name_given}
 use Rattle.model.proofs.parts.take_name.Goals as goal
 
@@ -8,5 +9,8 @@ returns-then-not-f c = let a = c.args in name_missing a.s.now a.p c.take_flag-f.
 pub returns-then-next-gt7 : goal.returns-then-next-gt7
 returns-then-next-gt7 c = let a = c.args in name_cut a.s.now a.p c.take_flag-f.ensures (not-false _ c.if-not-f.false) c.take_text-t.ensures c.if-next-gt7.true
 
+pub text_in-requires : goal.text_in-requires
+text_in-requires c = span_ends c.args.s.now c.take_flag-f.result.next c.take_text-t.ensures.is
+
 pub returns : goal.returns
-returns c = let a = c.args in name_given a.s.now a.p c.take_flag-f.ensures (not-false _ c.if-not-f.false) c.take_text-t.ensures c.if-next-gt7.false
+returns c = let a = c.args in name_given a.s.now a.p c.take_flag-f.ensures (not-false _ c.if-not-f.false) c.take_text-t.ensures c.if-next-gt7.false c.text_in.ensures
