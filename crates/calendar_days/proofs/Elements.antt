@@ -101,14 +101,6 @@ pub no_more : {w x : Option Place} → w ≡ None → x ≡ None → items_by w 
 unfolding items_by list_of
 no_more n i = rw (n, i)
 
--- before a loop over it all are left, and all of the tree
-module _ {d items : Exceptions} (is : d ≡ items) where
-  pub all_items_left : {l : List Item} → items_left items ≡ l → l ≡ items_left d
-  all_items_left h = sym (ap (λ (x : Exceptions). items_left x) is ∙ h)
-
-  pub all_items_of : (u : Text) → ItemsOf items u → ItemsOf d u
-  all_items_of u h = subst (λ (x : Exceptions). ItemsOf x u) (sym is) h
-
 -- what it gives are those
 pub all_given : (s : Exceptions) → YieldsList GivesItems item_of s (items_left s)
 all_given s = YieldsList-from_shown GivesItems item_of items_left (λ s t h. ap length h.0) (λ s x t h. h.0) s
