@@ -26,7 +26,7 @@ use Rattle.recurrence.specs.Element.{rule_days, RuleRead, RangeRead}
 use Rattle.calendar_days.specs.declared.exceptions.Exceptions.{Exceptions}
 use Rattle.calendar_days.specs.declared.exceptions.Exception.{Exception as Given}
 use Rattle.calendar_days.specs.declared.exceptions.Exception.TheVariants.{WeekDay, Recurring}
-use Rattle.calendar_days.specs.Exceptions.{Item, item_of, items_of, items_by, items_left, ItemsOf, GivesItems, placed, is_old, old_days, days_at, days_in, is_time}
+use Rattle.calendar_days.specs.Exceptions.{Item, item_of, items_of, items_by, items_left, GivesItems, placed, is_old, old_days, days_at, days_in, is_time}
 use Rattle.calendar_days.proofs.Changes.{names_hours}
 use Rattle.calendar_days.proofs.RuleDays.{ruled_by, ruled}
 
