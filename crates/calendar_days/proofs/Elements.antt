@@ -26,7 +26,7 @@ use Rattle.recurrence.specs.Element.{rule_days, RuleRead, RangeRead}
 use Rattle.calendar_days.specs.declared.exceptions.Exceptions.{Exceptions}
 use Rattle.calendar_days.specs.declared.exceptions.Exception.{Exception as Given}
 use Rattle.calendar_days.specs.declared.exceptions.Exception.TheVariants.{WeekDay, Recurring}
-use Rattle.calendar_days.specs.Exceptions.{Item, item_of, items_of, items_by, items_left, ItemsOf, GivesItems, placed, is_old, old_days, days_at, days_in, is_time}
+use Rattle.calendar_days.specs.Exceptions.{Item, item_of, items_of, items_by, items_left, GivesItems, placed, is_old, old_days, days_at, days_in, is_time}
 use Rattle.calendar_days.proofs.Changes.{names_hours}
 use Rattle.calendar_days.proofs.RuleDays.{ruled_by, ruled}
 
@@ -100,14 +100,6 @@ module _ {w x x' : Option Place} {e : Place} {m : ℕ} (n : w ≡ None) (i : x �
 pub no_more : {w x : Option Place} → w ≡ None → x ≡ None → items_by w x ≡ []
 unfolding items_by list_of
 no_more n i = rw (n, i)
-
--- before a loop over it all are left, and all of the tree
-module _ {d items : Exceptions} (is : d ≡ items) where
-  pub all_items_left : {l : List Item} → items_left items ≡ l → l ≡ items_left d
-  all_items_left h = sym (ap (λ (x : Exceptions). items_left x) is ∙ h)
-
-  pub all_items_of : (u : Text) → ItemsOf items u → ItemsOf d u
-  all_items_of u h = subst (λ (x : Exceptions). ItemsOf x u) (sym is) h
 
 -- what it gives are those
 pub all_given : (s : Exceptions) → YieldsList GivesItems item_of s (items_left s)

@@ -24,6 +24,7 @@ pub(crate) enum Exception<'a> {
 }
 
 impl<'a> Exception<'a> {
+    #[tactic(auto, unfolding(crate::specs::Exceptions::placed))]
     pub(crate) fn element(self) -> Element<'a>
         ensures { result ≡ placed self.entry }
     {
