@@ -26,7 +26,7 @@ pub(crate) fn columns_for(tasks: Option<Table>, from: usize, len: usize, tree: &
 {
     let rows = tasks.map_or(0, |t| t.rows);
     let room = len.saturating_sub(from) / 2;
-    if 4294967295 < tree.len() || room < rows as usize {
+    if u32::try_from(tree.len()).is_err() || room < rows as usize {
         return Columns { at: from, rows: 0 };
     }
     Columns { at: from, rows }
