@@ -122,7 +122,7 @@ module _ {a b : Element} (h : Same a b) where
   }
 
 -- the root that was found has the parts of the element
-module _ {e : Place} {root : Root} (tree : root.tree.now ≡ e.tree.now) (h : Parts (λ n p. Stands e.tree.now p (child (meaning e) n)) root) where
+module _ (e : Place) {root : Root} (tree : root.tree.now ≡ e.tree.now) (h : Parts (λ n p. Stands e.tree.now p (child (meaning e) n)) root) where
   here : Parts (λ n p. Stands root.tree.now p (child (meaning e) n)) root
   here = subst (λ (s : Text). Parts (λ n p. Stands s p (child (meaning e) n)) root) (sym tree) h
 
