@@ -1,4 +1,6 @@
 // A lent tree: elements in document order, a record each.
+// Walks go from head to head by `while let`: three jump over what is deeper and `layout` asks where it ended, so that an iterator would serve two.
+// They take bytes and a position: an Element is what they find, and a walk ends where none stands.
 #![tactic(auto)]
 
 ghost use Rattle.std.specs.Prelude.{◌≡◌, ◌+◌, ◌<◌, length};
