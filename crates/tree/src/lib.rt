@@ -63,7 +63,7 @@ fn read_head(s: &[u8], at: usize) -> Option<Head>
 fn right_at(p: usize, d: usize, t: usize) -> bool
     ensures { result ≡ right_at p d t }
 {
-    if d < 1 || p < d - 1 || 65 < d {
+    if !(1..=65).contains(&d) || p < d - 1 {
         return false;
     }
     d < 65 || t == 0
