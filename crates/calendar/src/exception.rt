@@ -18,7 +18,7 @@ fn one_if(e: Element<'_>) -> u32
     u32::from(recurrence::rule_of(e).is_none())
 }
 
-// How many of an element's.
+// How many of an element's. By hand, as `sum` does not wrap; here and in `skipped`, as one function of a name and a closure would be no shorter.
 fn skipped_in(e: Element<'_>) -> u32
     ensures { result ≡ without_rule (all (meaning e.entry) (bytes "Exception")) % 2 ^ 32 }
 {

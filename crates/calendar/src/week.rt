@@ -1,5 +1,5 @@
 // The days of a week. What is right is said in the crate definition, specs/Calendar.antt. A week is a word: bit 6 for Monday, bit 0 for Sunday;
-// no type of its own, as it is taken from a model and put into one as these seven bits.
+// no type of its own: a model holds these seven bits, so that each of the readers and writers of calendar_days would wrap and unwrap them.
 ghost use Rattle.std.specs.Prelude.{◌≡◌, ◌+◌, ◌-◌, ◌*◌, ◌/◌, ◌%◌, ◌^◌, ◌<◌, ◌≤◌, false, ◌∷◌, set, ◌==◌, slice_index_or, slice_set};
 ghost use Rattle.definition.specs.Base.{◌or◌};
 ghost use Rattle.definition.specs.Ascii.{bytes};

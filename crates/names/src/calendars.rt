@@ -92,6 +92,7 @@ fn section_row(main: usize, row: usize) -> usize
 }
 
 // How many `*` the name of a calendar has behind its wanted name; its record in the buffer stands at p.
+// By `as`: a text's length is read from 32 bits.
 pub(crate) fn stars_at(out: &[u8], p: Place, e: Element<'_>) -> u32
     ensures { result ≡ stars_by ((read_at raw out.now p).0 or []) (meaning e.entry) }
 {

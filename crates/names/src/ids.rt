@@ -1,6 +1,7 @@
 // Which ids are taken, by tables in lent words, so that a new id asks no record before it but those of its chain. One table has the rows by their ids,
 // and for each row the byte where its record stands; the id is the text there. The other has them by the texts that they wanted, and for each row how
 // many `*` its id has behind that text, so that the next of the same text begins behind them. No maps: there is no heap.
+// A row or a word is made a place by `as usize`, which has no From<u32>.
 ghost use Rattle.std.specs.Prelude.{◌≡◌, ◌%◌, ◌^◌, length};
 ghost use Rattle.pack.specs.Value.{starred_by};
 ghost use Rattle.names.specs.Ids.{ids_of, no_ids, noted, id_at, taken_in, stars_from, behind, free_in, ids_for, begun, end_ids, starred_in, place_in, noted_by};
@@ -67,7 +68,7 @@ impl Ids {
         raw_text(out, Place { byte, bit: 0 })
     }
 
-    // Whether a text with so many `*` is the id of a row.
+    // Whether a text with so many `*` is the id of a row. By `while let`, here and below, as in `rows::seek`.
     fn is_taken(self, out: &[u8], words: &[u32], wanted: &[u8], stars: u32) -> bool
         ensures { result ≡ taken_in out.now words.now self wanted.now stars }
     {
@@ -138,7 +139,8 @@ pub fn end_of_ids(ids: Option<Ids>, at: usize, len: usize) -> usize
 
 // How many `*` an id needs that is wanted for the row at p: by the tables, or by a look at all records where these have no words for so many. The section
 // begins at `start`. Once the room is spent nothing is tried.
-// The kind is a value, as the crates above hand it over.
+// The kind is a value: model's `skip_record` takes it so. Kind, start and tables go side by side: a struct of them would be filled for each call, and
+// `note_stars` needs the tables alone.
 pub fn stars_for(
     out: &[u8],
     kind: Kind,
@@ -181,7 +183,7 @@ pub fn place_in(
     }
 }
 
-// Notes the id of a row: a text with so many `*`, that stands at p.
+// Notes the id of a row: a text with so many `*`, that stands at p. By `as`: 32 bits hold where records stand, or there are no tables.
 pub fn note_stars(
     words: &mut [u32],
     ids: Option<Ids>,

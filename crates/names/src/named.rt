@@ -46,6 +46,7 @@ fn either(test: bool, p: Place, q: Place) -> Place
 }
 
 // The word of a row, counted from the first calendar. The main one's record stands at c, those of the others from q on; answers where the next stands.
+// The parameters go side by side: the words are written at each row, and a struct of the others would be made for this call alone.
 fn note_name(
     out: &[u8],
     c: Place,

@@ -1,4 +1,5 @@
 // Records by their rows, and the texts at their fronts. No text is tested for UTF-8.
+// The buffer, the kind and the place go side by side, as in `stars_of`.
 ghost use Rattle.std.specs.Prelude.{◌≡◌, false, []};
 ghost use Rattle.definition.specs.Base.{◌or◌, some?, same};
 ghost use Rattle.definition.specs.Calendar.{free};
@@ -13,7 +14,7 @@ use crate::stars::same_starred;
 use bits::{PAST, Place};
 use model::records::{Kind, skip_record};
 
-// The place behind so many records. Here and below the kind is a value, as the crates above hand it over.
+// The place behind so many records: model's `skip_records`, for a row of usize. Here and below the kind is a value: model's `skip_record` takes it so.
 fn skip_rows(out: &[u8], p: Place, kind: Kind, row: usize) -> Place
     ensures { Passes (times row (record_of false kind)) out.now p result }
 {
@@ -28,6 +29,7 @@ fn skip_rows(out: &[u8], p: Place, kind: Kind, row: usize) -> Place
 }
 
 // The place of the record of a row, past every end where there is none. Nothing keeps the places, as there is no memory for them.
+// PAST and no Option: a read at it gives nothing by itself, as everywhere in `bits`.
 pub fn place_of_row(out: &[u8], p: Place, kind: Kind, row: usize) -> Place
     ensures { result ≡ place_of_row kind out.now p row }
 {
@@ -39,6 +41,7 @@ pub fn place_of_row(out: &[u8], p: Place, kind: Kind, row: usize) -> Place
 }
 
 // The text at a place, whatever its bytes are; no text where there is none. By start and length, as `bits` says where it stands.
+// `text_at` of model_check has this body for texts that are there; that crate does not use this one, nor this one that.
 pub fn raw_text(out: &[u8], p: Place) -> &[u8]
     ensures { result.now ≡ ((read_at raw out.now p).0 or []) }
 {

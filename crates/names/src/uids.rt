@@ -1,6 +1,7 @@
 // Calendars by their UIDs, from a table in lent words. The rows are the calendars in the order in which they are built, from the last to the first, so
 // that the first one with a UID is found: its UID by its hash, and where its element stands in the tree. Behind the table there is a word for each row, and
-// one more, for what is to be noted of them.
+// one more, for what is to be noted of them. A row or a word is made a place by `as usize`, which has no From<u32>. The words and their table go side by
+// side, as in `rows`.
 ghost use Rattle.std.specs.Prelude.{◌≡◌, suc, ◌-◌, ◌≤◌, max, length};
 ghost use Rattle.definition.specs.Base.{◌>>=◌ as bind};
 ghost use Rattle.index.specs.Law.{Fits};
@@ -42,6 +43,7 @@ fn note_places(root: Root<'_>, words: &mut [u32], t: Table) -> u32
     let mut left = t.rows;
     for e in rows::calendars(root) {
         left -= 1;
+        // `as`, as in `rows`: 32 bits hold each position.
         index::set_word(
             words,
             t.at,

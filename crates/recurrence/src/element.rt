@@ -22,7 +22,7 @@ fn pick(a: Option<i64>, most: u32, below: u32, absent: u32) -> u32
     }
 }
 
-// The seven low bits.
+// The seven low bits. By `as`: below 128, so that `try_from` would have an error that cannot occur.
 fn mask_of(a: Option<i64>) -> u32
     ensures { result ≡ mask_of a }
 {

@@ -1,5 +1,5 @@
 // The first day that fits a rule, from a day on, kind by kind: daily, yearly, monthly, weekly. It may lie past the last day. The kind is chosen by
-// the Type.
+// the Type. The rule and the day go side by side: `Ready` speaks of both, so that a field of Scaled would hold half of it.
 ghost use Rattle.std.specs.Prelude.{if◌then◌else◌, ◌≡◌, ◌≤◌};
 ghost use Rattle.definition.specs.Base.{within};
 ghost use Rattle.definition.specs.Recurrence.{fits};
@@ -109,7 +109,7 @@ fn weekly(r: Scaled, at: u32) -> Option<u32>
     }
 }
 
-// The six rules. An enum and no trait: a rule chooses one by its numbers, at each call.
+// The kinds of a rule, by its Type. An enum and no trait: a rule chooses one by its numbers, at each call.
 #[derive(Clone, Copy)]
 pub(crate) enum Kind {
     Daily,

@@ -65,9 +65,10 @@ pub(crate) fn to_scale(r: Rule) -> Scaled
     }
 }
 
-// ---- the calendar, by the crate date
+// ---- the calendar, by the crate date. A day is a number under a bound, here and in `kind`: a type of it would be made at each of its readings.
 
-// The day of a month, if it has one.
+// The day of a month, if it has one. Here and for the candidates of a rule the year and the month go side by side: loops count them, so that a Month
+// would be made for each call and taken apart in it.
 pub(crate) fn day_in(y: u32, m: u32, day: u32) -> Option<u32>
     requires year { IsYear y }
     requires month { IsMonth m }
@@ -81,6 +82,7 @@ pub(crate) fn length_in(y: u32, m: u32) -> u32
     requires month { IsMonth m }
     ensures { result ≡ month_length y m }
 {
+    // Never 0: each month of a year has a length.
     date::days_in_month(lowered(y, 10000), m).unwrap_or(0)
 }
 
@@ -96,6 +98,7 @@ pub(crate) fn month_on(d: u32) -> Month
     ensures { result ≡ month_on d }
 {
     let Some(c) = date::ymd(date_at(d)) else {
+        // Never taken: a day in the years has a date.
         return Month { year: 0, month: 0 };
     };
     Month {

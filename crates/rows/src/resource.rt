@@ -8,7 +8,7 @@ ghost use Rattle.rows.specs.Rows.{found_meaning, has_uid};
 use crate::table::{Listed, elements};
 use tree::{Element, Root};
 
-// The last cost resource with a UID.
+// The last cost resource with a UID. `scan` of `table` asks for the row: a walk for both would give its callers a pair, of which each needs one half.
 pub(crate) fn cost_resource<'a>(root: Root<'a>, uid: &[u8]) -> Option<Element<'a>>
     ensures { found_meaning result ≡ find_last (has_uid uid.now) (cost_resources (root_at root.entry)) }
 {

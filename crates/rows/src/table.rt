@@ -1,4 +1,6 @@
 // Tables of the elements that have a UID, in lent words: the hash of each UID, and where its element stands in the tree.
+// A row or a word is made a place by `as usize`, which has no From<u32>. The words and their table go side by side: the words are written between two
+// looks, so that a struct over both would be made anew for each.
 ghost use Rattle.std.specs.Prelude.{◌≡◌, ◌^◌, ◌<◌, length};
 ghost use Rattle.std.specs.Iterator.{item_count};
 ghost use Rattle.tree.specs.Root.{root_at};
@@ -13,7 +15,7 @@ use index::Table;
 use tree::{Element, Root};
 
 // The kept tasks, the work resources, the cost resources.
-// An enum, where `section` has a trait: it is a parameter of the public functions, whose callers pass a value.
+// An enum, where `section` has a trait: the contracts of the crates above name the list as a value.
 #[derive(Clone, Copy)]
 pub enum Listed {
     Tasks,
@@ -23,7 +25,7 @@ pub enum Listed {
 
 // ---- the elements of a list, one after another
 
-// Any number after it.
+// 0, a number that is not looked at: one pair serves all three lists.
 fn unbounded(e: Option<Element<'_>>) -> Option<(Element<'_>, u32)>
     ensures { result ≡ unbounded_of e.entry }
 {
@@ -101,6 +103,7 @@ fn fill(root: Root<'_>, list: Listed, words: &mut [u32], t: Table)
     ensures { Tabled root.entry.tree.now (root_at root.entry) list t words.old words.new }
 {
     t.clear(words);
+    // Counted by hand, here and in `scan`: `enumerate` counts in usize.
     let mut row: u32 = 0;
     for e in elements(root, list) {
         let hash = index::hash_of(e.text_of(b"UID"));
@@ -126,7 +129,8 @@ pub fn index_rows(root: Root<'_>, list: Listed, words: &mut [u32], at: usize) ->
 
 // ---- the last with a UID
 
-// The first row of a chain whose element has the UID.
+// The first row of a chain whose element has the UID. By `while let`, as in `names`: a chain is walked in three places, each a few lines, and an
+// iterator would need a law of its own.
 pub fn seek(tree: &[u8], words: &[u32], t: Table, uid: &[u8]) -> Option<u32>
     ensures { result ≡ sought_in tree.now words.now t uid.now }
 {
@@ -188,6 +192,7 @@ pub fn cost_with<'a>(
 ) -> Option<Element<'a>>
     ensures { found_meaning result ≡ cost_in root.entry.tree.now (root_at root.entry) words.now made uid.now }
 {
+    // as in `row_with`
     match made {
         Some(t) => element_of(root, words, t, seek(root.tree, words, t, uid)),
         None => cost_resource(root, uid),

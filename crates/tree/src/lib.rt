@@ -1,4 +1,6 @@
 // A lent tree: elements in document order, a record each.
+// Walks go from head to head by `while let`: three jump over what is deeper and `layout` asks where it ended, so that an iterator would serve two.
+// They take bytes and a position: an Element is what they find, and a walk ends where none stands.
 #![tactic(auto)]
 
 ghost use Rattle.std.specs.Prelude.{◌≡◌, ◌+◌, ◌<◌, length};
@@ -61,7 +63,7 @@ fn read_head(s: &[u8], at: usize) -> Option<Head>
 fn right_at(p: usize, d: usize, t: usize) -> bool
     ensures { result ≡ right_at p d t }
 {
-    if d < 1 || p < d - 1 || 65 < d {
+    if !(1..=65).contains(&d) || p < d - 1 {
         return false;
     }
     d < 65 || t == 0

@@ -42,6 +42,7 @@ const DURATIONS: [&[u8]; 5] = [
     b"RemainingWork",
 ];
 
+// Two names for one call of `any`, here and for a duration: a function of the list would be as long.
 fn is_number(name: &[u8]) -> bool
     ensures { result ≡ some? (same name.now) number_names }
 {

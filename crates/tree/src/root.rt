@@ -92,7 +92,7 @@ fn note_all<'a>(was: Root<'a>, e: Element<'_>) -> Root<'a>
     }
 }
 
-// The parts among the records of depth w from `from` on, before any of less depth.
+// The parts among the records of depth w from `from` on, before any of less depth. The walk of `find`, which ends at the first; here each is noted.
 fn parts_from(s: &[u8], from: usize, w: usize) -> Root<'_>
     ensures tree { result.tree.now ≡ s.now }
     ensures parts { Parts (λ n p. Stands s.now p (first (named n (level w (records_at s.now from))))) result }
