@@ -122,6 +122,7 @@ pub fn is_fractional(task: Element<'_>) -> bool
 
 // ---- the day
 
+// By `<=` and no range: what `contains` promises speaks of the library's order of floats, and the definition of `<=`.
 fn day_from(m: f64) -> Option<u64>
     ensures { result ≡ per_day_from m }
 {
