@@ -14,7 +14,7 @@ ghost use Rattle.links.specs.More.{More};
 use crate::TaskFinder;
 use crate::fate::fate_of;
 use bits::Place;
-use pack::{Link, Records};
+use pack::{LagFields, Link, Records};
 use tree::Element;
 
 // A link element, from the row of its predecessor to that of its task.
@@ -31,8 +31,8 @@ fn put_kept(
     let record = Link {
         predecessor,
         successor: row,
-        kind: tasks::link_kind(link),
-        lag: tasks::link_lag(link, per_day),
+        kind: u32::from(tasks::link_kind(link)),
+        lag: LagFields::from(tasks::link_lag(link, per_day)),
     };
     let next = record.put(out, done.next);
     Records {

@@ -7,9 +7,6 @@ use Rattle.definition.specs.Model as M
 use Rattle.definition.specs.Format.{Format, ◌⊗◌, code, number, date, text, optional}
 use Rattle.definition.specs.Pack.{constraint}
 use Rattle.definition.specs.Pack as P
-use Rattle.tasks.specs.Link.{lag_means, link_kind_code}
-use Rattle.tasks.specs.Task.{duration_type_code}
-use Rattle.resources.specs.Resource.{resource_kind_code, accrual_code}
 use Rattle.pack.specs.Value.{date_by, date_given, constraint_given, given_by, starred}
 use Rattle.pack.specs.declared.record.ActivityKind.{ActivityKind}
 use Rattle.pack.specs.declared.record.ActivityKind.TheVariants as kind
@@ -29,8 +26,7 @@ activity_kind_code kind.FinishMilestone = 2
 
 abbrev pub link_by : Link → M.Link
 link_by l =
-    let lag = lag_means l.lag in
-    record { predecessor = l.predecessor; successor = l.successor; kind = link_kind_code l.kind; lag = lag.days; minutes = lag.minutes; lag_kind = lag.kind }
+    record { predecessor = l.predecessor; successor = l.successor; kind = l.kind; lag = l.lag.days; minutes = l.lag.minutes; lag_kind = (l.lag.kind, l.lag.share) }
 
 abbrev pub assignment_by : Assignment → M.Assignment
 assignment_by a = record {
@@ -49,7 +45,7 @@ expense_by e = record {
   planned = e.cost.planned;
   actual = e.cost.actual;
   remaining = e.cost.remaining;
-  accrual = accrual_code e.accrual;
+  accrual = e.accrual;
 }
 
 abbrev pub project_by : Project → M.Project
@@ -71,7 +67,7 @@ abbrev pub resource_by : Resource → M.Resource
 resource_by r = record {
   id = starred r.id;
   name = r.name.now;
-  kind = resource_kind_code r.kind;
+  kind = r.kind;
   unit = r.unit.now;
   max_units = r.max_units;
   calendar = given_by starred r.calendar;
@@ -82,7 +78,7 @@ abbrev pub activity_by : Activity → M.Activity
 activity_by a = record {
   id = starred a.id;
   name = a.name.now;
-  kind = activity_kind_code a.plan.kind;
+  kind = a.plan.kind;
   duration = a.plan.duration.days;
   minutes = a.plan.duration.minutes;
   parent = a.plan.parent;
@@ -93,7 +89,7 @@ activity_by a = record {
   start = date_given a.dates.start;
   finish = date_given a.dates.finish;
   percent = a.progress.percent;
-  duration_type = duration_type_code a.progress.duration_type;
+  duration_type = a.progress.duration_type;
   remaining = a.progress.remaining;
   uid = a.uid.now;
 }

@@ -1,6 +1,7 @@
 -- What the values that are written mean. Assumes nothing.
 use Rattle.std.specs.Prelude.{ℕ, ◌≡◌, refl, ℤ}
 use Rattle.definition.specs.declared.Date.{Date as DayNumber}
+use Rattle.pack.specs.declared.value.LagFields.{LagFields}
 use Rattle.tasks.specs.declared.task.Constraint.{Constraint}
 use Rattle.std.proofs.Common.{ap, ◌∙◌}
 use Rattle.std.specs.Prelude.{Option, Some, None}
@@ -25,6 +26,9 @@ abbrev pub starred : Starred → Text
 starred x = starred_by x.text.now x.stars
 
 -- a lag's days and minutes, and its kind
+abbrev pub lag_fields : LagFields → ℤ × (Option ℤ × (ℕ × Option ℤ))
+lag_fields l = (l.days, (l.minutes, (l.kind, l.share)))
+
 abbrev pub lag_values : Lag → ℤ × (Option ℤ × (ℕ × Option ℤ))
 lag_values l = let m = lag_means l in (m.days, (m.minutes, m.kind))
 

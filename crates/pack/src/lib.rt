@@ -12,4 +12,4 @@ pub use record::{
     Records, Resource, Skips, put_counts,
 };
 pub use stars::Starred;
-pub use value::{put_count, put_date};
+pub use value::{LagFields, put_count, put_date};

@@ -6,11 +6,11 @@ ghost use Rattle.bits.specs.Steps.{Puts};
 ghost use Rattle.pack.specs.Record.{link_by, assignment_by, expense_by, project_by, resource_by, activity_by, activity_kind_code, schedule_fields, schedule_of, counts_by};
 
 use crate::stars::Starred;
-use crate::value::{put_code, put_count, put_date, put_lag, put_number, put_optional};
+use crate::value::{LagFields, put_code, put_count, put_date, put_lag, put_number, put_optional};
 use bits::Place;
 use definition::Date;
-use resources::{Accrual, Amounts, ResourceKind};
-use tasks::{Constraint, DurationType, Lag, LinkKind, Parts};
+use resources::Amounts;
+use tasks::{Constraint, Parts};
 
 // How many exceptions were skipped, how many links dangle or go across, and how many kept tasks have a duration
 // that was not whole minutes. Four counts side by side: the crate links, which counts two of them, stands above.
@@ -45,7 +45,7 @@ impl From<ActivityKind> for u32 {
 // What an activity is: its kind, its duration in days, with the minutes where they are not whole days, and its parent's row.
 #[derive(Clone, Copy, Debug, PartialEq, Eq)]
 pub struct Plan {
-    pub kind: ActivityKind,
+    pub kind: u32,
     pub duration: Parts,
     pub parent: Option<u32>,
 }
@@ -61,7 +61,7 @@ pub struct Dates {
 #[derive(Clone, Copy, Debug, PartialEq, Eq)]
 pub struct Progress {
     pub percent: Option<i64>,
-    pub duration_type: DurationType,
+    pub duration_type: u32,
     pub remaining: Option<i64>,
 }
 
@@ -84,14 +84,15 @@ pub struct Records {
     pub next: Place,
 }
 
-// ---- the records
+// ---- the records. Codes are numbers here: a writer takes any that the format holds, and an enum would ask more of its callers; tasks and resources have
+// the enums, which turn into them.
 
 #[derive(Clone, Copy, Debug, PartialEq, Eq)]
 pub struct Link {
     pub predecessor: u32,
     pub successor: u32,
-    pub kind: LinkKind,
-    pub lag: Lag,
+    pub kind: u32,
+    pub lag: LagFields,
 }
 
 impl Link {
@@ -100,7 +101,7 @@ impl Link {
     {
         let a = put_count(out, p, self.predecessor);
         let b = put_count(out, a, self.successor);
-        let c = put_code(out, b, u32::from(self.kind));
+        let c = put_code(out, b, self.kind);
         let d = put_lag(out, c, self.lag);
         bits::pad(out, d)
     }
@@ -133,7 +134,7 @@ pub struct Expense<'a> {
     pub activity: u32,
     pub name: &'a [u8],
     pub cost: Amounts,
-    pub accrual: Accrual,
+    pub accrual: u32,
 }
 
 impl Expense<'_> {
@@ -145,7 +146,7 @@ impl Expense<'_> {
         let c = put_number(out, b, self.cost.planned);
         let d = put_number(out, c, self.cost.actual);
         let e = put_optional(out, d, self.cost.remaining);
-        let f = put_code(out, e, u32::from(self.accrual));
+        let f = put_code(out, e, self.accrual);
         bits::pad(out, f)
     }
 }
@@ -179,7 +180,7 @@ impl Project<'_> {
 pub struct Resource<'a> {
     pub id: Starred<'a>,
     pub name: &'a [u8],
-    pub kind: ResourceKind,
+    pub kind: u32,
     pub unit: &'a [u8],
     pub max_units: i64,
     pub calendar: Option<Starred<'a>>,
@@ -192,7 +193,7 @@ impl Resource<'_> {
     {
         let a = self.id.put(out, p);
         let b = bits::put_text(out, a, self.name);
-        let c = put_code(out, b, u32::from(self.kind));
+        let c = put_code(out, b, self.kind);
         let d = bits::put_text(out, c, self.unit);
         let e = put_number(out, d, self.max_units);
         let f = put_optional(out, e, self.calendar);
@@ -225,7 +226,7 @@ impl Activity<'_> {
         let e = put_optional(out, d, self.dates.start);
         let f = put_optional(out, e, self.dates.finish);
         let g = put_optional(out, f, self.progress.percent);
-        let h = put_code(out, g, u32::from(self.progress.duration_type));
+        let h = put_code(out, g, self.progress.duration_type);
         let i = put_optional(out, h, self.progress.remaining);
         bits::put_text(out, i, self.uid)
     }
@@ -235,7 +236,7 @@ impl Activity<'_> {
     {
         let a = self.id.put(out, p);
         let b = bits::put_text(out, a, self.name);
-        let c = put_code(out, b, u32::from(self.plan.kind));
+        let c = put_code(out, b, self.plan.kind);
         let d = put_number(out, c, self.plan.duration.days);
         let e = put_optional(out, d, self.plan.duration.minutes);
         let f = put_optional(out, e, self.plan.parent);

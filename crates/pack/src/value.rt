@@ -5,7 +5,7 @@ ghost use Rattle.definition.specs.Format.{Format, depending, ◌⊗◌, count, r
 ghost use Rattle.definition.specs.Pack.{constraint};
 ghost use Rattle.bits.specs.Steps.{Puts};
 ghost use Rattle.definition.specs.Pack.{lag_kind};
-ghost use Rattle.pack.specs.Value.{lag_values, date_by, date_given, date_none, date_some, constraint_by, constraint_given, constraint_none, constraint_some};
+ghost use Rattle.pack.specs.Value.{lag_fields, lag_values, date_by, date_given, date_none, date_some, constraint_by, constraint_given, constraint_none, constraint_some};
 
 use bits::Place;
 use definition::Date;
@@ -162,23 +162,39 @@ impl Put for Constraint {
     }
 }
 
-// The days and the minutes, and the code of the kind with its share of the predecessor's duration: the four values as the format has them.
-fn lag_fields(lag: Lag) -> (i64, Option<i64>, u32, Option<i64>)
-    ensures { (result.0, (result.1, (result.2, result.3))) ≡ lag_values lag }
-{
-    match lag {
-        Lag::Days(days) => (days, None, 0, None),
-        Lag::Minutes(minutes) => (0, Some(minutes), 0, None),
-        Lag::Elapsed(minutes) => (0, Some(minutes), 1, None),
-        Lag::Share(share) => (0, None, 2, Some(share)),
+// A lag as the format has it: the days and the minutes, and the code of its kind, 0 working time, 1 elapsed time, 2 a share of the predecessor's
+// duration, with that share. Any four values may be put.
+#[derive(Clone, Copy, Debug, PartialEq, Eq)]
+pub struct LagFields {
+    pub days: i64,
+    pub minutes: Option<i64>,
+    pub kind: u32,
+    pub share: Option<i64>,
+}
+
+impl From<Lag> for LagFields {
+    ghost from_gives = { λ lag r. lag_fields r ≡ lag_values lag };
+
+    fn from(lag: Lag) -> LagFields {
+        let (days, minutes, kind, share) = match lag {
+            Lag::Days(days) => (days, None, 0, None),
+            Lag::Minutes(minutes) => (0, Some(minutes), 0, None),
+            Lag::Elapsed(minutes) => (0, Some(minutes), 1, None),
+            Lag::Share(share) => (0, None, 2, Some(share)),
+        };
+        LagFields {
+            days,
+            minutes,
+            kind,
+            share,
+        }
     }
 }
 
-pub(crate) fn put_lag(out: &mut [u8], p: Place, lag: Lag) -> Place
-    ensures { Puts (number ⊗ optional number ⊗ lag_kind) (lag_values lag) out.old p out.new result }
+pub(crate) fn put_lag(out: &mut [u8], p: Place, lag: LagFields) -> Place
+    ensures { Puts (number ⊗ optional number ⊗ lag_kind) (lag_fields lag) out.old p out.new result }
 {
-    let (days, minutes, k, share) = lag_fields(lag);
-    let a = put_number(out, p, days);
-    let b = put_optional(out, a, minutes);
-    put_coded(out, b, k, share)
+    let a = put_number(out, p, lag.days);
+    let b = put_optional(out, a, lag.minutes);
+    put_coded(out, b, lag.kind, lag.share)
 }

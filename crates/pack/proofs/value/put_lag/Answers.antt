@@ -5,4 +5,4 @@ use Rattle.pack.proofs.value.put_lag.Goals as goal
 
 pub returns : goal.returns
 returns c =
-    put_same c.lag_fields-days.ensures (put-⊗ (put_same (search rules) c.put_number-a.ensures) (put-⊗ c.put_optional-b.ensures (c.put_coded.ensures 0 2 (eqb 2))))
+    put-⊗ (put_same (search rules) c.put_number-a.ensures) (put-⊗ c.put_optional-b.ensures (c.put_coded.ensures 0 2 (eqb 2)))
