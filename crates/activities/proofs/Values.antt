@@ -27,7 +27,7 @@ use Rattle.fields.proofs.Empty.{length_given}
 use Rattle.laws.specs.Fields.{InYears}
 use Rattle.laws.specs.Formats.{IfGiven}
 use Rattle.links.specs.Given.{given_none, given_some}
-use Rattle.pack.specs.Record.{activity_by, activity_kind_code}
+use Rattle.pack.specs.Record.{activity_by}
 use Rattle.pack.specs.Value.{given_by, starred, starred_by, name_meaning}
 use Rattle.pack.specs.Writes.{put_any}
 use Rattle.names.specs.Named.{named_in, elapsed_in, calendar_name}
@@ -137,7 +137,7 @@ unfolding activity_planned
 activity_is a n o d g u = λ k. record {
   id = starred a.id;
   name = n k;
-  kind = activity_kind_code a.plan.kind;
+  kind = a.plan.kind;
   duration = a.plan.duration.days;
   minutes = a.plan.duration.minutes;
   parent = a.plan.parent;

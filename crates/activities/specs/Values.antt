@@ -11,8 +11,6 @@ use Rattle.definition.specs.Task.{Context, duration_days, duration_minutes, dura
 use Rattle.definition.specs.Text.{Text}
 use Rattle.definition.specs.Tree.{Element}
 use Rattle.names.specs.Named.{named_in, elapsed_in}
-use Rattle.tasks.specs.Task.{duration_type_code}
-use Rattle.pack.specs.Record.{activity_kind_code}
 use Rattle.pack.specs.Value.{date_given, constraint_given}
 use Rattle.pack.specs.declared.record.Plan.{Plan}
 use Rattle.pack.specs.declared.record.Dates.{Dates}
@@ -27,7 +25,7 @@ abbrev pub day_by : Bool → ℕ → ℕ
 day_by elapsed per_day = if elapsed then 1440 else per_day
 
 pub record PlanOf (day : ℕ) (parent : Option ℕ) (entered : Bool) (t : Element) (r : Plan) : Type 0 where
-  pub kind_is : activity_kind_code r.kind ≡ kind_by entered t
+  pub kind_is : r.kind ≡ kind_by entered t
   pub days_is : r.duration.days ≡ duration_days (minutes_in t "Duration" or 0) day
   pub minutes_is : r.duration.minutes ≡ duration_minutes (minutes_in t "Duration" or 0) day
   pub parent_is : r.parent ≡ parent
@@ -40,7 +38,7 @@ pub record DatesOf (t : Element) (r : Dates) : Type 0 where
 
 pub record ProgressOf (t : Element) (r : Progress) : Type 0 where
   pub percent_is : r.percent ≡ percent_of t
-  pub type_is : duration_type_code r.duration_type ≡ duration_type_of t
+  pub type_is : r.duration_type ≡ duration_type_of t
   pub remaining_is : r.remaining ≡ remaining_of t
 
 -- ---- its calendar
@@ -66,7 +64,7 @@ unfoldable pub activity_planned : Option Text → Text → Plan → Element → 
 activity_planned calendar id plan t = record {
   id = id;
   name = text_in t "Name" or [];
-  kind = activity_kind_code plan.kind;
+  kind = plan.kind;
   duration = plan.duration.days;
   minutes = plan.duration.minutes;
   parent = plan.parent;

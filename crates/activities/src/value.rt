@@ -94,7 +94,7 @@ pub(crate) fn plan_of(
 {
     let minutes = fields::minutes_in(task, b"Duration").unwrap_or(0);
     Plan {
-        kind: kind_of(task, find),
+        kind: u32::from(kind_of(task, find)),
         duration: tasks::duration_parts(minutes, day),
         parent,
     }
@@ -118,7 +118,7 @@ pub(crate) fn progress_of(task: Element<'_>) -> Progress
 {
     Progress {
         percent: tasks::percent_of(task),
-        duration_type: tasks::duration_type(task),
+        duration_type: u32::from(tasks::duration_type(task)),
         remaining: tasks::remaining_of(task),
     }
 }

@@ -149,7 +149,7 @@ fn expense_of<'a>(tables: Tables<'a>, words: &[u32], e: Element<'_>) -> Option<E
         activity,
         name: resource.text_of(b"Name"),
         cost: resources::cost(e),
-        accrual: resources::accrual_of(resource),
+        accrual: u32::from(resources::accrual_of(resource)),
     })
 }
 

@@ -56,7 +56,7 @@ fn resource_of<'a>(e: Element<'a>, stars: u32, calendar: Option<Starred<'a>>) ->
             stars,
         },
         name: e.text_of(b"Name"),
-        kind: resources::resource_kind(e),
+        kind: u32::from(resources::resource_kind(e)),
         unit: e.text_of(b"MaterialLabel"),
         max_units: resources::max_units(e),
         calendar,

@@ -13,7 +13,7 @@ use Rattle.definition.specs.Task.{context_of, kept_tasks, per_day_of}
 use Rattle.definition.specs.Link.{link_lag, link_kind, link_of}
 use Rattle.bits.specs.Steps.{Puts, put_same}
 use Rattle.bits.specs.declared.Place.{Place}
-use Rattle.tasks.specs.Link.{lag_means, link_kind_code}
+use Rattle.pack.specs.Value.{lag_fields}
 use Rattle.pack.specs.Record.{link_by}
 use Rattle.pack.specs.declared.record.Link.{Link}
 use Rattle.pack.specs.declared.record.Records.{Records}
@@ -47,20 +47,20 @@ module _ (find : Finder) (l : Element) where
 
 -- ---- one written
 
-module _ (per_day : ℕ) (l : Element) (x : Link) (e : link_kind_code x.kind ≡ link_kind l) (h : lag_means x.lag ≡ link_lag per_day l) where
+module _ (per_day : ℕ) (l : Element) (x : Link) (e : x.kind ≡ link_kind l) (h : lag_fields x.lag ≡ (let m = link_lag per_day l in (m.days, (m.minutes, m.kind)))) where
   link_is : link_by x ≡ link_of (day_only per_day) x.predecessor x.successor l
   unfolding link_of
   link_is = λ i. record {
     predecessor = x.predecessor;
     successor = x.successor;
     kind = e i;
-    lag = (h i).days;
-    minutes = (h i).minutes;
-    lag_kind = (h i).kind;
+    lag = (h i).0;
+    minutes = (h i).1.0;
+    lag_kind = (h i).1.1;
   }
 
 module _ (per_day row : ℕ) (l : Element) {d : List ℕ} {done : Records} where
-  pub put_one : (x : Link) {d' : List ℕ} {q : Place} {n : ℕ} → link_kind_code x.kind ≡ link_kind l → lag_means x.lag ≡ link_lag per_day l → x.successor ≡ row → Puts (whole link) (link_by x) d done.next d' q → n ≡ (done.count + 1) % 2 ^ 32
+  pub put_one : (x : Link) {d' : List ℕ} {q : Place} {n : ℕ} → x.kind ≡ link_kind l → lag_fields x.lag ≡ (let m = link_lag per_day l in (m.days, (m.minutes, m.kind))) → x.successor ≡ row → Puts (whole link) (link_by x) d done.next d' q → n ≡ (done.count + 1) % 2 ^ 32
       → More (whole link) (links_for per_day row l (Ok x.predecessor)) d done d' (record { count = n; next = q })
   unfolding links_for
   put_one x e h k i j = more_one (put_same (link_is per_day l x e h ∙ ap (λ (r : ℕ). link_of (day_only per_day) x.predecessor r l) k) i) j

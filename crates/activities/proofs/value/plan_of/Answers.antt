@@ -13,7 +13,7 @@ returns c =
     let day = c.args.day in
     let e = c.unwrap_or-minutes.ensures ∙ or_unwrap c.minutes_in.result 0 ∙ ap (λ (o : Option ℕ). o or 0) c.minutes_in.ensures in
     record {
-      kind_is = c.kind_of.ensures;
+      kind_is = c.from.ensures ∙ c.kind_of.ensures;
       days_is = c.duration_parts.ensures.0 ∙ ap (λ (n : ℕ). duration_days n day) e;
       minutes_is = c.duration_parts.ensures.1 ∙ ap (λ (n : ℕ). duration_minutes n day) e;
       parent_is = refl;

@@ -16,4 +16,4 @@ returns-in_err-resource c =
 pub returns : goal.returns
 returns c =
     let a = c.args in
-    both_there (finders_at a.words.now a.tables) (meaning a.e) c.task_of.ensures c.cost_of.ensures c.in_ok-activity.was c.in_ok-resource.was _ c.text_of.ensures c.cost.ensures c.accrual_of.ensures
+    both_there (finders_at a.words.now a.tables) (meaning a.e) c.task_of.ensures c.cost_of.ensures c.in_ok-activity.was c.in_ok-resource.was _ c.text_of.ensures c.cost.ensures (c.from.ensures ∙ c.accrual_of.ensures)

@@ -7,5 +7,5 @@ use Rattle.assignments.proofs.resource.resource_of.Goals as goal
 
 pub returns : goal.returns
 returns c =
-    resource_is (meaning c.args.e) c.args.stars (given_by starred c.args.calendar) _ c.price.result c.wanted_id.ensures c.text_of.ensures c.resource_kind.ensures c.text_of-2.ensures
+    resource_is (meaning c.args.e) c.args.stars (given_by starred c.args.calendar) _ c.price.result c.wanted_id.ensures c.text_of.ensures (c.from.ensures ∙ c.resource_kind.ensures) c.text_of-2.ensures
     (to_z-of_z w64 c.max_units.result (record { sfits = c.max_units.type_inv }) ∙ c.max_units.ensures) c.price.ensures

@@ -1,4 +1,5 @@
-use Rattle.std.proofs.Common.{refl}
+use Rattle.std.proofs.Common.{refl, ap, ◌∙◌}
+use Rattle.definition.specs.Link.{Lag}
 use Rattle.tree.specs.Place.{meaning}
 use Rattle.links.proofs.Links.{put_one}
 use Rattle.links.proofs.writing.put_kept.Goals as goal
@@ -6,4 +7,4 @@ use Rattle.links.proofs.writing.put_kept.Goals as goal
 pub returns : goal.returns
 returns c =
     let a = c.args in
-    put_one a.per_day a.row (meaning a.link) (record { predecessor = a.predecessor; successor = a.row; kind = c.link_kind.result; lag = c.link_lag.result }) c.link_kind.ensures c.link_lag.ensures refl c.put-next.ensures refl
+    put_one a.per_day a.row (meaning a.link) (record { predecessor = a.predecessor; successor = a.row; kind = c.from.result; lag = c.from-2.result }) (c.from.ensures ∙ c.link_kind.ensures) (c.from-2.ensures ∙ ap (λ (m : Lag). (m.days, (m.minutes, m.kind))) c.link_lag.ensures) refl c.put-next.ensures refl
