@@ -32,7 +32,7 @@ use Rattle.model.specs.Splits.{split-⊗}
 use Rattle.model.specs.declared.parts.CalendarPlaces.{CalendarPlaces}
 use Rattle.model.specs.declared.records.Kind.TheVariants.{Calendars}
 use Rattle.pack.specs.Value.{starred_by}
-use Rattle.pack.specs.Writes.{Writes, WritesIf, no_records, put_any, writes_if, writes_not}
+use Rattle.pack.specs.Writes.{Writes, WritesIf, put_any, writes_if}
 use Rattle.pack.specs.declared.record.Records.{Records}
 use Rattle.tree.specs.Root.{root_at}
 use Rattle.tree.specs.declared.root.Root.{Root}

@@ -7,7 +7,6 @@ use lib.ListN.{length-map, get_or-replicate}
 use Rattle.definition.specs.Base.{◌>>=◌, ◌or◌, ◌or_else◌, when, find_last}
 use Rattle.definition.specs.Bits.{Bits, enc, dec}
 use Rattle.definition.specs.Ascii.{bytes}
-use Rattle.definition.specs.Text.{Text}
 use Rattle.definition.specs.Format.{Period, count, field, via, flag, bit, times, put_all, text, periods}
 use Rattle.definition.specs.Model.{Calendar}
 use Rattle.definition.specs.Field.{text_in, yes_in}

@@ -44,7 +44,15 @@ impl Section<'_> {
         if count <= row {
             return None;
         }
-        let p = names::place_in(out, Kind::Calendars, self.start, words, self.names, count, row);
+        let p = names::place_in(
+            out,
+            Kind::Calendars,
+            self.start,
+            words,
+            self.names,
+            count,
+            row,
+        );
         Some(model::parts::calendar_places(out, p))
     }
 

@@ -2,12 +2,11 @@
 use mathlib.Core.Path.{◌≡◌, refl, sym, ap, ◌∙◌, subst}
 use mathlib.Core.Bool.{Bool, true, false, ◌&&◌}
 use mathlib.Core.List.{List}
-use Prim.Native.Nat.{ℕ, ◌*◌, ◌%◌, ◌^◌, ◌<◌}
+use Prim.Native.Nat.{ℕ, ◌*◌, ◌%◌, ◌^◌}
 use native.Mathlib.Omega.{arith}
 use borrow.Author.Tests.{le-leb}
 use lib.Dec.{leb, eqb}
-use lib.ListN.{length, get_or}
-use Rattle.definition.specs.Text.{Text}
+use lib.ListN.{length}
 use Rattle.definition.specs.Format.{Format, times, whole, ◌⊗◌}
 use Rattle.definition.specs.Tree.{Element}
 use Rattle.definition.specs.Pack.{counts, counts_of, body, body_of, project, calendar, activity, link, resource, assignment, expense}

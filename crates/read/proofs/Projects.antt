@@ -1,9 +1,9 @@
 -- The project's record from what its element says. Assumes nothing.
-use Rattle.std.proofs.Common.{◌≡◌, ℕ, suc, ◌+◌, ◌%◌, ◌^◌, true, false, eqb, eqb-true, true≢false, List, [], ◌∷◌, ◌++◌, length, ℤ, pos, refl, sym, ap, ◌∙◌, arith}
+use Rattle.std.proofs.Common.{◌≡◌, ℕ, suc, ◌+◌, ◌%◌, ◌^◌, true, false, eqb, eqb-true, true≢false, List, [], ◌∷◌, ◌++◌, length, pos, refl, sym, ap, ◌∙◌, arith}
 use Rattle.definition.specs.declared.Date.{Date as DayNumber}
 use Rattle.std.specs.Prelude.{Option, Some, None}
 use Prim.Native.String.{String}
-use Rattle.definition.specs.Base.{◌>>=◌, ◌or◌, ◌or_else◌, given as present}
+use Rattle.definition.specs.Base.{◌>>=◌, ◌or◌, ◌or_else◌}
 use Rattle.definition.specs.Bits.{Bits, pad}
 use Rattle.definition.specs.Text.{Text}
 use Rattle.definition.specs.Date.{Date, date_of, epoch, from_days}
@@ -15,7 +15,6 @@ use Rattle.definition.specs.Pack.{project}
 use Rattle.definition.specs.Task.{context_of}
 use Rattle.definition.specs.Read.{project_of}
 use Rattle.definition.specs.Answer.{date_meaning, day_number_of}
-use Rattle.definition.specs.declared.Date as D
 use Rattle.laws.specs.Bits.{enc_low}
 use Rattle.laws.specs.FitLists.{is_given_lem}
 use Rattle.laws.specs.FitFields.{date_in_lem as in_years_lem}

@@ -3,7 +3,7 @@ use Rattle.definition.specs.Answer.{answer_length, answer_number}
 use Rattle.std.specs.Prelude.{ℕ, ◌≡◌, List, length, replicate}
 use Rattle.definition.specs.Text.{Text}
 use Rattle.definition.specs.Refusal.{Answer, result, left, written, tree_refusal, read_answer}
-use Rattle.std.specs.Prelude.{Result, Ok, Err}
+use Rattle.std.specs.Prelude.{Result}
 use Rattle.definition.specs.declared.Refusal.{Refusal}
 
 -- document 01's number, and how many bytes the model has

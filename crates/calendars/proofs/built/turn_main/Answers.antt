@@ -1,4 +1,3 @@
-use Rattle.std.proofs.Common.{sym, ap, ◌∙◌}
 use Rattle.rows.specs.Rows.{calendar_meaning}
 use Rattle.calendars.specs.Built.{TurnsBy}
 use Rattle.calendars.proofs.built.turn_main.Goals as goal

@@ -1,4 +1,4 @@
-use Rattle.std.proofs.Common.{◌≡◌, sym, ap, ◌∙◌}
+use Rattle.std.proofs.Common.{sym, ap, ◌∙◌}
 use Rattle.definition.specs.Base.{◌or◌, ◌or_else◌}
 use Rattle.definition.specs.Text.{Text, trim}
 use Rattle.definition.specs.Field.{text_in}

@@ -1,5 +1,4 @@
-use Rattle.std.proofs.Common.{◌∷◌, [], ap, length, arith, drop_of_length-le}
-use Rattle.definition.specs.Bits.{enc}
+use Rattle.std.proofs.Common.{◌∷◌, [], drop_of_length-le}
 use Rattle.read.proofs.Closing.{closing_none, closing_more, closing_all, left_next}
 use Rattle.read.proofs.sections.close_counts.Goals as goal
 

@@ -1,5 +1,4 @@
 use mathlib.Core.Path.{◌∙◌}
-use native.Mathlib.Omega.{arith}
 use Rattle.read.specs.Sections.{Few}
 use Rattle.tree.specs.Root.{root_at}
 use Rattle.read.proofs.Chains.{Fit, fit_tree, six_same, six_put, six_counted}

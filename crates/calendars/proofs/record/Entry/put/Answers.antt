@@ -1,4 +1,4 @@
-use Rattle.std.proofs.Common.{ap, ◌∙◌}
+use Rattle.std.proofs.Common.{ap}
 use Rattle.definition.specs.Text.{Text}
 use Rattle.tree.specs.Place.{meaning}
 use Rattle.bits.specs.Steps.{put_same}
