@@ -2,9 +2,8 @@
 // 01's day number. Inside, a day is counted from 1 January of the year -10000 and a year from that year, so that nothing is negative.
 #![tactic(auto)]
 
-ghost use Rattle.std.specs.Prelude.{◌≡◌, ◌≤◌, ◌<◌, ◌^◌, pos, ◌-ℤ◌, MatchOption, Some, None};
-ghost use Rattle.definition.specs.Text.{before, after};
-ghost use Rattle.definition.specs.Date.{leap, month_length, new_year, date_at, weekday, ymd_of, year_at, from_days, from_ymd, dash, first_ten, date_parts, date_of};
+ghost use Rattle.std.specs.Prelude.{◌≡◌, ◌≤◌, ◌<◌, ◌^◌, pos, ◌-ℤ◌};
+ghost use Rattle.definition.specs.Date.{leap, month_length, new_year, date_at, weekday, ymd_of, year_at, from_days, from_ymd, first_ten, date_parts, date_of};
 ghost use Rattle.laws.specs.Calendar.{MarchDay, IsDay};
 ghost use Rattle.definition.specs.Answer.{date_meaning, day_number_of};
 ghost use Rattle.date.specs.Answer.{ymd_at, weekday_at, length_at, days_between};
@@ -211,28 +210,17 @@ fn day_part(year: i32, month: u32, s: &[u8]) -> Option<Date>
     from_ymd(year, month, text::whole_of(s)?)
 }
 
-// What stands before the first `-`, and behind it.
-fn split_dash(s: &[u8]) -> Option<(&[u8], &[u8])>
-    ensures { MatchOption result (after dash s.now ≡ None) (λ p. (before dash s.now ≡ p.0.now) × (after dash s.now ≡ Some p.1.now)) }
-{
-    let k = text::place(s, b'-');
-    if k < s.len() {
-        return Some((&s[..k], &s[k + 1..]));
-    }
-    None
-}
-
 fn month_part(year: i32, s: &[u8]) -> Option<Date>
     ensures { date_meaning result ≡ day_number_of (month_part year s.now) }
 {
-    let (head, rest) = split_dash(s)?;
+    let (head, rest) = text::cut_at(s, b'-')?;
     day_part(year, text::whole_of(head)?, rest)
 }
 
 fn date_parts(s: &[u8]) -> Option<Date>
     ensures { date_meaning result ≡ day_number_of (date_parts s.now) }
 {
-    let (head, rest) = split_dash(s)?;
+    let (head, rest) = text::cut_at(s, b'-')?;
     month_part(text::whole_of(head)?, rest)
 }
 

@@ -75,10 +75,7 @@ fn put_day(rt: &impl Print, d: Date) -> io::Result<()> {
 
 fn put_days(rt: &impl Print, r: Rule) -> io::Result<()> {
     let mut c = recurrence::start(r);
-    for _ in 0..=DAYS {
-        let Step::Day(d, after) = recurrence::next(r, c) else {
-            break;
-        };
+    while let Step::Day(d, after) = recurrence::next(r, c) {
         put_day(rt, d)?;
         c = after;
     }

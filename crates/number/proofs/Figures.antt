@@ -14,7 +14,7 @@ use Rattle.definition.specs.declared.Figures.{Figures}
 use Rattle.std.specs.Prelude.{Some, None, position}
 use Rattle.std.proofs.lemmas.List.Quantifiers.{position-Some}
 use Rattle.number.specs.Tests.{is_true}
-use Rattle.number.proofs.Parts.{place_found, place_missing}
+use Rattle.number.proofs.Parts.{place_found, place_missing, cut_length}
 use Rattle.text.specs.Parts.{at_end_lem, all_of}
 use Rattle.text.specs.Cut.{before_take, after_drop}
 pub use Rattle.laws.specs.Durations.{Least, of_test, figures_least}
@@ -51,49 +51,33 @@ stops (b ∷ s) part f h n = go (is_unit b) h (λ k. stops s (part ++ (b ∷ [])
     go true h e = absurd (omega arith)
     go false h e = e (omega arith)
 
--- the loop's view: what is left of s from a place on, whose first unit stands u further
-module _ (s : Text) (from u : ℕ) (f : Figures) (found : Some u ≡ position is_unit (take (length s - from) (drop from s))) where
-  pub unit_within : from + u < length s
-  unit_within =
-      let part = take (length s - from) (drop from s) in
-      let l : length (drop from s) ≡ length s - from = length-drop from s in
-      let t : length part ≡ length (drop from s) = ap (λ (l : Text). length l) (all_of from s) in
-      let w : u < length part = (position-Some is_unit part u 0 (sym found)).0 in
-      omega (arith, w, l, t)
+-- what is left of a time part, whose first unit stands at u
+module _ (s : Text) (u : ℕ) (f : Figures) (found : Some u ≡ position is_unit s) where
+  pub unit_within : u < length s
+  unit_within = (position-Some is_unit s u 0 (sym found)).0
 
-  at_unit : u ≡ length (before is_unit (drop from s))
-  at_unit = place_found is_unit _ u found ∙ ap (λ (l : Text). length (before is_unit l)) (all_of from s)
+  at_unit : u ≡ length (before is_unit s)
+  at_unit = place_found is_unit s u found
 
-  one_piece : time_figures (drop from s) [] f
-      ≡ (piece_of (take (from + u - from) (drop from s)) then λ x. time_figures (drop (from + u + 1) s) [] (set_unit (get_or s (from + u) 0) x f))
+  one_piece : time_figures s [] f ≡ (piece_of (take u s) then λ x. time_figures (take (length s - (u + 1)) (drop (u + 1) s)) [] (set_unit (get_or s u 0) x f))
   one_piece =
-      let l : length (drop from s) ≡ length s - from = length-drop from s in
-      let n : from + u - from ≡ length (before is_unit (drop from s)) = omega (arith, at_unit) in
-      let o : from + suc (length (before is_unit (drop from s))) ≡ from + u + 1 = omega (arith, at_unit) in
-      let k : from + length (before is_unit (drop from s)) ≡ from + u = omega (arith, at_unit) in
-      let p : take (from + u - from) (drop from s) ≡ before is_unit (drop from s) = ap (λ (i : ℕ). take i (drop from s)) n ∙ sym (before_take is_unit (drop from s)) in
-      let d : drop (suc (length (before is_unit (drop from s)))) (drop from s) ≡ drop (from + u + 1) s = drop-drop _ from s ∙ ap (λ (i : ℕ). drop i s) o in
-      let g : get_or (drop from s) (length (before is_unit (drop from s))) 0 ≡ get_or s (from + u) 0 = get_or-drop from s _ 0 ∙ ap (λ (i : ℕ). get_or s i 0) k in
-      onward (drop from s) [] f (omega (arith, at_unit, unit_within, l))
-      ∙ ap (λ (q : Text). piece_of q then λ x. time_figures (drop (suc (length (before is_unit (drop from s)))) (drop from s)) [] (set_unit (get_or (drop from s) (length (before is_unit (drop from s))) 0) x f)) (sym p)
-      ∙ ap (λ (q : Text). piece_of (take (from + u - from) (drop from s)) then λ x. time_figures q [] (set_unit (get_or (drop from s) (length (before is_unit (drop from s))) 0) x f)) d
-      ∙ ap (λ (b : ℕ). piece_of (take (from + u - from) (drop from s)) then λ x. time_figures (drop (from + u + 1) s) [] (set_unit b x f)) g
+      let p : take u s ≡ before is_unit s = ap (λ (i : ℕ). take i s) at_unit ∙ sym (before_take is_unit s) in
+      let n : suc (length (before is_unit s)) ≡ u + 1 = omega (arith, at_unit) in
+      let d : drop (suc (length (before is_unit s))) s ≡ take (length s - (u + 1)) (drop (u + 1) s) = ap (λ (i : ℕ). drop i s) n ∙ sym (all_of (u + 1) s) in
+      onward s [] f (omega (arith, at_unit, unit_within))
+      ∙ ap (λ (q : Text). piece_of q then λ x. time_figures (drop (suc (length (before is_unit s))) s) [] (set_unit (get_or s (length (before is_unit s)) 0) x f)) (sym p)
+      ∙ ap (λ (q : Text). piece_of (take u s) then λ x. time_figures q [] (set_unit (get_or s (length (before is_unit s)) 0) x f)) d
+      ∙ ap (λ (i : ℕ). piece_of (take u s) then λ x. time_figures (take (length s - (u + 1)) (drop (u + 1) s)) [] (set_unit (get_or s i 0) x f)) (sym at_unit)
 
   -- what reading the piece gives decides
-  pub read : (a : Result Float Unread) {b : Result Float Unread} → a ≡ piece_of (take (from + u - from) (drop from s)) → a ≡ b
-      → (b then λ x. time_figures (drop (from + u + 1) s) [] (set_unit (get_or s (from + u) 0) x f)) ≡ time_figures (drop from s) [] f
+  pub read : (a : Result Float Unread) {b : Result Float Unread} → a ≡ piece_of (take u s) → a ≡ b
+      → (b then λ x. time_figures (take (length s - (u + 1)) (drop (u + 1) s)) [] (set_unit (get_or s u 0) x f)) ≡ time_figures s [] f
   read a {b} e g =
-      ap (λ (n : Result Float Unread). n then λ x. time_figures (drop (from + u + 1) s) [] (set_unit (get_or s (from + u) 0) x f)) (sym g)
-      ∙ ap (λ (r : Reading Float). r then λ x. time_figures (drop (from + u + 1) s) [] (set_unit (get_or s (from + u) 0) x f)) e
+      ap (λ (n : Result Float Unread). n then λ x. time_figures (take (length s - (u + 1)) (drop (u + 1) s)) [] (set_unit (get_or s u 0) x f)) (sym g ∙ e)
       ∙ sym one_piece
 
-pub no_unit : (s : Text) (from : ℕ) (f : Figures) → from < length s → None ≡ position is_unit (take (length s - from) (drop from s))
-    → time_figures (drop from s) [] f ≡ (Err Absent)
-no_unit s from f h none =
-    let l : length (drop from s) ≡ length s - from = length-drop from s in
-    let n : length (drop from s) ≡ length (before is_unit (drop from s))
-    = ap (λ (l : Text). length l) (sym (all_of from s)) ∙ place_missing is_unit _ none ∙ ap (λ (l : Text). length (before is_unit l)) (all_of from s) in
-    stops (drop from s) [] f (omega (arith, n)) (omega (arith, l))
+pub no_unit : (s : Text) (f : Figures) → (length s ≡ 0 → ⊥) → None ≡ position is_unit s → time_figures s [] f ≡ (Err Absent)
+no_unit s f h none = stops s [] f (omega (arith, place_missing is_unit s none)) (omega arith)
 
 -- ---- the unit
 pub set_h : (unit : ℕ) (x : Float) (f : Figures) → unit ≡ 72
@@ -139,14 +123,13 @@ unfolding days_of
 days_by_lem [] h = absurd (h refl)
 days_by_lem (b ∷ s) h = ap (λ (t : Bool). if t then piece_of (before is_d (b ∷ s)) else (Err Absent)) (last_d (b ∷ s))
 
-pub some_days : (s : Text) (k : ℕ) → (length s ≡ 0 → ⊥) → k ≡ length (before is_d s) → k + 1 ≡ length s → piece_of (take k s) ≡ days_of s
-some_days s k n e h =
-    ap (λ (l : Text). piece_of l) (ap (λ (n : ℕ). take n s) e ∙ sym (before_take is_d s))
-    ∙ sym (days_by_lem s n ∙ ap (λ (t : Bool). if t then piece_of (before is_d s) else (Err Absent)) (eq-eqb (length (before is_d s) + 1) (length s) (omega arith)))
+pub some_days : (s days rest : Text) → (length s ≡ 0 → ⊥) → before is_d s ≡ days → after is_d s ≡ Some rest → length rest ≡ 0 → piece_of days ≡ days_of s
+some_days s days rest n e a h =
+    ap piece_of (sym e)
+    ∙ sym (days_by_lem s n ∙ ap (λ (t : Bool). if t then piece_of (before is_d s) else (Err Absent)) (eq-eqb (length (before is_d s) + 1) (length s) (omega (arith, cut_length is_d s rest a))))
 
-pub bad_days : (s : Text) (k : ℕ) → (length s ≡ 0 → ⊥) → k ≡ length (before is_d s) → (k + 1 ≡ length s → ⊥) → days_of s ≡ (Err Absent)
-bad_days s k n e h =
-    days_by_lem s n ∙ ap (λ (t : Bool). if t then piece_of (before is_d s) else (Err Absent)) (ne_eqb (length (before is_d s) + 1) (length s) (λ z. h (omega arith)))
+pub bad_days : (s : Text) → (length s ≡ 0 → ⊥) → (length (before is_d s) + 1 ≡ length s → ⊥) → (Err Absent) ≡ days_of s
+bad_days s n h = sym (days_by_lem s n ∙ ap (λ (t : Bool). if t then piece_of (before is_d s) else (Err Absent)) (ne_eqb (length (before is_d s) + 1) (length s) h))
 
 -- ---- the whole
 pub no_figures : (s : Text) → length s ≡ 0 → figures_of s ≡ (Err Absent)
@@ -165,16 +148,17 @@ unfolding figures_of
 figures_p [] h e = absurd (h refl)
 figures_p (b ∷ s) h e = rw (eq-eqb b 80 e)
 
-pub some_figures : (s rest days time : Text) (k : ℕ) → (length s ≡ 0 → ⊥) → get_or s 0 0 ≡ 80 → rest ≡ drop 1 s → k ≡ length (before is_t rest) → days ≡ take k rest → time ≡ drop (k + 1) rest
+pub some_figures : (s rest days time : Text) → (length s ≡ 0 → ⊥) → get_or s 0 0 ≡ 80 → rest ≡ drop 1 s → before is_t rest ≡ days → (after is_t rest or []) ≡ time
     → (days_of days then λ d. time_figures time [] (day_figures d)) ≡ figures_of s
-some_figures s rest days time k n e r at a b =
-    let d : days ≡ before is_t (drop 1 s) = a ∙ ap (λ (m : ℕ). take m rest) at ∙ sym (before_take is_t rest) ∙ ap (λ (l : Text). before is_t l) r in
-    let t : time ≡ (after is_t (drop 1 s) or []) = b ∙ ap (λ (m : ℕ). drop (m + 1) rest) at ∙ sym (after_drop is_t rest) ∙ ap (λ (l : Text). after is_t l or []) r in
+some_figures s rest days time n e r a b =
+    let d : days ≡ before is_t (drop 1 s) = sym a ∙ ap (λ (l : Text). before is_t l) r in
+    let t : time ≡ (after is_t (drop 1 s) or []) = sym b ∙ ap (λ (l : Text). after is_t l or []) r in
     ap (λ (l : Text). days_of l then λ d. time_figures time [] (day_figures d)) d
     ∙ ap (λ (l : Text). days_of (before is_t (drop 1 s)) then λ d. time_figures l [] (day_figures d)) t
     ∙ sym (figures_p s n e)
 
 -- ---- all is read
-pub all_read : (s : Text) (from : ℕ) (f : Figures) → length s ≤ from → time_figures (drop from s) [] f ≡ Ok f
+pub all_read : (s : Text) (f : Figures) → length s ≡ 0 → time_figures s [] f ≡ Ok f
 unfolding time_figures
-all_read s from f h = rw (at_end_lem s from h)
+all_read [] f h = refl
+all_read (b ∷ s) f h = absurd (omega arith)

@@ -5,7 +5,12 @@ use Rattle.std.specs.List.{position_or_len}
 use Rattle.std.proofs.Common.{cond, refl, ap, ◌∙◌, inl, inr, le-ltb, lt-ltb}
 use Rattle.std.proofs.lemmas.List.Recursion.{is_position_or_len}
 use Rattle.text.specs.Parts.{le_or_lt}
-use Rattle.definition.specs.Text.{Text, before}
+use Rattle.std.specs.Prelude.{MatchOption}
+use Rattle.std.specs.Borrow.{Bor}
+use Rattle.std.proofs.Common.{rules}
+use Rattle.laws.specs.Options.{Some-injective}
+use Rattle.definition.specs.Base.{◌or◌}
+use Rattle.definition.specs.Text.{Text, before, after}
 use Rattle.text.specs.Cut.{place_of, place_within}
 
 -- what a part up to a place has for its length
@@ -42,3 +47,21 @@ place_found p s i e = ap (λ (o : Option ℕ). unwrap_or o (length s)) e ∙ pla
 
 pub place_missing : (p : ℕ → Bool) (s : Text) → None ≡ position p s → length s ≡ place_of p s
 place_missing p s e = ap (λ (o : Option ℕ). unwrap_or o (length s)) e ∙ place_is p s
+
+-- ---- a text cut at a byte that passes
+pub cut_length : (p : ℕ → Bool) (s rest : Text) → after p s ≡ Some rest → length (before p s) + suc (length rest) ≡ length s
+unfolding before after
+cut_length p [] rest e = absurd (search rules)
+cut_length p (b ∷ s) rest e = go (p b) e (cut_length p s rest)
+  where
+    go : (t : Bool) → (if t then Some s else after p s) ≡ Some rest → (after p s ≡ Some rest → length (before p s) + suc (length rest) ≡ length s)
+        → length (if t then [] else b ∷ before p s) + suc (length rest) ≡ suc (length s)
+    go true e h = omega (arith, ap length (Some-injective _ _ e))
+    go false e h = omega (arith, h e)
+
+-- its parts, with others where there is none
+pub cut_or : (p : ℕ → Bool) (s : Text) (o : Option (Bor Text × Bor Text)) (a b : Bor Text) {r : Bor Text × Bor Text} → r ≡ unwrap_or o (a, b) → a.now ≡ s
+    → MatchOption o ((before p s ≡ s) × (after p s ≡ None)) (λ q. (before p s ≡ q.0.now) × (after p s ≡ Some q.1.now))
+    → (before p s ≡ r.0.now) × ((after p s or b.now) ≡ r.1.now)
+cut_or p s None a b d e (f, g) = (f ∙ sym e ∙ ap (λ (q : Bor Text × Bor Text). q.0.now) (sym d), ap (λ (o : Option Text). o or b.now) g ∙ ap (λ (q : Bor Text × Bor Text). q.1.now) (sym d))
+cut_or p s (Some q) a b d e (f, g) = (f ∙ ap (λ (q : Bor Text × Bor Text). q.0.now) (sym d), ap (λ (o : Option Text). o or b.now) g ∙ ap (λ (q : Bor Text × Bor Text). q.1.now) (sym d))

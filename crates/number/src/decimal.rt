@@ -22,7 +22,8 @@ struct Passed {
     end: usize,
 }
 
-// What a number begins with: its digits, how many, how many of them after the dot, and the place behind them, at which the exponent is looked for.
+// What a number begins with: its digits, how many, how many of them after the dot, and the place behind them. A place and no rest of the text, in
+// both structs, as the count and the places are told by it.
 #[derive(Clone, Copy)]
 struct Mantissa {
     value: usize,
@@ -38,10 +39,9 @@ fn with_digit(n: usize, b: u8) -> usize
     requires { (48 ≤ b) × (b ≤ 57) }
     ensures { result ≡ min (n * 10 + (b - 48)) limit }
 {
-    if n >= LIMIT / 10 {
-        return LIMIT;
-    }
-    n * 10 + usize::from(b - b'0')
+    n.saturating_mul(10)
+        .saturating_add(usize::from(b - b'0'))
+        .min(LIMIT)
 }
 
 // The digits from a place on, written after those of v.
@@ -78,18 +78,15 @@ fn power_of(s: &[u8]) -> Option<Power>
     Some(Power::Up(digits.value))
 }
 
-// The power of ten, from behind the digits: none where the text ends there.
-fn power_at(s: &[u8], e: usize) -> Option<Power>
-    requires { e ≤ length s.now }
-    ensures { result ≡ power_at (drop e s.now) }
+// The power of ten that stands behind the digits: none where the text ends there.
+fn power_at(s: &[u8]) -> Option<Power>
+    ensures { result ≡ power_at s.now }
 {
-    if e == s.len() {
-        return Some(Power::Up(0));
+    match s {
+        [] => Some(Power::Up(0)),
+        [b'e' | b'E', rest @ ..] => power_of(rest),
+        _ => None,
     }
-    if (s[e] == b'e') | (s[e] == b'E') {
-        return power_of(&s[e + 1..]);
-    }
-    None
 }
 
 // 10 ^ k, exactly: the product of some of 10, its square, the square of that and so on.
@@ -190,7 +187,7 @@ fn unsigned(s: &[u8]) -> Result<f64, Unread>
     if m.count == 0 {
         return Err(Unread::Absent);
     }
-    let Some(power) = power_at(s, m.end) else {
+    let Some(power) = power_at(&s[m.end..]) else {
         return Err(Unread::Absent);
     };
     scale(m.value, m.places, power)

@@ -19,7 +19,7 @@ fn piece_of(s: &[u8]) -> Result<f64, Unread>
     not_below_zero(crate::decimal::number_of(s))
 }
 
-// The figures with that of a unit set.
+// The figures with that of a unit set. The unit is the byte that it is in the text, and what is neither H nor M is S, as the definition has it.
 fn set_unit(unit: u8, x: f64, f: Figures) -> Figures
     ensures { result ≡ set_unit unit x f }
 {
@@ -42,17 +42,16 @@ fn time_figures(s: &[u8], start: Figures) -> Result<Figures, Unread>
     ensures { result ≡ time_figures s.now [] start }
 {
     let mut f = start;
-    let mut from = 0;
-    // A `while`: each turn goes on behind the unit that it found.
-    while from < s.len() {
-        let Some(u) = first_unit(&s[from..]) else {
-            return Err(Unread::Absent);
-        };
-        let k = from + u;
-        f = set_unit(s[k], piece_of(&s[from..k])?, f);
-        from = k + 1;
+    let mut rest = s;
+    while let Some(u) = first_unit(rest) {
+        f = set_unit(rest[u], piece_of(&rest[..u])?, f);
+        rest = &rest[u + 1..];
     }
-    Ok(f)
+    if rest.is_empty() {
+        Ok(f)
+    } else {
+        Err(Unread::Absent)
+    }
 }
 
 // The part before `T`.
@@ -62,9 +61,11 @@ fn days_of(s: &[u8]) -> Result<f64, Unread>
     if s.is_empty() {
         return Ok(0.0);
     }
-    let k = text::place(s, b'D');
-    if k + 1 == s.len() {
-        return piece_of(&s[..k]);
+    let Some((days, rest)) = text::cut_at(s, b'D') else {
+        return Err(Unread::Absent);
+    };
+    if rest.is_empty() {
+        return piece_of(days);
     }
     Err(Unread::Absent)
 }
@@ -87,9 +88,8 @@ fn figures_of(s: &[u8]) -> Result<Figures, Unread>
     let [b'P', rest @ ..] = s else {
         return Err(Unread::Absent);
     };
-    let k = text::place(rest, b'T');
-    let days = days_of(&rest[..k])?;
-    time_figures(crate::scan::behind(rest, k), day_figures(days))
+    let (days, time) = text::cut_at(rest, b'T').unwrap_or((rest, &[]));
+    time_figures(time, day_figures(days_of(days)?))
 }
 
 // days × 1440 + hours × 60 + minutes + seconds / 60, summed left to right.

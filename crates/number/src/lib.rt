@@ -3,7 +3,6 @@
 
 mod decimal;
 mod duration;
-mod scan;
 mod time;
 mod whole;
 mod write;

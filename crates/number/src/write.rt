@@ -1,4 +1,5 @@
-// The texts of durations and times, written into a lent buffer.
+// The texts of durations and times, written into a lent buffer. Byte by byte: what `write!` leaves in a String or a Vec is known to a proof, what it
+// leaves in a slice or a Cursor over one is not. The buffer and the place are no struct, for the reason that bits gives in writing.rt.
 ghost use Rattle.std.specs.Prelude.{◌≡◌, ◌+◌, ◌%◌, ◌<◌, ◌≤◌, [], ◌∷◌, ◌++◌, length, IfSome};
 ghost use Rattle.definition.specs.Duration.{decimal, duration_text};
 ghost use Rattle.definition.specs.Time.{two_digits, time_text};

@@ -23,7 +23,8 @@ fn digit(b: u8) -> Option<u64>
     b.is_ascii_digit().then(|| u64::from(b - b'0'))
 }
 
-// The digits s of a number that is at most `most`: so few that the number fits 64 bits.
+// The digits s of a number that is at most `most`: so few that the number fits 64 bits. Two loops: with the checks of many_digits alone, usual numbers
+// took 1.79 times as long as with Rust's `parse` (bar: 1.5).
 fn few_digits(s: &[u8], most: u64) -> Option<u64>
     requires { length s.now ≤ 18 }
     ensures { result ≡ digits_to most 0 s.now }

@@ -13,7 +13,7 @@ use Rattle.date.proofs.date_parts.Goals as goal
 
 pub returns-in_err-head : goal.returns-in_err-head
 unfolding date_parts date_meaning day_number_of
-returns-in_err-head c = rw (c.from_residual.ensures, c.in_err-head.ensures, nothing (signed_of 32 (before dash c.args.s.now)))
+returns-in_err-head c = rw (c.from_residual.ensures, c.in_err-head.ensures.1, nothing (signed_of 32 (before dash c.args.s.now)))
 
 pub returns-in_err-whole_of : goal.returns-in_err-whole_of
 unfolding date_parts date_meaning day_number_of

@@ -10,7 +10,7 @@ use Rattle.date.proofs.month_part.Goals as goal
 
 pub returns-in_err-head : goal.returns-in_err-head
 unfolding month_part date_meaning day_number_of
-returns-in_err-head c = rw (c.from_residual.ensures, c.in_err-head.ensures, nothing (unsigned_of 32 (before dash c.args.s.now)))
+returns-in_err-head c = rw (c.from_residual.ensures, c.in_err-head.ensures.1, nothing (unsigned_of 32 (before dash c.args.s.now)))
 
 pub returns-in_err-whole_of : goal.returns-in_err-whole_of
 unfolding month_part date_meaning day_number_of
