@@ -46,11 +46,10 @@ fn is_calendar(s: &[u8], x: Section, names: Names<'_>, name: &[u8]) -> bool
 fn calendar_known(s: &[u8], p: Place, x: Section, names: Names<'_>) -> bool
     ensures { (m : Model) (end : ℕ) → Holds calendar s.now x m.calendars end → NamesIn s.now m names.entry.table names.entry.words.now → (o : Option Text) → Stands (optional text) s.now p o → result ≡ if_given (is_calendar m) o }
 {
-    let Some((start, len)) = take_name(s, p).value else {
-        return true;
-    };
-    let end = start + len;
-    is_calendar(s, x, names, &s[start..end])
+    match take_name(s, p).value {
+        Some(name) => is_calendar(s, x, names, name),
+        None => true,
+    }
 }
 
 // Whether a row is missing, or below another.
@@ -98,41 +97,22 @@ fn row_below(s: &[u8], p: Place, count: u32) -> bool
 }
 
 // Whether the record at a place, the one of a row, keeps its rules. The kind is matched, since each has a rule of its own. That these are the sections of
-// a decoded model is said here and in the two callers alone; the names go beside the sections, as
-// their words are lent for these tests alone.
-fn is_right(
-    s: &[u8],
-    p: Place,
-    kind: Kind,
-    own: u32,
-    w: Sections,
-    names: Names<'_>,
-) -> bool
+// a decoded model is said here and in the two callers alone; the names go beside the sections, as their words are lent for these tests alone.
+fn is_right(s: &[u8], p: Place, kind: Kind, own: u32, w: Sections, names: Names<'_>) -> bool
     ensures { (m : Model) → Decoded s.now m w → NamesIn s.now m names.entry.table names.entry.words.now → (a : Item kind) → Stands (whole (format_of kind)) s.now p a → result ≡ right_of m kind (own, a) }
 {
     match kind {
         Kind::Calendars => true,
         Kind::Activities => judge_activity(s, p, own, w.calendars, names).value,
         Kind::Links => rows_below(s, p, w.activities.count, w.activities.count),
-        Kind::Resources => calendar_known(
-            s,
-            resource_calendar_place(s, p),
-            w.calendars,
-            names,
-        ),
+        Kind::Resources => calendar_known(s, resource_calendar_place(s, p), w.calendars, names),
         Kind::Assignments => rows_below(s, p, w.activities.count, w.resources.count),
         Kind::Expenses => row_below(s, p, w.activities.count),
     }
 }
 
 // Whether each record of a section keeps its rules.
-pub(crate) fn every_right(
-    s: &[u8],
-    kind: Kind,
-    x: Section,
-    w: Sections,
-    names: Names<'_>,
-) -> bool
+pub(crate) fn every_right(s: &[u8], kind: Kind, x: Section, w: Sections, names: Names<'_>) -> bool
     ensures { (m : Model) → Decoded s.now m w → NamesIn s.now m names.entry.table names.entry.words.now → (xs : List (Item kind)) (end : ℕ) → Holds (format_of kind) s.now x xs end → result ≡ every? (right_of m kind) (numbered 0 xs) }
 {
     let mut q = Place { byte: x.at, bit: 0 };

@@ -1,5 +1,5 @@
-// Keys in tables of lent words: each row's key by its hash, and the byte at which its record stands. Casts by `as`: the low 32 bits of a hash, a byte's
-// place that fits a word, and a word to an index, for which there is no From.
+// Keys in tables of lent words: each row's key by its hash, and the byte at which its record stands. Casts by `as`: the low 32 bits of a row and of a
+// byte's place, by a remainder since `as` asks that the value fits, and a word to an index, for which there is no From.
 ghost use Rattle.std.specs.Prelude.{◌≡◌, List, map, ℕ, ◌<◌, ◌≤◌, ◌^◌, length, get_or, take};
 ghost use Rattle.definition.specs.Base.{given, find, some?};
 ghost use Rattle.definition.specs.Check.{distinct};
@@ -17,8 +17,9 @@ use model::Section;
 pub(crate) fn hash_key(key: KeyBytes) -> u32
     ensures { result ≡ hash_key (key_of key.entry) }
 {
-    let n = key.row % 4294967296 * 2654435761;
-    ((n + u64::from(index::hash_of(key.name))) % 4294967296) as u32
+    ((key.row % 4294967296) as u32)
+        .wrapping_mul(2654435761)
+        .wrapping_add(index::hash_of(key.name))
 }
 
 pub(crate) fn hash_at<K: Records>(s: &[u8], p: Place) -> u32
@@ -43,9 +44,7 @@ fn fill<K: Records>(s: &[u8], x: Section, words: &mut [u32], t: Table)
 pub(crate) fn empty_table(s: &[u8], words: &mut [u32], at: usize, rows: u32) -> Option<Table>
     ensures { EmptyAt s.now at rows words.old words.new result }
 {
-    if 4294967295 < s.len() {
-        return None;
-    }
+    u32::try_from(s.len()).ok()?;
     let t = index::table_at(words.len(), at, rows)?;
     t.clear(words);
     Some(t)
