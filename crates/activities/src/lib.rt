@@ -46,7 +46,7 @@ fn put_tasks(out: &mut [u8], words: &mut [u32], section: Section<'_>) -> Records
 }
 
 // The calendars stand at c in the same buffer, before p; their names are read there. Where they do not, nothing is written. The words behind the
-// table of the kept tasks are used, and cleared.
+// table of the kept tasks are used, and cleared. Resources begin with the like test: to share it would lend the buffer and the words through a closure.
 pub fn put_activities(
     out: &mut [u8],
     p: Place,
@@ -60,6 +60,7 @@ pub fn put_activities(
     let end = index::end_of(tasks, words.len());
     if !names::calendars_before(out, c, root, p) {
         bits::fill_from(words, end, 0);
+        // PAST and no Option: what is put there does not fit, so that the callers need no branch.
         return Records {
             count: 0,
             next: PAST,

@@ -47,6 +47,7 @@ pub(crate) fn own_for(
     let end = index::end_of(tasks, words.len());
     let made = names::index_calendars(out, c, root, words, end);
     let columns = columns_for(tasks, made.end, words.len(), root.tree);
+    // usize has no From<u32>.
     let behind = columns.at + 2 * (columns.rows as usize);
     let ids = names::ids_for(out.len(), p, words, behind, columns.rows);
     Own {

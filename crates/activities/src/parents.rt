@@ -1,5 +1,6 @@
-// The nearest row before a task that has a lower level, without a look at all rows: for each row two lent words, where its element stands in the tree
-// and its parent row plus 1, 0 for none (words, as there is no heap for pairs with an Option). A row is made a place by `as usize`, which has no From. The parent of a row is the row before it, or a row above that one.
+// The nearest row before a task that has a lower level, without a look at all rows. For each row there are two lent words: where its element stands
+// in the tree, and its parent row plus 1, 0 for none. They are words, as there is no heap for pairs with an Option.
+// The parent of a row is the row before it, or a row above that one. A row is made a place by `as usize`, which has no From<u32>.
 ghost use Rattle.std.specs.Prelude.{◌≡◌, map, ◌<◌, take, length};
 ghost use Rattle.definition.specs.Task.{level_of, kept_tasks, parent_of};
 ghost use Rattle.laws.specs.Bits.{Bytes};
@@ -25,7 +26,7 @@ pub(crate) fn columns_for(tasks: Option<Table>, from: usize, len: usize, tree: &
 {
     let rows = tasks.map_or(0, |t| t.rows);
     let room = len.saturating_sub(from) / 2;
-    if 4294967295 < tree.len() || room < rows as usize {
+    if u32::try_from(tree.len()).is_err() || room < rows as usize {
         return Columns { at: from, rows: 0 };
     }
     Columns { at: from, rows }

@@ -36,7 +36,7 @@ fn names_calendar(uid: &[u8]) -> bool
     !uid.is_empty() & !text::same(uid, b"-1")
 }
 
-// The name of the calendar that the task wants, where it has a name.
+// The name of the calendar that the task wants, where it has a name. Whether it is elapsed is asked once for a task: the minutes of its day need it too.
 pub(crate) fn calendar_for<'a>(
     out: &[u8],
     words: &[u32],

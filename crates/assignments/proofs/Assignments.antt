@@ -1,35 +1,69 @@
 -- Assignments, one after another. Assumes nothing.
-use Rattle.std.proofs.Common.{◌≡◌, ℕ, ◌+◌, ◌%◌, ◌^◌, true, List, [], ◌∷◌, ◌++◌, map, sym, refl, ap, ◌∙◌, append_assoc, append-nil}
+use Rattle.std.proofs.Common.{◌≡◌, ℕ, ◌+◌, ◌%◌, ◌^◌, true, List, [], ◌∷◌, ◌++◌, map, sym, refl, ap, ◌∙◌, append_assoc, append-nil, subst, true≢false, false}
 use Rattle.std.specs.Prelude.{ℤ}
 use Rattle.std.specs.Prelude.{Option, Some, None}
-use Rattle.definition.specs.Base.{◌>>=◌, present}
-use Rattle.definition.specs.Text.{Text}
+use Rattle.definition.specs.Base.{present}
 use Rattle.definition.specs.Tree.{Element}
 use Rattle.definition.specs.Format.{whole}
 use Rattle.definition.specs.Pack.{assignment}
 use Rattle.definition.specs.Model.{Assignment}
 use Rattle.definition.specs.Resource.{hours_in, rate_of, assignment_from, assignment_elements}
-use Rattle.bits.specs.Steps.{Puts, put_same}
+use Rattle.bits.specs.Steps.{Puts}
 use Rattle.bits.specs.declared.Place.{Place}
-use Rattle.tree.specs.Place.{element_at}
-use Rattle.rows.specs.Rows.{found_meaning}
 use Rattle.resources.specs.Assignment.{Means}
 use Rattle.resources.specs.declared.assignment.Amounts.{Amounts}
+use Rattle.tree.specs.declared.element.Element.{Element as Named}
+use Rattle.rows.specs.Rows.{found_meaning}
 use Rattle.pack.specs.Record.{assignment_by}
+use Rattle.pack.specs.declared.record.Assignment.{Assignment as X}
+use Rattle.std.specs.Option.{option_map, is_some}
 use Rattle.pack.specs.Writes.{Writes}
 use Rattle.pack.specs.declared.record.Records.{Records}
 use Rattle.assignments.specs.declared.section.Done.{Done}
-use Rattle.assignments.specs.Section.{Wrote}
 use Rattle.assignments.specs.Finders.{Finders, task_by, work_by, cost_by, assignment_for, assignments_by}
 use Rattle.assignments.specs.Records.{assignments_in, AddsAssignment}
-use Rattle.assignments.proofs.Turns.{wrote_more, wrote_as, writes, writes_none, Going, going_all, going_more, going_last}
+use Rattle.assignments.proofs.Turns.{wrote_more, wrote_as, writes, Going, going_all, going_more, going_end}
 
--- ---- one
+-- ---- what an element gives
 
-by_means : (t n : ℕ) {w : Amounts} (rate : Option ℤ) (a : Element) → Means w (hours_in a "Work") (hours_in a "ActualWork") (hours_in a "RemainingWork") → rate ≡ rate_of a
-    → assignment_by t n w rate ≡ assignment_from t n a
-unfolding assignment_from
-by_means t n rate a m e = rw (m.planned_is, m.actual_is, m.remaining_is, e)
+-- its cost resource wins
+pub cost_wins : (g : Finders) (a : Element) (c : Option Named) → found_meaning c ≡ cost_by g a → is_some c ≡ true → None ≡ assignment_for g a
+unfolding assignment_for found_meaning
+cost_wins g a c e s = by c e s
+  where
+    by : (c : Option Named) → found_meaning c ≡ cost_by g a → is_some c ≡ true → None ≡ assignment_for g a
+    by None e s = absurd (true≢false (sym s))
+    by (Some q) e s = rw (← e)
+
+module _ (g : Finders) (a : Element) (c : Option Named) (e : found_meaning c ≡ cost_by g a) (s : is_some c ≡ false) where
+  cost_none : None ≡ cost_by g a
+  unfolding found_meaning
+  cost_none = by c s ∙ e
+    where
+      by : (c : Option Named) → is_some c ≡ false → None ≡ found_meaning c
+      by None s = refl
+      by (Some q) s = absurd (true≢false s)
+
+  module _ {task : Option ℕ} (et : task ≡ task_by g a) where
+    pub no_task : task ≡ None → None ≡ assignment_for g a
+    unfolding assignment_for
+    no_task z = let k : None ≡ task_by g a = sym z ∙ et in rw (← cost_none, ← k)
+
+    module _ {t : ℕ} (z : task ≡ Some t) {row : Option ℕ} (er : row ≡ work_by g a) where
+      pub no_row : row ≡ None → None ≡ assignment_for g a
+      unfolding assignment_for
+      no_row y =
+          let k : Some t ≡ task_by g a = sym z ∙ et in
+          let l : None ≡ work_by g a = sym y ∙ er in
+          rw (← cost_none, ← k, ← l)
+
+      pub both_rows : {n : ℕ} → row ≡ Some n → (w : Amounts) {rate : Option ℤ} → Means w (hours_in a "Work") (hours_in a "ActualWork") (hours_in a "RemainingWork") → rate ≡ rate_of a
+          → ◌≡◌ {A = Option Assignment} (Some record { activity = t; resource = n; planned = w.planned; actual = w.actual; remaining = w.remaining; rate = rate }) (assignment_for g a)
+      unfolding assignment_for assignment_from
+      both_rows {n} y w m h =
+          let k : Some t ≡ task_by g a = sym z ∙ et in
+          let l : Some n ≡ work_by g a = sym y ∙ er in
+          rw (← cost_none, ← k, ← l) (rw (m.planned_is, m.actual_is, m.remaining_is, h))
 
 -- ---- one that may be missing
 
@@ -42,39 +76,13 @@ adds_one : {x : Assignment} {d : List ℕ} {r : Done} {d' : List ℕ} {q : Place
 unfolding present
 adds_one h n p = record { goes = λ d₀ xs u w. wrote_more w h n }
 
--- ---- by the rows that were found
+module _ (f : Finders) (a : Element) {r : Option X} (e : option_map assignment_by r ≡ assignment_for f a) {d : List ℕ} {n : Done} where
+  pub adds_not : r ≡ None → AddsAssignment (assignment_for f a) d n d n
+  adds_not z = let k : None ≡ assignment_for f a = sym (rw z) ∙ e in adds_none (sym k)
 
-abbrev Rowed : Option ℕ → Option ℕ → Element → Option Assignment
-Rowed task row a = task >>= λ t. row >>= λ n. Some (assignment_from t n a)
-
-module _ (task resource : Option ℕ) (a : Element) {d : List ℕ} {r : Done} where
-  pub adds_no_task : task ≡ None → AddsAssignment (Rowed task resource a) d r d r
-  adds_no_task e = adds_none (rw e)
-
-  pub adds_no_row : resource ≡ None → AddsAssignment (Rowed task resource a) d r d r
-  adds_no_row e = adds_none (rw e (by task))
-    where
-      by : (o : Option ℕ) → Rowed o None a ≡ None
-      by None = refl
-      by (Some t) = refl
-
-  pub adds_rows : {t m : ℕ} (w : Amounts) (rate : Option ℤ) {d' : List ℕ} {q : Place} {r' : Done} → task ≡ Some t → resource ≡ Some m
-      → Means w (hours_in a "Work") (hours_in a "ActualWork") (hours_in a "RemainingWork") → rate ≡ rate_of a
-      → Puts (whole assignment) (assignment_by t m w rate) d r.next d' q → (r'.count ≡ (r.count + 1) % 2 ^ 64) × (r'.next ≡ q)
-      → AddsAssignment (Rowed task resource a) d r d' r'
-  adds_rows {t} {m} w rate et er i j h n = rw (et, er) (adds_one (put_same (by_means t m rate a i j) h) n)
-
--- ---- by the cost resource, which wins
-
-module _ (s : Text) {f : Option ℕ} (g : Finders) (a : Element) (e : found_meaning s f ≡ cost_by g a) where
-  pub cost_wins : {q : ℕ} → f ≡ Some q → {d : List ℕ} {r : Done} → AddsAssignment (assignment_for g a) d r d r
-  unfolding assignment_for found_meaning
-  cost_wins {q} z = let k : Some (element_at s q) ≡ cost_by g a = sym (rw z) ∙ e in adds_none (rw (← k))
-
-  pub no_cost : f ≡ None → {task work : Option ℕ} → task ≡ task_by g a → work ≡ work_by g a → {d : List ℕ} {r : Done} {d' : List ℕ} {r' : Done}
-      → AddsAssignment (Rowed task work a) d r d' r' → AddsAssignment (assignment_for g a) d r d' r'
-  unfolding assignment_for found_meaning
-  no_cost z t w h = let k : None ≡ cost_by g a = sym (rw z) ∙ e in rw (← k, ← t, ← w) h
+  pub adds_said : {x : X} → r ≡ Some x → {d' : List ℕ} {q : Place} {n' : Done} → Puts (whole assignment) (assignment_by x) d n.next d' q → (n'.count ≡ (n.count + 1) % 2 ^ 64) × (n'.next ≡ q)
+      → AddsAssignment (assignment_for f a) d n d' n'
+  adds_said {x} z {d'} {q} {n'} h k = let l : Some (assignment_by x) ≡ assignment_for f a = sym (rw z) ∙ e in subst (λ (o : Option Assignment). AddsAssignment o d n d' n') l (adds_one h k)
 
 -- ---- one after another
 
@@ -96,25 +104,18 @@ abbrev pub GoingOn : Finders → List Element → List Element → List ℕ → 
 GoingOn g = Going (whole assignment) true (λ xs es. xs ++ assignments_in g es) (λ xs. Unit {0})
 
 module _ (g : Finders) {es : List Element} {d : List ℕ} {p : Place} where
-  pub go_all : GoingOn g es es d p d (record { count = 0; next = p })
-  go_all = going_all tt
+  pub go_all : {fs : List Element} → fs ≡ es → GoingOn g es fs d p d (record { count = 0; next = p })
+  go_all e = going_all e tt
 
-  module _ {e : Element} {fs : List Element} {d1 : List ℕ} {r1 : Done} {d2 : List ℕ} {r2 : Done} (h : GoingOn g es (e ∷ fs) d p d1 r1)
-      (i : AddsAssignment (assignment_for g e) d1 r1 d2 r2) where
-    pub go_more : {gs : List Element} → fs ≡ gs → GoingOn g es gs d p d2 r2
-    go_more z = going_more h (i p) (λ xs u. tt) (more_assignments g e fs) z (λ xs u. tt)
-
-    pub go_last : fs ≡ [] → Wrote (whole assignment) true (assignments_in g es) d p d2 r2
-    go_last z = going_last h (i p) (λ xs u. tt) (more_assignments g e fs) z (no_assignments g)
+  pub go_more : {e : Element} {l fs : List Element} {d1 : List ℕ} {r1 : Done} {d2 : List ℕ} {r2 : Done} → l ≡ e ∷ fs → GoingOn g es l d p d1 r1 → AddsAssignment (assignment_for g e) d1 r1 d2 r2 → GoingOn g es fs d p d2 r2
+  go_more {e} {l} {fs} {d1} {r1} z h i =
+      let now : GoingOn g es (e ∷ fs) d p d1 r1 = subst (λ (l : List Element). GoingOn g es l d p d1 r1) z h in
+      going_more now (i p) (λ xs u. tt) (more_assignments g e fs) (λ xs u. tt)
 
 -- ---- all
 
 module _ (g : Finders) (root : Element) {d : List ℕ} {p : Place} where
-  pub assignments_none : assignment_elements root ≡ [] → Writes (whole assignment) (assignments_by g root) d p d (record { count = 0; next = p })
-  unfolding assignments_by
-  assignments_none e = writes_none (ap (assignments_in g) e ∙ no_assignments g [])
-
-  pub assignments_all : {es : List Element} → assignment_elements root ≡ es → {d' : List ℕ} {r : Done} {w : Records} → Wrote (whole assignment) true (assignments_in g es) d p d' r
+  pub assignments_all : {fs : List Element} {d' : List ℕ} {r : Done} {w : Records} → GoingOn g (assignment_elements root) fs d p d' r → fs ≡ []
       → (w.count ≡ r.count % 2 ^ 32) × (w.next ≡ r.next) → Writes (whole assignment) (assignments_by g root) d p d' w
   unfolding assignments_by
-  assignments_all e h n = writes (wrote_as (ap (assignments_in g) (sym e)) h) n
+  assignments_all h e n = writes (going_end h e (no_assignments g)) n

@@ -1,8 +1,8 @@
 -- Expenses: whether one stands in the buffer, and one after another, the first of equal ones. Assumes nothing.
 use Rattle.std.specs.Prelude.{if◌then◌else◌}
-use Rattle.std.proofs.Common.{◌≡◌, ℕ, ◌+◌, ◌-◌, ◌%◌, ◌^◌, ◌<◌, ◌≤◌, Bool, true, false, ◌&&◌, ◌||◌, eqb, List, [], ◌∷◌, ◌++◌, map, length, drop, sym, refl, ap, ◌∙◌, append-nil, mod-eq_of_lt, arith, drop_of_length-le}
+use Rattle.std.proofs.Common.{◌≡◌, ℕ, ◌+◌, ◌-◌, ◌%◌, ◌^◌, ◌<◌, ◌≤◌, Bool, true, false, ◌&&◌, ◌||◌, eqb, List, [], ◌∷◌, ◌++◌, map, length, drop, sym, refl, ap, ◌∙◌, append-nil, mod-eq_of_lt, arith, eq-eqb, eqb-true, drop_of_length-le}
 use native.Mathlib.Nat.{sub-zero}
-use Rattle.std.specs.Prelude.{Some}
+use Rattle.std.specs.Prelude.{Option, Some, None}
 use Rattle.definition.specs.Base.{◌or◌, present, some?, same}
 use Rattle.definition.specs.Bits.{Bits}
 use Rattle.definition.specs.Text.{Text}
@@ -24,22 +24,35 @@ use Rattle.model.specs.Lax.{lax_like, lax_same}
 use Rattle.model.specs.Passes.{Passes, pass_read}
 use Rattle.model.specs.Splits.{Stands, stands_is, stands_read, stands_whole, stands_first, stands_pass, Step, step, read_length}
 use Rattle.model.specs.declared.records.Kind.TheVariants.{Expenses}
+use Rattle.tree.specs.Place.{meaning}
+use Rattle.tree.specs.declared.element.Element.{Element as Named}
+use Rattle.rows.specs.Rows.{found_meaning}
 use Rattle.resources.specs.Assignment.{Means}
 use Rattle.resources.specs.declared.assignment.Amounts.{Amounts}
-use Rattle.pack.specs.Record.{expense_by}
 use Rattle.names.specs.Records.{ExpenseFields, expense_fields, plain_expenses, plain_expenses_lem, run_expenses}
 use Rattle.assignments.specs.declared.section.Done.{Done}
 use Rattle.assignments.specs.Section.{Wrote}
+use Rattle.assignments.specs.Finders.{Finders, task_by, cost_by, expense_for}
 use Rattle.assignments.specs.Records.{is_expense_at, is_key, Tells, FewExpenses}
 use Rattle.assignments.proofs.Turns.{wrote_more, wrote_as, wrote_still, wrote_past}
 use Rattle.assignments.specs.InUse.{is_of}
 
 -- ---- the expense at a place
 
-pub expense_at : (d : List ℕ) (p : Place) (activity : ℕ) (name : Text) {x : Field ℕ Place} {t : Text} {b : Bool} → x ≡ taken_at d p 32 → t ≡ ((read_at raw d x.next).0 or []) → b ≡ same name t
-    → (eqb activity x.value && b) ≡ is_expense_at d p activity name
-unfolding is_expense_at
-expense_at d p activity name e h i = rw (i, h, e)
+module _ (d : List ℕ) (p : Place) (activity : ℕ) (name : Text) {x : Field ℕ Place} (e : x ≡ taken_at d p 32) {v : ℕ} (f : v ≡ activity) where
+  pub expense_at : v ≡ x.value → {t : Text} {b : Bool} → t ≡ ((read_at raw d x.next).0 or []) → b ≡ same name t → b ≡ is_expense_at d p activity name
+  unfolding is_expense_at
+  expense_at z h i =
+      let k : eqb activity (taken_at d p 32).value ≡ true = eq-eqb _ _ (sym f ∙ z ∙ ap (λ x. x.value) e) in
+      rw (k, i, h, e)
+
+  pub expense_not : (v ≡ x.value → ⊥) → eqb v x.value ≡ is_expense_at d p activity name
+  unfolding is_expense_at
+  expense_not z = rw (f, e) (by (eqb activity (taken_at d p 32).value) refl)
+    where
+      by : (b : Bool) → eqb activity (taken_at d p 32).value ≡ b → b ≡ (b && same name ((read_at raw d (taken_at d p 32).next).0 or []))
+      by true k = absurd (z (f ∙ eqb-true _ _ k ∙ sym (ap (λ x. x.value) e)))
+      by false k = refl
 
 pub key_at : {d : List ℕ} {p : Place} {t : ExpenseFields} (activity : ℕ) (name : Text) → Stands plain_expenses d p t → is_expense_at d p activity name ≡ is_key activity name t
 unfolding is_expense_at expense_parts
@@ -105,12 +118,29 @@ told_of {xs} {d₀} {p} {d} {r} activity name (fit, few) w i h =
     let z : Reads (times r.count plain_expenses) d p (map expense_fields xs) r.next = rw n (run_expenses (length xs) w.puts i fit) in
     h.tells (map expense_fields xs) r.next _ (rest_in d r.next f) z ∙ some_map (is_key activity name) expense_fields xs
 
--- ---- one
+-- ---- what an element gives
 
-pub expense_is : (activity : ℕ) (r a : Element) {name : Text} (w : Amounts) {accrual : ℕ} → name ≡ (text_in r "Name" or []) → Means w (money_in a "Cost") (money_in a "ActualCost") (money_in a "RemainingCost")
-    → accrual ≡ accrual_of r → expense_by activity name w accrual ≡ expense_from activity r a
-unfolding expense_from
-expense_is activity r a w e m h = rw (e, m.planned_is, m.actual_is, m.remaining_is, h)
+module _ (f : Finders) (a : Element) {task : Option ℕ} (et : task ≡ task_by f a) where
+  pub no_task : task ≡ None → None ≡ expense_for f a
+  unfolding expense_for
+  no_task z = let k : None ≡ task_by f a = sym z ∙ et in rw (← k)
+
+  module _ {c : Option Named} (ec : found_meaning c ≡ cost_by f a) {n : ℕ} (z : task ≡ Some n) where
+    pub no_cost : c ≡ None → None ≡ expense_for f a
+    unfolding found_meaning expense_for
+    no_cost y =
+        let k : Some n ≡ task_by f a = sym z ∙ et in
+        let m : None ≡ cost_by f a = sym (rw y) ∙ ec in
+        rw (← k, ← m)
+
+    pub both_there : {r : Named} → c ≡ Some r → {name : Text} (w : Amounts) {accrual : ℕ} → name ≡ (text_in (meaning r) "Name" or [])
+        → Means w (money_in a "Cost") (money_in a "ActualCost") (money_in a "RemainingCost") → accrual ≡ accrual_of (meaning r)
+        → ◌≡◌ {A = Option Expense} (Some record { activity = n; name = name; planned = w.planned; actual = w.actual; remaining = w.remaining; accrual = accrual }) (expense_for f a)
+    unfolding found_meaning expense_for expense_from
+    both_there {r} y w en m h =
+        let k : Some n ≡ task_by f a = sym z ∙ et in
+        let l : Some (meaning r) ≡ cost_by f a = sym (rw y) ∙ ec in
+        rw (← k, ← l) (rw (en, m.planned_is, m.actual_is, m.remaining_is, h))
 
 -- ---- the first of equal ones
 

@@ -1,19 +1,17 @@
 -- The expenses in use, by a table: what it says of those that were written, and one more. Assumes nothing.
 use Rattle.std.specs.Prelude.{if◌then◌else◌}
-use Rattle.std.proofs.Common.{◌≡◌, ℕ, suc, ◌+◌, ◌*◌, ◌%◌, ◌^◌, ◌<◌, ◌≤◌, Bool, true, false, not, ◌&&◌, ◌||◌, eqb, ltb, leb, List, [], ◌∷◌, ◌++◌, map, length, get_or, take, drop, sym, refl, ap, ◌∙◌, subst, true≢false, mod-eq_of_lt, arith, length-append, ltb-false, ltb-true, le-ltb, lt-ltb, eq-eqb, eqb-true, leb-false}
+use Rattle.std.proofs.Common.{◌≡◌, ℕ, suc, ◌+◌, ◌*◌, ◌%◌, ◌^◌, ◌<◌, ◌≤◌, Bool, true, false, not, ◌&&◌, ◌||◌, eqb, ltb, leb, List, [], ◌∷◌, ◌++◌, map, length, get_or, take, drop, sym, refl, ap, ◌∙◌, true≢false, mod-eq_of_lt, arith, length-append, ltb-false, ltb-true, le-ltb, lt-ltb, eq-eqb, eqb-true, leb-false}
 use mathlib.Core.List.{map-append}
 use Rattle.std.specs.Prelude.{Option, Some, None}
 use borrow.Author.Tests.{lt-leb, not-false}
 use lib.ListN.{get_or-append}
 use lib.Seq.{split_at, take-append-le, take-append_seam, get_or-append_seam}
-use Rattle.definition.specs.Base.{◌>>=◌, ◌or◌, ◌or_else◌, when, given, find, find_last, present, some?, same, numbered}
+use Rattle.definition.specs.Base.{◌>>=◌, ◌or_else◌, when, given, find, find_last, present, some?, same, numbered}
 use Rattle.definition.specs.Text.{Text}
-use Rattle.definition.specs.Tree.{Element}
-use Rattle.definition.specs.Field.{text_in}
 use Rattle.definition.specs.Format.{whole}
 use Rattle.definition.specs.Model.{Expense}
 use Rattle.definition.specs.Pack.{expense}
-use Rattle.definition.specs.Resource.{expense_from, firsts}
+use Rattle.definition.specs.Resource.{firsts}
 use Rattle.laws.specs.Bools.{both}
 use Rattle.laws.specs.Same.{same_eq}
 use Rattle.laws.specs.Options.{never}
@@ -241,21 +239,6 @@ module _ {start : Place} {d : List ℕ} {u : Used} {w : List ℕ} {activity : �
   -- by a scan
   pub in_use_scan : {b : Bool} → Tells d start u.done.count activity name b → InUse start d u w activity name b
   in_use_scan h = record { told = λ d₀ xs ok k n i. told_of activity name ok k i h }
-
--- the name of its cost resource
-module _ (activity : ℕ) (r a : Element) {name : Text} (e : name ≡ (text_in r "Name" or [])) where
-  pub in_use_as : {start : Place} {d : List ℕ} {u : Used} {w : List ℕ} {b : Bool} → InUse start d u w activity name b
-      → InUse start d u w (expense_from activity r a).activity (expense_from activity r a).name b
-  unfolding expense_from
-  in_use_as {start} {d} {u} {w} {b} h = subst (λ (n : Text). InUse start d u w activity n b) e h
-
-  pub key_as : {key : ℕ} → key ≡ key_of activity name → key ≡ key_of (expense_from activity r a).activity (expense_from activity r a).name
-  unfolding expense_from
-  key_as h = h ∙ ap (key_of activity) e
-
-  pub row_as : activity < 2 ^ 32 → (expense_from activity r a).activity < 2 ^ 32
-  unfolding expense_from
-  row_as h = h
 
 -- ---- one that may be missing
 

@@ -1,6 +1,5 @@
 -- The records of a section, one after another: none, one more, and the turns of a loop over elements. Assumes nothing.
 use Rattle.std.proofs.Common.{◌≡◌, ℕ, ◌+◌, ◌*◌, ◌%◌, ◌^◌, Bool, true, false, ◌||◌, List, [], ◌∷◌, ◌++◌, length, sym, refl, ap, ◌∙◌, subst, true≢false, append_assoc, append-nil, length-append}
-use Rattle.std.specs.Prelude.{Ok}
 use native.Mathlib.Nat.{mod-add-mod}
 use lib.Pow.{mod-mod-pow}
 use Rattle.definition.specs.Tree.{Element}
@@ -89,21 +88,20 @@ pub record Going {A : Type 0} (f : Format A) (sure : Bool) (after : List A → L
   pub leads : after done fs ≡ after [] es
 
 module _ {A : Type 0} {f : Format A} {sure : Bool} {after : List A → List Element → List A} {es : List Element} {d : List ℕ} {p : Place} where
-  pub going_all : {Fine : List A → Type 0} → Fine [] → Going f sure after Fine es es d p d (record { count = 0; next = p })
-  going_all h = record { done = []; wrote = wrote_none; fine = h; leads = refl }
+  pub going_all : {fs : List Element} → fs ≡ es → {Fine : List A → Type 0} → Fine [] → Going f sure after Fine es fs d p d (record { count = 0; next = p })
+  going_all e h = record { done = []; wrote = wrote_none; fine = h; leads = ap (after []) e }
 
-  module _ {Fine : List A → Type 0} {Ok : List ℕ → List A → Type 0} {G : List ℕ → List A → List A} {d1 : List ℕ} {r1 : Done} {d2 : List ℕ} {r2 : Done} {e : Element} {fs : List Element}
-      (g : Going f sure after Fine es (e ∷ fs) d p d1 r1) (h : Goes f sure p Ok G d1 r1 d2 r2) (ok : (xs : List A) → Fine xs → Ok d xs) (turn : (xs : List A) → after xs (e ∷ fs) ≡ after (G d xs) fs) where
-    pub going_more : {gs : List Element} → fs ≡ gs → {Fine' : List A → Type 0} → ((xs : List A) → Fine xs → Fine' (G d xs)) → Going f sure after Fine' es gs d p d2 r2
-    going_more z keeps =
-        record {
-          done = G d g.done;
-          wrote = h.goes d g.done (ok g.done g.fine) g.wrote;
-          fine = keeps g.done g.fine;
-          leads = ap (after (G d g.done)) (sym z) ∙ sym (turn g.done) ∙ g.leads;
-        }
+  pub going_more : {Fine : List A → Type 0} {Ok : List ℕ → List A → Type 0} {G : List ℕ → List A → List A} {d1 : List ℕ} {r1 : Done} {d2 : List ℕ} {r2 : Done} {e : Element} {fs : List Element}
+      → Going f sure after Fine es (e ∷ fs) d p d1 r1 → Goes f sure p Ok G d1 r1 d2 r2 → ((xs : List A) → Fine xs → Ok d xs) → ((xs : List A) → after xs (e ∷ fs) ≡ after (G d xs) fs)
+      → {Fine' : List A → Type 0} → ((xs : List A) → Fine xs → Fine' (G d xs)) → Going f sure after Fine' es fs d p d2 r2
+  going_more {G = G} g h ok turn keeps =
+      record {
+        done = G d g.done;
+        wrote = h.goes d g.done (ok g.done g.fine) g.wrote;
+        fine = keeps g.done g.fine;
+        leads = sym (turn g.done) ∙ g.leads;
+      }
 
-    -- the last turn
-    pub going_last : fs ≡ [] → ((xs : List A) → after xs [] ≡ xs) → Wrote f sure (after [] es) d p d2 r2
-    going_last z ends =
-        wrote_as (sym (ends (G d g.done)) ∙ ap (after (G d g.done)) (sym z) ∙ sym (turn g.done) ∙ g.leads) (h.goes d g.done (ok g.done g.fine) g.wrote)
+  -- none is left
+  pub going_end : {Fine : List A → Type 0} {fs : List Element} {d' : List ℕ} {r : Done} → Going f sure after Fine es fs d p d' r → fs ≡ [] → ((xs : List A) → after xs [] ≡ xs) → Wrote f sure (after [] es) d p d' r
+  going_end g e ends = wrote_as (sym (ends g.done) ∙ ap (after g.done) (sym e) ∙ g.leads) g.wrote

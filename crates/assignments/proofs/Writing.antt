@@ -1,15 +1,16 @@
 -- The expenses of elements, one after another, with a table behind the tables of the section. Assumes nothing.
-use Rattle.std.proofs.Common.{◌≡◌, ℕ, suc, ◌+◌, ◌-◌, ◌%◌, ◌^◌, ◌<◌, ◌≤◌, min, max, Bool, true, false, leb, List, [], ◌∷◌, map, length, take, sym, refl, ap, ◌∙◌, mod-eq_of_lt, arith, take_all, leb-false, leb-true}
-use native.Mathlib.Nat.{mod-add-mod}
+use Rattle.std.proofs.Common.{◌≡◌, ℕ, ◌-◌, ◌^◌, ◌<◌, ◌≤◌, min, max, Bool, true, false, leb, List, [], ◌∷◌, map, length, take, sym, refl, ap, ◌∙◌, subst, arith, take_all, leb-false, leb-true}
 use Rattle.std.specs.Prelude.{Option, Some, None}
+use Rattle.std.specs.Option.{option_map}
+use Rattle.pack.specs.Record.{expense_by}
+use Rattle.pack.specs.declared.record.Expense.{Expense as X}
 use lib.Seq.{take-length}
 use Rattle.definition.specs.Base.{present}
-use Rattle.definition.specs.Text.{Text}
 use Rattle.definition.specs.Tree.{Element}
 use Rattle.definition.specs.Format.{whole}
 use Rattle.definition.specs.Model.{Expense}
 use Rattle.definition.specs.Pack.{expense}
-use Rattle.definition.specs.Resource.{expense_from, firsts, assignment_elements}
+use Rattle.definition.specs.Resource.{firsts, assignment_elements}
 use Rattle.laws.specs.Bits.{Bytes}
 use Rattle.bits.specs.Clear.{cleared}
 use Rattle.bits.specs.declared.Place.{Place}
@@ -17,16 +18,12 @@ use Rattle.index.specs.declared.Table.{Table}
 use Rattle.index.specs.Chains.{table_of, zeros}
 use Rattle.index.specs.Law.{table_placed}
 use Rattle.index.specs.Below.{SameBelow, below_refl, below_then, below_zeros, below_take}
-use Rattle.tree.specs.Place.{element_at}
 use Rattle.tree.specs.Root.{root_at}
-use Rattle.tree.specs.declared.root.Root.{Root}
-use Rattle.rows.specs.Rows.{found_meaning}
-use Rattle.assignments.specs.declared.section.Done.{Done}
 use Rattle.assignments.specs.declared.section.Tables.{Tables}
 use Rattle.assignments.specs.declared.expense.Used.{Used}
 use Rattle.assignments.specs.Section.{Wrote}
-use Rattle.assignments.specs.Finders.{Finders, ends_of, task_by, cost_by, expense_for, expenses_by, finders_same}
-use Rattle.assignments.specs.Records.{finders_at, expenses_after, FewExpenses}
+use Rattle.assignments.specs.Finders.{Finders, expense_for, expenses_by, finders_same}
+use Rattle.assignments.specs.Records.{finders_at, ends_at, expenses_after, FewExpenses}
 use Rattle.assignments.specs.InUse.{emptied, Noted, Noting, Behind, Notes, WroteBeside}
 use Rattle.assignments.proofs.Turns.{wrote_none, wrote_as}
 use Rattle.assignments.proofs.Fit.{FineExpenses, fine_none, fine_more, expense_fits}
@@ -34,25 +31,12 @@ use Rattle.assignments.proofs.Noting.{noted_none, notes_missing}
 
 -- ---- that of one element
 
-module _ {task : Option ℕ} (f : Finders) (a : Element) (et : task ≡ task_by f a) {start : Place} {d : List ℕ} {u : Used} {w : List ℕ} where
-  pub no_task : task ≡ None → Notes start (expense_for f a) d u w d u w
-  unfolding expense_for
-  no_task z = let k : None ≡ task_by f a = sym (rw z) ∙ et in notes_missing (rw (← k))
+module _ (f : Finders) (a : Element) {r : Option X} (e : option_map expense_by r ≡ expense_for f a) {start : Place} {d : List ℕ} {u : Used} {w : List ℕ} where
+  pub notes_not : r ≡ None → Notes start (expense_for f a) d u w d u w
+  notes_not z = let k : None ≡ expense_for f a = sym (rw z) ∙ e in notes_missing (sym k)
 
-  module _ (s : Text) {c : Option ℕ} (ec : found_meaning s c ≡ cost_by f a) {n : ℕ} (z : task ≡ Some n) where
-    pub no_cost_there : c ≡ None → Notes start (expense_for f a) d u w d u w
-    unfolding found_meaning expense_for
-    no_cost_there y =
-        let k : Some n ≡ task_by f a = sym (rw z) ∙ et in
-        let m : None ≡ cost_by f a = sym (rw y) ∙ ec in
-        notes_missing (rw (← k, ← m))
-
-    pub cost_there : {q : ℕ} → c ≡ Some q → {d' : List ℕ} {u' : Used} {w' : List ℕ} → Notes start (Some (expense_from n (element_at s q) a)) d u w d' u' w' → Notes start (expense_for f a) d u w d' u' w'
-    unfolding found_meaning expense_for
-    cost_there {q} y h =
-        let k : Some n ≡ task_by f a = sym (rw z) ∙ et in
-        let m : Some (element_at s q) ≡ cost_by f a = sym (rw y) ∙ ec in
-        rw (← k, ← m) h
+  pub notes_said : {x : X} → r ≡ Some x → {d' : List ℕ} {u' : Used} {w' : List ℕ} → Notes start (Some (expense_by x)) d u w d' u' w' → Notes start (expense_for f a) d u w d' u' w'
+  notes_said {x} z {d'} {u'} {w'} h = let k : Some (expense_by x) ≡ expense_for f a = sym (rw z) ∙ e in subst (λ (o : Option Expense). Notes start o d u w d' u' w') k h
 
 -- ---- one after another
 
@@ -69,62 +53,62 @@ unfolding present firsts
 no_expenses f xs = refl
 
 -- some are done, and those of fs are left; n words stay
-pub record Writing (s : Text) (at n : ℕ) (f : Finders) (es fs : List Element) (d : List ℕ) (p : Place) (w : List ℕ) (d' : List ℕ) (u : Used) (w' : List ℕ) : Type 0 where
+pub record Writing (n : ℕ) (f : Finders) (es fs : List Element) (d : List ℕ) (p : Place) (w : List ℕ) (d' : List ℕ) (u : Used) (w' : List ℕ) : Type 0 where
   pub done : List Expense
   pub wrote : Wrote (whole expense) false done d p d' u.done
-  pub fine : FineExpenses s at done
+  pub fine : FineExpenses (length es) fs done
   pub noting : Noting p done d' u w'
   pub leads : expenses_after f done fs ≡ expenses_after f [] es
   pub below : SameBelow n w w'
   pub behind : Behind n u.made
 
-pub go_all : {s : Text} {at n : ℕ} (f : Finders) {es : List Element} {d : List ℕ} {p : Place} {w : List ℕ} {m : Option Table} → Behind n m → ((t : Table) → m ≡ Some t → Noted p [] w t)
-    → Writing s at n f es es d p w d (record { done = record { count = 0; next = p }; made = m }) w
-go_all {n = n} f {w = w} h k = record {
+pub go_all : {n : ℕ} (f : Finders) {es fs : List Element} → fs ≡ es → {d : List ℕ} {p : Place} {w : List ℕ} {m : Option Table} → Behind n m → ((t : Table) → m ≡ Some t → Noted p [] w t)
+    → Writing n f es fs d p w d (record { done = record { count = 0; next = p }; made = m }) w
+go_all {n} f {es} e {w = w} h k = record {
   done = [];
   wrote = wrote_none;
-  fine = fine_none;
+  fine = rw e (fine_none (omega arith));
   noting = record { noted = λ t e i. k t e };
-  leads = refl;
+  leads = ap (expenses_after f []) e;
   below = below_refl n w;
   behind = h;
 }
 
-module _ {s : Text} (b : Bytes s) (few : length s < 2 ^ 63) (root : Root) (t : Tables) where
-  abbrev ends : ℕ
-  ends = ends_of t.tasks t.work t.cost
+module _ (t : Tables) (b : Bytes t.root.tree.now) {w : List ℕ} {es : List Element} (few : length es < 2 ^ 63) {d : List ℕ} {p : Place} where
+  module _ {e : Element} {l fs : List Element} {d1 : List ℕ} {u1 : Used} {w1 : List ℕ} (z : l ≡ e ∷ fs) (g' : Writing (ends_at t) (finders_at w t) es l d p w d1 u1 w1)
+      {d2 : List ℕ} {u2 : Used} {w2 : List ℕ} (h : Notes p (expense_for (finders_at w1 t) e) d1 u1 w1 d2 u2 w2) where
+    g : Writing (ends_at t) (finders_at w t) es (e ∷ fs) d p w d1 u1 w1
+    g = subst (λ (l : List Element). Writing (ends_at t) (finders_at w t) es l d p w d1 u1 w1) z g'
 
-  module _ {at : ℕ} {w : List ℕ} {es : List Element} {e : Element} {fs : List Element} {d : List ℕ} {p : Place} {d1 : List ℕ} {u1 : Used} {w1 : List ℕ}
-      (g : Writing s at ends (finders_at s root w t) es (e ∷ fs) d p w d1 u1 w1)
-      {d2 : List ℕ} {u2 : Used} {w2 : List ℕ} (h : Notes p (expense_for (finders_at s root w1 t) e) d1 u1 w1 d2 u2 w2) where
-    turn : Notes p (expense_for (finders_at s root w t) e) d1 u1 w1 d2 u2 w2
-    turn = rw (finders_same s (root_at s root) t.tasks t.work t.cost g.below) at h
+    turn : Notes p (expense_for (finders_at w t) e) d1 u1 w1 d2 u2 w2
+    turn = rw (finders_same t.root.tree.now (root_at t.root) t.tasks t.work t.cost g.below) at h
 
     ok : FewExpenses d g.done
-    ok = (g.fine.fit, omega (arith, g.fine.most))
+    ok = (g.fine.fit, omega (arith, g.fine.few))
 
-    wrote_on : Wrote (whole expense) false (firsts g.done (present (expense_for (finders_at s root w t) e ∷ []))) d p d2 u2.done
-    wrote_on = turn.wrote d g.done ok g.wrote g.noting
-
-    below_on : SameBelow ends w w2
-    below_on = below_then g.below (turn.below ends g.behind)
-
-    pub go_more : {gs : List Element} → fs ≡ gs → {on : ℕ} → (at + 1 ≤ on) × (on < length s) → Writing s on ends (finders_at s root w t) es gs d p w d2 u2 w2
-    go_more z o = record {
-      done = firsts g.done (present (expense_for (finders_at s root w t) e ∷ []));
-      wrote = wrote_on;
-      fine = fine_more o (expense_fits s b root w t e turn.row) g.done g.fine;
+    pub go_more : Writing (ends_at t) (finders_at w t) es fs d p w d2 u2 w2
+    go_more = record {
+      done = firsts g.done (present (expense_for (finders_at w t) e ∷ []));
+      wrote = turn.wrote d g.done ok g.wrote g.noting;
+      fine = fine_more e (expense_fits t b w e turn.row) g.done g.fine;
       noting = turn.noting d g.done ok g.wrote g.noting;
-      leads = ap (expenses_after (finders_at s root w t) _) (sym z) ∙ sym (more_expenses (finders_at s root w t) e fs g.done) ∙ g.leads;
-      below = below_on;
+      leads = sym (more_expenses (finders_at w t) e fs g.done) ∙ g.leads;
+      below = below_then g.below (turn.below (ends_at t) g.behind);
       behind = record { behind = λ v i. g.behind.behind v (turn.still v i) };
     }
 
-    pub go_last : fs ≡ [] → WroteBeside ends (expenses_after (finders_at s root w t) [] es) d p w d2 u2.done w2
-    go_last z =
-        let f = finders_at s root w t in
-        let l : firsts g.done (present (expense_for f e ∷ [])) ≡ expenses_after f [] es = sym (no_expenses f _) ∙ ap (expenses_after f _) (sym z) ∙ sym (more_expenses f e fs g.done) ∙ g.leads in
-        record { wrote = wrote_as l wrote_on; below = below_on }
+-- all are done, from the words with an empty table behind
+pub go_end : (t : Tables) {w₀ w : List ℕ} {fs : List Element} {d : List ℕ} {p : Place} {d' : List ℕ} {u : Used} {w' : List ℕ} → SameBelow (ends_at t) w₀ w
+    → Writing (ends_at t) (finders_at w t) (assignment_elements (root_at t.root)) fs d p w d' u w' → fs ≡ [] → WroteBeside (ends_at t) (expenses_by (finders_at w₀ t) (root_at t.root)) d p w₀ d' u.done w'
+unfolding expenses_by
+go_end t {w₀} {w} {fs} h g e =
+    let f = finders_at w t in
+    let same : finders_at w t ≡ finders_at w₀ t = finders_same t.root.tree.now (root_at t.root) t.tasks t.work t.cost h in
+    let l : g.done ≡ expenses_after f [] (assignment_elements (root_at t.root)) = sym (no_expenses f _) ∙ ap (expenses_after f g.done) (sym e) ∙ g.leads in
+    record {
+      wrote = wrote_as (l ∙ ap (λ (f : Finders). expenses_after f [] (assignment_elements (root_at t.root))) same) g.wrote;
+      below = below_then h g.below;
+    }
 
 -- ---- the table
 
@@ -155,52 +139,12 @@ module _ (w : List ℕ) (end rows : ℕ) {m : Option Table} (e : m ≡ table_of 
   pub empty_table : {t : Table} → m ≡ Some t → {w' : List ℕ} → w' ≡ zeros w t.at t.rows → (Some t ≡ table_of (length w) end rows) × (w' ≡ emptied w (Some t))
   empty_table i k = (sym i ∙ e, k)
 
--- how many elements there are
-pub record Counting (n : ℕ) (l es : List Element) : Type 0 where
-  pub is : (n + length l) % 2 ^ 32 ≡ length es % 2 ^ 32
-  pub small : n < 2 ^ 32
-
-pub count_one : {x : Element} {l : List Element} → Counting 1 l (x ∷ l)
-count_one = record { is = ap (λ (k : ℕ). k % 2 ^ 32) (omega arith); small = omega arith }
-
-module _ {n : ℕ} {l es : List Element} (h : Counting n l es) where
-  pub count_more : {x : Element} {k : List Element} → l ≡ x ∷ k → {m : ℕ} → m ≡ (n + 1) % 2 ^ 32 → Counting m k es
-  count_more {k = k} e {m} i =
-      let z : length l ≡ suc (length k) = ap length e in
-      let y : n + 1 + length k ≡ n + length l = omega arith in
-      record { is = rw i (mod-add-mod (n + 1) (2 ^ 32) (length k) ∙ ap (λ (k : ℕ). k % 2 ^ 32) y ∙ h.is); small = omega arith }
-
-  pub count_last : l ≡ [] → n ≡ length es % 2 ^ 32
-  count_last e =
-      let z : length l ≡ 0 = ap length e in
-      let y : n + length l ≡ n = omega arith in
-      sym (ap (λ (k : ℕ). k % 2 ^ 32) y ∙ mod-eq_of_lt h.small) ∙ h.is
-
 -- where three tables end
 max_min : (x y l : ℕ) → max (min x l) (min y l) ≡ min (max x y) l
 max_min x y l = omega arith
 
 pub ends_are : (x y z l : ℕ) {a b c m r : ℕ} → a ≡ min x l → b ≡ min y l → c ≡ min z l → m ≡ max b c → r ≡ max a m → r ≡ min (max x (max y z)) l
 ends_are x y z l ea eb ec em er = er ∙ rw (em, ea, eb, ec) (ap (max (min x l)) (max_min y z l) ∙ max_min x (max y z) l)
-
--- ---- all
-
-module _ (s : Text) (root : Root) (t : Tables) (es : List Element) {d : List ℕ} {p : Place} {w w₁ : List ℕ} {d' : List ℕ} {r : Done} {w' : List ℕ} where
-  pub section_from : SameBelow (ends_of t.tasks t.work t.cost) w w₁ → WroteBeside (ends_of t.tasks t.work t.cost) (expenses_after (finders_at s root w₁ t) [] es) d p w₁ d' r w'
-      → WroteBeside (ends_of t.tasks t.work t.cost) (expenses_after (finders_at s root w t) [] es) d p w d' r w'
-  section_from h x = record {
-    wrote = rw (finders_same s (root_at s root) t.tasks t.work t.cost h) at x.wrote;
-    below = below_then h x.below;
-  }
-
-module _ (n : ℕ) (f : Finders) (root : Element) {d : List ℕ} {p : Place} {w : List ℕ} where
-  pub section_none : assignment_elements root ≡ [] → WroteBeside n (expenses_by f root) d p w d (record { count = 0; next = p }) w
-  unfolding expenses_by
-  section_none e = record { wrote = wrote_as (sym (ap (expenses_after f []) e ∙ no_expenses f [])) wrote_none; below = below_refl n w }
-
-  pub section_all : {es : List Element} → assignment_elements root ≡ es → {d' : List ℕ} {r : Done} {w' : List ℕ} → WroteBeside n (expenses_after f [] es) d p w d' r w' → WroteBeside n (expenses_by f root) d p w d' r w'
-  unfolding expenses_by
-  section_all e x = record { wrote = wrote_as (ap (expenses_after f []) (sym e)) x.wrote; below = x.below }
 
 -- the words behind are cleared
 take_min : (n : ℕ) (w : List ℕ) → take (min n (length w)) w ≡ take n w

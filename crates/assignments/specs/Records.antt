@@ -17,17 +17,20 @@ use Rattle.model.specs.Answers.{read_at}
 use Rattle.model.specs.Parts.{raw}
 use Rattle.names.specs.Records.{ExpenseFields, plain_expenses}
 use Rattle.tree.specs.Root.{root_at}
-use Rattle.tree.specs.declared.root.Root.{Root}
 use Rattle.assignments.specs.declared.section.Done.{Done}
 use Rattle.assignments.specs.declared.section.Tables.{Tables}
 use Rattle.assignments.specs.Section.{Goes}
-use Rattle.assignments.specs.Finders.{Finders, finders_in, assignment_for, expense_for}
+use Rattle.assignments.specs.Finders.{Finders, finders_in, ends_of, assignment_for, expense_for}
 
 -- ---- assignments
 
 -- by the tables of a section
-abbrev pub finders_at : Text → Root → List ℕ → Tables → Finders
-finders_at s root w t = finders_in s (root_at s root) w t.tasks t.work t.cost
+abbrev pub finders_at : List ℕ → Tables → Finders
+finders_at w t = finders_in t.root.tree.now (root_at t.root) w t.tasks t.work t.cost
+
+-- where they end
+abbrev pub ends_at : Tables → ℕ
+ends_at t = ends_of t.tasks t.work t.cost
 
 abbrev pub assignments_in : Finders → List Element → List Assignment
 assignments_in f es = present (map (assignment_for f) es)

@@ -1,9 +1,9 @@
 -- The work resources, with their ids in tables in lent words where these fit. Assumes nothing: these are definitions.
-use Rattle.std.specs.Prelude.{◌≡◌, ℕ, ◌+◌, ◌^◌, ◌<◌, ◌≤◌, Bool, true, not, ◌&&◌, List, [], length}
-use Rattle.index.specs.declared.Table.{Table}
+use Rattle.std.specs.Prelude.{◌≡◌, ℕ, ◌+◌, ◌^◌, ◌<◌, ◌≤◌, true, List, [], ◌∷◌, length}
+use Rattle.tree.specs.Root.{root_at}
 use Rattle.names.specs.declared.ids.Ids.{Ids}
 use Rattle.std.specs.Prelude.{Option}
-use Rattle.definition.specs.Base.{◌or◌, ◌or_else◌, keep}
+use Rattle.definition.specs.Base.{◌or◌, ◌or_else◌}
 use Rattle.definition.specs.Text.{Text}
 use Rattle.definition.specs.Tree.{Element}
 use Rattle.definition.specs.Field.{text_in}
@@ -11,7 +11,7 @@ use Rattle.definition.specs.Format.{whole}
 use Rattle.definition.specs.Pack.{resource}
 use Rattle.definition.specs.Model.{Resource}
 use Rattle.definition.specs.Refusal.{most_elements}
-use Rattle.definition.specs.Resource.{is_resource, is_cost, resource_kind, max_units, price_of, resources_after}
+use Rattle.definition.specs.Resource.{work_resources, resource_kind, max_units, price_of, resources_after, resources}
 use Rattle.laws.specs.Each.{Each}
 use Rattle.laws.specs.FitRecords.{Short, FitsResourceBy}
 use Rattle.bits.specs.Clear.{cleared}
@@ -20,13 +20,12 @@ use Rattle.bits.specs.declared.Place.{Place}
 use Rattle.model.specs.declared.records.Kind.TheVariants.{Resources}
 use Rattle.names.specs.Context.{context_at, calendars_before}
 use Rattle.names.specs.Lent.{OpenIn, NotedIn, Behind}
+use Rattle.names.specs.Named.{named_in}
 use Rattle.names.specs.Naming.{Finds}
 use Rattle.names.specs.Sought.{end_names}
 use Rattle.assignments.specs.declared.section.Done.{Done}
+use Rattle.assignments.specs.declared.resource.Section.{Section}
 use Rattle.assignments.specs.Section.{Wrote, Goes}
-
-abbrev pub is_work : Element → Bool
-is_work e = is_resource e && not (is_cost e)
 
 abbrev pub wanted_id : Element → Text
 wanted_id r = (text_in r "ID" or_else text_in r "UID") or []
@@ -52,21 +51,31 @@ pub record HeldIn (m : Option Ids) (p : Place) (d w : List ℕ) (r : Done) : Typ
 
 -- ---- resources one after another
 
--- the calendars stand before a place, the words say their names, and those so far with those of some elements are no more than the rows
-pub record FewResources (c p : Place) (s : Text) (root : Element) (k : Option Table) (w : List ℕ) (rows : ℕ) (es : List Element) (d₀ : List ℕ) (xs : List Resource) : Type 0 where
-  pub stand : calendars_before d₀ c root p ≡ true
-  pub finds : Finds (context_at d₀ c root) s k w
+-- by the tables of a section, unless it is the main calendar's
+abbrev pub section_names : Section → List ℕ → List ℕ → Text → Option Text
+section_names k d w = named_in (context_at d k.calendars (root_at k.root)) k.root.tree.now w k.names
+
+-- the calendars stand before the resources, the words say their names, and those so far with so many more are no more than the rows
+pub record FewResources (k : Section) (w : List ℕ) (rows more : ℕ) (d₀ : List ℕ) (xs : List Resource) : Type 0 where
+  pub stand : calendars_before d₀ k.calendars (root_at k.root) k.start ≡ true
+  pub finds : Finds (context_at d₀ k.calendars (root_at k.root)) k.root.tree.now k.names w
   pub fit : Each (FitsResourceBy Short) xs
-  pub room : length xs + length (keep is_work es) ≤ rows
+  pub room : length xs + more ≤ rows
   pub few : rows < 2 ^ 32
 
-pub record AddsResources (c p : Place) (s : Text) (root : Element) (es : List Element) (k : Option Table) (m : Option Ids) (d w : List ℕ) (r : Done) (d' w' : List ℕ) (r' : Done) : Type 0 where
-  pub adds : (rows : ℕ) → Goes (whole resource) true p (λ d₀ xs. FewResources c p s root k w rows es d₀ xs × HeldIn m p d w r) (λ d₀ xs. resources_after (context_at d₀ c root) xs (keep is_work es)) d r d' r'
-  pub holds : (rows : ℕ) (d₀ : List ℕ) (xs : List Resource) → FewResources c p s root k w rows es d₀ xs → HeldIn m p d w r → Wrote (whole resource) true xs d₀ p d r
-      → Each (FitsResourceBy Short) (resources_after (context_at d₀ c root) xs (keep is_work es)) → HeldIn m p d' w' r'
-  pub keeps : (from : ℕ) → Behind from m → cleared from w' ≡ cleared from w
+abbrev pub after_in : Section → List ℕ → List Resource → List Element → List Resource
+after_in k d₀ = resources_after (context_at d₀ k.calendars (root_at k.root))
 
-pub record PutsResources (c p : Place) (s : Text) (root : Element) (es : List Element) (k : Option Table) (m : Option Ids) (d w d' w' : List ℕ) (r : Done) : Type 0 where
-  pub puts : calendars_before d c root p ≡ true → length (keep is_work es) ≤ most_elements → HeldIn m p d w (record { count = 0; next = p })
-      → Finds (context_at d c root) s k w → Behind (end_names k) m → Wrote (whole resource) true (resources_after (context_at d c root) [] (keep is_work es)) d p d' r
-  pub keeps : (from : ℕ) → Behind from m → cleared from w' ≡ cleared from w
+-- one is added
+pub record Adds (k : Section) (a : Element) (d w : List ℕ) (r : Done) (d' w' : List ℕ) (r' : Done) : Type 0 where
+  pub adds : (rows : ℕ) → Goes (whole resource) true k.start (λ d₀ xs. FewResources k w rows 1 d₀ xs × HeldIn k.ids k.start d w r) (λ d₀ xs. after_in k d₀ xs (a ∷ [])) d r d' r'
+  pub holds : (rows : ℕ) (d₀ : List ℕ) (xs : List Resource) → FewResources k w rows 1 d₀ xs → HeldIn k.ids k.start d w r → Wrote (whole resource) true xs d₀ k.start d r
+      → Each (FitsResourceBy Short) (after_in k d₀ xs (a ∷ [])) → HeldIn k.ids k.start d' w' r'
+  pub keeps : (from : ℕ) → Behind from k.ids → cleared from w' ≡ cleared from w
+
+-- all are
+pub record PutsResources (k : Section) (d w d' w' : List ℕ) (r : Done) : Type 0 where
+  pub puts : calendars_before d k.calendars (root_at k.root) k.start ≡ true → length (work_resources (root_at k.root)) ≤ most_elements → HeldIn k.ids k.start d w (record { count = 0; next = k.start })
+      → Finds (context_at d k.calendars (root_at k.root)) k.root.tree.now k.names w → Behind (end_names k.names) k.ids
+      → Wrote (whole resource) true (resources (context_at d k.calendars (root_at k.root)) (root_at k.root)) d k.start d' r
+  pub keeps : (from : ℕ) → Behind from k.ids → cleared from w' ≡ cleared from w

@@ -1,6 +1,5 @@
 -- A section while it is written: which records stand there, and what one more element adds. Assumes nothing: these are definitions.
 use Rattle.std.specs.Prelude.{◌≡◌, ℕ, ◌%◌, ◌^◌, Bool, true, ◌||◌, List, length}
-use Rattle.std.specs.Prelude.{Ok}
 use Rattle.definition.specs.Format.{Format, times}
 use Rattle.bits.specs.Places.{inside}
 use Rattle.bits.specs.Steps.{Puts}

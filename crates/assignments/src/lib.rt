@@ -10,3 +10,4 @@ mod section;
 pub use assignment::put_assignments;
 pub use expense::put_expenses;
 pub use resource::put_resources;
+pub use section::Tables;

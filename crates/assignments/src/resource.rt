@@ -1,214 +1,154 @@
 // The work resources. What is right is said in the crate definition, specs/Resource.antt.
-ghost use Rattle.std.specs.Prelude.{if◌then◌else◌, ◌≡◌, suc, min, ◌&&◌, [], ◌∷◌, length, nat_le};
-ghost use Rattle.definition.specs.Ascii.{bytes};
-ghost use Rattle.definition.specs.Base.{◌>>=◌ as bind, ◌or◌, keep};
+ghost use Rattle.std.specs.Prelude.{◌≡◌, min, ◌&&◌, ◌∷◌, [], length, nat_le};
+ghost use Rattle.definition.specs.Base.{◌>>=◌ as bind};
 ghost use Rattle.definition.specs.Field.{text_in};
 ghost use Rattle.definition.specs.Format.{whole};
 ghost use Rattle.definition.specs.Pack.{resource};
 ghost use Rattle.definition.specs.Refusal.{most_elements};
 ghost use Rattle.definition.specs.Resource.{work_resources, resources as resources_of};
 ghost use Rattle.bits.specs.Clear.{cleared};
-ghost use Rattle.bits.specs.Steps.{Puts};
-ghost use Rattle.tree.specs.Place.{element_at, later_at};
+ghost use Rattle.tree.specs.Place.{meaning};
 ghost use Rattle.tree.specs.Root.{root_at};
-ghost use Rattle.pack.specs.Value.{starred_by, name_meaning};
+ghost use Rattle.pack.specs.Record.{resource_by};
+ghost use Rattle.pack.specs.Value.{given_by, starred, starred_by};
 ghost use Rattle.pack.specs.Writes.{WritesIf};
 ghost use Rattle.names.specs.Context.{context_at, calendars_before};
-ghost use Rattle.names.specs.Named.{named_in, calendar_name};
-ghost use Rattle.assignments.specs.Resources.{is_work, wanted_id, resource_with, AddsResources, PutsResources};
+ghost use Rattle.names.specs.Named.{named_in};
+ghost use Rattle.assignments.specs.Resources.{wanted_id, resource_with, section_names, Adds, PutsResources};
 
-use crate::section::{Done, more, records_of};
+use crate::section::{Done, said};
 use bits::{PAST, Place};
 use index::Table;
 use model::records::Kind;
-use names::{CalendarName, Ids};
-use pack::Records;
-use tree::Root;
+use names::Ids;
+use pack::{Records, Resource, Starred};
+use rows::Listed;
+use tree::{Element, Root};
 
-// ---- how many there are
-
-fn is_work(s: &[u8], at: usize) -> bool
-    ensures { result ≡ is_work (element_at s.now at) }
+// How many there are, as far as 32 bits go.
+fn count_work(root: Root<'_>) -> u32
+    ensures { result ≡ min (length (work_resources (root_at root.entry))) 4294967295 }
 {
-    resources::is_resource(s, at) & !resources::is_cost(s, at)
-}
-
-// One more, as far as 5,000,001.
-fn counted(n: u32, more: bool) -> u32
-    ensures { result ≡ if (more && nat_le n most_elements) then suc n else n }
-{
-    if more & (n <= 5000000) { n + 1 } else { n }
-}
-
-// How many of a Resource and its later siblings, as far as 5,000,001.
-fn count_from(s: &[u8], first: usize) -> u32
-    ensures { result ≡ min (length (keep is_work (element_at s.now first ∷ later_at s.now (bytes "Resource") first))) (suc most_elements) }
-{
-    let mut at = first;
     let mut n: u32 = 0;
-    loop {
-        n = counted(n, is_work(s, at));
-        let Some(next) = tree::next_child(s, at, b"Resource") else {
-            return n;
-        };
-        at = next;
+    for _ in rows::elements(root, Listed::Work) {
+        n = n.saturating_add(1);
     }
-}
-
-// How many there are, as far as 5,000,001.
-fn count_work(s: &[u8], root: Root) -> u32
-    ensures { result ≡ min (length (work_resources (root_at s.now root))) (suc most_elements) }
-{
-    match tree::child(s, root.resources, b"Resource") {
-        None => 0,
-        Some(first) => count_from(s, first),
-    }
+    n
 }
 
 // ---- what a Resource says
 
-// Its ID, else its UID.
-fn wanted_id<'a>(s: &'a [u8], at: usize) -> &'a [u8]
-    ensures { result.now ≡ wanted_id (element_at s.now at) }
+// Its ID, else its UID. names::wanted_name falls back on a text, not on a child: one function for both would take a closure for two lines.
+fn wanted_id(e: Element<'_>) -> &[u8]
+    ensures { result.now ≡ wanted_id (meaning e.entry) }
 {
-    if fields::given(s, at, b"ID") {
-        tree::text_of(s, at, b"ID")
-    } else {
-        tree::text_of(s, at, b"UID")
-    }
+    let id = e.text_of(b"ID");
+    if id.is_empty() { e.text_of(b"UID") } else { id }
 }
 
-// Its calendar's name, unless it is the main one's.
-fn calendar_of(
-    out: &[u8],
-    c: Place,
-    s: &[u8],
-    root: Root,
-    at: usize,
-    words: &[u32],
-    calendars: Option<Table>,
-) -> CalendarName
-    ensures { calendar_name s.now result ≡ bind (text_in (element_at s.now at) "CalendarUID") (named_in (context_at out.now c (root_at s.now root)) s.now words.now calendars) }
+// All of it, with so many `*` behind its id, and its calendar's name.
+fn resource_of<'a>(e: Element<'a>, stars: u32, calendar: Option<Starred<'a>>) -> Resource<'a>
+    ensures { resource_by result ≡ resource_with (given_by starred calendar.entry) (starred_by (wanted_id (meaning e.entry)) stars) (meaning e.entry) }
 {
-    if !fields::given(s, at, b"CalendarUID") {
-        return CalendarName {
-            at: s.len(),
-            name: None,
-        };
+    Resource {
+        id: Starred {
+            text: wanted_id(e),
+            stars,
+        },
+        name: e.text_of(b"Name"),
+        kind: resources::resource_kind(e),
+        unit: e.text_of(b"MaterialLabel"),
+        max_units: resources::max_units(e),
+        calendar,
+        price: resources::price(e),
     }
-    let uid = tree::text_of(s, at, b"CalendarUID");
-    names::calendar_in(out, c, s, root, words, calendars, uid)
 }
 
 // ---- one after another
 
-// The values that need no other record.
-fn put_said(
-    out: &mut [u8],
-    p: Place,
-    s: &[u8],
-    at: usize,
-    stars: u32,
-    calendar: &[u8],
-    named: Option<u32>,
-) -> Place
-    ensures { Puts (whole resource) (resource_with (name_meaning calendar.now named) (starred_by (wanted_id (element_at s.now at)) stars) (element_at s.now at)) out.old p out.new result }
-{
-    let id = wanted_id(s, at);
-    let name = tree::text_of(s, at, b"Name");
-    let kind = resources::resource_kind(s, at);
-    let unit = tree::text_of(s, at, b"MaterialLabel");
-    let units = resources::max_units(s, at);
-    let price = resources::price(s, at);
-    pack::put_resource(
-        out, p, id, stars, name, kind, unit, units, calendar, named, price,
-    )
-}
-
-// That of one element, where it is a work resource.
-fn put_one(
-    out: &mut [u8],
+// The project, where its calendars and its resources begin in the buffer, and the tables of the calendars' names and of the ids in lent words.
+#[derive(Clone, Copy)]
+struct Section<'a> {
+    root: Root<'a>,
+    calendars: Place,
     start: Place,
-    done: Done,
-    s: &[u8],
-    root: Root,
-    at: usize,
-    c: Place,
-    words: &mut [u32],
-    calendars: Option<Table>,
+    names: Option<Table>,
     ids: Option<Ids>,
-) -> Done
-    ensures { AddsResources c start s.now (root_at s.now root) (element_at s.now at ∷ []) calendars ids out.old words.old done out.new words.new result }
-{
-    if !is_work(s, at) {
-        return done;
-    }
-    let id = wanted_id(s, at);
-    let count = (done.count % 4294967296) as u32;
-    let p = done.next;
-    let stars = names::stars_for(out, Kind::Resources, start, p, words, ids, count, id);
-    let found = calendar_of(out, c, s, root, at, words, calendars);
-    let calendar = names::wanted_name(s, found.at, b"Calendar");
-    let named = found.name;
-    let next = put_said(out, p, s, at, stars, calendar, named);
-    names::note_stars(words, ids, count, id, stars, p);
-    more(done, next)
 }
 
-// Those of a Resource and its later siblings.
-fn put_from(
-    out: &mut [u8],
-    p: Place,
-    s: &[u8],
-    root: Root,
-    first: usize,
-    c: Place,
-    words: &mut [u32],
-    calendars: Option<Table>,
-    ids: Option<Ids>,
-) -> Done
-    ensures { PutsResources c p s.now (root_at s.now root) (element_at s.now first ∷ later_at s.now (bytes "Resource") first) calendars ids out.old words.old out.new words.new result }
-{
-    let mut done = Done { count: 0, next: p };
-    let mut at = first;
-    loop {
-        done = put_one(out, p, done, s, root, at, c, words, calendars, ids);
-        let Some(next) = tree::next_child(s, at, b"Resource") else {
-            return done;
-        };
-        at = next;
+impl<'a> Section<'a> {
+    // The name of a Resource's calendar, unless it is the main one's.
+    fn calendar_of(self, out: &[u8], words: &[u32], e: Element<'_>) -> Option<Starred<'a>>
+        ensures { given_by starred result ≡ bind (text_in (meaning e.entry) "CalendarUID") (section_names self.entry out.now words.now) }
+    {
+        let uid = said(e, b"CalendarUID")?;
+        let name = names::calendar_in(out, self.calendars, self.root, words, self.names, uid);
+        Starred::named(name.text, name.stars)
+    }
+
+    // One more.
+    fn put_one(self, out: &mut [u8], words: &mut [u32], done: Done, e: Element<'_>) -> Done
+        ensures { Adds self.entry (meaning e.entry) out.old words.old done out.new words.new result }
+    {
+        let id = wanted_id(e);
+        let row = done.row();
+        let p = done.next;
+        let stars = names::stars_for(
+            out,
+            Kind::Resources,
+            self.start,
+            p,
+            words,
+            self.ids,
+            row,
+            id,
+        );
+        let calendar = self.calendar_of(out, words, e);
+        let next = resource_of(e, stars, calendar).put(out, p);
+        names::note_stars(words, self.ids, row, id, stars, p);
+        done.more(next)
+    }
+
+    // All of them.
+    fn put(self, out: &mut [u8], words: &mut [u32]) -> Done
+        ensures { PutsResources self.entry out.old words.old out.new words.new result }
+    {
+        rows::are_bytes(self.root.tree);
+        let mut done = Done::none(self.start);
+        for e in rows::elements(self.root, Listed::Work) {
+            done = self.put_one(out, words, done, e);
+        }
+        done
     }
 }
 
-// All of them, with the calendars and the ids in the words from a place on.
+// All of them, with the calendars and the ids in the words from a place on; a place and no slice, since tables count from the front of the words.
 fn put_all(
     out: &mut [u8],
     p: Place,
-    s: &[u8],
-    root: Root,
+    root: Root<'_>,
     c: Place,
     words: &mut [u32],
     at: usize,
 ) -> Records
-    ensures { WritesIf (nat_le (length (work_resources (root_at s.now root))) most_elements && calendars_before out.old c (root_at s.now root) p) (whole resource) (resources_of (context_at out.old c (root_at s.now root)) (root_at s.now root)) out.old p out.new result × (cleared at words.new ≡ cleared at words.old) }
+    ensures { WritesIf (nat_le (length (work_resources (root_at root.entry))) most_elements && calendars_before out.old c (root_at root.entry) p) (whole resource) (resources_of (context_at out.old c (root_at root.entry)) (root_at root.entry)) out.old p out.new result × (cleared at words.new ≡ cleared at words.old) }
 {
-    let count = count_work(s, root);
-    if !((count <= 5000000) & names::calendars_before(out, c, s, root, p)) {
+    let count = count_work(root);
+    if 5000000 < count || !names::calendars_before(out, c, root, p) {
         return Records {
             count: 0,
             next: PAST,
         };
     }
-    match tree::child(s, root.resources, b"Resource") {
-        None => Records { count: 0, next: p },
-        Some(first) => {
-            let calendars = names::index_calendars(out, c, s, root, words, at);
-            let table = calendars.table;
-            let ids = names::ids_for(out.len(), p, words, calendars.end, count);
-            let done = put_from(out, p, s, root, first, c, words, table, ids);
-            records_of(done)
-        }
-    }
+    let calendars = names::index_calendars(out, c, root, words, at);
+    let section = Section {
+        root,
+        calendars: c,
+        start: p,
+        names: calendars.table,
+        ids: names::ids_for(out.len(), p, words, calendars.end, count),
+    };
+    Records::from(section.put(out, words))
 }
 
 // The work resources, one after another; none where there are more than 5,000,000. The calendars stand at c in the same buffer, before p; else nothing is
@@ -216,15 +156,14 @@ fn put_all(
 pub fn put_resources(
     out: &mut [u8],
     p: Place,
-    s: &[u8],
-    root: Root,
+    root: Root<'_>,
     c: Place,
     words: &mut [u32],
     at: usize,
 ) -> Records
-    ensures { WritesIf (nat_le (length (work_resources (root_at s.now root))) most_elements && calendars_before out.old c (root_at s.now root) p) (whole resource) (resources_of (context_at out.old c (root_at s.now root)) (root_at s.now root)) out.old p out.new result × (words.new ≡ cleared at words.old) }
+    ensures { WritesIf (nat_le (length (work_resources (root_at root.entry))) most_elements && calendars_before out.old c (root_at root.entry) p) (whole resource) (resources_of (context_at out.old c (root_at root.entry)) (root_at root.entry)) out.old p out.new result × (words.new ≡ cleared at words.old) }
 {
-    let r = put_all(out, p, s, root, c, words, at);
+    let r = put_all(out, p, root, c, words, at);
     bits::fill_from(words, at, 0);
     r
 }

@@ -1,7 +1,7 @@
 -- Shifts and masks, room, and the order of places. Assumes nothing.
 use mathlib.Core.Path.{◌≡◌, refl, sym}
 use mathlib.Core.Bool.{Bool, true, false, ◌&&◌}
-use Prim.Native.Nat.{ℕ, ◌+◌, ◌-◌, ◌*◌, ◌/◌, ◌%◌, ◌^◌, ◌≤◌, ◌<◌}
+use Prim.Native.Nat.{ℕ, ◌+◌, ◌-◌, ◌*◌, ◌/◌, ◌%◌, ◌^◌, ◌≤◌, ◌<◌, min}
 use native.Mathlib.Nat.{one-mul, mod-eq_of_lt, mod-lt}
 use native.Mathlib.Omega.{arith}
 use lib.Pow.{pow-lt, pow_pos}
@@ -14,18 +14,12 @@ use Rattle.bits.specs.declared.Place.{Place}
 use Rattle.bits.specs.Places.{at, room, fits_room, room_short, up_to}
 
 -- room is told by whole bytes
-pub room_bytes : (n : ℕ) (p : Place) (w : ℕ) → p.bit ≤ 7 → p.byte ≤ n → leb ((p.bit + w + 7) / 8) (n - p.byte) ≡ room n p w
-room_bytes n p w h b = told (leb x y) refl
+pub room_bytes : (n : ℕ) (p : Place) (w : ℕ) {x : ℕ} → x ≡ (p.bit + w) / 8 + min 1 ((p.bit + w) % 8) → p.bit ≤ 7 → p.byte ≤ n → leb x (n - p.byte) ≡ room n p w
+room_bytes n p w {x} e h b = told (leb x (n - p.byte)) refl
   where
-    x : ℕ
-    x = (p.bit + w + 7) / 8
-
-    y : ℕ
-    y = n - p.byte
-
-    told : (t : Bool) → leb x y ≡ t → t ≡ room n p w
-    told true e = sym (fits_room (record { bit = omega arith; ends = omega (arith, leb-true x y e) }))
-    told false e = sym (room_short n p w (λ k. omega (arith, leb-false x y e)))
+    told : (t : Bool) → leb x (n - p.byte) ≡ t → t ≡ room n p w
+    told true f = sym (fits_room (record { bit = omega arith; ends = omega (arith, leb-true x (n - p.byte) f) }))
+    told false f = sym (room_short n p w (λ k. omega (arith, leb-false x (n - p.byte) f)))
 
 -- a flag as a number
 pub bit_is : (b : Bool) → bool_byte b ≡ bit b

@@ -10,8 +10,8 @@ use crate::reading::take;
 use crate::writing::overwrite;
 use crate::{PAST, Place};
 
-// Writes the bits from one place to another again at p, 64 at a time and then what is left: from the front, as they do not overlap; `shift_up` goes
-// from the end, as they do.
+// Writes the bits from one place to another again at p: from the front, as they do not overlap; `shift_up` goes from the end, as they do. A `while`, as
+// there: 64 bits at a time and then what is left, so a place moves and no index.
 fn copy_all(out: &mut [u8], from: Place, to: Place, p: Place) -> Place
     requires { Order (length out.old) from to p }
     ensures { Step out.old p (λ b. b ▷ bits_from (at from) (at to) out.old) out.new result }

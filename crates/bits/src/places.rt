@@ -5,12 +5,13 @@ ghost use Rattle.bits.specs.Moves.{ordered};
 
 use crate::Place;
 
-// Whether n bytes have `width` bits from a place on.
+// Whether n bytes have `width` bits from a place on. That a width is at most 64 stands in each contract: it is a number from a format, and a type for it
+// would be taken apart in each line.
 pub(crate) fn room(n: usize, p: Place, width: usize) -> bool
     requires { width ≤ 64 }
     ensures { result ≡ room n p width }
 {
-    p.bit < 8 && p.byte <= n && (p.bit + width + 7) >> 3 <= n - p.byte
+    p.bit < 8 && p.byte <= n && (p.bit + width).div_ceil(8) <= n - p.byte
 }
 
 // Whether a place stands in n bytes or at their end: what was written up to it fitted. A length, as the bytes may be lent for writing.
@@ -47,10 +48,10 @@ pub(crate) fn place_before(p: Place, k: usize) -> Place
             bit: p.bit - k,
         };
     }
-    let d = (k - p.bit + 7) >> 3;
+    let d = (k - p.bit).div_ceil(8);
     Place {
         byte: p.byte - d,
-        bit: p.bit + (d << 3) - k,
+        bit: p.bit + 8 * d - k,
     }
 }
 
@@ -59,7 +60,7 @@ pub(crate) fn place_after(p: Place, k: usize) -> Place
     ensures { (result.bit < 8) × (at result ≡ at p + k) }
 {
     Place {
-        byte: p.byte + ((p.bit + k) >> 3),
+        byte: p.byte + (p.bit + k) / 8,
         bit: (p.bit + k) % 8,
     }
 }
@@ -73,5 +74,5 @@ pub(crate) fn run_length(a: Place, e: Place) -> usize
     if 8 < n {
         return 64;
     }
-    ((n << 3) + e.bit - a.bit).min(64)
+    (8 * n + e.bit - a.bit).min(64)
 }

@@ -3,7 +3,7 @@ ghost use Rattle.std.specs.Prelude.{◌≡◌, ◌+◌, ◌*◌, ◌<◌, ◌≤
 ghost use Rattle.bits.specs.Reads.{taken_at, flag_at, pad_at};
 ghost use Rattle.bits.specs.Window.{Read};
 
-use crate::places::room;
+use crate::places::{place_after, room};
 use crate::shifts::{joined, part, to_byte};
 use crate::{Field, PAST, Place};
 
@@ -18,21 +18,17 @@ pub fn take(s: &[u8], p: Place, width: usize) -> Field<u64>
             next: PAST,
         };
     }
-    let mut q = p.byte;
-    let mut r = p.bit;
+    let mut q = p;
     let mut left = width;
-    let mut acc: u64 = 0;
+    let mut value: u64 = 0;
+    // A `while`: a turn takes what is left of a byte, 8 bits in the middle and fewer at the ends, so there is no range to go over.
     while 0 < left {
-        let k = left.min(8 - r);
-        acc = joined(acc, k, part(u64::from(s[q]), 8 - r - k, k));
-        q += (r + k) >> 3;
-        r = (r + k) % 8;
+        let k = left.min(8 - q.bit);
+        value = joined(value, k, part(u64::from(s[q.byte]), 8 - q.bit - k, k));
+        q = place_after(q, k);
         left -= k;
     }
-    Field {
-        value: acc,
-        next: Place { byte: q, bit: r },
-    }
+    Field { value, next: q }
 }
 
 // The flag at a place.

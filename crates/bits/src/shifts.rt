@@ -21,5 +21,5 @@ pub(crate) fn joined(hi: u64, k: usize, lo: u64) -> u64
 pub(crate) fn to_byte(bit: usize) -> usize
     ensures { result ≡ (8 - bit) % 8 }
 {
-    if bit < 8 { (8 - bit) % 8 } else { 0 }
+    8usize.saturating_sub(bit) % 8
 }

@@ -1,10 +1,12 @@
-// Fields written at a place: over what stands there.
+// Fields written at a place: over what stands there. The buffer and the place stay two parameters in all that writes, here and in the crates above. In
+// a struct, which was tried, each function would promise besides that its buffer is still the same one, and a place that is kept for later would stand
+// outside it anyway.
 ghost use Rattle.std.specs.Prelude.{◌≡◌, ◌+◌, ◌-◌, ◌*◌, ◌/◌, ◌%◌, ◌^◌, ◌<◌, ◌≤◌};
 ghost use Rattle.definition.specs.Bits.{enc};
 ghost use Rattle.definition.specs.Format.{field, flag};
 ghost use Rattle.bits.specs.Steps.{Laid, Puts, Pads};
 
-use crate::places::room;
+use crate::places::{place_after, room};
 use crate::shifts::{joined, part, to_byte};
 use crate::{PAST, Place};
 
@@ -19,8 +21,6 @@ fn mix(old: u64, r: usize, k: usize, x: u64) -> u8
     joined(top, 8 - r - k, low) as u8
 }
 
-// The buffer and the place stay two parameters, here and above. In a struct, which was tried, each function would promise besides that its
-// buffer is still the same one, and a place that is kept for later would stand outside it anyway.
 // Writes the `width` low bits of v over those at a place, and nothing else. The place behind them.
 pub fn overwrite(out: &mut [u8], p: Place, width: usize, v: u64) -> Place
     requires { width ≤ 64 }
@@ -29,18 +29,17 @@ pub fn overwrite(out: &mut [u8], p: Place, width: usize, v: u64) -> Place
     if !room(out.len(), p, width) {
         return PAST;
     }
-    let mut q = p.byte;
-    let mut r = p.bit;
+    let mut q = p;
     let mut left = width;
+    // A `while`, as in `take`: 8 bits at a time, and fewer at the ends.
     while 0 < left {
-        let k = left.min(8 - r);
-        let b = mix(u64::from(out[q]), r, k, part(v, left - k, k));
-        out[q] = b;
-        q += (r + k) >> 3;
-        r = (r + k) % 8;
+        let k = left.min(8 - q.bit);
+        let b = mix(u64::from(out[q.byte]), q.bit, k, part(v, left - k, k));
+        out[q.byte] = b;
+        q = place_after(q, k);
         left -= k;
     }
-    Place { byte: q, bit: r }
+    q
 }
 
 // Writes the `width` low bits of v at a place, and says where the next field goes.

@@ -13,13 +13,14 @@ pub struct WorkingTime {
     pub to: u16,
 }
 
+// As the readers of `fields`.
 fn time_in(e: Element<'_>, name: &[u8]) -> Option<u16>
     ensures { result ≡ time_said (meaning e.entry) name.now }
 {
     number::time_of(e.text_of(name))
 }
 
-// 00:00 at the end means 24:00.
+// 00:00 at the end means 24:00; no word of the library says so.
 fn end_of(t: u16) -> u16
     ensures { result ≡ (if nat_eq t 0 then 1440 else t) }
 {

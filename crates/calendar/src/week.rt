@@ -44,6 +44,7 @@ pub fn is_old_exception(e: Element<'_>) -> bool
     day_type(e).unwrap_or(1) == 0
 }
 
+// A name for the child, which callers read.
 pub fn day_working(e: Element<'_>) -> bool
     ensures { result ≡ yes_in (meaning e.entry) "DayWorking" }
 {

@@ -1,5 +1,5 @@
 -- The exceptions of a calendar, found one by one; whether an element names hours. Assumes nothing.
-use Rattle.std.proofs.Common.{◌≡◌, ℕ, zero, suc, ◌+◌, ◌≤◌, Bool, true, false, not, eqb, List, [], ◌∷◌, ◌++◌, length, map, take, drop, sym, refl, ap, ◌∙◌, subst, append-nil, arith}
+use Rattle.std.proofs.Common.{◌||◌, ◌≡◌, ℕ, zero, suc, ◌+◌, ◌≤◌, Bool, true, false, not, eqb, List, [], ◌∷◌, ◌++◌, length, map, take, drop, sym, refl, ap, ◌∙◌, subst, append-nil, arith}
 use Rattle.recurrence.specs.declared.Range.{Range}
 use Rattle.recurrence.specs.declared.Rule.{Rule}
 use Rattle.calendar.specs.declared.hours.WorkingTime.{WorkingTime}
@@ -8,15 +8,17 @@ use Rattle.std.specs.Prelude.{Option, None, Some, is_some, MatchOption, slice_ge
 use Rattle.std.specs.Option.{option_map}
 use Rattle.std.proofs.lemmas.List.{length-append, length-map}
 use Rattle.std.proofs.lemmas.Iterator.{YieldsList}
-use Rattle.std.proofs.lemmas.Iterator.Consumers.{YieldsList-from_shown, count_from_yields_List, nth_from_yields_List}
-use Rattle.std.specs.Iterator.{Drains, SkipsThenYields}
+use Rattle.std.proofs.lemmas.Iterator.Consumers.{YieldsList-from_shown, YieldsList-from_first, count_from_yields_List, nth_from_yields_List}
+use Rattle.std.specs.Iterator.{Drains, SkipsThenYields, YieldsFirstBy}
+use Rattle.std.specs.List.{list_any}
 use mathlib.Core.List.{flat_map}
 use Rattle.definition.specs.Base.{◌or◌, given, some?, present}
 use Rattle.definition.specs.Ascii.{bytes}
 use Rattle.definition.specs.Text.{Text}
 use Rattle.definition.specs.Tree.{Element, all, all_in, child}
-use Rattle.definition.specs.Calendar.{week_days, recurring, periods_of, is_empty, day_type, working_time}
-use Rattle.tree.specs.Place.{meaning, later, list_of, Past, Starts}
+use Rattle.definition.specs.Calendar.{week_days, recurring, periods_of, is_empty, day_type}
+use Rattle.tree.specs.declared.element.Children.{Children}
+use Rattle.tree.specs.Place.{left, meaning, later, list_of, Past, Starts}
 use Rattle.tree.specs.Answer.{found_child, none_child, found_on}
 use Rattle.tree.specs.Few.{children_few}
 use Rattle.tree.specs.declared.element.Element.{Element as Place}
@@ -24,7 +26,7 @@ use Rattle.recurrence.specs.Element.{rule_days, RuleRead, RangeRead}
 use Rattle.calendar_days.specs.declared.exceptions.Exceptions.{Exceptions}
 use Rattle.calendar_days.specs.declared.exceptions.Exception.{Exception as Given}
 use Rattle.calendar_days.specs.declared.exceptions.Exception.TheVariants.{WeekDay, Recurring}
-use Rattle.calendar_days.specs.Exceptions.{Item, item_of, items_of, items_by, items_left, ItemsOf, GivesItems, placed, is_old, old_days, days_at, days_in, is_time}
+use Rattle.calendar_days.specs.Exceptions.{Item, item_of, items_of, items_by, items_left, GivesItems, placed, is_old, old_days, days_at, days_in, is_time}
 use Rattle.calendar_days.proofs.Changes.{names_hours}
 use Rattle.calendar_days.proofs.RuleDays.{ruled_by, ruled}
 
@@ -99,14 +101,6 @@ pub no_more : {w x : Option Place} → w ≡ None → x ≡ None → items_by w 
 unfolding items_by list_of
 no_more n i = rw (n, i)
 
--- before a loop over it all are left, and all of the tree
-module _ {d items : Exceptions} (is : d ≡ items) where
-  pub all_items_left : {l : List Item} → items_left items ≡ l → l ≡ items_left d
-  all_items_left h = sym (ap (λ (x : Exceptions). items_left x) is ∙ h)
-
-  pub all_items_of : (u : Text) → ItemsOf items u → ItemsOf d u
-  all_items_of u h = subst (λ (x : Exceptions). ItemsOf x u) (sym is) h
-
 -- what it gives are those
 pub all_given : (s : Exceptions) → YieldsList GivesItems item_of s (items_left s)
 all_given s = YieldsList-from_shown GivesItems item_of items_left (λ s t h. ap length h.0) (λ s x t h. h.0) s
@@ -137,20 +131,17 @@ module _ {items : Exceptions} {l : List Item} (are : items_left items ≡ l) whe
 
 -- ---- working times
 
-pub time_here : {t : Element} {l m : List Element} → l ≡ t ∷ m → is_time t ≡ true → some? is_time l ≡ true
-unfolding some?
-time_here e h = rw (e, h)
+pub children_given : (s : Children) → YieldsList (YieldsFirstBy meaning left) meaning s (left s)
+children_given s = YieldsList-from_first meaning left (left s) refl
 
-pub time_on : {t : Element} {l m : List Element} → l ≡ t ∷ m → is_time t ≡ false → some? is_time l ≡ some? is_time m
+pub any_is : {A : Type 0} (p : A → Bool) (l : List A) → list_any p l ≡ some? p l
 unfolding some?
-time_on e h = rw (e, h)
+any_is p [] = refl
+any_is p (x ∷ l) = ap (λ (t : Bool). p x || t) (any_is p l)
 
 no_time : some? is_time [] ≡ false
 unfolding some?
 no_time = refl
-
-pub no_times : {l : List Element} → l ≡ [] → some? is_time l ≡ false
-no_times e = ap (some? is_time) e ∙ no_time
 
 times_in : Option Element → Bool
 times_in o = some? is_time (all_in o (bytes "WorkingTime"))
@@ -163,13 +154,10 @@ pub hours_some : (e : Element) {c : Element} → child e (bytes "WorkingTimes") 
 unfolding times_in some?
 hours_some e h = sym (ap times_in h) ∙ names_hours e
 
-given_some : (o : Option WorkingTime) → given (working_meaning o) ≡ is_some o
+pub given_some : (o : Option WorkingTime) → given (working_meaning o) ≡ is_some o
 unfolding working_meaning
 given_some None = refl
 given_some (Some t) = refl
-
-pub time_is : {r : Bool} (o : Option WorkingTime) (t : Element) → r ≡ is_some o → working_meaning o ≡ working_time t → is_time t ≡ r
-time_is o t e h = sym (e ∙ sym (given_some o) ∙ ap given h)
 
 -- ---- their days
 

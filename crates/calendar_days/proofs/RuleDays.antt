@@ -138,10 +138,6 @@ module _ (d : Days) {r : Rule} {c : Cursor} (is : d.left ≡ Some (r, c)) {s : S
   done_left (inl e) = some_left d is ∙ no_day r c h (λ day c' k. no_done day c' (sym e ∙ k))
   done_left (inr e) = some_left d is ∙ no_day r c h (λ day c' k. no_skipped day c' (sym e ∙ k))
 
--- before a loop over it all are left
-pub all_left : {d items : Days} {l : List Date} → d ≡ items → days_left items ≡ l → l ≡ days_left d
-all_left e h = sym (ap (λ (x : Days). days_left x) e ∙ h)
-
 -- each is a date
 years_left : (o : Option (Rule × Cursor)) → Each InYears (coming_by o)
 unfolding coming_by

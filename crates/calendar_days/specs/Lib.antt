@@ -4,6 +4,7 @@ pub mod Inserts
 pub mod Hours
 pub mod Exceptions
 pub mod Days
+pub mod Spans
 pub mod Notes
 pub mod Over
 pub mod Lists

@@ -24,6 +24,7 @@ pub(crate) enum Exception<'a> {
 }
 
 impl<'a> Exception<'a> {
+    #[tactic(auto, unfolding(crate::specs::Exceptions::placed))]
     pub(crate) fn element(self) -> Element<'a>
         ensures { result ≡ placed self.entry }
     {
@@ -99,7 +100,7 @@ impl<'a> Iterator for Exceptions<'a> {
 // The kind of a daily rule.
 pub(crate) const DAILY: u32 = 1;
 
-// Days in a row, as a rule.
+// Days in a row, as a rule. Not From<Range> for Rule: both types are recurrence's.
 fn daily(r: Range) -> Rule
     ensures { result ≡ daily_by r }
 {
@@ -165,16 +166,17 @@ pub(crate) fn such_days<W: Wanted>(x: Exception<'_>) -> Days
 
 // ---- the hours
 
+fn is_time(t: Element<'_>) -> bool
+    ensures { result ≡ is_time (meaning t.entry) }
+{
+    calendar::working_time(t).is_some()
+}
+
 // Whether a WorkingTimes has a time.
 fn any_time(times: Element<'_>) -> bool
     ensures { result ≡ some? is_time (all (meaning times.entry) (bytes "WorkingTime")) }
 {
-    for t in times.children(b"WorkingTime") {
-        if calendar::working_time(t).is_some() {
-            return true;
-        }
-    }
-    false
+    times.children(b"WorkingTime").any(is_time)
 }
 
 // Whether a WeekDay or an Exception names hours.

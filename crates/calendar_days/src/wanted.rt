@@ -23,7 +23,7 @@ pub(crate) trait Wanted: Copy {
     fn are_such(e: Element<'_>) -> bool
         ensures { result ≡ such (meaning e.entry) };
 
-    // Whether one of them counts, by its weekday.
+    // Whether one of them counts, by its weekday. A premise, here and below: a Date may hold any number, and definition's type has no ghost field.
     fn counts(self, d: Date) -> bool
         ensures { InYears (date_by d.0) → result ≡ test self (date_by d.0) };
 }
@@ -49,6 +49,7 @@ impl Wanted for Holidays {
 
     ghost test = { λ h. works (flags_in h.week) };
 
+    #[tactic(auto, using(crate::proofs::Loops::off_is))]
     fn are_such(e: Element<'_>) -> bool {
         !calendar::day_working(e)
     }
@@ -63,6 +64,7 @@ impl Wanted for ExtraDays {
 
     ghost test = { λ h d. not (works (flags_in h.week) d) };
 
+    #[tactic(auto, using(crate::proofs::Loops::on_worked, crate::proofs::Loops::on_off))]
     fn are_such(e: Element<'_>) -> bool {
         calendar::day_working(e) && !has_periods(e)
     }
@@ -77,6 +79,7 @@ impl Wanted for WithHours {
 
     ghost test = { λ h d. true };
 
+    #[tactic(auto, using(crate::proofs::Loops::hours_worked, crate::proofs::Loops::hours_off))]
     fn are_such(e: Element<'_>) -> bool {
         calendar::day_working(e) && has_periods(e)
     }

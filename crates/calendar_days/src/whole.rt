@@ -10,26 +10,25 @@ ghost use Rattle.calendar_days.specs.Lists.{day_lists, days_over, lists_at, Base
 use crate::base::{Lists, base_at};
 use crate::dates::{put_extra_days, put_holidays};
 use crate::days::put_exceptions;
-use crate::reach::Reach;
+use crate::reach::Source;
 use bits::Place;
 use tree::Element;
 
-// Holidays, extra days and days with hours of a Calendar, whose week is given, over its base's. The buffer, the tree and the words are parameters of
-// their own in this crate: they are lent apart, and a struct of them would be lent as a whole to each call.
+// Holidays, extra days and days with hours of a Calendar, whose week is given, over its base's. The buffer and the words are parameters of their own
+// in this crate: they are lent apart, and a struct of them would be lent as a whole to each call.
 fn put_lists(
     out: &mut [u8],
     p: Place,
-    calendar: Element<'_>,
+    own: Source<'_>,
     week: u32,
     base: Option<Lists>,
     words: &mut [u32],
-    own: Reach,
 ) -> Place
-    ensures { Over day_lists (BaseLists base) (days_over (meaning calendar.entry) (flags_in week)) out.old p out.new result }
+    ensures { Over day_lists (BaseLists base) (days_over (meaning own.entry.calendar) (flags_in week)) out.old p out.new result }
 {
-    let a = put_holidays(out, p, calendar, week, base, words, own);
-    let b = put_extra_days(out, a, calendar, week, base, words, own);
-    put_exceptions(out, b, calendar, base, words, own)
+    let a = put_holidays(out, p, own, week, base, words);
+    let b = put_extra_days(out, a, own, week, base, words);
+    put_exceptions(out, b, own, base, words)
 }
 
 // The same, over the lists that stand from `base` on and end before p, or over none where there are none. The words from `from` on are free.
@@ -46,7 +45,7 @@ pub fn put_days(
     ensures kept { cleared from words.new ≡ cleared from words.old }
 {
     let found = base_at(out, base, p);
-    let own = Reach::of(calendar);
+    let own = Source::of(calendar);
     let free = from.min(words.len());
-    put_lists(out, p, calendar, week, found, &mut words[free..], own)
+    put_lists(out, p, own, week, found, &mut words[free..])
 }

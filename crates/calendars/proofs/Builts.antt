@@ -1,10 +1,9 @@
 -- Calendars built one after another behind each other; the default one, the main one and the elapsed one. Assumes nothing.
 use Rattle.std.specs.Prelude.{if◌then◌else◌}
 use Rattle.names.specs.declared.ids.Ids.{Ids}
-use Rattle.std.proofs.Common.{◌≡◌, ℕ, suc, ◌+◌, ◌%◌, ◌^◌, ◌<◌, ◌≤◌, Bool, true, false, not, ◌&&◌, eqb, leb, List, [], ◌∷◌, ◌++◌, map, length, take, drop, sym, refl, ap, ◌∙◌, subst, true≢false, append_assoc, append-nil, arith, length-append, eqb-true, leb-true}
+use Rattle.std.proofs.Common.{◌≡◌, ℕ, suc, ◌+◌, ◌%◌, ◌^◌, ◌<◌, ◌≤◌, Bool, true, false, not, ◌&&◌, eqb, leb, List, [], ◌∷◌, ◌++◌, map, length, take, drop, sym, refl, ap, ◌∙◌, subst, true≢false, append_assoc, append-nil, arith, length-append, le-leb}
 use mathlib.Core.List.{map-append}
 use Rattle.std.specs.Prelude.{Option, Some, None}
-use borrow.Author.Tests.{not-false}
 use Rattle.std.specs.Prelude.{slice_get}
 use lib.ListN.{length-map}
 use Rattle.definition.specs.Base.{◌>>=◌, ◌or◌, ◌or_else◌, given, keep, first, same, some?}
@@ -19,7 +18,6 @@ use Rattle.definition.specs.Read.{calendars_of}
 use Rattle.definition.specs.Refusal.{most_elements}
 use Rattle.definition.specs.Task.{context_of, kept_tasks, is_elapsed}
 use Rattle.definition.specs.Calendar.{Named, base_of, with_uid, build, built_calendars, main_calendar, calendar_elements, calendar_of, renamed, free, default_calendar, elapsed_calendar}
-use Rattle.laws.specs.Bools.{both}
 use Rattle.laws.specs.Each.{Each, empty, next, each_append, each_front}
 use Rattle.laws.specs.Formats.{fills_whole}
 use Rattle.bits.specs.Clear.{cleared}
@@ -36,6 +34,9 @@ use Rattle.model.specs.declared.records.Kind.TheVariants.{Calendars}
 use Rattle.pack.specs.Value.{starred_by}
 use Rattle.pack.specs.Writes.{Writes, WritesIf, no_records, put_any, writes_if, writes_not}
 use Rattle.pack.specs.declared.record.Records.{Records}
+use Rattle.tree.specs.Root.{root_at}
+use Rattle.tree.specs.declared.root.Root.{Root}
+use Rattle.tree.specs.declared.element.Element.{Element as Of}
 use Rattle.rows.specs.Rows.{in_order, main_in, calendar_meaning}
 use Rattle.names.specs.Context.{wanted_name}
 use Rattle.names.specs.Cleared.{below_cleared, cleared_below, below_less}
@@ -55,12 +56,12 @@ use Rattle.laws.specs.FitCalendars.{FitsNamedBy}
 use Rattle.laws.proofs.FitCalendars.{fit_build}
 use Rattle.names.specs.Kept.{There, there_at, there_inside, there_split, there_reads, reads_there}
 use Rattle.names.specs.Records.{calendar_fields, same_calendars, front_calendars, plain_calendars, plain_calendars_lem, good_raw, parted, calendars_lie, Lies, row_reads, texts_calendars}
-use Rattle.calendars.specs.declared.built.Tables.{Tables}
+use Rattle.calendars.specs.declared.built.Section.{Section}
 use Rattle.calendars.specs.Base.{Based, BaseIs}
 use Rattle.calendars.specs.Record.{PutsCalendar}
 use Rattle.calendars.proofs.Orders.{get_out, get_in, built_in_order, built_more, made, of_length, found_base, base_given, no_base, main_row_lem, main_none}
 use Rattle.calendars.proofs.Turning.{put_times}
-use Rattle.calendars.specs.Built.{Stand, built_of, row_or, found_or, Finds, BaseFound, base_in, BaseIn, Laid, Held, none_yet, Begins, Adds, AddsAll, or_default, AddsDefault, PutsBuilt, turned, TurnsMain, elapsed_in, AddsElapsed}
+use Rattle.calendars.specs.Built.{Stand, built_of, row_or, found_or, Finds, BaseFound, base_in, BaseIn, Laid, Held, none_yet, Begins, Adds, AddsAll, or_default, AddsDefault, PutsBuilt, turned, TurnsBy, TurnsMain, elapsed_in, AddsElapsed}
 
 -- ---- what is built fits
 
@@ -123,18 +124,18 @@ module _ {m : Option Ids} {start : Place} {count : ℕ} {d w : List ℕ} where
   unfolding BaseIs
   base_absent = record { finds = λ d₀ cs q noted fit s i. refl }
 
-module _ (s : Text) (root e : Element) (t : Tables) (start : Place) (count : ℕ) (d w : List ℕ) where
+module _ (s : Text) (root e : Element) (t : Section) (start : Place) (count : ℕ) (d w : List ℕ) where
   pub base_none : given (base_of e) ≡ false → BaseIn s root e t start count d w None
   unfolding BaseIs
   base_none h = record { finds = λ d₀ done todo q z f noted fit st i. ap (λ (o : Option Text). (o >>= λ u. with_uid u (build [] done)) or default_calendar) (no_base e h) }
 
-pub base_found : (s : Text) {root e : Element} {t : Tables} {start : Place} {count : ℕ} {d w : List ℕ} {b : Option CalendarPlaces} → given (base_of e) ≡ true → (found : Option (ℕ × ℕ)) {u : Text} → u ≡ (text_in e "BaseCalendarUID" or [])
-    → calendar_meaning s found ≡ calendar_by s root w t.uids u → BaseFound found t.names start count d w b → BaseIn s root e t start count d w b
+pub base_found : (s : Text) {root e : Element} {t : Section} {start : Place} {count : ℕ} {d w : List ℕ} {b : Option CalendarPlaces} → given (base_of e) ≡ true → (found : Option (ℕ × Of)) {u : Text} → u ≡ (text_in e "BaseCalendarUID" or [])
+    → calendar_meaning found ≡ calendar_by s root w t.uids u → BaseFound found t.names start count d w b → BaseIn s root e t start count d w b
 base_found s {root} {e} {t} {start} {count} {d} {w} {b} g found {u} j m h = record {
   finds = λ d₀ done todo q z f noted fit st i.
       let v = text_in e "BaseCalendarUID" or [] in
       let y : base_in done e ≡ found_or (built_of done) found =
-      ap (λ (o : Option Text). (o >>= λ u. with_uid u (build [] done)) or default_calendar) (base_given e g) ∙ found_base s root v done todo z found (m ∙ ap (calendar_by s root w t.uids) j ∙ f.found v) in
+      ap (λ (o : Option Text). (o >>= λ u. with_uid u (build [] done)) or default_calendar) (base_given e g) ∙ found_base root v done todo z found (m ∙ ap (calendar_by s root w t.uids) j ∙ f.found v) in
       subst (λ c. BaseIs b d q c) (sym y) (h.finds d₀ (built_of done) q noted fit st i);
 }
 
@@ -148,7 +149,7 @@ stand_more {cs} {c = c} s x n = record {
 }
 
 -- the elements so far and the next one
-record Turn (s : Text) (root e : Element) (t : Tables) (start : Place) (d w : List ℕ) (r : Records) (d₀ : List ℕ) (done todo : List Element) : Type 0 where
+record Turn (s : Text) (root e : Element) (t : Section) (start : Place) (d w : List ℕ) (r : Records) (d₀ : List ℕ) (done todo : List Element) : Type 0 where
   small : Small root
   few : length (in_order root) ≤ most_elements
   laid : Laid t
@@ -156,7 +157,7 @@ record Turn (s : Text) (root e : Element) (t : Tables) (start : Place) (d w : Li
   held : Held s root t start d w r
   stand : Stand (built_of done) d₀ start d r
 
-module _ {s : Text} {root e : Element} {t : Tables} {start : Place} {d w : List ℕ} {r : Records} (stars : ℕ) {b : Option CalendarPlaces} {d' : List ℕ} {q : Place}
+module _ {s : Text} {root e : Element} {t : Section} {start : Place} {d w : List ℕ} {r : Records} (stars : ℕ) {b : Option CalendarPlaces} {d' : List ℕ} {q : Place}
     (st : starred_by (wanted_name e) stars ≡ starred_in Calendars d start r.next w t.names r.count (wanted_name e)) (base : BaseIn s root e t start r.count d w b) (put : PutsCalendar e stars b d r.next d' q) where
   module _ {d₀ : List ℕ} {done todo : List Element} (x : Turn s root e t start d w r d₀ done todo) where
     fits_now : Each (FitsCalendarBy Short) (built_of done)
@@ -227,7 +228,7 @@ module _ {s : Text} {root e : Element} {t : Tables} {start : Place} {d w : List 
   }
 
 -- as the callees say it, about the text that was asked for
-pub adds_said : {s : Text} {root e : Element} {t : Tables} {start : Place} {d w : List ℕ} {r : Records} (stars : ℕ) {b : Option CalendarPlaces} {d' : List ℕ} {q : Place} {name : Text} → name ≡ wanted_name e
+pub adds_said : {s : Text} {root e : Element} {t : Section} {start : Place} {d w : List ℕ} {r : Records} (stars : ℕ) {b : Option CalendarPlaces} {d' : List ℕ} {q : Place} {name : Text} → name ≡ wanted_name e
     → starred_by name stars ≡ starred_in Calendars d start r.next w t.names r.count name → BaseIn s root e t start r.count d w b → PutsCalendar e stars b d r.next d' q
     → (w₁ : List ℕ) {w₂ : List ℕ} {r' : Records} → cleared t.from w₁ ≡ cleared t.from w → w₂ ≡ noted_by w₁ t.names r.count name stars (r.next.byte % 2 ^ 32) → r'.count ≡ (r.count + 1) % 2 ^ 32 → r'.next ≡ q
     → Adds s root (e ∷ []) t start d w r d' w₂ r'
@@ -237,10 +238,10 @@ adds_said {t = t} {start} {d} {w} {r} stars i st base put w₁ c notes n z =
 
 -- ---- one after another
 
-pub adds_none : (s : Text) (root : Element) (t : Tables) (start : Place) (d w : List ℕ) (r : Records) → Adds s root [] t start d w r d w r
+pub adds_none : (s : Text) (root : Element) (t : Section) (start : Place) (d w : List ℕ) (r : Records) → Adds s root [] t start d w r d w r
 adds_none s root t start d w r = record { adds = λ small few laid d₀ done todo z h st. rw (append-nil done) (st, h); keeps = λ at h. refl }
 
-module _ {s : Text} {root : Element} {t : Tables} {start : Place} {d w : List ℕ} {r : Records} {d' w' : List ℕ} {r' : Records} where
+module _ {s : Text} {root : Element} {t : Section} {start : Place} {d w : List ℕ} {r : Records} {d' w' : List ℕ} {r' : Records} where
   pub adds_both : (xs ys : List Element) {d'' w'' : List ℕ} {r'' : Records} → Adds s root xs t start d w r d' w' r' → Adds s root ys t start d' w' r' d'' w'' r'' → Adds s root (xs ++ ys) t start d w r d'' w'' r''
   adds_both xs ys h i = record {
     adds = λ small few laid d₀ done todo z held st.
@@ -251,12 +252,12 @@ module _ {s : Text} {root : Element} {t : Tables} {start : Place} {d w : List �
   }
 
 -- what is built so far, and what is left of the order
-pub record Sofar (s : Text) (root : Element) (t : Tables) (start : Place) (d₀ w₀ : List ℕ) (left : List Element) (d w : List ℕ) (r : Records) : Type 0 where
+pub record Sofar (s : Text) (root : Element) (t : Section) (start : Place) (d₀ w₀ : List ℕ) (left : List Element) (d w : List ℕ) (r : Records) : Type 0 where
   done : List Element
   is : in_order root ≡ done ++ left
   adds : Adds s root done t start d₀ w₀ (none_yet start) d w r
 
-module _ {s : Text} {root : Element} {t : Tables} {start : Place} {d₀ w₀ : List ℕ} where
+module _ {s : Text} {root : Element} {t : Section} {start : Place} {d₀ w₀ : List ℕ} where
   pub sofar_none : {left : List Element} → in_order root ≡ left → Sofar s root t start d₀ w₀ left d₀ w₀ (none_yet start)
   sofar_none e = record { done = []; is = e; adds = adds_none s root t start d₀ w₀ (none_yet start) }
 
@@ -290,9 +291,9 @@ default_put {d} {r} {d'} {q} h x = record { adds = λ d₀ start cs s. by_list c
     by_list (c ∷ cs) s = absurd (omega (arith, s.counts))
 
 -- the tables, before the first one
-pub tables_begin : {s : Text} {root : Element} {d : List ℕ} {start : Place} {at : ℕ} {w w₁ w₂ : List ℕ} {u : CalendarTable} {m : Option Ids} (rows : ℕ) {from : ℕ} → MakesUids s root at w w₁ u
-    → (m ≡ ids_for (length d) start (length w₁) u.end rows) × (w₂ ≡ begun w₁ m) → from ≡ end_ids m u.end (length w₂) → Begins s root d start at w w₂ (record { uids = u.table; names = m; from = from })
-tables_begin {d = d} {start} {w = w} {w₁} {w₂} {u} {m} rows i (j, v) z =
+pub tables_begin : (root : Root) {d : List ℕ} {start : Place} {at : ℕ} {w w₁ w₂ : List ℕ} {u : CalendarTable} {m : Option Ids} (rows : ℕ) {from : ℕ} → MakesUids root.tree.now (root_at root) at w w₁ u
+    → (m ≡ ids_for (length d) start (length w₁) u.end rows) × (w₂ ≡ begun w₁ m) → from ≡ end_ids m u.end (length w₂) → Begins root.tree.now (root_at root) d start at w w₂ (record { root = root; start = start; uids = u.table; names = m; from = from })
+tables_begin root {d} {start} {w = w} {w₁} {w₂} {u} {m} rows i (j, v) z =
     let (first, end) = uids_behind i in
     let behind = begun_behind (length d) start w₁ u.end rows j in
     let ids : SameBelow u.end w₁ w₂ = rw v (begun_same (length d) start w₁ u.end rows j (λ l h. omega arith)) in
@@ -308,7 +309,7 @@ tables_begin {d = d} {start} {w = w} {w₁} {w₂} {u} {m} rows i (j, v) z =
       keeps = cleared_below (below_less first ids) ∙ cleared_below (uids_below i);
     }
 
-pub built_put : {s : Text} {root : Element} {t : Tables} {at : ℕ} {d : List ℕ} {p : Place} {w w1 w2 d1 : List ℕ} {r1 : Records} {d2 : List ℕ} {r2 : Records} → Begins s root d p at w w1 t → AddsAll s root t p d w1 d1 w2 r1 → AddsDefault d1 r1 d2 r2
+pub built_put : {s : Text} {root : Element} {t : Section} {at : ℕ} {d : List ℕ} {p : Place} {w w1 w2 d1 : List ℕ} {r1 : Records} {d2 : List ℕ} {r2 : Records} → Begins s root d p at w w1 t → AddsAll s root t p d w1 d1 w2 r1 → AddsDefault d1 r1 d2 r2
     → PutsBuilt root d p d2 r2 × (cleared at w2 ≡ cleared at w)
 built_put {root = root} {at = at} {d} {p} b a f = (
   record { stand = λ small few. rw (built_in_order root) (f.adds d p (built_of (in_order root)) (a.adds small few b.laid b.held)) },
@@ -336,10 +337,10 @@ main_default root = by_uid (text_in root "CalendarUID")
     by_uid None = refl
     by_uid (Some u) = refl
 
-pub main_first_lem : (s : Text) (root : Element) (found : Option (ℕ × ℕ)) → calendar_meaning s found ≡ main_in root → Small root → length (in_order root) ≤ most_elements → {d₀ : List ℕ} {start : Place} {d : List ℕ} {r : Records} {d' : List ℕ}
-    → start.bit % 8 ≡ 0 → Stand (or_default (calendars_in (built_calendars root))) d₀ start d r → TurnsMain found start d d' → Stand (main_first root) d₀ start d' r
-unfolding calendar_meaning TurnsMain build keep
-main_first_lem s root (Some (row, x)) m small few {d₀} {start} {d} {r} {d'} b st t =
+pub main_first_lem : (root : Element) (found : Option (ℕ × Element)) → found ≡ main_in root → Small root → length (in_order root) ≤ most_elements → {d₀ : List ℕ} {start : Place} {d : List ℕ} {r : Records} {d' : List ℕ}
+    → start.bit % 8 ≡ 0 → Stand (or_default (calendars_in (built_calendars root))) d₀ start d r → TurnsBy found start d d' → Stand (main_first root) d₀ start d' r
+unfolding TurnsBy build keep
+main_first_lem root (Some (row, x)) m small few {d₀} {start} {d} {r} {d'} b st t =
     let w : built_calendars root ≡ build [] (in_order root) = built_in_order root in
     let cs = calendars_in (built_calendars root) in
     let c = main_calendar root (built_calendars root) in
@@ -349,7 +350,7 @@ main_first_lem s root (Some (row, x)) m small few {d₀} {start} {d} {r} {d'} b 
     let few'' : length cs ≤ 5000000 = rw w (omega (arith, of_length (in_order root))) in
     let y : Stand (turned cs row c) d₀ start d' r = t.turns b d₀ cs c r few'' fit g (rw (or_same cs row c g) at st) in
     subst (λ l. Stand (c ∷ l) d₀ start d' r) (sym o) y
-main_first_lem s root None m small few {d₀} {start} {d} {r} {d'} b st t =
+main_first_lem root None m small few {d₀} {start} {d} {r} {d'} b st t =
     let none_built : built_calendars root ≡ [] = built_in_order root ∙ ap (build []) (main_none root (sym m)) in
     let st' : Stand (default_calendar ∷ []) d₀ start d r = rw none_built at st in
     rw (t, none_built, main_default root) st'
@@ -372,17 +373,14 @@ elapsed_length root = by_test (some? is_elapsed (kept_tasks root))
 
 -- ---- the whole
 
-pub few_counted : (n : ℕ) (b : Bool) → not (leb n 5000000 && b) ≡ false → n ≤ 5000000
-few_counted n b h = leb-true n 5000000 (both (leb n 5000000) b (not-false _ h)).0
-
-pub calendars_written : (s : Text) (root : Element) (found : Option (ℕ × ℕ)) → calendar_meaning s found ≡ main_in root → Small root → length (calendar_elements root) ≤ most_elements → {d : List ℕ} {p : Place} {d1 : List ℕ} {r : Records} {d2 d3 : List ℕ} {r' : Records}
-    → p.bit % 8 ≡ 0 → PutsBuilt root d p d1 r → TurnsMain found p d1 d2 → AddsElapsed root d2 r d3 r' → Writes (whole calendar) (calendars_of (context_of root)) d p d3 r'
+pub calendars_written : (root : Element) → Small root → length (calendar_elements root) ≤ most_elements → {d : List ℕ} {p : Place} {d1 : List ℕ} {r : Records} {d2 d3 : List ℕ} {r' : Records}
+    → p.bit % 8 ≡ 0 → PutsBuilt root d p d1 r → TurnsMain root p d1 d2 → AddsElapsed root d2 r d3 r' → Writes (whole calendar) (calendars_of (context_of root)) d p d3 r'
 unfolding calendars_of context_of
-calendars_written s root found m small few {d} {p} b built t e =
+calendars_written root small few {d} {p} b built t e =
     let len = order_length root in
     let few' : length (in_order root) ≤ most_elements = rw len few in
     let x = built.stand small few' in
-    let y = main_first_lem s root found m small few' b x t in
+    let y = main_first_lem root (main_in root) refl small few' b x t in
     let n : length (calendars_in (built_calendars root)) ≡ length (in_order root) = rw (built_in_order root) (of_length (in_order root)) in
     let o = or_length (calendars_in (built_calendars root)) in
     let k : length (main_first root) ≤ 5000001 = omega (arith, x.counts, y.counts) in
@@ -390,14 +388,9 @@ calendars_written s root found m small few {d} {p} b built t e =
     let l = length-append (main_first root) (elapsed_in root) in
     record { puts = z.puts; counts = z.counts ∙ omega (arith, elapsed_length root) }
 
-module _ (s : Text) (root : Element) {d : List ℕ} {p : Place} {n : ℕ} (is : n ≡ length (calendar_elements root)) where
-  pub calendars_if : Small root → (leb n 5000000 && eqb (p.bit % 8) 0) ≡ true → (found : Option (ℕ × ℕ)) → calendar_meaning s found ≡ main_in root → {d1 : List ℕ} {r : Records} {d2 d3 : List ℕ} {r' : Records}
-      → PutsBuilt root d p d1 r → TurnsMain found p d1 d2 → AddsElapsed root d2 r d3 r' → WritesIf (leb (length (calendar_elements root)) most_elements && eqb (p.bit % 8) 0) (whole calendar) (calendars_of (context_of root)) d p d3 r'
-  calendars_if small e found m built t el =
-      let e' : (leb (length (calendar_elements root)) most_elements && eqb (p.bit % 8) 0) ≡ true = rw is at e in
-      let (few, begins) = both (leb (length (calendar_elements root)) most_elements) (eqb (p.bit % 8) 0) e' in
-      writes_if (whole calendar) e' (calendars_written s root found m small (leb-true _ _ few) (eqb-true _ _ begins) built t el)
-
-  pub calendars_not : (leb n 5000000 && eqb (p.bit % 8) 0) ≡ false → {r : Records} → r ≡ no_records
-      → WritesIf (leb (length (calendar_elements root)) most_elements && eqb (p.bit % 8) 0) (whole calendar) (calendars_of (context_of root)) d p d r
-  calendars_not e z = let e' : (leb (length (calendar_elements root)) most_elements && eqb (p.bit % 8) 0) ≡ false = rw is at e in writes_not (whole calendar) e' z
+module _ (root : Element) {d : List ℕ} {p : Place} {n : ℕ} (is : n ≡ length (calendar_elements root)) where
+  pub calendars_if : Small root → n ≤ 5000000 → p.bit % 8 ≡ 0 → {d1 : List ℕ} {r : Records} {d2 d3 : List ℕ} {r' : Records}
+      → PutsBuilt root d p d1 r → TurnsMain root p d1 d2 → AddsElapsed root d2 r d3 r' → WritesIf (leb (length (calendar_elements root)) most_elements && eqb (p.bit % 8) 0) (whole calendar) (calendars_of (context_of root)) d p d3 r'
+  calendars_if small k begins built t el =
+      let few : length (calendar_elements root) ≤ most_elements = omega arith in
+      writes_if (whole calendar) (rw (le-leb _ _ few, begins)) (calendars_written root small few begins built t el)

@@ -14,6 +14,7 @@ use Rattle.definition.specs.Tree.{Element}
 use Rattle.definition.specs.Model.{Calendar}
 use Rattle.definition.specs.Calendar.{Named, base_of, with_uid, build, built_calendars, main_calendar, calendar_of, renamed, free, default_calendar}
 use Rattle.laws.specs.Options.{never}
+use Rattle.tree.specs.declared.element.Element.{Element as Of}
 use Rattle.rows.specs.Rows.{has_uid, in_order, with_uid_in, main_in, calendar_meaning}
 use Rattle.calendars.specs.Built.{built_of, found_or, base_in}
 use Rattle.laws.specs.FitNames.{added_to, calendars_in, names_in, build_length}
@@ -127,13 +128,13 @@ with_row u front (b ∷ built) (y ∷ es) todo e =
 found_row : (root : Element) (u : Text) (done todo : List Element) → in_order root ≡ done ++ todo → with_uid u (build [] done) ≡ (with_uid_in root u >>= λ x. slice_get (built_of done) x.0)
 found_row root u done todo e = with_row u [] (build [] done) done todo (uids_build [] done) ∙ rw e
 
-pub found_base : (s : Text) (root : Element) (u : Text) (done todo : List Element) → in_order root ≡ done ++ todo → (found : Option (ℕ × ℕ)) → calendar_meaning s found ≡ with_uid_in root u
+pub found_base : (root : Element) (u : Text) (done todo : List Element) → in_order root ≡ done ++ todo → (found : Option (ℕ × Of)) → calendar_meaning found ≡ with_uid_in root u
     → (with_uid u (build [] done) or default_calendar) ≡ found_or (built_of done) found
 unfolding calendar_meaning
-found_base s root u done todo e (Some (row, at)) z =
+found_base root u done todo e (Some (row, at)) z =
     let w : with_uid u (build [] done) ≡ slice_get (built_of done) row = found_row root u done todo e ∙ rw (← z) in
     ap (λ (o : Option Calendar). o or default_calendar) w
-found_base s root u done todo e None z =
+found_base root u done todo e None z =
     let w : with_uid u (build [] done) ≡ None = found_row root u done todo e ∙ rw (← z) in
     ap (λ (o : Option Calendar). o or default_calendar) w
 

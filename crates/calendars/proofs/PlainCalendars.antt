@@ -1,5 +1,7 @@
 -- The two calendars that no file gives, field by field. Assumes nothing.
 use Rattle.std.proofs.Common.{◌≡◌, ℕ, zero, suc, ◌+◌, ◌/◌, ◌%◌, ◌^◌, ◌<◌, Bool, true, false, eqb, ltb, List, [], ◌∷◌, map, replicate, sym, refl, ap, mod-lt, arith}
+use Rattle.std.specs.Prelude.{Option, Some, None}
+use Rattle.std.proofs.lemmas.List.{replicate-append-replicate}
 use Rattle.definition.specs.Bits.{Bits, enc}
 use Rattle.definition.specs.Format.{Format, ◌⊗◌, field, via, times, put_all, list_of, count, flag, date, text, period, periods, dates, earlier}
 use Rattle.definition.specs.Model.{Calendar}
@@ -9,17 +11,18 @@ use Rattle.definition.specs.Ascii.{bytes}
 use Rattle.laws.specs.Buf.{◌▷◌}
 use Rattle.bits.specs.Steps.{Puts, view, said, field_step, put_same, put_via, put_no, put_more, put_list, put_period}
 use Rattle.bits.specs.declared.Place.{Place}
+use Rattle.calendar.specs.declared.hours.WorkingTime.{WorkingTime}
 use Rattle.calendar.specs.Week.{flags_in}
 use Rattle.calendar_days.proofs.Inserts.{put_empty}
 use Rattle.calendars.specs.Plain.{hours_each}
 
 -- ---- the default calendar, and the elapsed one
 
-pub default_is : plain_calendar (bytes "Standard") (flags_in 124) (replicate 7 (hours_each false)) ≡ default_calendar
+pub default_is : plain_calendar (bytes "Standard") (flags_in 124) (replicate 7 (hours_each None)) ≡ default_calendar
 unfolding default_calendar flags_in enc
 default_is = refl
 
-pub elapsed_is : plain_calendar (bytes "Elapsed (24 hours)") (flags_in 127) (replicate 7 (hours_each true)) ≡ elapsed_calendar
+pub elapsed_is : plain_calendar (bytes "Elapsed (24 hours)") (flags_in 127) (replicate 7 (hours_each (Some record { from = 0; to = 1440 }))) ≡ elapsed_calendar
 unfolding elapsed_calendar flags_in enc
 elapsed_is = refl
 
@@ -47,22 +50,22 @@ module _ {d : List ℕ} {p : Place} {d' : List ℕ} {q : Place} where
   unfolding calendar
   put_calendar c h = put_via _ _ h
 
--- the same seven times
-pub put_seven : {A : Type 0} (f : Format A) {x : A} {d d1 d2 d3 d4 d5 d6 d7 : List ℕ} {p p1 p2 p3 p4 p5 p6 p7 : Place} → Puts f x d p d1 p1 → Puts f x d1 p1 d2 p2 → Puts f x d2 p2 d3 p3 → Puts f x d3 p3 d4 p4
-    → Puts f x d4 p4 d5 p5 → Puts f x d5 p5 d6 p6 → Puts f x d6 p6 d7 p7 → Puts (times 7 f) (replicate 7 x) d p d7 p7
-put_seven f {d = d} {p = p} a b c e g h i = put_more 7 (put_more 7 (put_more 7 (put_more 7 (put_more 7 (put_more 7 (put_more 7 (put_no 7 f d p) a) b) c) e) g) h) i
+-- the same once more
+pub put_again : {A : Type 0} (k : ℕ) (f : Format A) (n : ℕ) {x : A} {d : List ℕ} {p : Place} {d1 : List ℕ} {p1 : Place} {d2 : List ℕ} {p2 : Place} → Puts (times k f) (replicate n x) d p d1 p1 → Puts f x d1 p1 d2 p2
+    → Puts (times k f) (replicate (n + 1) x) d p d2 p2
+put_again k f n {x} h i = put_same (replicate-append-replicate n 1 x) (put_more k h i)
 
--- no hours, and the whole day
+-- no hours, and a period
 module _ {d d1 : List ℕ} {p p1 : Place} where
   pub no_dates : Puts count 0 d p d1 p1 → Puts dates [] d p d1 p1
   unfolding dates
   no_dates x = put_empty ltb date x
 
-  pub no_hours : {b : Bool} → b ≡ false → Puts count 0 d p d1 p1 → Puts periods (hours_each b) d p d1 p1
+  pub no_hours : {o : Option WorkingTime} → o ≡ None → Puts count 0 d p d1 p1 → Puts periods (hours_each o) d p d1 p1
   unfolding periods
   no_hours e x = put_same (ap hours_each (sym e)) (put_empty earlier period x)
 
-  pub day_hours_lem : {b : Bool} {d2 d3 : List ℕ} {p2 p3 : Place} → b ≡ true → Puts count 1 d p d1 p1 → Puts (field 11) 0 d1 p1 d2 p2 → Puts (field 11) 1440 d2 p2 d3 p3
-      → Puts periods (hours_each b) d p d3 p3
+  pub day_hours_lem : {o : Option WorkingTime} {t : WorkingTime} {d2 d3 : List ℕ} {p2 p3 : Place} → o ≡ Some t → Puts count 1 d p d1 p1 → Puts (field 11) t.from d1 p1 d2 p2 → Puts (field 11) t.to d2 p2 d3 p3
+      → Puts periods (hours_each o) d p d3 p3
   unfolding periods
   day_hours_lem e x y z = put_same (ap hours_each (sym e)) (put_list 1 earlier period x (put_more 1 (put_no 1 period d1 p1) (put_period y z)))

@@ -26,8 +26,6 @@ use Rattle.bits.specs.Round.{stood_from}
 use Rattle.bits.specs.Steps.{Puts, Pads, put_same, put_no, put_more}
 use Rattle.bits.specs.declared.Place.{Place}
 use Rattle.calendar.specs.Week.{flags_in, word_of}
-use Rattle.tree.specs.Place.{element_at}
-use Rattle.rows.specs.Rows.{found_meaning}
 use Rattle.model.specs.Lax.{lax_same}
 use Rattle.model.specs.Passes.{Passes}
 use Rattle.model.specs.Splits.{later, step}
@@ -44,7 +42,7 @@ use Rattle.calendar_days.specs.Over.{Over}
 use Rattle.calendar_days.specs.Lists.{DayLists, day_lists, days_over}
 use Rattle.calendars.specs.Base.{lists_of, Based, BaseIs}
 use Rattle.calendars.proofs.Overs.{base_lasts}
-use Rattle.calendars.specs.Record.{WeekRead, is_place, on_place, later_found, hours_of, day_hours, CopiesHours, BaseHours, PutsHours, PutsWeekHours, named, PutsCalendar}
+use Rattle.calendars.specs.Record.{WeekRead, is_place, on_place, hours_of, day_hours, CopiesHours, BaseHours, PutsHours, PutsWeekHours, named, PutsCalendar}
 
 -- ---- flags and their word
 
@@ -97,38 +95,6 @@ week_at {r} {d} {v} e = record { week = λ p c i. week_there i v e }
 pub week_default : (d : List ℕ) → WeekRead None d 124
 unfolding BaseIs default_calendar flags_in enc
 week_default d = record { week = λ p c i. rw i }
-
--- ---- the last WeekDay of a day
-
-module _ (s : Text) (at day : ℕ) (found : Option ℕ) (a : Option ℕ) {t : Bool} (p : a ≡ place_of (element_at s at)) (e : t ≡ is_place day a) where
-  on_place_lem : on_place day (element_at s at) ≡ t
-  on_place_lem = ap (is_place day) (sym p) ∙ sym e
-
-  pub later_found_lem : t ≡ true → found_meaning s (Some at) ≡ later_found (on_place day (element_at s at)) (element_at s at) (found_meaning s found)
-  unfolding found_meaning
-  later_found_lem h = rw (on_place_lem ∙ h)
-
-  pub later_not : t ≡ false → found_meaning s found ≡ later_found (on_place day (element_at s at)) (element_at s at) (found_meaning s found)
-  later_not h = rw (on_place_lem ∙ h)
-
-pub last_start : (s : Text) (o : Option Element) → o ≡ (o or_else found_meaning s None)
-unfolding found_meaning
-last_start s None = refl
-last_start s (Some e) = refl
-
-module _ (test : Element → Bool) (e : Element) {l : List Element} (m : Option Element) {all n : Option Element} (inv : all ≡ (find_last test (e ∷ l) or_else m)) (h : n ≡ later_found (test e) e m) where
-  pub last_more : {k : List Element} → l ≡ k → all ≡ (find_last test k or_else n)
-  unfolding find_last
-  last_more {k} z = inv ∙ rw (z, h) (by_later (find_last test k) (test e))
-    where
-      by_later : (o : Option Element) (t : Bool) → ((o or_else when t e) or_else m) ≡ (o or_else later_found t e m)
-      by_later (Some v) t = refl
-      by_later None true = refl
-      by_later None false = refl
-
-  pub last_done : l ≡ [] → n ≡ all
-  unfolding find_last
-  last_done z = sym (last_more z)
 
 -- ---- the hours
 

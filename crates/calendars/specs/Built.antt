@@ -26,8 +26,10 @@ use Rattle.model.specs.declared.records.Kind.TheVariants.{Calendars}
 use Rattle.names.specs.Lent.{OpenIn, NotedIn, Behind, Before}
 use Rattle.names.specs.Sought.{end_names, FindsUids}
 use Rattle.pack.specs.declared.record.Records.{Records}
-use Rattle.rows.specs.Rows.{in_order}
-use Rattle.calendars.specs.declared.built.Tables.{Tables}
+use Rattle.tree.specs.Root.{root_at}
+use Rattle.tree.specs.declared.element.Element.{Element as Of}
+use Rattle.rows.specs.Rows.{in_order, main_in}
+use Rattle.calendars.specs.declared.built.Section.{Section}
 use Rattle.calendars.specs.Base.{BaseIs}
 
 -- calendars stand from a place on, one after another, up to q; so many
@@ -45,8 +47,8 @@ built_of es = calendars_in (build [] es)
 abbrev pub row_or : List Calendar → ℕ → Calendar
 row_or cs row = slice_get cs row or default_calendar
 
-abbrev pub found_or : List Calendar → Option (ℕ × ℕ) → Calendar
-found_or cs (Some (row, at)) = row_or cs row
+abbrev pub found_or : List Calendar → Option (ℕ × Of) → Calendar
+found_or cs (Some (row, x)) = row_or cs row
 found_or cs None = default_calendar
 
 -- a base that stands in the buffer before the place behind all, where the names so far are noted
@@ -56,38 +58,41 @@ pub record Finds (pick : List Calendar → Calendar) (m : Option Ids) (start : P
 abbrev pub AtRow : ℕ → Option Ids → Place → ℕ → List ℕ → List ℕ → Option CalendarPlaces → Type 0
 AtRow row = Finds (λ cs. row_or cs row)
 
-abbrev pub BaseFound : Option (ℕ × ℕ) → Option Ids → Place → ℕ → List ℕ → List ℕ → Option CalendarPlaces → Type 0
+abbrev pub BaseFound : Option (ℕ × Of) → Option Ids → Place → ℕ → List ℕ → List ℕ → Option CalendarPlaces → Type 0
 BaseFound found = Finds (λ cs. found_or cs found)
 
 abbrev pub base_in : List Element → Element → Calendar
 base_in done e = (base_of e >>= λ u. with_uid u (build [] done)) or default_calendar
 
-pub record BaseIn (s : Text) (root e : Element) (t : Tables) (start : Place) (count : ℕ) (d w : List ℕ) (b : Option CalendarPlaces) : Type 0 where
+pub record BaseIn (s : Text) (root e : Element) (t : Section) (start : Place) (count : ℕ) (d w : List ℕ) (b : Option CalendarPlaces) : Type 0 where
   pub finds : (d₀ : List ℕ) (done todo : List Element) (q : Place) → in_order root ≡ done ++ todo → FindsUids s root t.uids w → NotedIn Calendars t.names d start w count
       → Each (FitsCalendarBy Short) (built_of done) → Stand (built_of done) d₀ start d record { count = count; next = q } → inside (length d) q ≡ true → BaseIs b d q (base_in done e)
+
+abbrev pub BaseOf : Section → Element → ℕ → List ℕ → List ℕ → Option CalendarPlaces → Type 0
+BaseOf t e = BaseIn t.root.tree.now (root_at t.root) e t t.start
 
 -- ---- the words
 
 -- the tables stand one behind the other, before the words that are free
-pub record Laid (t : Tables) : Type 0 where
+pub record Laid (t : Section) : Type 0 where
   pub uids : end_names t.uids ≤ t.from
   pub behind : Behind (end_names t.uids) t.names
   pub before : Before t.names t.from
 
 -- they find each UID, and those so far are noted where they fitted
-pub record Held (s : Text) (root : Element) (t : Tables) (start : Place) (d w : List ℕ) (r : Records) : Type 0 where
+pub record Held (s : Text) (root : Element) (t : Section) (start : Place) (d w : List ℕ) (r : Records) : Type 0 where
   pub found : FindsUids s root t.uids w
   pub opened : OpenIn t.names start (length d)
   pub noted : inside (length d) r.next ≡ true → NotedIn Calendars t.names d start w r.count
 
 -- the words from a place on
-abbrev pub From : ℕ → Tables → Type 0
+abbrev pub From : ℕ → Section → Type 0
 From at t = (at ≤ t.from) × Behind at t.names
 
 abbrev pub none_yet : Place → Records
 none_yet start = record { count = 0; next = start }
 
-pub record Begins (s : Text) (root : Element) (d : List ℕ) (start : Place) (at : ℕ) (w w' : List ℕ) (t : Tables) : Type 0 where
+pub record Begins (s : Text) (root : Element) (d : List ℕ) (start : Place) (at : ℕ) (w w' : List ℕ) (t : Section) : Type 0 where
   pub laid : Laid t
   pub held : Held s root t start d w' (none_yet start)
   pub from : From at t
@@ -96,15 +101,21 @@ pub record Begins (s : Text) (root : Element) (d : List ℕ) (start : Place) (at
 -- ---- one after another
 
 -- elements were built behind those that were, wherever these were begun
-pub record Adds (s : Text) (root : Element) (es : List Element) (t : Tables) (start : Place) (d w : List ℕ) (r : Records) (d' w' : List ℕ) (r' : Records) : Type 0 where
+pub record Adds (s : Text) (root : Element) (es : List Element) (t : Section) (start : Place) (d w : List ℕ) (r : Records) (d' w' : List ℕ) (r' : Records) : Type 0 where
   pub adds : Small root → length (in_order root) ≤ most_elements → Laid t → (d₀ : List ℕ) (done todo : List Element) → in_order root ≡ done ++ (es ++ todo)
       → Held s root t start d w r → Stand (built_of done) d₀ start d r → Stand (built_of (done ++ es)) d₀ start d' r' × Held s root t start d' w' r'
   pub keeps : (at : ℕ) → From at t → cleared at w' ≡ cleared at w
 
 -- all of them
-pub record AddsAll (s : Text) (root : Element) (t : Tables) (start : Place) (d w d' w' : List ℕ) (r : Records) : Type 0 where
+pub record AddsAll (s : Text) (root : Element) (t : Section) (start : Place) (d w d' w' : List ℕ) (r : Records) : Type 0 where
   pub adds : Small root → length (in_order root) ≤ most_elements → Laid t → Held s root t start d w (none_yet start) → Stand (built_of (in_order root)) d start d' r
   pub keeps : (at : ℕ) → From at t → cleared at w' ≡ cleared at w
+
+abbrev pub AddsOne : Section → Element → List ℕ → List ℕ → Records → List ℕ → List ℕ → Records → Type 0
+AddsOne t e = Adds t.root.tree.now (root_at t.root) (e ∷ []) t t.start
+
+abbrev pub AddsEach : Section → List ℕ → List ℕ → List ℕ → List ℕ → Records → Type 0
+AddsEach t = AddsAll t.root.tree.now (root_at t.root) t t.start
 
 -- the default one where there is none
 abbrev pub or_default : List Calendar → List Calendar
@@ -126,9 +137,12 @@ pub record Turns (row : ℕ) (start : Place) (d d' : List ℕ) : Type 0 where
   pub turns : start.bit % 8 ≡ 0 → (d₀ : List ℕ) (cs : List Calendar) (c : Calendar) (r : Records) → length cs ≤ 5000000 → Each (FitsCalendarBy Short) cs → slice_get cs row ≡ Some c → Stand cs d₀ start d r
       → Stand (turned cs row c) d₀ start d' r
 
-unfoldable pub TurnsMain : Option (ℕ × ℕ) → Place → List ℕ → List ℕ → Type 0
-TurnsMain (Some (row, at)) start d d' = Turns row start d d'
-TurnsMain None start d d' = d' ≡ d
+unfoldable pub TurnsBy : Option (ℕ × Element) → Place → List ℕ → List ℕ → Type 0
+TurnsBy (Some (row, e)) start d d' = Turns row start d d'
+TurnsBy None start d d' = d' ≡ d
+
+abbrev pub TurnsMain : Element → Place → List ℕ → List ℕ → Type 0
+TurnsMain root = TurnsBy (main_in root)
 
 -- ---- the elapsed one
 

@@ -1,7 +1,9 @@
 -- Calendars of seven flags and the same hours on each weekday. Assumes nothing.
-use Rattle.std.specs.Prelude.{if◌then◌else◌, Bool, List, [], ◌∷◌}
+use Rattle.std.specs.Prelude.{List, [], ◌∷◌, Option, Some, None}
 use Rattle.definition.specs.Format.{Period}
+use Rattle.calendar.specs.declared.hours.WorkingTime.{WorkingTime}
 
--- the whole day, or no hours
-abbrev pub hours_each : Bool → List Period
-hours_each wholeDay = if wholeDay then (0, 1440) ∷ [] else []
+-- one period, or no hours
+abbrev pub hours_each : Option WorkingTime → List Period
+hours_each (Some t) = (t.from, t.to) ∷ []
+hours_each None = []

@@ -32,10 +32,6 @@ is_place day o = (o >>= λ k. Some (k == day)) or false
 abbrev pub on_place : ℕ → Element → Bool
 on_place day w = is_place day (place_of w)
 
--- an element, or the one before it
-abbrev pub later_found : Bool → Element → Option Element → Option Element
-later_found t e o = if t then Some e else o
-
 -- its hours, none where it is not worked
 abbrev pub hours_of : Element → List Period
 hours_of w = if yes_in w "DayWorking" then periods_of w else []

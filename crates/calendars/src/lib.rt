@@ -1,7 +1,6 @@
 // Calendars written, one over another, and the two that no file gives.
 #![tactic(auto)]
 
-mod base;
 mod built;
 mod plain;
 mod record;

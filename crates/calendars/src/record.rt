@@ -1,21 +1,21 @@
 // One calendar over its base. What is right is said in the crate definition, specs/Calendar.antt.
-ghost use Rattle.std.specs.Prelude.{◌≡◌, ◌∷◌};
+ghost use Rattle.std.specs.Prelude.{◌≡◌};
 ghost use Rattle.definition.specs.Base.{find_last};
-ghost use Rattle.definition.specs.Ascii.{bytes};
 ghost use Rattle.definition.specs.Format.{periods};
 ghost use Rattle.definition.specs.Calendar.{week_days};
-ghost use Rattle.tree.specs.Place.{element_at, later_at};
+ghost use Rattle.tree.specs.Place.{meaning};
 ghost use Rattle.bits.specs.Clear.{cleared};
 ghost use Rattle.bits.specs.Steps.{Puts};
 ghost use Rattle.rows.specs.Rows.{found_meaning};
 ghost use Rattle.calendars.specs.Base.{days_place};
-ghost use Rattle.calendars.specs.Record.{is_place, on_place, later_found, hours_of, WeekRead, CopiesHours, BaseHours, PutsHours, PutsWeekHours, PutsCalendar};
+ghost use Rattle.calendars.specs.Record.{on_place, hours_of, WeekRead, CopiesHours, BaseHours, PutsHours, PutsWeekHours, PutsCalendar};
 
-use crate::plain::put_week;
+use crate::plain::{WORKDAYS, put_week};
 use bits::{PAST, Place};
 use calendar_days::{put_days, put_periods};
 use model::parts::CalendarPlaces;
-use pack::put_count;
+use pack::{Starred, put_count};
+use tree::Element;
 
 // ---- the week
 
@@ -23,144 +23,118 @@ use pack::put_count;
 fn base_week(out: &[u8], base: Option<CalendarPlaces>) -> u32
     ensures { WeekRead base out.now result }
 {
+    // `map_or` was tried: the proof learns too little of what the closure gives. `u32::try_from` would have an error that cannot occur.
     match base {
         Some(c) => bits::take(out, c.week, 7).value as u32,
-        None => 0b1111100,
+        None => WORKDAYS,
     }
 }
 
 // ---- the hours: of each day the last WeekDay of its place decides
 
-fn is_place(a: Option<u32>, day: usize) -> bool
-    ensures { result ≡ is_place day a }
+// Whether a WeekDay is of a day, 0 for Monday.
+fn is_of(e: Element<'_>, day: u32) -> bool
+    ensures { result ≡ on_place day (meaning e.entry) }
 {
-    match a {
-        Some(k) => k as usize == day,
-        None => false,
-    }
+    calendar::day_place(e) == Some(day)
 }
 
-// This WeekDay if it is of the place, else the one that was found before it.
-fn later_day(s: &[u8], at: usize, day: usize, found: Option<usize>) -> Option<usize>
-    ensures { found_meaning s.now result ≡ later_found (on_place day (element_at s.now at)) (element_at s.now at) (found_meaning s.now found) }
+// The last WeekDay of a Calendar for a day.
+fn last_day(e: Element<'_>, day: u32) -> Option<Element<'_>>
+    ensures { found_meaning result ≡ find_last (on_place day) (week_days (meaning e.entry)) }
 {
-    if is_place(calendar::day_place(s, at), day) {
-        return Some(at);
+    let mut found = None;
+    for d in e.child(b"WeekDays")?.children(b"WeekDay") {
+        let named = is_of(d, day).then_some(d);
+        found = named.or(found);
     }
     found
 }
 
-// The last of a WeekDay and its later siblings.
-fn last_day_from(s: &[u8], first: usize, day: usize) -> Option<usize>
-    ensures { found_meaning s.now result ≡ find_last (on_place day) (element_at s.now first ∷ later_at s.now (bytes "WeekDay") first) }
-{
-    let mut at = first;
-    let mut found = None;
-    loop {
-        found = later_day(s, at, day, found);
-        let Some(next) = tree::next_child(s, at, b"WeekDay") else {
-            return found;
-        };
-        at = next;
-    }
-}
-
-// The last WeekDay of a Calendar for a day, 0 for Monday.
-fn last_day(s: &[u8], at: usize, day: usize) -> Option<usize>
-    ensures { found_meaning s.now result ≡ find_last (on_place day) (week_days (element_at s.now at)) }
-{
-    match rows::first_in(s, at, b"WeekDays", b"WeekDay") {
-        None => None,
-        Some(first) => last_day_from(s, first, day),
-    }
-}
-
 // The hours of a WeekDay, none where it is not worked.
-fn put_own_hours(out: &mut [u8], p: Place, s: &[u8], at: usize) -> Place
-    ensures { Puts periods (hours_of (element_at s.now at)) out.old p out.new result }
+fn put_own_hours(out: &mut [u8], p: Place, e: Element<'_>) -> Place
+    ensures { Puts periods (hours_of (meaning e.entry)) out.old p out.new result }
 {
-    if calendar::day_working(s, at) {
-        return put_periods(out, p, s, at);
+    if calendar::day_working(e) {
+        put_periods(out, p, e)
+    } else {
+        put_count(out, p, 0)
     }
-    put_count(out, p, 0)
 }
 
 // The base's hours of a day, from the place of its hours, written again.
-fn copy_hours(out: &mut [u8], p: Place, hours: Place, day: usize) -> Place
+fn copy_hours(out: &mut [u8], p: Place, hours: Place, day: u32) -> Place
     ensures { CopiesHours day hours out.old p out.new result }
 {
-    let from = model::parts::skip_hours(out, hours, day);
+    // `as`: usize has no `From<u32>`.
+    let from = model::parts::skip_hours(out, hours, day as usize);
     let to = model::parts::skip_periods(out, from);
     bits::copy_bits(out, from, to, p)
 }
 
-fn put_base_hours(out: &mut [u8], p: Place, base: Option<CalendarPlaces>, day: usize) -> Place
+fn put_base_hours(out: &mut [u8], p: Place, base: Option<CalendarPlaces>, day: u32) -> Place
     ensures { BaseHours base day out.old p out.new result }
 {
+    // Both arms write, so that a closure would borrow what the other writes.
     match base {
         Some(c) => copy_hours(out, p, c.hours, day),
         None => put_count(out, p, 0),
     }
 }
 
-fn put_hours_of(
-    out: &mut [u8],
-    p: Place,
-    s: &[u8],
-    at: usize,
-    day: usize,
-    base: Option<CalendarPlaces>,
-) -> Place
-    ensures { PutsHours (week_days (element_at s.now at)) day base out.old p out.new result }
-{
-    match last_day(s, at, day) {
-        None => put_base_hours(out, p, base, day),
-        Some(w) => put_own_hours(out, p, s, w),
-    }
-}
-
-fn put_hours(out: &mut [u8], p: Place, s: &[u8], at: usize, base: Option<CalendarPlaces>) -> Place
-    ensures { PutsWeekHours (week_days (element_at s.now at)) base out.old p out.new result }
-{
-    let mut q = p;
-    let mut day: usize = 0;
-    while day < 7 {
-        q = put_hours_of(out, q, s, at, day, base);
-        day += 1;
-    }
-    q
-}
-
 // ---- the whole
 
 // Where the base's lists of days stand; those of the default one, which are empty, nowhere.
+#[tactic(auto, unfolding(crate::specs::Base::days_place))]
 fn days_place(base: Option<CalendarPlaces>) -> Place
     ensures { result ≡ days_place base }
 {
-    match base {
-        Some(c) => c.holidays,
-        None => PAST,
-    }
+    base.map_or(PAST, |c| c.holidays)
 }
 
-// A Calendar over its base, its name with so many `*` behind it; the words from `from` on are free.
-pub(crate) fn put_calendar(
-    out: &mut [u8],
-    p: Place,
-    s: &[u8],
-    at: usize,
-    stars: u32,
-    base: Option<CalendarPlaces>,
-    words: &mut [u32],
-    from: usize,
-) -> Place
-    ensures fact_1 { PutsCalendar (element_at s.now at) stars base out.old p out.new result }
-    ensures fact_2 { cleared from words.new ≡ cleared from words.old }
-{
-    let a = pack::put_starred(out, p, names::wanted_name(s, at, b"Calendar"), stars);
-    let week = calendar::week_of(s, at, base_week(out, base));
-    let b = put_week(out, a, week);
-    let c = put_hours(out, b, s, at, base);
-    let d = put_days(out, c, s, at, week, days_place(base), words, from);
-    bits::pad(out, d)
+// A Calendar that is written over its base, its name with so many `*` behind it.
+#[derive(Clone, Copy)]
+pub(crate) struct Entry<'a> {
+    pub calendar: Element<'a>,
+    pub base: Option<CalendarPlaces>,
+    pub stars: u32,
+}
+
+impl Entry<'_> {
+    fn put_hours_of(self, out: &mut [u8], p: Place, day: u32) -> Place
+        ensures { PutsHours (week_days (meaning self.entry.calendar)) day self.entry.base out.old p out.new result }
+    {
+        match last_day(self.calendar, day) {
+            Some(d) => put_own_hours(out, p, d),
+            None => put_base_hours(out, p, self.base, day),
+        }
+    }
+
+    fn put_hours(self, out: &mut [u8], p: Place) -> Place
+        ensures { PutsWeekHours (week_days (meaning self.entry.calendar)) self.entry.base out.old p out.new result }
+    {
+        let mut q = p;
+        for day in 0..7 {
+            q = self.put_hours_of(out, q, day);
+        }
+        q
+    }
+
+    // The words from `from` on are free.
+    pub(crate) fn put(self, out: &mut [u8], p: Place, words: &mut [u32], from: usize) -> Place
+        ensures written { PutsCalendar (meaning self.entry.calendar) self.entry.stars self.entry.base out.old p out.new result }
+        ensures clears { cleared from words.new ≡ cleared from words.old }
+    {
+        let e = self.calendar;
+        let name = Starred {
+            text: names::wanted_name(e, b"Calendar"),
+            stars: self.stars,
+        };
+        let a = name.put(out, p);
+        let week = calendar::week_of(e, base_week(out, self.base));
+        let b = put_week(out, a, week);
+        let c = self.put_hours(out, b);
+        let d = put_days(out, c, e, week, days_place(self.base), words, from);
+        bits::pad(out, d)
+    }
 }

@@ -1,7 +1,7 @@
 -- Link elements: what becomes of one, and the kept ones written one after another. Assumes nothing.
 use Rattle.std.proofs.Common.{◌≡◌, ℕ, ◌+◌, ◌%◌, ◌^◌, ◌==◌, Bool, true, false, List, [], ◌∷◌, length, sym, ap, ◌∙◌}
 use Rattle.std.specs.Prelude.{Option}
-use Rattle.definition.specs.Base.{◌>>=◌, ◌or◌, some?}
+use Rattle.definition.specs.Base.{◌>>=◌, ◌or◌}
 use Rattle.definition.specs.Ascii.{bytes}
 use Rattle.definition.specs.Text.{Text}
 use Rattle.definition.specs.Tree.{Element, all}
@@ -18,15 +18,14 @@ use Rattle.pack.specs.Record.{link_by}
 use Rattle.pack.specs.declared.record.Link.{Link}
 use Rattle.pack.specs.declared.record.Records.{Records}
 use Rattle.rows.specs.Turns.{text_given, text_missing}
-use Rattle.links.specs.Fates.{LinkFate, Finder, fate_for, is_kept_link, links_by, day_only, links_for, links_in, links_from}
+use Rattle.links.specs.Fates.{LinkFate, Finder, fate_for, links_by, day_only, links_for, links_in, links_from}
 use Rattle.links.specs.Given.{given_none, given_some}
-use Rattle.links.specs.Entered.{kept_is, links_are}
+use Rattle.links.specs.Entered.{links_are}
 use Rattle.links.specs.More.{More, more_none, more_one, more_as, Left, left_all, left_next, left_end}
 use Rattle.links.specs.declared.fate.LeftOut.{LeftOut}
 use Rattle.links.specs.declared.fate.LeftOut.TheVariants.{Across, Dangling}
 use Rattle.std.specs.Prelude.{Ok, Err}
 use Rattle.std.specs.Option.{ok_or}
-use Rattle.std.specs.Result.{is_ok}
 
 -- ---- what becomes of one
 
@@ -45,25 +44,6 @@ module _ (find : Finder) (l : Element) where
     fate_row h g {a} k m =
         let z : a ≡ (text_in l "PredecessorUID" >>= find) = k ∙ text_given (text_in l "PredecessorUID") find (given_some l (bytes "PredecessorUID") t j h g) j in
         rw e (m ∙ ap (λ (o : Option ℕ). ok_or o Dangling) z)
-
-  pub fate_kept : {f : LinkFate} {b v : Bool} → f ≡ fate_for find l → b ≡ is_ok f → b ≡ v → is_kept_link find l ≡ v
-  fate_kept e h i = kept_is find l ∙ ap (λ (f : LinkFate). is_ok f) (sym e) ∙ sym h ∙ i
-
--- ---- whether one of those that are left is kept
-
-module _ (find : Finder) {b : Bool} {ls : List Element} (h : b ≡ some? (is_kept_link find) ls) where
-  pub entered_end : ls ≡ [] → false ≡ b
-  unfolding some?
-  entered_end e = sym (h ∙ rw e)
-
-  module _ {l : Element} {k : List Element} (e : ls ≡ l ∷ k) where
-    pub entered_here : is_kept_link find l ≡ true → true ≡ b
-    unfolding some?
-    entered_here i = sym (h ∙ rw (e, i))
-
-    pub entered_on : is_kept_link find l ≡ false → b ≡ some? (is_kept_link find) k
-    unfolding some?
-    entered_on i = h ∙ rw (e, i)
 
 -- ---- one written
 

@@ -31,10 +31,6 @@ pub(crate) fn fate_of(link: Element<'_>, tasks: TaskFinder<'_>) -> Result<u32, L
 pub fn is_entered(task: Element<'_>, tasks: TaskFinder<'_>) -> bool
     ensures { result ≡ is_entered (found_by tasks.entry) (meaning task.entry) }
 {
-    for link in task.children(b"PredecessorLink") {
-        if fate_of(link, tasks).is_ok() {
-            return true;
-        }
-    }
-    false
+    task.children(b"PredecessorLink")
+        .any(|link| fate_of(link, tasks).is_ok())
 }

@@ -16,7 +16,7 @@ use rows::Listed;
 use tree::Root;
 pub use writing::put_links;
 
-// How many link elements dangle, and how many go across. pack's Skips has these two among its four: to hold this would give them a longer name.
+// How many link elements dangle, and how many go across.
 #[derive(Clone, Copy, Debug, PartialEq, Eq)]
 pub struct Fates {
     pub dangling: u32,

@@ -1,8 +1,7 @@
 -- What the answer of a number text means, and what the code holds of its parts. Assumes nothing.
 use Rattle.std.specs.Prelude.{if◌then◌else◌, ◌≡◌, ℕ, zero, suc, ◌+◌, ◌-◌, ◌*◌, ◌^◌, ◌<◌, ◌≤◌, min, true, false, [], ◌∷◌, length, drop, slice_index, Float}
-use Rattle.definition.specs.declared.Unread.{Unread}
-use Rattle.definition.specs.declared.Unread.TheVariants.{Absent, Long}
-use Rattle.std.specs.Prelude.{Err, Ok, Result}
+use Rattle.definition.specs.declared.Unread.TheVariants.{Absent}
+use Rattle.std.specs.Prelude.{Err}
 use Rattle.std.specs.Prelude.{Option, Some, None}
 use Rattle.definition.specs.Text.{Text, Sign, plus, minus, bare, sign_of, is_digit, digits}
 use Rattle.definition.specs.Number.{Reading, Decimal, is_e, unsigned, decimal_of, magnitude}

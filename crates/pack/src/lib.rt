@@ -1,5 +1,6 @@
 // The model's fields and records written at a place of a buffer, each by its format: crate definition, specs/Format.antt and specs/Pack.antt. A
-// function answers the place behind what it wrote; what does not fit stays past the end.
+// function answers the place behind what it wrote; what does not fit stays past the end. The buffer and the place go side by side: a struct over
+// both would need a clause on the borrow in each function.
 #![tactic(auto)]
 
 mod record;

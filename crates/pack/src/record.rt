@@ -13,7 +13,7 @@ use resources::{Accrual, Amounts, ResourceKind};
 use tasks::{Constraint, DurationType, Lag, LinkKind, Parts};
 
 // How many exceptions were skipped, how many links dangle or go across, and how many kept tasks have a duration
-// that was not whole minutes. Four counts side by side: links counts two of them, and to hold its struct would give those a longer name.
+// that was not whole minutes. Four counts side by side: the crate links, which counts two of them, stands above.
 #[derive(Clone, Copy, Debug, PartialEq, Eq)]
 pub struct Skips {
     pub skipped: u32,

@@ -39,6 +39,7 @@ impl<'a> Starred<'a> {
     pub fn put(self, out: &mut [u8], p: Place) -> Place
         ensures { Puts text (starred self.entry) out.old p out.new result }
     {
+        // `as u64`: u64 has no From<usize>.
         let a = bits::put(out, p, 32, self.text.len() as u64 + u64::from(self.stars));
         let b = bits::pad(out, a);
         let c = bits::put_bytes(out, b, self.text);

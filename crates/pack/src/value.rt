@@ -11,7 +11,7 @@ use bits::Place;
 use definition::Date;
 use tasks::{Constraint, Lag};
 
-// A count or a row.
+// A count or a row. `bits::put` by a name for the width, as put_code.
 pub fn put_count(out: &mut [u8], p: Place, n: u32) -> Place
     ensures { Puts count n out.old p out.new result }
 {
@@ -162,7 +162,7 @@ impl Put for Constraint {
     }
 }
 
-// The days and the minutes, and the code of the kind with its share of the predecessor's duration.
+// The days and the minutes, and the code of the kind with its share of the predecessor's duration: the four values as the format has them.
 fn lag_fields(lag: Lag) -> (i64, Option<i64>, u32, Option<i64>)
     ensures { (result.0, (result.1, (result.2, result.3))) ≡ lag_values lag }
 {

@@ -12,6 +12,7 @@ ghost use Rattle.probe.specs.Fields.{day_at, month_at, fields_of, run_of, Told, 
 use date::{count_of, lowered};
 use definition::Date;
 use recurrence::{Cursor, Range, Rule, Step};
+use tree::Element;
 
 // ---- days
 
@@ -84,7 +85,7 @@ pub fn probe_rule(
 )
     ensures { record { kind = kind.exit.now; from = from.new; last = last.new; most = most.new; period = period.new; month = month.new; day = day.new; item = item.new; position = position.new; weekdays = weekdays.new } ≡ fields_of (rule_by (rule_of (element_at s.now 0))) }
 {
-    let f = fields_of(recurrence::rule_of(s, 0));
+    let f = fields_of(recurrence::rule_of(Element { tree: s, at: 0 }));
     *kind = f.kind;
     *from = f.from;
     *last = f.last;
@@ -198,7 +199,7 @@ fn run_of(a: Option<Range>) -> Run
 pub fn probe_week_day(s: &[u8], first: &mut u32, count: &mut u32)
     ensures { record { first = first.exit.now; count = count.new } ≡ run_of (range_by (days_of (element_at s.now 0))) }
 {
-    let r = run_of(recurrence::days_of(s, 0));
+    let r = run_of(recurrence::days_of(Element { tree: s, at: 0 }));
     *first = r.first;
     *count = r.count;
 }

@@ -23,7 +23,7 @@ use Rattle.laws.specs.FitTrees.{slim_texts}
 use Rattle.laws.proofs.FitCalendars.{fit_calendars}
 use Rattle.laws.specs.Buf.{full, ▷-full}
 use Rattle.laws.specs.Formats.{Fills, fills_whole, fills_pair}
-use Rattle.laws.specs.Bits.{bytes_of_lem}
+use Rattle.laws.specs.Bits.{Bytes}
 use Rattle.laws.specs.Bools.{differ}
 use Rattle.bits.specs.Round.{put_inside as began, put_stood}
 use Rattle.tree.specs.Root.{root_at}
@@ -46,8 +46,8 @@ use Rattle.read.specs.Sections.{start, low, zeros, listed, listed_of, Few, Whole
 abbrev pub Fit : Element → Type 0
 Fit e = Each (FitsCalendarBy Short) (calendars_of (context_of e))
 
-pub fit_tree : (s : Text) (root : Root) → ((i : ℕ) → get_or s i 0 < 256) → Few (root_at s root) → Fit (root_at s root)
-fit_tree s root h few = fit_calendars slim_texts (small_root s root (bytes_of_lem s h)) few.calendars
+pub fit_tree : (root : Root) → Bytes root.tree.now → Few (root_at root) → Fit (root_at root)
+fit_tree root h few = fit_calendars slim_texts (small_root root h) few.calendars
 
 -- ---- one section
 

@@ -1,9 +1,5 @@
 -- Counts laid over zeros, one after another. Assumes nothing.
-use mathlib.Core.Path.{◌≡◌, refl, sym, ap, ◌∙◌}
-use mathlib.Core.List.{List, [], ◌++◌, append_assoc}
-use Prim.Native.Nat.{ℕ, ◌+◌, ◌<◌}
-use native.Mathlib.Omega.{arith}
-use lib.ListN.{length, length-append}
+use Rattle.std.proofs.Common.{◌≡◌, ℕ, suc, ◌+◌, ◌-◌, ◌<◌, List, [], ◌∷◌, ◌++◌, length, take, drop, get_or, replicate, refl, sym, ap, ◌∙◌, subst, arith, append_assoc, append-nil, add-one, length-append, drop-cons}
 use Rattle.definition.specs.Bits.{Bits, enc, bits_of}
 use Rattle.definition.specs.Format.{field, ◌⊗◌}
 use Rattle.laws.specs.Bits.{length_bits, length_enc}
@@ -15,10 +11,10 @@ use Rattle.pack.specs.declared.record.Counts as P
 use Rattle.read.specs.Sections.{start, Closes}
 
 -- a place, and the bits before it and from it on
-record Over (d : List ℕ) (p : Place) (a c : Bits) : Type 0 where
-  bits : bits_of d ≡ a ++ c
-  here : at p ≡ length a
-  bit : p.bit < 8
+pub record Over (d : List ℕ) (p : Place) (a c : Bits) : Type 0 where
+  pub bits : bits_of d ≡ a ++ c
+  pub here : at p ≡ length a
+  pub bit : p.bit < 8
 
 one : {d : List ℕ} {p : Place} {a c : Bits} (n : ℕ) {d' : List ℕ} {q : Place} → Over d p a (enc 32 0 ++ c) → Laid d p (enc 32 n) d' q → Over d' q (a ++ enc 32 n) c
 one {d} {p} {a} {c} n {d'} {q} o h =
@@ -35,18 +31,48 @@ one {d} {p} {a} {c} n {d'} {q} o h =
       bit = rw nx (omega arith);
     }
 
-six : (a b c d e f g : Bits) → (a ++ (b ++ (c ++ (d ++ (e ++ f))))) ++ g ≡ a ++ (b ++ (c ++ (d ++ (e ++ (f ++ g)))))
-six a b c d e f g = simp append_assoc
+-- counts one after another, and as many zeros
+pub encs : List ℕ → Bits
+encs [] = []
+encs (n ∷ ns) = enc 32 n ++ encs ns
 
-pub closes : {n : P.Counts} {d d1 d2 d3 d4 d5 d6 : List ℕ} {p1 p2 p3 p4 p5 p6 : Place}
-    → Laid d start (enc 32 n.calendars) d1 p1 → Laid d1 p1 (enc 32 n.activities) d2 p2 → Laid d2 p2 (enc 32 n.links) d3 p3
-    → Laid d3 p3 (enc 32 n.resources) d4 p4 → Laid d4 p4 (enc 32 n.assignments) d5 p5 → Laid d5 p5 (enc 32 n.expenses) d6 p6 → Closes n d d6
-unfolding ◌⊗◌ field
-closes {n} {d} {d6 = d6} a b c x y z = record {
-  same = z.same ∙ y.same ∙ x.same ∙ c.same ∙ b.same ∙ a.same;
-  bits = λ l e.
-      let zs = enc 32 0 in
-      let o : Over d start [] (zs ++ (zs ++ (zs ++ (zs ++ (zs ++ (zs ++ l)))))) = record { bits = e ∙ six zs zs zs zs zs zs l; here = refl; bit = omega arith } in
-      let r = one n.expenses (one n.assignments (one n.resources (one n.links (one n.activities (one n.calendars o a) b) c) x) y) z in
-      r.bits ∙ simp append_assoc;
-}
+pub open_for : List ℕ → Bits
+open_for [] = []
+open_for (n ∷ ns) = enc 32 0 ++ open_for ns
+
+-- those of ms are still to be laid
+pub record Closing (ns ms : List ℕ) (d d' : List ℕ) (p : Place) : Type 0 where
+  pub same : length d' ≡ length d
+  pub done : Bits
+  pub lies : (l : Bits) → bits_of d ≡ open_for ns ++ l → Over d' p done (open_for ms ++ l)
+  pub all : done ++ encs ms ≡ encs ns
+
+pub closing_none : (ns : List ℕ) (d : List ℕ) → Closing ns ns d d start
+closing_none ns d = record { same = refl; done = []; lies = λ l e. record { bits = e; here = refl; bit = omega arith }; all = refl }
+
+pub closing_more : {ns ms : List ℕ} {n : ℕ} {ks : List ℕ} {d d1 d2 : List ℕ} {p q : Place} → ms ≡ n ∷ ks → Closing ns ms d d1 p → Laid d1 p (enc 32 n) d2 q → Closing ns ks d d2 q
+unfolding encs open_for
+closing_more {ns} {ms} {n} {ks} {d} {d1} {p = p} z h' x =
+    let h : Closing ns (n ∷ ks) d d1 p = subst (λ (ms : List ℕ). Closing ns ms d d1 p) z h' in
+    record {
+      same = x.same ∙ h.same;
+      done = h.done ++ enc 32 n;
+      lies = λ l e.
+          let o = h.lies l e in
+          one {a = h.done} n (record { bits = o.bits ∙ ap (λ (b : Bits). h.done ++ b) (append_assoc (enc 32 0) (open_for ks) l); here = o.here; bit = o.bit }) x;
+      all = append_assoc h.done (enc 32 n) (encs ks) ∙ h.all;
+    }
+
+pub closing_all : (n : P.Counts) {ms d d' : List ℕ} {p : Place} → Closing (n.calendars ∷ n.activities ∷ n.links ∷ n.resources ∷ n.assignments ∷ n.expenses ∷ []) ms d d' p → ms ≡ [] → Closes n d d'
+unfolding ◌⊗◌ field encs open_for
+closing_all n {ms} {d} {d'} {p} h' e =
+    let ns = n.calendars ∷ n.activities ∷ n.links ∷ n.resources ∷ n.assignments ∷ n.expenses ∷ [] in
+    let h : Closing ns [] d d' p = subst (λ (ms : List ℕ). Closing ns ms d d' p) e h' in
+    record {
+      same = h.same;
+      bits = λ l i. let o = h.lies l (i ∙ simp (append_assoc, append-nil)) in o.bits ∙ ap (λ (b : Bits). b ++ l) (sym (append-nil h.done) ∙ h.all) ∙ simp (append_assoc, append-nil);
+    }
+
+-- the next of some that are left
+pub left_next : (ns : List ℕ) (i : ℕ) → i < length ns → drop i ns ≡ get_or ns i 0 ∷ drop (i + 1) ns
+left_next ns i h = rw (add-one, drop-cons ns i 0)

@@ -1,20 +1,14 @@
 -- The project's record from what its element says. Assumes nothing.
-use mathlib.Core.Path.{◌≡◌, refl, sym, ap, ◌∙◌}
+use Rattle.std.proofs.Common.{◌≡◌, ℕ, suc, ◌+◌, ◌%◌, ◌^◌, true, false, eqb, eqb-true, true≢false, List, [], ◌∷◌, ◌++◌, length, ℤ, pos, refl, sym, ap, ◌∙◌, arith}
 use Rattle.definition.specs.declared.Date.{Date as DayNumber}
-use mathlib.Core.Bool.{true, false}
-use mathlib.Core.List.{List, [], ◌++◌}
 use Rattle.std.specs.Prelude.{Option, Some, None}
-use Prim.Native.Nat.{ℕ, ◌+◌, ◌%◌, ◌^◌}
 use Prim.Native.String.{String}
-use native.Mathlib.Omega.{arith}
-use lib.IntN.{ℤ, pos}
-use lib.ListN.{length}
 use Rattle.definition.specs.Base.{◌>>=◌, ◌or◌, ◌or_else◌, given as present}
 use Rattle.definition.specs.Bits.{Bits, pad}
 use Rattle.definition.specs.Text.{Text}
 use Rattle.definition.specs.Date.{Date, date_of, epoch, from_days}
 use Rattle.definition.specs.Field.{text_in, date_in}
-use Rattle.definition.specs.Tree.{Element}
+use Rattle.definition.specs.Tree.{Element, non_empty}
 use Rattle.definition.specs.Format.{Format, field, via, ◌⊗◌, whole}
 use Rattle.definition.specs.Model.{Project}
 use Rattle.definition.specs.Pack.{project}
@@ -30,18 +24,20 @@ use Rattle.bits.specs.Steps.{Puts, said, view, put_same}
 use Rattle.bits.specs.declared.Place.{Place}
 use Rattle.pack.specs.Value.{date_by, date_given, date_read, years_back}
 use Rattle.pack.specs.Record.{project_by}
-use Rattle.pack.specs.declared.record.Skips.{Skips}
+use Rattle.pack.specs.declared.record.Project as P
+use Rattle.std.specs.Option.{unwrap_or}
 use Rattle.read.specs.Project.{Skipped}
 
 -- ---- its fields
 
-pub given_first : (o p : Option Text) → present o ≡ true → (o or []) ≡ ((o or_else p) or [])
-given_first None p h = let z : ◌≡◌ {A = ℕ} 0 1 = cc in absurd (omega arith)
-given_first (Some t) p h = refl
+-- the first of two texts, where it is there
+pub name_first : (o p : Option Text) {t : Text} → t ≡ (o or []) → eqb (length t) 0 ≡ false → t ≡ ((o or_else p) or [])
+name_first None p i h = absurd (true≢false (sym (ap (λ (t : Text). eqb (length t) 0) i) ∙ h))
+name_first (Some u) p i h = i
 
-pub given_second : (o p : Option Text) → present o ≡ false → (p or []) ≡ ((o or_else p) or [])
-given_second None p h = refl
-given_second (Some t) p h = let z : ◌≡◌ {A = ℕ} 0 1 = cc in absurd (omega arith)
+pub name_second : (u : Text) (p : Option Text) {t v : Text} → t ≡ (non_empty u or []) → eqb (length t) 0 ≡ true → v ≡ (p or []) → v ≡ ((non_empty u or_else p) or [])
+name_second [] p i h j = j
+name_second (b ∷ u) p {t} i h j = let k : length t ≡ suc (length u) = ap length i in absurd (omega (arith, eqb-true (length t) 0 h))
 
 epoch_is : date_by (pos 0) ≡ epoch
 unfolding from_days
@@ -52,14 +48,10 @@ pub date_given_lem : (a : Option DayNumber) (e : Element) (n : String) {o : Opti
 unfolding date_in
 date_given_lem a e n k h = date_read a (date_in e n) (h ∙ ap (λ (o : Option Text). day_number_of (o >>= date_of)) (sym k)) (years_back (date_in e n) (is_given_lem (in_years_lem e n)))
 
-module _ (a : Option DayNumber) (o : Option Date) (h : date_given a ≡ o) where
-  pub start_given : (d : D.Date) → a ≡ Some d → date_by d.0 ≡ (o or epoch)
-  unfolding date_meaning
-  start_given d k = ap (λ (p : Option Date). p or epoch) (ap date_given (sym k) ∙ h)
-
-  pub start_absent : a ≡ None → date_by (pos 0) ≡ (o or epoch)
-  unfolding date_meaning
-  start_absent k = epoch_is ∙ ap (λ (p : Option Date). p or epoch) (ap date_given (sym k) ∙ h)
+pub start_is : (a : Option DayNumber) (o : Option Date) → date_given a ≡ o → date_by (unwrap_or a record { 0 = pos 0 }).0 ≡ (o or epoch)
+unfolding date_meaning
+start_is None o h = epoch_is ∙ ap (λ (p : Option Date). p or epoch) h
+start_is (Some d) o h = ap (λ (p : Option Date). p or epoch) h
 
 -- ---- its bits: counts as 32 bits hold them
 
@@ -86,14 +78,14 @@ whole_bits n p = ap (λ (l : Bits). l ++ pad (n + length l)) (lowered_bits n p)
 put_bits : {A : Type 0} {f : Format A} (a b : A) → ((n : ℕ) → f.put n a ≡ f.put n b) → {d : List ℕ} {p : Place} {d' : List ℕ} {q : Place} → Puts f a d p d' q → Puts f b d p d' q
 put_bits a b h {d} {p} x = record { step = said x.step _ (ap (λ (l : Bits). view d p ▷ l) (h (size_of (view d p)))) }
 
-pub project_put : (e : Element) (name currency : Text) (start : ℤ) (skips : Skips) (status : Option DayNumber) {d : List ℕ} {p : Place} {d' : List ℕ} {q : Place}
-    → name ≡ ((text_in e "Title" or_else text_in e "Name") or []) → date_by start ≡ (date_in e "StartDate" or epoch) → currency ≡ (text_in e "CurrencySymbol" or [])
-    → Skipped e skips → date_given status ≡ date_in e "StatusDate" → Puts (whole project) (project_by name start currency skips status) d p d' q
+pub project_put : (e : Element) (x : P.Project)
+    → x.name.now ≡ ((text_in e "Title" or_else text_in e "Name") or []) → date_by x.start.0 ≡ (date_in e "StartDate" or epoch) → x.currency.now ≡ (text_in e "CurrencySymbol" or [])
+    → Skipped e x.skips → date_given x.data_date ≡ date_in e "StatusDate" → {d : List ℕ} {p : Place} {d' : List ℕ} {q : Place} → Puts (whole project) (project_by x) d p d' q
     → Puts (whole project) (project_of (context_of e) e) d p d' q
 unfolding project_of
-project_put e name currency start skips status en es ec k et x =
+project_put e x en es ec k et h =
     let p = project_of (context_of e) e in
-    let same : project_by name start currency skips status ≡ lowered p = λ i. record {
+    let same : project_by x ≡ lowered p = λ i. record {
       name = en i;
       start = es i;
       currency = ec i;
@@ -103,4 +95,4 @@ project_put e name currency start skips status en es ec k et x =
       fractional = k.fractional_is i;
       data_date = et i;
     } in
-    put_bits (lowered p) p (λ n. whole_bits n p) (put_same same x)
+    put_bits (lowered p) p (λ n. whole_bits n p) (put_same same h)

@@ -1,7 +1,7 @@
 -- Two elements whose parts are the same have the same model. Assumes nothing.
 use Rattle.std.specs.Prelude.{if◌then◌else◌}
 use Prim.Native.Nat.{ℕ}
-use mathlib.Core.Path.{◌≡◌, ap, ◌∙◌, subst}
+use mathlib.Core.Path.{◌≡◌, sym, ap, ◌∙◌, subst}
 use mathlib.Core.Bool.{not}
 use mathlib.Core.List.{List, [], map}
 use Rattle.std.specs.Prelude.{Option, Some, None}
@@ -22,7 +22,8 @@ use Rattle.definition.specs.Link.{fates, links, entered, is_dangling, is_across}
 use Rattle.definition.specs.Resource.{is_resource, is_cost, resources_after, resources, assignment_elements, task_row, assignment_from, assignment_of, assignments, expense_from, expense_of, firsts, expenses}
 use Rattle.definition.specs.Read.{project_of, calendars_of, model_of}
 use Rattle.bits.specs.Steps.{Puts}
-use Rattle.tree.specs.Place.{element_at}
+use Rattle.tree.specs.Place.{element_at, meaning}
+use Rattle.tree.specs.declared.element.Element.{Element as Place}
 use Rattle.tree.specs.Root.{own_text, root_at, Parts, Stands, stands_all, stands_text, in_calendars, in_tasks, in_resources, in_assignments, calendar_uid, minutes_per_day, title_is, name_is, start_date, currency_symbol, status_date}
 use Rattle.tree.specs.declared.root.Root.{Root}
 use Rattle.pack.specs.Record.{counts_by}
@@ -121,25 +122,28 @@ module _ {a b : Element} (h : Same a b) where
   }
 
 -- the root that was found has the parts of the element
-module _ {s : Text} {root : Root} (at : ℕ) (h : Parts (λ n p. Stands s p (child (element_at s at) n)) root) where
-  text : (n : Text) {p : ℕ} → text_of (root_at s root) n ≡ own_text (element_at s p) → Stands s p (child (element_at s at) n) → text_of (root_at s root) n ≡ text_of (element_at s at) n
-  unfolding text_of
-  text n e k = e ∙ stands_text k
+module _ (e : Place) {root : Root} (tree : root.tree.now ≡ e.tree.now) (h : Parts (λ n p. Stands e.tree.now p (child (meaning e) n)) root) where
+  here : Parts (λ n p. Stands root.tree.now p (child (meaning e) n)) root
+  here = subst (λ (s : Text). Parts (λ n p. Stands s p (child (meaning e) n)) root) (sym tree) h
 
-  parts : Same (root_at s root) (element_at s at)
+  text : (n : Text) {p : ℕ} → text_of (root_at root) n ≡ own_text (element_at root.tree.now p) → Stands root.tree.now p (child (meaning e) n) → text_of (root_at root) n ≡ text_of (meaning e) n
+  unfolding text_of
+  text n i k = i ∙ stands_text k
+
+  parts : Same (root_at root) (meaning e)
   parts = record {
-    calendars = in_calendars s root _ ∙ stands_all h.calendars (bytes "Calendar");
-    tasks = in_tasks s root _ ∙ stands_all h.tasks (bytes "Task");
-    resources = in_resources s root _ ∙ stands_all h.resources (bytes "Resource");
-    assignments = in_assignments s root _ ∙ stands_all h.assignments (bytes "Assignment");
-    calendar = text (bytes "CalendarUID") (calendar_uid s root) h.calendar;
-    minutes = text (bytes "MinutesPerDay") (minutes_per_day s root) h.minutes;
-    title = text (bytes "Title") (title_is s root) h.title;
-    name = text (bytes "Name") (name_is s root) h.name;
-    start = text (bytes "StartDate") (start_date s root) h.start;
-    currency = text (bytes "CurrencySymbol") (currency_symbol s root) h.currency;
-    status = text (bytes "StatusDate") (status_date s root) h.status;
+    calendars = in_calendars root _ ∙ stands_all here.calendars (bytes "Calendar");
+    tasks = in_tasks root _ ∙ stands_all here.tasks (bytes "Task");
+    resources = in_resources root _ ∙ stands_all here.resources (bytes "Resource");
+    assignments = in_assignments root _ ∙ stands_all here.assignments (bytes "Assignment");
+    calendar = text (bytes "CalendarUID") (calendar_uid root) here.calendar;
+    minutes = text (bytes "MinutesPerDay") (minutes_per_day root) here.minutes;
+    title = text (bytes "Title") (title_is root) here.title;
+    name = text (bytes "Name") (name_is root) here.name;
+    start = text (bytes "StartDate") (start_date root) here.start;
+    currency = text (bytes "CurrencySymbol") (currency_symbol root) here.currency;
+    status = text (bytes "StatusDate") (status_date root) here.status;
   }
 
-  pub all_same : {d d' : List ℕ} {r : Sections} → AllPut (root_at s root) d d' r → AllPut (element_at s at) d d' r
+  pub all_same : {d d' : List ℕ} {r : Sections} → AllPut (root_at root) d d' r → AllPut (meaning e) d d' r
   all_same = put parts

@@ -10,6 +10,6 @@ use Rattle.tree.specs.declared.root.Root.{Root}
 use Rattle.links.specs.Fates.{task_in}
 
 -- the words give the row of each kept task, and the table ends in them
-pub record Tasked (s : Text) (root : Root) (w : List ℕ) (tasks : Option Table) : Type 0 where
-  pub finds : (u : Text) → task_in s root w tasks u ≡ row_of (kept_tasks (root_at s root)) u
+pub record Tasked (root : Root) (w : List ℕ) (tasks : Option Table) : Type 0 where
+  pub finds : (u : Text) → task_in root w tasks u ≡ row_of (kept_tasks (root_at root)) u
   pub ends : end_in tasks ≤ length w

@@ -1,22 +1,17 @@
 // Resources, assignments and expenses, with the tables of resources.
-ghost use Rattle.std.specs.Prelude.{◌≡◌, max};
+ghost use Rattle.std.specs.Prelude.{◌≡◌};
 ghost use Rattle.tree.specs.Root.{root_at};
-ghost use Rattle.assignments.specs.Finders.{Finds, finders_in};
+ghost use Rattle.assignments.specs.Finders.{Finds};
+ghost use Rattle.assignments.specs.Records.{finders_at};
 ghost use Rattle.read.specs.Sections.{AssignedPut};
 ghost use Rattle.read.specs.Tables.{Tasked};
 
+use assignments::Tables;
 use bits::Place;
 use index::Table;
 use pack::Records;
 use rows::Listed;
 use tree::Root;
-
-// Those of work and of cost resources.
-#[derive(Clone, Copy)]
-pub(crate) struct ResourceTables {
-    pub work: Option<Table>,
-    pub cost: Option<Table>,
-}
 
 // The places behind the three sections, and how many records each has.
 #[derive(Clone, Copy)]
@@ -26,47 +21,41 @@ pub(crate) struct Assigned {
     pub expenses: Records,
 }
 
-// The one that is not before the other.
-fn later(a: usize, b: usize) -> usize
-    ensures { result ≡ max a b }
-{
-    if a < b { b } else { a }
-}
-
 // The tables of resources behind that of the kept tasks, each where it finds room.
-fn index_resources(s: &[u8], root: Root, words: &mut [u32], tasks: Option<Table>) -> ResourceTables
-    requires { Tasked s.now root words.old tasks }
-    ensures { Finds (root_at s.now root) (finders_in s.now (root_at s.now root) words.new tasks result.work result.cost) }
+fn index_resources<'a>(root: Root<'a>, words: &mut [u32], tasks: Option<Table>) -> Tables<'a>
+    requires { Tasked root words.old tasks }
+    ensures finds { Finds (root_at root.entry) (finders_at words.new result) }
+    ensures root { result.root ≡ root.entry }
 {
     let at = index::end_of(tasks, words.len());
-    let work = rows::index_rows(s, root, Listed::Work, words, at);
-    let behind = later(at, index::end_of(work, words.len()));
-    let cost = rows::index_rows(s, root, Listed::Cost, words, behind);
-    ResourceTables { work, cost }
+    let work = rows::index_rows(root, Listed::Work, words, at);
+    let behind = at.max(index::end_of(work, words.len()));
+    let cost = rows::index_rows(root, Listed::Cost, words, behind);
+    Tables {
+        root,
+        tasks,
+        work,
+        cost,
+    }
 }
 
 // All three, from p on. The calendars stand at c.
 pub(crate) fn put_assigned(
     out: &mut [u8],
     p: Place,
-    s: &[u8],
-    root: Root,
+    root: Root<'_>,
     c: Place,
     words: &mut [u32],
     tasks: Option<Table>,
 ) -> Assigned
-    requires { Tasked s.now root words.old tasks }
-    ensures { AssignedPut (root_at s.now root) c out.old p out.new result }
+    requires { Tasked root words.old tasks }
+    ensures { AssignedPut (root_at root.entry) c out.old p out.new result }
 {
     let at = index::end_of(tasks, words.len());
-    let resources = assignments::put_resources(out, p, s, root, c, words, at);
-    let t = index_resources(s, root, words, tasks);
-    let work = t.work;
-    let cost = t.cost;
-    let q = resources.next;
-    let assignments = assignments::put_assignments(out, q, s, root, words, tasks, work, cost);
-    let q = assignments.next;
-    let expenses = assignments::put_expenses(out, q, s, root, words, tasks, work, cost);
+    let resources = assignments::put_resources(out, p, root, c, words, at);
+    let tables = index_resources(root, words, tasks);
+    let assignments = assignments::put_assignments(out, resources.next, tables, words);
+    let expenses = assignments::put_expenses(out, assignments.next, tables, words);
     Assigned {
         resources,
         assignments,

@@ -13,21 +13,21 @@ ghost use Rattle.read.specs.Answers.{Leaves, Gives, Fills};
 
 use crate::sections::{close_counts, put_all};
 use definition::Refusal;
+use tree::Element;
 
 // The model of a tree that is not refused.
 fn put_model(tree: &[u8], model: &mut [u8], work: &mut [u32]) -> Result<usize, Refusal>
     ensures { Fills tree.now model.old model.new result }
 {
-    let root = tree::root_of(tree, 0);
-    let n = put_all(model, tree, root, work);
+    let root = tree::root_of(Element { tree, at: 0 });
+    let n = put_all(model, root, work);
     let end = n.next;
     let room = model.len();
     if !bits::inside(room, end) {
         model.fill(0);
         return Err(Refusal::NoRoom);
     }
-    let counts = n.counts;
-    close_counts(model, counts);
+    close_counts(model, n.counts);
     bits::fill_from(model, end.byte, 0);
     Ok(end.byte)
 }

@@ -16,59 +16,53 @@ ghost use Rattle.read.specs.Tables.{Tasked};
 
 use bits::Place;
 use definition::Date;
-use index::Table;
-use pack::Skips;
+use links::TaskFinder;
+use pack::{Project, Skips};
 use tree::Root;
 
 // The title, else the name.
-fn project_name<'a>(s: &'a [u8], root: Root) -> &'a [u8]
-    ensures { result.now ≡ ((text_in (root_at s.now root) "Title" or_else text_in (root_at s.now root) "Name") or []) }
+fn project_name(root: Root<'_>) -> &[u8]
+    ensures { result.now ≡ ((text_in (root_at root.entry) "Title" or_else text_in (root_at root.entry) "Name") or []) }
 {
-    let title = tree::own_text(s, root.title);
-    if title.len() != 0 {
-        return title;
+    let title = root.part(root.title).own_text();
+    if title.is_empty() {
+        root.part(root.name).own_text()
+    } else {
+        title
     }
-    tree::own_text(s, root.name)
 }
 
 // 1 January 1970 where no start is given.
-fn start_of(s: &[u8], root: Root) -> Date
-    ensures { date_by result.0 ≡ (date_in (root_at s.now root) "StartDate" or epoch) }
+fn start_of(root: Root<'_>) -> Date
+    ensures { date_by result.0 ≡ (date_in (root_at root.entry) "StartDate" or epoch) }
 {
-    match fields::date_at(s, root.start) {
-        Some(d) => d,
-        None => Date(0),
-    }
+    fields::date_at(root.part(root.start)).unwrap_or(Date(0))
 }
 
-fn skips_of(s: &[u8], root: Root, words: &[u32], tasks: Option<Table>) -> Skips
-    requires { Tasked s.now root words.now tasks }
-    ensures { Skipped (root_at s.now root) result }
+fn skips_of(tasks: TaskFinder<'_>) -> Skips
+    requires { Tasked tasks.root tasks.words.now tasks.table }
+    ensures { Skipped (root_at tasks.entry.root) result }
 {
-    let fates = links::count_fates(s, root, words, tasks);
+    let fates = links::count_fates(tasks);
     Skips {
-        skipped: calendar::skipped(s, root),
+        skipped: calendar::skipped(tasks.root),
         dangling: fates.dangling,
         across: fates.across,
-        fractional: rows::count_fractional(s, root),
+        fractional: rows::count_fractional(tasks.root),
     }
 }
 
-pub(crate) fn put_project(
-    out: &mut [u8],
-    p: Place,
-    s: &[u8],
-    root: Root,
-    words: &[u32],
-    tasks: Option<Table>,
-) -> Place
-    requires { Tasked s.now root words.now tasks }
-    ensures { Puts (whole project) (project_of (context_of (root_at s.now root)) (root_at s.now root)) out.old p out.new result }
+pub(crate) fn put_project(out: &mut [u8], p: Place, tasks: TaskFinder<'_>) -> Place
+    requires { Tasked tasks.root tasks.words.now tasks.table }
+    ensures { Puts (whole project) (project_of (context_of (root_at tasks.entry.root)) (root_at tasks.entry.root)) out.old p out.new result }
 {
-    let name = project_name(s, root);
-    let start = start_of(s, root);
-    let currency = tree::own_text(s, root.currency);
-    let skips = skips_of(s, root, words, tasks);
-    let status = fields::date_at(s, root.status);
-    pack::put_project(out, p, name, start, currency, skips, status)
+    let root = tasks.root;
+    let record = Project {
+        name: project_name(root),
+        start: start_of(root),
+        currency: root.part(root.currency).own_text(),
+        skips: skips_of(tasks),
+        data_date: fields::date_at(root.part(root.status)),
+    };
+    record.put(out, p)
 }

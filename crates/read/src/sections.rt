@@ -7,6 +7,7 @@ use crate::assigned::put_assigned;
 use crate::project::put_project;
 use bits::Place;
 use index::Table;
+use links::TaskFinder;
 use pack::Counts;
 use rows::Listed;
 use tree::Root;
@@ -19,22 +20,28 @@ pub(crate) struct Sections {
 }
 
 // The calendars stand at p; activities and resources read their names there. The words behind the table of the kept tasks are lent to each section.
+// Tasked stands in five contracts and in no struct: each section borrows the words anew, and writes behind the table.
 fn put_sections(
     out: &mut [u8],
     p: Place,
-    s: &[u8],
-    root: Root,
+    root: Root<'_>,
     words: &mut [u32],
     tasks: Option<Table>,
 ) -> Sections
-    requires { Tasked s.now root words.old tasks }
-    ensures { SectionsPut (root_at s.now root) out.old p out.new result }
+    requires { Tasked root words.old tasks }
+    ensures { SectionsPut (root_at root.entry) out.old p out.new result }
 {
+    rows::are_bytes(root.tree);
     let behind = index::end_of(tasks, words.len());
-    let a = calendars::put_calendars(out, p, s, root, words, behind);
-    let b = activities::put_activities(out, a.next, s, root, p, words, tasks);
-    let c = links::put_links(out, b.next, s, root, words, tasks);
-    let d = put_assigned(out, c.next, s, root, p, words, tasks);
+    let a = calendars::put_calendars(out, p, root, words, behind);
+    let b = activities::put_activities(out, a.next, root, p, words, tasks);
+    let finder = TaskFinder {
+        root,
+        words,
+        table: tasks,
+    };
+    let c = links::put_links(out, b.next, finder);
+    let d = put_assigned(out, c.next, root, p, words, tasks);
     let next = d.expenses.next;
     Sections {
         counts: Counts {
@@ -50,8 +57,8 @@ fn put_sections(
 }
 
 // All from the first byte on, the six counts left open.
-pub(crate) fn put_all(out: &mut [u8], s: &[u8], root: Root, words: &mut [u32]) -> Sections
-    ensures { AllPut (root_at s.now root) out.old out.new result }
+pub(crate) fn put_all(out: &mut [u8], root: Root<'_>, words: &mut [u32]) -> Sections
+    ensures { AllPut (root_at root.entry) out.old out.new result }
 {
     let open = Counts {
         calendars: 0,
@@ -62,19 +69,30 @@ pub(crate) fn put_all(out: &mut [u8], s: &[u8], root: Root, words: &mut [u32]) -
         expenses: 0,
     };
     let p = pack::put_counts(out, Place { byte: 0, bit: 0 }, open);
-    let tasks = rows::index_rows(s, root, Listed::Tasks, words, 0);
-    let q = put_project(out, p, s, root, words, tasks);
-    put_sections(out, q, s, root, words, tasks)
+    let tasks = rows::index_rows(root, Listed::Tasks, words, 0);
+    let finder = TaskFinder {
+        root,
+        words,
+        table: tasks,
+    };
+    let q = put_project(out, p, finder);
+    put_sections(out, q, root, words, tasks)
 }
 
 // The six counts put in their places.
 pub(crate) fn close_counts(out: &mut [u8], n: Counts)
     ensures { Closes n out.old out.new }
 {
-    let a = bits::overwrite(out, Place { byte: 0, bit: 0 }, 32, n.calendars as u64);
-    let b = bits::overwrite(out, a, 32, n.activities as u64);
-    let c = bits::overwrite(out, b, 32, n.links as u64);
-    let d = bits::overwrite(out, c, 32, n.resources as u64);
-    let e = bits::overwrite(out, d, 32, n.assignments as u64);
-    bits::overwrite(out, e, 32, n.expenses as u64);
+    let counts = [
+        n.calendars,
+        n.activities,
+        n.links,
+        n.resources,
+        n.assignments,
+        n.expenses,
+    ];
+    let mut p = Place { byte: 0, bit: 0 };
+    for count in counts {
+        p = bits::overwrite(out, p, 32, u64::from(count));
+    }
 }

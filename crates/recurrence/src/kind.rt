@@ -109,7 +109,7 @@ fn weekly(r: Scaled, at: u32) -> Option<u32>
     }
 }
 
-// The six rules.
+// The six rules. An enum and no trait: a rule chooses one by its numbers, at each call.
 #[derive(Clone, Copy)]
 pub(crate) enum Kind {
     Daily,

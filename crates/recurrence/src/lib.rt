@@ -43,7 +43,7 @@ pub enum Step {
     Skipped,
 }
 
-// Days in a row.
+// Days in a row. What probe gives for C has numbers in their place.
 #[derive(Clone, Copy)]
 pub struct Range {
     pub first: Date,

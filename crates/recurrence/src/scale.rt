@@ -111,7 +111,7 @@ pub(crate) fn year_of(d: u32) -> u32
     month_on(d).year
 }
 
-// Months, counted from the first January.
+// Months, counted from the first January: like `year_of` a reading of a day, and no method of Month.
 pub(crate) fn month_at(d: u32) -> u32
     requires { InDates d }
     ensures { result ≡ month_at d }

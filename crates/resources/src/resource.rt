@@ -71,6 +71,8 @@ pub fn resource_kind(e: Element<'_>) -> ResourceKind
     }
 }
 
+// A test and then hundredths, here and in price_from, money_from and tasks::percent_from: each has its own bounds, and no range of the library is
+// open below.
 fn units_from(u: f64) -> Option<i64>
     ensures { result ≡ units_from u }
 {

@@ -2,6 +2,7 @@
 // the elements that count. What is right is said in the crate definition, specs/Task.antt, specs/Resource.antt and specs/Calendar.antt.
 #![tactic(auto)]
 
+mod bytes; // what proofs know of a tree
 mod built; // calendars, in the order in which they are built
 mod kept; // the kept tasks
 mod resource; // cost resources
@@ -9,6 +10,7 @@ mod section; // elements of a section that pass a test
 mod table; // rows by their UIDs, from tables in lent words
 
 pub use built::{CalendarsInOrder, calendar_with, calendars, main_calendar};
+pub use bytes::are_bytes;
 pub use kept::{KeptTasks, any_elapsed, count_fractional, kept_tasks, parent_row};
 pub use section::first_in;
-pub use table::{Listed, cost_with, index_rows, row_with, seek};
+pub use table::{ListElements, Listed, cost_with, elements, index_rows, row_with, seek};

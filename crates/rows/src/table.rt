@@ -53,7 +53,7 @@ fn next_listed(list: Listed, e: Element<'_>, left: u32) -> Option<(Element<'_>, 
 
 // The elements of a list.
 #[derive(Clone, Copy)]
-pub(crate) struct ListElements<'a> {
+pub struct ListElements<'a> {
     list: Listed,
     next: Option<(Element<'a>, u32)>,
 }
@@ -72,7 +72,7 @@ impl<'a> Iterator for ListElements<'a> {
     }
 }
 
-pub(crate) fn elements(root: Root<'_>, list: Listed) -> ListElements<'_>
+pub fn elements(root: Root<'_>, list: Listed) -> ListElements<'_>
     ensures is { elements_left result ≡ listed list (root_at root.entry) }
     ensures of { ElementsOf result root.entry.tree.now }
 {

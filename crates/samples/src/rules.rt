@@ -3,6 +3,7 @@
 use crate::parts;
 use definition::Date;
 use recurrence::{Rule, Step};
+use tree::Element;
 
 // How many days there are, and their checksum.
 #[derive(Clone, Copy, PartialEq, Eq)]
@@ -51,6 +52,7 @@ pub fn agrees(body: &[u8]) -> bool {
         days: parts::number(body),
         check: u64::from(parts::number(parts::behind(body, 4))),
     };
-    let a = recurrence::rule_of(parts::behind(body, 8), 0);
+    let tree = parts::behind(body, 8);
+    let a = recurrence::rule_of(Element { tree, at: 0 });
     a.map_or(SKIPPED, sum_of) == expected
 }

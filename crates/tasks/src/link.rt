@@ -54,7 +54,7 @@ fn working_lag(per_day: u64, minutes: i64) -> Lag
     let size = minutes.unsigned_abs();
     if size.is_multiple_of(per_day) {
         let days = quotient(size, per_day).cast_signed();
-        return Lag::Days(if minutes < 0 { -days } else { days });
+        return Lag::Days(days * minutes.signum());
     }
     Lag::Minutes(minutes)
 }

@@ -215,6 +215,7 @@ pub fn remaining_of(task: Element<'_>) -> Option<i64>
     fields::minutes_in(task, b"RemainingDuration").map(i64::from)
 }
 
+// Open below, which no range of the library is.
 fn percent_from(p: f64) -> Option<i64>
     ensures { result ≡ percent_from p }
 {

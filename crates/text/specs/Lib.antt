@@ -1,4 +1,3 @@
-pub mod White
 pub mod Parts
 pub mod Cut
 pub mod Signs

@@ -9,7 +9,7 @@ mod white;
 mod whole;
 
 pub use compare::{is_yes, same};
-pub use parts::{before, byte_at, place};
+pub use parts::{before, byte_at, cut_at, place};
 pub use utf8::is_utf8;
 pub use white::trim;
 pub use whole::{Whole, whole_of, without_sign};

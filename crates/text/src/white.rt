@@ -1,11 +1,8 @@
 // White_Space, taken away at both ends of a text. A text is bytes that need not be UTF-8, so that `char::is_whitespace` and `str::trim` do not
-// serve: white space is told by its one, two or three bytes. From the front and from the back they are read in another order, by a function each.
-ghost use Rattle.std.specs.Prelude.{◌≡◌, reverse, ◌≤◌, ◌<◌, length, get_or, take, drop};
+// serve: white space is told by its one, two or three bytes.
+ghost use Rattle.std.specs.Prelude.{◌≡◌, ◌<◌, length, MatchOption};
 ghost use Rattle.definition.specs.Base.{within};
 ghost use Rattle.definition.specs.Text.{white1 as is_white1, white2 as is_white2, white3 as is_white3, trim_front, trim_back, trim as trimmed};
-ghost use Rattle.text.specs.White.{width_by, front_of, back_of};
-
-use crate::parts::byte_at;
 
 // U+0009 to U+000D, U+0020
 fn white1(a: u8) -> bool
@@ -41,88 +38,49 @@ fn plain(a: u8) -> bool
     (33..=127).contains(&a)
 }
 
-// How many bytes white space takes, by the tests on one, two and three bytes; 0 for none, as the definition has it, so that the loops go on by it.
-fn width(one: bool, two: bool, three: bool) -> usize
-    ensures { result ≡ width_by one two three }
+// What follows the white space that a text begins with; what stands before that which it ends with. None where there is none.
+#[tactic(auto, using(crate::proofs::Strip::front_one, crate::proofs::Strip::front_two, crate::proofs::Strip::front_none, crate::proofs::Strip::front_plain))]
+fn behind(s: &[u8]) -> Option<&[u8]>
+    ensures { MatchOption result (trim_front s.now ≡ s.now) (λ r. (trim_front r.now ≡ trim_front s.now) × (length r.now < length s.now)) }
 {
-    if one {
-        return 1;
+    match s {
+        [a, ..] if plain(*a) => None,
+        [a, rest @ ..] if white1(*a) => Some(rest),
+        [a, b, rest @ ..] if white2(*a, *b) => Some(rest),
+        [a, b, c, rest @ ..] if white3(*a, *b, *c) => Some(rest),
+        _ => None,
     }
-    if two {
-        return 2;
-    }
-    if three {
-        return 3;
-    }
-    0
 }
 
-// The byte that stands k places before the last of the first e, 0 before the start. By its index: the same with `rev` and `nth` was not proved.
-fn byte_before(s: &[u8], e: usize, k: usize) -> u8
-    requires { e ≤ length s.now }
-    ensures { result ≡ get_or (reverse (take e s.now)) k 0 }
+#[tactic(auto, using(crate::proofs::Strip::back_none, crate::proofs::Strip::back_plain))]
+fn ahead(s: &[u8]) -> Option<&[u8]>
+    ensures { MatchOption result (trim_back s.now ≡ s.now) (λ r. (trim_back r.now ≡ trim_back s.now) × (length r.now < length s.now)) }
 {
-    if k < e {
-        return s[e - k - 1];
+    match s {
+        [.., c] if plain(*c) => None,
+        [rest @ .., c] if white1(*c) => Some(rest),
+        [rest @ .., b, c] if white2(*b, *c) => Some(rest),
+        [rest @ .., a, b, c] if white3(*a, *b, *c) => Some(rest),
+        _ => None,
     }
-    0
 }
 
-// How many bytes the white space takes that begins at i, that ends before e; 0 for none.
-fn front_at(s: &[u8], i: usize) -> usize
-    requires { i < length s.now }
-    ensures { result ≡ front_of (drop i s.now) }
-{
-    let a = s[i];
-    if plain(a) {
-        return 0;
-    }
-    let b = byte_at(s, i + 1);
-    let c = byte_at(s, i + 2);
-    width(white1(a), white2(a, b), white3(a, b, c))
-}
-
-fn back_at(s: &[u8], e: usize) -> usize
-    requires { e ≤ length s.now }
-    ensures { result ≡ back_of (take e s.now) }
-{
-    let a = byte_before(s, e, 0);
-    if plain(a) {
-        return 0;
-    }
-    let b = byte_before(s, e, 1);
-    let c = byte_before(s, e, 2);
-    width(white1(a), white2(b, a), white3(c, b, a))
-}
-
-fn trim_front(s: &[u8]) -> &[u8]
+fn trim_front(mut s: &[u8]) -> &[u8]
     ensures { result.now ≡ trim_front s.now }
 {
-    let mut i = 0;
-    // The cursor moves by the width of what it takes away.
-    while i < s.len() {
-        let w = front_at(s, i);
-        if w == 0 {
-            return &s[i..];
-        }
-        i += w;
+    while let Some(rest) = behind(s) {
+        s = rest;
     }
-    &s[i..]
+    s
 }
 
-fn trim_back(s: &[u8]) -> &[u8]
+fn trim_back(mut s: &[u8]) -> &[u8]
     ensures { result.now ≡ trim_back s.now }
 {
-    let mut e = s.len();
-    // The cursor moves by the width of what it takes away.
-    while 0 < e {
-        let w = back_at(s, e);
-        if w == 0 {
-            return &s[..e];
-        }
-        e -= w;
+    while let Some(rest) = ahead(s) {
+        s = rest;
     }
-    &s[..e]
+    s
 }
 
 // The text without the white space at both ends.

@@ -11,20 +11,16 @@ use crate::parts::byte_at;
 pub fn without_sign(s: &[u8]) -> &[u8]
     ensures { result.now ≡ unsigned (sign_of s.now) s.now }
 {
-    let b = byte_at(s, 0);
-    if (b == b'+') | (b == b'-') {
-        return &s[1..];
+    match s {
+        [b'+' | b'-', rest @ ..] => rest,
+        _ => s,
     }
-    s
 }
 
 fn digit(b: u8) -> Option<u64>
     ensures { result ≡ when (is_digit b) (b - 48) }
 {
-    if (b'0' <= b) & (b <= b'9') {
-        return Some(u64::from(b - b'0'));
-    }
-    None
+    b.is_ascii_digit().then(|| u64::from(b - b'0'))
 }
 
 // The digits s of a number that is at most `most`: so few that the number fits 64 bits.

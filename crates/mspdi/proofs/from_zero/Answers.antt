@@ -1,11 +1,11 @@
-use Rattle.mspdi.proofs.Natural.{is_below, size_is, casts}
+use mathlib.Core.Path.{ap, ◌∙◌}
+use Rattle.std.proofs.Common.{arith}
+use Rattle.std.proofs.lemmas.Int.{ints}
+use mir.Syntax.{w64}
+use mir.ValLaws.{to_z-of_z}
+use Rattle.mspdi.specs.Outcome.{from_zero}
+use Rattle.mspdi.proofs.Natural.{tried}
 use Rattle.mspdi.proofs.from_zero.Goals as goal
 
-pub returns-then-n-lt0 : goal.returns-then-n-lt0
-returns-then-n-lt0 c = is_below c.args.n c.ranges.n c.if-n-lt0.true
-
-pub overflow_cast-result : goal.overflow_cast-result
-overflow_cast-result c = casts c.args.n c.ranges.n c.if-n-lt0.false
-
 pub returns : goal.returns
-returns c = size_is c.args.n c.ranges.n c.if-n-lt0.false
+returns c = c.unwrap_or.ensures ∙ tried c.try_from.result _ (λ n g. omega (arith, ints)) c.try_from.ensures ∙ ap from_zero (to_z-of_z w64 c.args.n c.ranges.n)

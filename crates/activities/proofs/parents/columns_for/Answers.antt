@@ -5,5 +5,5 @@ use Rattle.activities.proofs.parents.columns_for.Goals as goal
 pub returns-clause-bytes : goal.returns-clause-bytes
 returns-clause-bytes c = bytes_of_lem c.args.tree.now (λ i. omega (arith, (c.type_inv.tree i).fits))
 
-pub returns-then-tree-gt4294967295-clause-bytes : goal.returns-then-tree-gt4294967295-clause-bytes
-returns-then-tree-gt4294967295-clause-bytes c = bytes_of_lem c.args.tree.now (λ i. omega (arith, (c.type_inv.tree i).fits))
+pub returns-then-is_err-clause-bytes : goal.returns-then-is_err-clause-bytes
+returns-then-is_err-clause-bytes c = bytes_of_lem c.args.tree.now (λ i. omega (arith, (c.type_inv.tree i).fits))

@@ -1,17 +1,38 @@
-use Rattle.std.proofs.Common.{◌∙◌}
+use Rattle.std.proofs.Common.{◌≡◌, ◌<◌, ◌^◌, length, refl, sym, ap, ◌∙◌, arith}
 use Rattle.definition.specs.Ascii.{bytes}
+use Rattle.definition.specs.Tree.{all}
+use Rattle.definition.specs.Resource.{assignment_elements}
+use Rattle.tree.specs.Few.{children_few}
+use Rattle.tree.specs.Place.{meaning, left}
 use Rattle.tree.specs.Root.{root_at, in_assignments}
-use Rattle.tree.specs.Answer.{found_list, none_list}
-use Rattle.assignments.specs.Records.{finders_at}
-use Rattle.assignments.proofs.Writing.{section_none, section_all}
+use Rattle.assignments.specs.Records.{ends_at}
+use Rattle.assignments.proofs.Writing.{go_all, go_more, go_end, notes_not, notes_said, table_behind, table_none, table_below}
 use Rattle.assignments.proofs.expense.put_all.Goals as goal
 
-pub returns-in-None : goal.returns-in-None
-returns-in-None c =
+pub loop-e-init : goal.loop-e-init
+loop-e-init c =
     let a = c.args in
-    section_none _ (finders_at a.s.now a.root a.words.now a.t) (root_at a.s.now a.root) (in_assignments a.s.now a.root (bytes "Assignment") ∙ none_list c.child.ensures c.in-None.is)
+    let root = a.tables.root in
+    let n = ends_at a.tables in
+    let h = c.end-end.ensures in
+    let m = c.table_behind-made.ensures in
+    let e : left c.into_iter-e-iterator.result ≡ assignment_elements (root_at root) = ap left c.into_iter-e-iterator.ensures.into_iter_gives ∙ c.children-e-items.ensures ∙ ap (λ x. all (meaning x) (bytes "Assignment")) c.part-section.ensures ∙ sym (in_assignments root (bytes "Assignment")) in
+    (refl, rw c.none.ensures (go_all _ e (table_behind n a.words.now _ h m.0) (table_none n a.words.now _ h m.0 m.1 a.p)))
 
-pub returns-in-Some : goal.returns-in-Some
-returns-in-Some c =
+pub loop-e-preserved-in-Some-expense_of : goal.loop-e-preserved-in-Some-expense_of
+loop-e-preserved-in-Some-expense_of c =
+    let t = c.args.tables in
+    let few : length (assignment_elements (root_at t.root)) < 2 ^ 63 = omega (arith, ap length (in_assignments t.root (bytes "Assignment")), children_few t.root.tree.now t.root.assignments (bytes "Assignment"), c.are_bytes.ensures.few) in
+    (c.put_new-used.auto.out ∙ c.loop-e.invariant.0, go_more t c.are_bytes.ensures.bytes few c.in-Some.ensures.steps c.loop-e.invariant.1 (notes_said _ (meaning c.in-Some.e) c.expense_of.ensures c.in-Some-expense_of.is c.put_new-used.ensures))
+
+pub loop-e-preserved : goal.loop-e-preserved
+loop-e-preserved c =
+    let t = c.args.tables in
+    let few : length (assignment_elements (root_at t.root)) < 2 ^ 63 = omega (arith, ap length (in_assignments t.root (bytes "Assignment")), children_few t.root.tree.now t.root.assignments (bytes "Assignment"), c.are_bytes.ensures.few) in
+    (c.loop-e.invariant.0, go_more t c.are_bytes.ensures.bytes few c.in-Some.ensures.steps c.loop-e.invariant.1 (notes_not _ (meaning c.in-Some.e) c.expense_of.ensures c.in_default.is))
+
+pub returns : goal.returns
+returns c =
     let a = c.args in
-    section_all _ (finders_at a.s.now a.root a.words.now a.t) (root_at a.s.now a.root) (in_assignments a.s.now a.root (bytes "Assignment") ∙ found_list c.child.ensures c.in-Some.is) c.put_from.ensures
+    let m = c.table_behind-made.ensures in
+    go_end a.tables (table_below (ends_at a.tables) a.words.now _ c.end-end.ensures m.0 m.1) c.loop-e.invariant.1 c.in-None.ensures.steps.0

@@ -1,13 +1,11 @@
-use Rattle.std.proofs.Common.{◌∙◌}
-use Rattle.definition.specs.Field.{text_in}
-use Rattle.tree.specs.Place.{element_at}
-use Rattle.assignments.proofs.Given.{first_given, second_given}
+use Rattle.std.proofs.Common.{rules}
+use Rattle.definition.specs.Ascii.{bytes}
+use Rattle.definition.specs.Tree.{text_of}
+use Rattle.tree.specs.Place.{meaning}
+use Rattle.assignments.proofs.Given.{text_none, second_said}
 use Rattle.assignments.proofs.resource.wanted_id.Goals as goal
 
-pub returns-then-given : goal.returns-then-given
-returns-then-given c =
-    c.text_of.ensures ∙ first_given (text_in (element_at c.args.s.now c.args.at) "ID") (text_in (element_at c.args.s.now c.args.at) "UID") c.given.ensures c.if-given.true
-
-pub returns-else-given : goal.returns-else-given
-returns-else-given c =
-    c.text_of-else-given.ensures ∙ second_given (text_in (element_at c.args.s.now c.args.at) "ID") (text_in (element_at c.args.s.now c.args.at) "UID") c.given.ensures c.if-given.false
+pub returns-then-is_empty : goal.returns-then-is_empty
+returns-then-is_empty c =
+    let e = meaning c.args.e in
+    second_said (text_of e (bytes "ID")) (text_of e (bytes "UID")) (text_none e (bytes "ID") c.text_of-id.ensures (search rules)) c.text_of.ensures

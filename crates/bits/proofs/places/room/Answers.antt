@@ -9,7 +9,7 @@ use Rattle.bits.proofs.places.room.Goals.{then-p-lt8, else-p-lt8}
 pub returns-then-p-n : goal.returns-then-p-n
 returns-then-p-n c =
     let a = c.args in
-    room_bytes a.n a.p a.width (omega arith) (omega arith)
+    room_bytes a.n a.p a.width c.div_ceil.ensures (omega arith) (omega arith)
 
 pub returns-else-p-n : goal.returns-else-p-n
 returns-else-p-n c =

@@ -23,8 +23,8 @@ loop-left-init c =
     let z : a.width - a.width ≡ 0 = omega arith in
     (omega (arith, f.ends), omega (arith, f.bit), omega arith, omega (arith, f.ends), omega arith, rw z (read_none a.s.now _))
 
-pub joined-acc-requires : goal.joined-acc-requires
-joined-acc-requires c =
+pub joined-value-requires : goal.joined-value-requires
+joined-value-requires c =
     let x = part_lt _ _ c.part.ensures in
     (omega arith, x, join_fits _ _ c.loop-left.invariant.5.small x (omega arith))
 
@@ -36,8 +36,8 @@ loop-left-preserved c =
       omega arith,
       omega arith,
       omega arith,
-      read_turn _ _ l.q l.r l.left l.invariant.5 l.invariant.0 l.invariant.1 l.invariant.2 (omega arith) c.loop-left-test.true c.min-k.ensures
-          c.from.ensures c.part.ensures c.joined-acc.ensures,
+      read_turn _ _ l.q.byte l.q.bit l.left l.invariant.5 l.invariant.0 l.invariant.1 l.invariant.2 (omega arith) c.loop-left-test.true c.min-k.ensures
+          c.from.ensures c.part.ensures c.joined-value.ensures,
     )
 
 pub returns : goal.returns

@@ -23,7 +23,7 @@ loop-left-init c =
     (omega (arith, f.ends), omega (arith, f.bit), omega arith, omega (arith, f.ends), omega arith, refl, rw (z, enc_zero) (sym (over_none _ _)))
 
 pub mix-b-requires : goal.mix-b-requires
-mix-b-requires c = (omega arith, omega (arith, c.slice_known-in-loop-left-1.given c.loop-left.q), part_lt _ _ c.part.ensures)
+mix-b-requires c = (omega arith, omega (arith, c.slice_known-in-loop-left-1.given c.loop-left.q.byte), part_lt _ _ c.part.ensures)
 
 pub loop-left-preserved : goal.loop-left-preserved
 loop-left-preserved c =
@@ -35,7 +35,7 @@ loop-left-preserved c =
       omega arith,
       omega arith,
       simp length-set l.invariant.5,
-      overwrite_more a.out.now l.out _ _ l.q l.r l.left a.v l.invariant.5 l.invariant.6 l.invariant.2 l.invariant.0 l.invariant.1 l.invariant.3 c.loop-left-test.true
+      overwrite_more a.out.now l.out _ _ l.q.byte l.q.bit l.left a.v l.invariant.5 l.invariant.6 l.invariant.2 l.invariant.0 l.invariant.1 l.invariant.3 c.loop-left-test.true
           c.min-k.ensures c.part.ensures c.from.ensures c.mix-b.ensures,
     )
 

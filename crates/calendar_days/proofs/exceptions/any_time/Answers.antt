@@ -1,16 +1,9 @@
-use Rattle.std.proofs.Common.{sym, ap, ◌∙◌}
+use Rattle.std.proofs.Common.{rules, tests, ◌∙◌, ap}
+use Rattle.std.proofs.lemmas.Iterator.Search.{any_from_yields_List}
 use Rattle.definition.specs.Base.{some?}
 use Rattle.calendar_days.specs.Exceptions.{is_time}
-use Rattle.calendar_days.proofs.Elements.{time_here, time_on, time_is, no_times}
+use Rattle.calendar_days.proofs.Elements.{any_is, children_given}
 use Rattle.calendar_days.proofs.exceptions.any_time.Goals as goal
 
-pub returns-then-is_some : goal.returns-then-is_some
-returns-then-is_some c =
-    sym (c.loop-t.invariant ∙ time_here c.in-Some.ensures.steps (time_is _ _ c.is_some.ensures c.working_time.ensures ∙ c.if-is_some.true))
-
 pub returns : goal.returns
-returns c = sym (c.loop-t.invariant ∙ no_times c.in-None.ensures.steps.0)
-
-pub loop-t-preserved : goal.loop-t-preserved
-loop-t-preserved c =
-    c.loop-t.invariant ∙ time_on c.in-Some.ensures.steps (time_is _ _ c.is_some.ensures c.working_time.ensures ∙ c.if-is_some.false)
+returns c = any_from_yields_List is_time c.any.new.self _ _ c.any.ensures.ran (children_given c.children.result) (λ x b q k. search (rules, tests)) ∙ any_is is_time _ ∙ ap (some? is_time) c.children.ensures

@@ -1,8 +1,10 @@
+use Rattle.bits.specs.Steps.{put_same}
 use Rattle.calendars.proofs.Builts.{default_put, default_not}
+use Rattle.calendars.proofs.PlainCalendars.{default_is}
 use Rattle.calendars.proofs.built.or_default.Goals as goal
 
 pub returns-then-done-eq0 : goal.returns-then-done-eq0
-returns-then-done-eq0 c = default_put c.if-done-eq0.true c.put_default_calendar.ensures
+returns-then-done-eq0 c = default_put c.if-done-eq0.true (put_same default_is c.put_plain_calendar.ensures)
 
 pub returns : goal.returns
 returns c = default_not c.if-done-eq0.false

@@ -1,10 +1,12 @@
-use Rattle.calendars.specs.Built.{TurnsMain}
+use Rattle.std.proofs.Common.{sym, ap, ◌∙◌}
+use Rattle.rows.specs.Rows.{calendar_meaning}
+use Rattle.calendars.specs.Built.{TurnsBy}
 use Rattle.calendars.proofs.built.turn_main.Goals as goal
 
 pub returns-in-Some : goal.returns-in-Some
-unfolding TurnsMain
-returns-in-Some c = rw c.in-Some.is c.turn.ensures
+unfolding TurnsBy calendar_meaning
+returns-in-Some c = rw (← c.in-Some.ensures) c.turn.ensures
 
-pub returns-in-None : goal.returns-in-None
-unfolding TurnsMain
-returns-in-None c = rw c.in-None.is
+pub returns-in_default : goal.returns-in_default
+unfolding TurnsBy calendar_meaning
+returns-in_default c = rw (← c.main_calendar.ensures, c.in_default.is)

@@ -1,11 +1,14 @@
+use Rattle.std.proofs.Common.{refl, ◌≡◌, ◌∙◌, arith}
 use Rattle.definition.specs.Format.{periods}
-use Rattle.calendars.proofs.PlainCalendars.{put_seven}
+use Rattle.bits.specs.Steps.{put_no}
+use Rattle.calendars.proofs.PlainCalendars.{put_again}
 use Rattle.calendars.proofs.plain.put_hours.Goals as goal
-use Rattle.calendars.proofs.plain.put_hours.Goals.{After-slice_known-8-1}
+
+pub loop-init : goal.loop-init
+loop-init c = (refl, put_no 7 periods _ _)
+
+pub loop-preserved : goal.loop-preserved
+loop-preserved c = (c.put_day_hours-q.auto.out ∙ c.loop.invariant.0, put_again 7 periods c.loop.counter c.loop.invariant.1 c.put_day_hours-q.ensures)
 
 pub returns : goal.returns
-returns c =
-    put_seven periods c.put_day_hours-a.ensures c.put_day_hours-b.ensures c.put_day_hours-c.ensures c.put_day_hours-d.ensures c.put_day_hours-e.ensures c.put_day_hours-f.ensures c.put_day_hours.ensures
-
-pub shape_of-out : goal.shape_of-out
-shape_of-out c = (returns (goal.at.shape_of-out c).After-slice_known-8-1).step.same
+returns c = let e : c.loop.counter ≡ 7 = omega arith in rw e at c.loop.invariant.1

@@ -1,19 +1,16 @@
-use mathlib.Core.Path.{sym, ap, ◌∙◌}
-use mathlib.Core.List.{[]}
-use Rattle.std.specs.Prelude.{Option}
+use Rattle.std.proofs.Common.{sym, ap, ◌∙◌}
+use Rattle.std.specs.Prelude.{Option, []}
 use Rattle.definition.specs.Base.{◌or◌}
 use Rattle.definition.specs.Text.{Text}
-use Rattle.tree.specs.Root.{root_at, currency_symbol, status_date}
+use Rattle.tree.specs.Place.{meaning}
+use Rattle.tree.specs.Root.{own_text, root_at, currency_symbol, status_date}
 use Rattle.read.proofs.Projects.{date_given_lem, project_put}
 use Rattle.read.proofs.project.put_project.Goals as goal
 
-pub skips_of-skips-requires : goal.skips_of-skips-requires
-skips_of-skips-requires c = c.requires
-
 pub returns : goal.returns
 returns c =
-    let a = c.args in
-    let e = root_at a.s.now a.root in
-    let symbol = c.own_text-currency.ensures ∙ ap (λ (o : Option Text). o or []) (sym (currency_symbol a.s.now a.root)) in
-    project_put e _ _ c.start_of-start.result.0 _ _ c.project_name-name.ensures c.start_of-start.ensures symbol c.skips_of-skips.ensures
-    (date_given_lem _ e "StatusDate" (status_date a.s.now a.root) c.date_at-status.ensures) c.put_project.ensures
+    let root = c.args.tasks.root in
+    let e = root_at root in
+    let symbol = c.own_text.ensures ∙ ap (λ x. own_text (meaning x) or []) c.part.ensures ∙ ap (λ (o : Option Text). o or []) (sym (currency_symbol root)) in
+    project_put e (record { name = c.project_name.result; start = c.start_of.result; currency = c.own_text.result; skips = c.skips_of.result; data_date = c.date_at.result }) c.project_name.ensures c.start_of.ensures symbol c.skips_of.ensures
+    (date_given_lem _ e "StatusDate" (status_date root ∙ ap (λ x. own_text (meaning x)) (sym c.part-2.ensures)) c.date_at.ensures) c.put.ensures

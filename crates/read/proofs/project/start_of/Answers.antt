@@ -1,16 +1,12 @@
+use Rattle.std.proofs.Common.{sym, ap, ◌∙◌}
 use Rattle.definition.specs.Field.{date_in}
-use Rattle.tree.specs.Root.{root_at, start_date}
-use Rattle.read.proofs.Projects.{date_given_lem, start_given, start_absent}
+use Rattle.tree.specs.Place.{meaning}
+use Rattle.tree.specs.Root.{own_text, root_at, start_date}
+use Rattle.read.proofs.Projects.{date_given_lem, start_is}
 use Rattle.read.proofs.project.start_of.Goals as goal
 
-pub returns-in-Some : goal.returns-in-Some
-returns-in-Some c =
-    let a = c.args in
-    let e = root_at a.s.now a.root in
-    start_given _ (date_in e "StartDate") (date_given_lem _ e "StartDate" (start_date a.s.now a.root) c.date_at.ensures) _ c.in-Some.is
-
-pub returns-in-None : goal.returns-in-None
-returns-in-None c =
-    let a = c.args in
-    let e = root_at a.s.now a.root in
-    start_absent _ (date_in e "StartDate") (date_given_lem _ e "StartDate" (start_date a.s.now a.root) c.date_at.ensures) c.in-None.is
+pub returns : goal.returns
+returns c =
+    let root = c.args.root in
+    let e = root_at root in
+    rw c.unwrap_or.ensures (start_is _ (date_in e "StartDate") (date_given_lem _ e "StartDate" (start_date root ∙ ap (λ x. own_text (meaning x)) (sym c.part.ensures)) c.date_at.ensures))

@@ -1,9 +1,16 @@
-use Rattle.read.proofs.Closing.{closes}
+use Rattle.std.proofs.Common.{◌∷◌, [], ap, length, arith, drop_of_length-le}
+use Rattle.definition.specs.Bits.{enc}
+use Rattle.read.proofs.Closing.{closing_none, closing_more, closing_all, left_next}
 use Rattle.read.proofs.sections.close_counts.Goals as goal
-use Rattle.read.proofs.sections.close_counts.Goals.{After-slice_known-7-1}
+
+pub loop-count-init : goal.loop-count-init
+loop-count-init c = closing_none _ _
+
+pub loop-count-preserved : goal.loop-count-preserved
+loop-count-preserved c =
+    let n = c.args.n in
+    let ns = n.calendars ∷ n.activities ∷ n.links ∷ n.resources ∷ n.assignments ∷ n.expenses ∷ [] in
+    closing_more (left_next ns c.loop-count.count-index c.loop-count-test.true) c.loop-count.invariant (rw c.from.ensures at c.overwrite-p.ensures)
 
 pub returns : goal.returns
-returns c = closes c.overwrite-a.ensures c.overwrite-b.ensures c.overwrite-c.ensures c.overwrite-d.ensures c.overwrite-e.ensures c.overwrite.ensures
-
-pub shape_of-out : goal.shape_of-out
-shape_of-out c = (returns (goal.at.shape_of-out c).After-slice_known-7-1).same
+returns c = closing_all c.args.n c.loop-count.invariant (drop_of_length-le _ c.loop-count-test.false)

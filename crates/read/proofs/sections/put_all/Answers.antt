@@ -14,7 +14,7 @@ put_sections-requires c = tasks_made c.index_rows-tasks.ensures
 pub returns : goal.returns
 returns c =
     let a = c.args in
-    let e = root_at a.s.now a.root in
+    let e = root_at a.root in
     let x = c.put_counts-p.ensures in
     let y = c.put_project-q.ensures in
     let z = c.put_sections.ensures in

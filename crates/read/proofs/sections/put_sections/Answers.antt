@@ -8,7 +8,7 @@ use Rattle.read.proofs.sections.put_sections.Goals as goal
 use Rattle.read.proofs.sections.put_sections.Goals.{After-next-1}
 
 pub put_assigned-d-requires : goal.put_assigned-d-requires
-put_assigned-d-requires c = tasked_behind (tasked_from c.requires c.end_of-behind.ensures c.put_calendars-a.ensures.fact_2) c.put_activities-b.ensures.1
+put_assigned-d-requires c = tasked_behind (tasked_from c.requires c.end_of-behind.ensures c.put_calendars-a.ensures.clears) c.put_activities-b.ensures.1
 
 pub shape_of-words : goal.shape_of-words
 shape_of-words c = c.words-3-1.given ∙ c.words-2-1.given ∙ c.words-1.given
@@ -16,14 +16,14 @@ shape_of-words c = c.words-3-1.given ∙ c.words-2-1.given ∙ c.words-1.given
 pub returns : goal.returns
 returns c =
     let a = c.args in
-    let e = root_at a.s.now a.root in
-    let t1 = tasked_from c.requires c.end_of-behind.ensures c.put_calendars-a.ensures.fact_2 in
+    let e = root_at a.root in
+    let t1 = tasked_from c.requires c.end_of-behind.ensures c.put_calendars-a.ensures.clears in
     let t2 = tasked_behind t1 c.put_activities-b.ensures.1 in
-    let w1 = c.put_calendars-a.ensures.fact_1 in
+    let w1 = c.put_calendars-a.ensures.written in
     let w2 = activities_written t1 _ c.put_activities-b.ensures.0 in
     let w3 = links_written t2 c.put_links-c.ensures in
     let w4 = c.put_assigned-d.ensures in
-    let fit : Few e → Fit e = fit_tree a.s.now a.root (λ i. omega (arith, c.shared_slice_known-1.given i)) in
+    let fit : Few e → Fit e = fit_tree a.root c.are_bytes.ensures.bytes in
     record {
       same = six_same e w1 w2 w3 w4.resources_put w4.assignments_put w4.expenses_put;
       puts = λ few. six_put e w1 w2 w3 w4.resources_put w4.assignments_put w4.expenses_put (fit few) few;

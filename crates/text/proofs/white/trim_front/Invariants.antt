@@ -1,12 +1,11 @@
--- `trim_front` meets its contract. The text from i on, trimmed, is the text trimmed. Assumes nothing.
+-- `trim_front` meets its contract. What is left, trimmed, is the text trimmed. Assumes nothing.
 use mathlib.Core.Path.{◌≡◌}
-use Prim.Native.Nat.{◌≤◌, ◌-◌}
-use lib.ListN.{length, drop}
+use lib.ListN.{length}
 use Rattle.definition.specs.Text.{trim_front}
 use Rattle.text.proofs.white.trim_front.Given as goal
 
-abbrev pub invariant-loop-i : goal.invariant-loop-i
-invariant-loop-i l = (l.i ≤ length l.s) × (trim_front l.s ≡ trim_front (drop l.i l.s))
+abbrev pub invariant-loop-rest : goal.invariant-loop-rest
+invariant-loop-rest l = trim_front l.s ≡ trim_front l.fn.s
 
-abbrev pub decreases-loop-i : goal.decreases-loop-i
-decreases-loop-i l = length l.s - l.i
+abbrev pub decreases-loop-rest : goal.decreases-loop-rest
+decreases-loop-rest l = length l.s

@@ -1,2 +1,0 @@
-// The calendar that another one is based on.
-use model::parts::CalendarPlaces;
