@@ -1,5 +1,5 @@
 // Keys: what no two records of a section share. An id or a name that stands first in its record; of an expense its activity's row and its name.
-// Keyed and Holds are premises in the contracts, as they speak of a model that is not at hand as a value.
+// Keyed, Holds, KeyTable and NamesIn are premises in the contracts, as they speak of a model, or of its keys, that are not at hand as a value.
 ghost use Rattle.std.specs.Prelude.{◌≡◌, ◌%◌, false, List, ℕ};
 ghost use Rattle.definition.specs.Base.{some?};
 ghost use Rattle.definition.specs.Text.{Text};

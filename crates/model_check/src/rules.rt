@@ -16,7 +16,7 @@ ghost use Rattle.model_check.specs.Tables.{NamesIn};
 ghost use Rattle.model_check.specs.Walk.{JudgedAt};
 
 use crate::keys::{Calendars, KeyBytes, some_has_key};
-use crate::tables::table_has_key;
+use crate::tables::{KeyIndex, table_has_key};
 use bits::{Field, Place};
 use index::Table;
 use model::parts::{parent_place_by, resource_calendar_place, take_name, take_row, take_rows};
@@ -37,7 +37,10 @@ fn is_calendar(s: &[u8], x: Section, names: Names<'_>, name: &[u8]) -> bool
     let first = Place { byte: x.at, bit: 0 };
     let key = KeyBytes { row: 0, name };
     match names.table {
-        Some(t) => table_has_key::<Calendars>(s, names.words, t, key),
+        Some(table) => {
+            let words = names.words;
+            table_has_key::<Calendars>(s, KeyIndex { table, words }, key)
+        }
         None => some_has_key::<Calendars>(s, first, x.count, key),
     }
 }
