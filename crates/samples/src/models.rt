@@ -89,7 +89,12 @@ fn sheet_is(model: &[u8], asked: &[u8], room: usize, answer: u32, s: &[u8]) -> b
 fn sheet_agrees(model: &[u8], asked: &[u8]) -> bool {
     let answer = parts::byte(parts::behind(asked, 8));
     let s = parts::behind(asked, 10);
-    parts::fits(SHEET, answer, s, |room, a, t| sheet_is(model, asked, room, a, t))
+    parts::fits(
+        SHEET,
+        answer,
+        s,
+        |room, a, t| sheet_is(model, asked, room, a, t),
+    )
 }
 
 fn sheet_end(s: &[u8]) -> usize

@@ -49,7 +49,9 @@ pub fn told(a: u32, written: u64, answer: u32, len: usize) -> bool {
 
 // Whether a result is right in just the bytes that it needs, in more, and in one less, where there is no room and nothing is left. `is` tells whether the
 // entry in so many bytes answers a number and a result.
-pub fn fits<F: Fn(usize, u32, &[u8]) -> bool>(most: usize, answer: u32, s: &[u8], is: F) -> bool {
+pub fn fits<F: Fn(usize, u32, &[u8]) -> bool>(most: usize, answer: u32, s: &[u8], is: F) -> bool
+    requires { F.IsAlwaysCallable is }
+{
     let n = s.len();
     let right = is(most, answer, s);
     if n == 0 {
