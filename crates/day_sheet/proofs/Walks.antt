@@ -18,16 +18,15 @@ use Rattle.laws.specs.Fields.{day_days}
 use Rattle.definition.specs.Base.{given, some?, keep, first, find}
 use Rattle.definition.specs.Answer.{day_number_of, date_meaning}
 use Rattle.definition.specs.Date.{Date, epoch, day_number, from_days}
-use Rattle.definition.specs.Format.{Format, ◌⊗◌, date, dates, Period, period, periods, earlier}
+use Rattle.definition.specs.Format.{Format, ◌⊗◌, date, dates, Period, periods, earlier}
 use Rattle.definition.specs.Calendar.{by_date, hours_on, or_hours}
-use Rattle.bits.specs.Places.{past}
 use Rattle.bits.specs.Reads.{taken_at}
 use Rattle.bits.specs.declared.Place.{Place}
 use Rattle.bits.specs.declared.Field.{Field}
 use Rattle.model.specs.Passes.{Passes, pass_read}
 use Rattle.model.specs.Answers.{date_at, tails_date, next_reads}
 use Rattle.model.specs.Splits.{Stands, stands_first, stands_pass, stands_read}
-use Rattle.model.specs.Lists.{Ahead, ahead_list, ahead_none, ahead_item, ahead_more}
+use Rattle.model.specs.Lists.{Ahead, ahead_list, ahead_item, ahead_more}
 use Rattle.day_sheet.specs.Days.{exceptions, same_day, is_on, Listed}
 
 -- ---- days by their numbers
@@ -179,8 +178,8 @@ listed s p h = ahead_list earlier s p refl h
 pub hours_found : {s : List ℕ} {d : Date} {q r : Place} {l : List (Date × List Period)} → Met (date ⊗ periods) (λ x. x.0) s d q l → Passes date s q r → Listed s r (hours_on l d)
 hours_found {s} {r = r} m p = rw m.is (listed s r (stands_pass m.stands p))
 
-pub hours_missing : (s : List ℕ) (d : Date) (l : List (Date × List Period)) → find (λ (x : Date × List Period). eqb x.0 d) l ≡ None → Listed s past (hours_on l d)
-hours_missing s d l e = rw e (ahead_none period s refl)
+pub hours_missing : (d : Date) (l : List (Date × List Period)) → find (λ (x : Date × List Period). eqb x.0 d) l ≡ None → hours_on l d ≡ []
+hours_missing d l e = rw e
 
 -- ---- the list that counts
 

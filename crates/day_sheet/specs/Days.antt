@@ -30,6 +30,11 @@ is_on (Some y) z = same_day y z
 abbrev pub Listed : List ℕ → Place → List Period → Type 0
 Listed s p l = Ahead period s (taken_at s p 32).next (taken_at s p 32).value 0 l
 
+-- the same at a place, if there is one; else there are no periods
+abbrev pub ListedAt : List ℕ → Option Place → List Period → Type 0
+ListedAt s (Some p) l = Listed s p l
+ListedAt s None l = l ≡ []
+
 -- what a calendar says of a date, up to its default hours
 pub record DayIs (s : List ℕ) (c : Calendar) (d : Date) (r : Day) : Type 0 where
   pub weekday : r.weekday ≡ weekday_of d

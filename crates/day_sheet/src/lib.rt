@@ -14,17 +14,17 @@ ghost use Rattle.bits.specs.Steps.{Puts};
 ghost use Rattle.model.specs.Answers.{period_meaning};
 ghost use Rattle.model.specs.Splits.{Stands};
 ghost use Rattle.model.specs.Lists.{Ahead};
-ghost use Rattle.day_sheet.specs.Days.{exceptions, Listed, DayIs, day_value};
+ghost use Rattle.day_sheet.specs.Days.{exceptions, Listed, ListedAt, DayIs, day_value};
 ghost use Rattle.day_sheet.specs.Answer.{start, Found, Finished, leaves, left_by};
 
-use bits::{PAST, Place};
+use bits::Place;
 use definition::{Date, Refusal};
 use model::parts::{
     Period, calendar_places, put_period, skip_hours, skip_periods, take_date, take_period,
 };
 use model::records::{Kind, skip_records};
 
-// ---- what a calendar says of a date
+// ---- what a calendar says of a date. That the day lies in the years is a premise: Date is any number, and the entry refuses those outside
 
 // Whether a list of dates has a day. A scan, once a sheet: the items stand in bits at places that only the one before gives, and are no slice.
 fn has_date(s: &[u8], p: Place, day: Date) -> bool
@@ -42,31 +42,30 @@ fn has_date(s: &[u8], p: Place, day: Date) -> bool
     false
 }
 
-// Where the periods of a day stand among the exceptions; past every end if it has none.
-fn exception_place(s: &[u8], p: Place, day: Date) -> Place
-    ensures { (d : DateOf) → from_days day.0 ≡ Some d → (l : List (DateOf × List PeriodOf)) → Stands exceptions s.now p l → Listed s.now result (hours_on l d) }
+// Where the periods of a day stand among the exceptions, if it is one.
+fn exception_place(s: &[u8], p: Place, day: Date) -> Option<Place>
+    ensures { (d : DateOf) → from_days day.0 ≡ Some d → (l : List (DateOf × List PeriodOf)) → Stands exceptions s.now p l → ListedAt s.now result (hours_on l d) }
 {
     let n = bits::take_u32(s, p);
     let mut q = n.next;
     for _ in 0..n.value {
         let t = take_date(s, q);
         if t.value == Some(day) {
-            return t.next;
+            return Some(t.next);
         }
         q = skip_periods(s, t.next);
     }
-    PAST
+    None
 }
 
-// The place of the first of two lists of periods, or of the second where the first is empty.
-fn first_given(s: &[u8], p: Place, q: Place) -> Place
-    ensures { (a b : List PeriodOf) → Listed s.now p a → Listed s.now q b → Listed s.now result (or_hours a b) }
+// The place of a day's own periods, or of its weekday's where it has none.
+fn first_given(s: &[u8], own: Option<Place>, usual: Place) -> Place
+    ensures { (a b : List PeriodOf) → ListedAt s.now own a → Listed s.now usual b → Listed s.now result (or_hours a b) }
 {
-    let n = bits::take_u32(s, p);
-    if n.value == 0 {
-        return q;
+    match own {
+        Some(p) if bits::take_u32(s, p).value != 0 => p,
+        _ => usual,
     }
-    p
 }
 
 // A day in a calendar: where the periods stand that it or its weekday has. The weekday is a number, as the sheet holds it and weeks count with it.
@@ -126,7 +125,7 @@ fn put_default(out: &mut [u8], p: Place) -> Place
     put_period(out, b, 780, 1020)
 }
 
-// A period that was taken; from 0 to 0 where there is none.
+// A period that was taken; from 0 to 0 where there is none, which never is: an opened model holds its periods.
 fn put_taken(out: &mut [u8], p: Place, t: Option<Period>) -> Place
     ensures { Puts period (period_meaning t or (0, 0)) out.old p out.new result }
 {
@@ -173,7 +172,7 @@ fn put_day(s: &[u8], d: Day, out: &mut [u8]) -> Place
     bits::pad(out, e)
 }
 
-// The sheet up to a place, and zeros behind it; zeros alone where it did not fit.
+// The sheet up to a place, and zeros behind it; zeros alone where it did not fit. number and read end so too, each over another type or with more to clear.
 fn finish(out: &mut [u8], end: Place) -> Result<usize, Refusal>
     ensures { Finished out.old end result out.new }
 {

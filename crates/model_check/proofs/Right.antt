@@ -4,6 +4,7 @@ use Rattle.std.specs.Prelude.{Some}
 use mathlib.Core.Bool.{Bool, true, not}
 use mathlib.Core.List.{List, [], ◌∷◌, map}
 use Rattle.std.specs.Prelude.{Option, None}
+use Rattle.std.specs.Borrow.{Bor}
 use Prim.Native.Nat.{ℕ}
 use Rattle.definition.specs.Base.{some?}
 use Rattle.definition.specs.Text.{Text}
@@ -18,7 +19,7 @@ use Rattle.bits.specs.declared.Field.{Field}
 use Rattle.model.specs.Splits.{Stands, stands_or}
 use Rattle.model.specs.Sections.{Decoded}
 use Rattle.model.specs.Answers.{row_at, rows_at}
-use Rattle.model.specs.Places.{NameTaken, text_in, link_rows, assignment_rows}
+use Rattle.model.specs.Places.{NameTaken, link_rows, assignment_rows}
 use Rattle.model.specs.PerKind.{Sections}
 use Rattle.model.specs.declared.records.Kind.{Kind}
 use Rattle.model_check.specs.Kinds.{Item}
@@ -45,12 +46,12 @@ module _ (m : Model) (n : Text) where
   pub named_in : some? (same_key (0, n)) (map (λ (c : Calendar). (0, c.name)) m.calendars) ≡ is_calendar m n
   named_in = some_map (same_key (0, n)) (λ (c : Calendar). (0, c.name)) m.calendars ∙ named
 
-module _ {s : List ℕ} {p : Place} {r : Field (Option (ℕ × ℕ)) Place} {o : Option Text} (m : Model) (h : Stands (optional text) s p o) (e : NameTaken s p r) where
+module _ {s : List ℕ} {p : Place} {r : Field (Option (Bor (List ℕ))) Place} {o : Option Text} (m : Model) (h : Stands (optional text) s p o) (e : NameTaken s p r) where
   pub no_name : r.value ≡ None → true ≡ if_given (is_calendar m) o
   no_name g = rw (e.text o h, g)
 
-  pub a_name : (start len : ℕ) → r.value ≡ Some (start, len) → is_calendar m (text_in s (start, len)) ≡ if_given (is_calendar m) o
-  a_name start len g = rw (e.text o h, g)
+  pub a_name : (u : Bor (List ℕ)) → r.value ≡ Some u → is_calendar m u.now ≡ if_given (is_calendar m) o
+  a_name u g = rw (e.text o h, g)
 
 -- ---- rows
 

@@ -155,17 +155,14 @@ module _ {s : List ℕ} {at n : ℕ} {w w₂ : List ℕ} where
 
 -- ---- the walk
 
-pub walked : {s : List ℕ} {n : Counts} {head : Head} {at : ℕ} {names ids : Option Table} {t : Table} {w w₁ w₂ w₃ : List ℕ} {r : Field Bool Place} {places : Places} → Heads s n head
+pub walked : {s : List ℕ} {n : Counts} {head : Head} {at : ℕ} {names ids : Option Table} {w w₁ w₂ w₃ : List ℕ} {r : Field Bool Place} {places : Places} → Heads s n head
     → ((key : Calendar → Key) → Keyed Calendars s key → (xs : List Calendar) (end : ℕ) → Holds calendar s (record { count = n.value.calendars; at = head.calendars.byte }) xs end → TableFor 0 s (map key xs) names w₁)
-    → at ≡ min (end_in names) (length w₁) → EmptyAt s at n.value.activities w₁ w₂ ids → t ≡ table_in ids
-    → JudgedAll s head.activities n.value.activities (record { count = n.value.calendars; at = head.calendars.byte }) names t w₂ w₃ r → Behind s n head r.next places
-    → ModelWalked s n w w₃ (record { places = places; names = names; ids = ids; right = r.value })
-walked {s} {n} {head} {at} {names} {ids} {t} {w} {w₁} {w₂} {w₃} {r} {places} h i f e g k b =
-    record { walks = walks h (pass_like (like_times _ strict_activities) k.passes) b; looked = looks }
+    → at ≡ min (end_in names) (length w₁) → EmptyAt s at n.value.activities w₁ w₂ ids
+    → JudgedAll s head.activities n.value.activities (record { count = n.value.calendars; at = head.calendars.byte }) names (table_in ids) w₂ w₃ r → Behind s n head r.next places
+    → ModelWalked s n w w₃ (record { places = places; tables = record { names = names; ids = ids }; right = r.value })
+walked {s} {n} {head} {at} {names} {ids} {w} {w₁} {w₂} {w₃} {r} {places} h i f e j b =
+    record { walks = walks h (pass_like (like_times _ strict_activities) j.passes) b; looked = looks }
   where
-    j : JudgedAll s head.activities n.value.activities (record { count = n.value.calendars; at = head.calendars.byte }) names (table_in ids) w₂ w₃ r
-    j = subst (λ (t : Table). JudgedAll s head.activities n.value.activities (record { count = n.value.calendars; at = head.calendars.byte }) names t w₂ w₃ r) g k
-
     looks : (m : Model) → Decoded s m (sections_of n places) → places.value.activities ≡ byte_at places.value.activities.byte → Looked s m names ids r.value w₃
     looks m d z =
         let ks : List Key = map (λ (c : Calendar). (0, c.name)) m.calendars in
@@ -188,6 +185,6 @@ module _ {s : List ℕ} {n : Counts} {v : Walked} {w w₃ : List ℕ} (c : (coun
   pub no_model : o ≡ None → 6 ≡ check_answer s
   no_model z = refused opens z
 
-  pub judged : {m : Sections} {b g : Bool} → o ≡ Some m → ((x : Model) → Decoded s x m → Looked s x v.names v.ids v.right w₃ → b ≡ keeps_list x) → b ≡ g
+  pub judged : {m : Sections} {b g : Bool} → o ≡ Some m → ((x : Model) → Decoded s x m → Looked s x v.tables.names v.tables.ids v.right w₃ → b ≡ keeps_list x) → b ≡ g
       → (if g then 0 else 7) ≡ check_answer s
   judged z h u = let a = opened_at c k.walks (sym z ∙ e) in checked opens z (λ x d. h x d (k.looked x (subst (Decoded s x) a.0 d) a.1)) u

@@ -2,7 +2,7 @@
 use Rattle.std.specs.Prelude.{if◌then◌else◌}
 use Rattle.std.specs.Prelude.{None, Option, Some}
 use mathlib.Core.Path.{◌≡◌, refl, sym, ap}
-use mathlib.Core.Bool.{Bool, ◌&&◌, not}
+use mathlib.Core.Bool.{Bool, true, false, ◌&&◌, not}
 use mathlib.Core.List.{List, [], ◌∷◌, map}
 use Prim.Native.Nat.{ℕ, suc}
 use Rattle.definition.specs.Base.{every?, numbered}
@@ -39,3 +39,14 @@ module _ {s : Text} {o : Option Sections} (h : Opens s o) where
   pub checked : {r : Sections} {b g : Bool} → o ≡ Some r → ((m : Model) → Decoded s m r → b ≡ keeps_list m) → b ≡ g → (if g then 0 else 7) ≡ check_answer s
   unfolding check_answer
   checked {r} e k u = let m = h.model r e in rw (← u, k m.model m.sections, m.decodes)
+
+-- eight tests, from the first on or from the last
+pub in_row : (a b c d e f g h : Bool) → (((((((a && b) && c) && d) && e) && f) && g) && h) ≡ (a && (b && (c && (d && (e && (f && (g && h)))))))
+in_row false b c d e f g h = refl
+in_row true false c d e f g h = refl
+in_row true true false d e f g h = refl
+in_row true true true false e f g h = refl
+in_row true true true true false f g h = refl
+in_row true true true true true false g h = refl
+in_row true true true true true true false h = refl
+in_row true true true true true true true h = refl

@@ -66,4 +66,4 @@ pub record Looked (s : List ℕ) (m : Model) (n i : Option Table) (activities : 
 
 pub record ModelWalked (s : List ℕ) (n : Counts) (w w' : List ℕ) (r : Walked) : Type 0 where
   pub walks : Walks s n r.places
-  pub looked : (m : Model) → Decoded s m (sections_of n r.places) → r.places.value.activities ≡ byte_at r.places.value.activities.byte → Looked s m r.names r.ids r.right w'
+  pub looked : (m : Model) → Decoded s m (sections_of n r.places) → r.places.value.activities ≡ byte_at r.places.value.activities.byte → Looked s m r.tables.names r.tables.ids r.right w'

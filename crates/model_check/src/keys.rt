@@ -1,4 +1,5 @@
 // Keys: what no two records of a section share. An id or a name that stands first in its record; of an expense its activity's row and its name.
+// Keyed, Holds, KeyTable and NamesIn are premises in the contracts, as they speak of a model, or of its keys, that are not at hand as a value.
 ghost use Rattle.std.specs.Prelude.{◌≡◌, ◌%◌, false, List, ℕ};
 ghost use Rattle.definition.specs.Base.{some?};
 ghost use Rattle.definition.specs.Text.{Text};
@@ -15,6 +16,7 @@ ghost use Rattle.model_check.specs.Keys.{Key, key_of, same_key, lead_of, KeyAt, 
 
 use bits::Place;
 use model::Section;
+use model::parts::text_in;
 use model::records::{Kind, skip_record};
 
 // A section's records: what the functions on keys are generic over.
@@ -56,7 +58,8 @@ impl Records for Expenses {
     const KIND: Kind = Kind::Expenses;
 }
 
-// A key: the row that stands in the record before its text, 0 where none does, and the text.
+// A key: the row that stands in the record before its text, and the text. The row is 0 and no Option where none stands: all records of a section have
+// a row there, or none has.
 #[derive(Clone, Copy)]
 pub(crate) struct KeyBytes<'a> {
     pub(crate) row: u64,
@@ -67,10 +70,7 @@ pub(crate) struct KeyBytes<'a> {
 pub(crate) fn text_at(s: &[u8], p: Place) -> &[u8]
     ensures { (t : Text) → Stands text s.now p t → result.now ≡ t }
 {
-    let t = bits::take_text(s, p);
-    let start = t.start;
-    let end = start + t.len;
-    &s[start..end]
+    text_in(s, bits::take_text(s, p))
 }
 
 // How many bits stand in a record before the text of its key: an expense's row.
@@ -78,12 +78,8 @@ fn lead<K: Records>() -> usize
     ensures { result ≡ lead_of K.KIND }
 {
     match K::KIND {
-        Kind::Calendars => 0,
-        Kind::Activities => 0,
-        Kind::Links => 0,
-        Kind::Resources => 0,
-        Kind::Assignments => 0,
         Kind::Expenses => 32,
+        _ => 0,
     }
 }
 
@@ -105,7 +101,7 @@ pub(crate) fn key_at<'a, K: Records>(s: &'a [u8], p: Place) -> KeyBytes<'a>
     }
 }
 
-// Whether the record at a place has a key.
+// Whether the record at a place has a key. Not by `==` on keys: where the rows differ, the text is not read.
 pub(crate) fn has_key<K: Records>(s: &[u8], p: Place, key: KeyBytes) -> bool
     ensures { (k : Key) → KeyAt (lead_of K.KIND) s.now p k → result ≡ same_key (key_of key.entry) k }
 {

@@ -18,37 +18,34 @@ ghost use Rattle.model_check.specs.Walk.{Looked};
 use crate::keys::{Activities, Expenses, Resources};
 use crate::rules::{Names, every_right};
 use crate::tables::{all_distinct, distinct_in};
-use crate::walk::walk_model;
+use crate::walk::{Tables, walk_model};
 use definition::Refusal;
-use index::Table;
 use model::records::Kind;
 use model::{Sections, sections_of, take_counts};
 
 // What is left once the activities are looked at. The tables stand in the words until the records are looked at; then the keys of each section in turn.
-fn keeps_list(
-    s: &[u8],
-    w: Sections,
-    words: &mut [u32],
-    names: Option<Table>,
-    ids: Option<Table>,
-    activities: bool,
-) -> bool
-    ensures { (m : Model) → Decoded s.now m w → Looked s.now m names ids activities words.old → result ≡ keeps_list m }
+fn keeps_list(s: &[u8], w: Sections, words: &mut [u32], tables: Tables, activities: bool) -> bool
+    ensures { (m : Model) → Decoded s.now m w → Looked s.now m tables.names tables.ids activities words.old → result ≡ keeps_list m }
 {
     let calendars = Names {
-        table: names,
+        table: tables.names,
         words,
     };
     let resources = every_right(s, Kind::Resources, w.resources, w, calendars);
     let links = every_right(s, Kind::Links, w.links, w, calendars);
     let assignments = every_right(s, Kind::Assignments, w.assignments, w, calendars);
     let expenses = every_right(s, Kind::Expenses, w.expenses, w, calendars);
-    let ids_differ = distinct_in::<Activities>(s, w.activities, words, ids);
+    let ids_differ = distinct_in::<Activities>(s, w.activities, words, tables.ids);
     let resource_ids = all_distinct::<Resources>(s, w.resources, words);
     let expenses_differ = all_distinct::<Expenses>(s, w.expenses, words);
     ids_differ
-        & (activities
-            & (resource_ids & (resources & (links & (assignments & (expenses & expenses_differ))))))
+        & activities
+        & resource_ids
+        & resources
+        & links
+        & assignments
+        & expenses
+        & expenses_differ
 }
 
 // Refused are bytes that do not decode, and a model that breaks the list.
@@ -60,9 +57,7 @@ fn answer(s: &[u8], words: &mut [u32]) -> Result<(), Refusal>
     let Some(w) = sections_of(s.len(), counts, walked.places) else {
         return Err(Refusal::NoModel);
     };
-    let names = walked.names;
-    let ids = walked.ids;
-    if !keeps_list(s, w, words, names, ids, walked.right) {
+    if !keeps_list(s, w, words, walked.tables, walked.right) {
         return Err(Refusal::ListBroken);
     }
     Ok(())

@@ -16,7 +16,7 @@ ghost use Rattle.model_check.specs.Tables.{NamesIn};
 ghost use Rattle.model_check.specs.Walk.{JudgedAt};
 
 use crate::keys::{Calendars, KeyBytes, some_has_key};
-use crate::tables::table_has_key;
+use crate::tables::{KeyIndex, table_has_key};
 use bits::{Field, Place};
 use index::Table;
 use model::parts::{parent_place_by, resource_calendar_place, take_name, take_row, take_rows};
@@ -37,7 +37,10 @@ fn is_calendar(s: &[u8], x: Section, names: Names<'_>, name: &[u8]) -> bool
     let first = Place { byte: x.at, bit: 0 };
     let key = KeyBytes { row: 0, name };
     match names.table {
-        Some(t) => table_has_key::<Calendars>(s, names.words, t, key),
+        Some(table) => {
+            let words = names.words;
+            table_has_key::<Calendars>(s, KeyIndex { table, words }, key)
+        }
         None => some_has_key::<Calendars>(s, first, x.count, key),
     }
 }
@@ -46,11 +49,10 @@ fn is_calendar(s: &[u8], x: Section, names: Names<'_>, name: &[u8]) -> bool
 fn calendar_known(s: &[u8], p: Place, x: Section, names: Names<'_>) -> bool
     ensures { (m : Model) (end : ℕ) → Holds calendar s.now x m.calendars end → NamesIn s.now m names.entry.table names.entry.words.now → (o : Option Text) → Stands (optional text) s.now p o → result ≡ if_given (is_calendar m) o }
 {
-    let Some((start, len)) = take_name(s, p).value else {
-        return true;
-    };
-    let end = start + len;
-    is_calendar(s, x, names, &s[start..end])
+    match take_name(s, p).value {
+        Some(name) => is_calendar(s, x, names, name),
+        None => true,
+    }
 }
 
 // Whether a row is missing, or below another.
@@ -97,8 +99,8 @@ fn row_below(s: &[u8], p: Place, count: u32) -> bool
     bits::take_u32(s, p).value < count
 }
 
-// Whether the record at a place, the one of a row, keeps its rules. The kind is matched, since each has a rule of its own. The names go beside the
-// sections, as their words are lent for these tests alone; that the sections are a decoded model's is said here and in the two callers, and nowhere else.
+// Whether the record at a place, the one of a row, keeps its rules. The kind is matched, since each has a rule of its own. That these are the sections of
+// a decoded model is said here and in the two callers alone; the names go beside the sections, as their words are lent for these tests alone.
 fn is_right(s: &[u8], p: Place, kind: Kind, own: u32, w: Sections, names: Names<'_>) -> bool
     ensures { (m : Model) → Decoded s.now m w → NamesIn s.now m names.entry.table names.entry.words.now → (a : Item kind) → Stands (whole (format_of kind)) s.now p a → result ≡ right_of m kind (own, a) }
 {

@@ -1,5 +1,5 @@
-// Keys in tables of lent words: each row's key by its hash, and the byte at which its record stands. Casts by `as`: the low 32 bits of a hash, a byte's
-// place that fits a word, and a word to an index, for which there is no From.
+// Keys in tables of lent words: each row's key by its hash, and the byte at which its record stands. Casts by `as`: the low 32 bits of a row and of a
+// byte's place, by a remainder since `as` asks that the value fits, and a word to an index, for which there is no From.
 ghost use Rattle.std.specs.Prelude.{◌≡◌, List, map, ℕ, ◌<◌, ◌≤◌, ◌^◌, length, get_or, take};
 ghost use Rattle.definition.specs.Base.{given, find, some?};
 ghost use Rattle.definition.specs.Check.{distinct};
@@ -17,8 +17,9 @@ use model::Section;
 pub(crate) fn hash_key(key: KeyBytes) -> u32
     ensures { result ≡ hash_key (key_of key.entry) }
 {
-    let n = key.row % 4294967296 * 2654435761;
-    ((n + u64::from(index::hash_of(key.name))) % 4294967296) as u32
+    ((key.row % 4294967296) as u32)
+        .wrapping_mul(2654435761)
+        .wrapping_add(index::hash_of(key.name))
 }
 
 pub(crate) fn hash_at<K: Records>(s: &[u8], p: Place) -> u32
@@ -43,9 +44,7 @@ fn fill<K: Records>(s: &[u8], x: Section, words: &mut [u32], t: Table)
 pub(crate) fn empty_table(s: &[u8], words: &mut [u32], at: usize, rows: u32) -> Option<Table>
     ensures { EmptyAt s.now at rows words.old words.new result }
 {
-    if 4294967295 < s.len() {
-        return None;
-    }
+    u32::try_from(s.len()).ok()?;
     let t = index::table_at(words.len(), at, rows)?;
     t.clear(words);
     Some(t)
@@ -60,54 +59,62 @@ pub(crate) fn index_keys<K: Records>(s: &[u8], x: Section, words: &mut [u32]) ->
     Some(t)
 }
 
+// A table of keys that is filled, and the words that hold it, for those that only read them: those that fill a table write the words, and have both
+// apart.
+#[derive(Clone, Copy)]
+pub(crate) struct KeyIndex<'a> {
+    pub(crate) table: Table,
+    pub(crate) words: &'a [u32],
+}
+
 // Whether a row of a chain has a key.
 fn chain_has_key<K: Records>(
     s: &[u8],
-    words: &[u32],
-    t: Table,
+    index: KeyIndex<'_>,
     from: Option<u32>,
     key: KeyBytes,
 ) -> bool
-    ensures { (ks : List Key) → KeyTable (lead_of K.KIND) s.now ks t words.now → up_to from ≤ length ks → result ≡ given (find (λ (r : ℕ). same_key (key_of key.entry) (get_or ks r no_key)) (chain words.now t from)) }
+    ensures { (ks : List Key) → KeyTable (lead_of K.KIND) s.now ks index.entry.table index.entry.words.now → up_to from ≤ length ks → result ≡ given (find (λ (r : ℕ). same_key (key_of key.entry) (get_or ks r no_key)) (chain index.entry.words.now index.entry.table from)) }
 {
+    let t = index.table;
     let mut at = from;
     while let Some(r) = at {
-        let byte = t.place(words, r) as usize;
+        let byte = t.place(index.words, r) as usize;
         if has_key::<K>(s, Place { byte, bit: 0 }, key) {
             return true;
         }
-        at = t.next(words, r);
+        at = t.next(index.words, r);
     }
     false
 }
 
 // Whether a record in the table has a key.
-pub(crate) fn table_has_key<K: Records>(s: &[u8], words: &[u32], t: Table, key: KeyBytes) -> bool
-    ensures { (ks : List Key) → KeyTable (lead_of K.KIND) s.now ks t words.now → result ≡ some? (same_key (key_of key.entry)) ks }
+pub(crate) fn table_has_key<K: Records>(s: &[u8], index: KeyIndex<'_>, key: KeyBytes) -> bool
+    ensures { (ks : List Key) → KeyTable (lead_of K.KIND) s.now ks index.entry.table index.entry.words.now → result ≡ some? (same_key (key_of key.entry)) ks }
 {
-    let from = t.first(words, hash_key(key));
-    chain_has_key::<K>(s, words, t, from, key)
+    let from = index.table.first(index.words, hash_key(key));
+    chain_has_key::<K>(s, index, from, key)
 }
 
 // Whether a record before that of a row has its key.
-fn has_twin<K: Records>(s: &[u8], words: &[u32], t: Table, own: u32) -> bool
-    ensures { (ks : List Key) → KeyTable (lead_of K.KIND) s.now ks t words.now → own < length ks → result ≡ some? (same_key (get_or ks own no_key)) (take own ks) }
+fn has_twin<K: Records>(s: &[u8], index: KeyIndex<'_>, own: u32) -> bool
+    ensures { (ks : List Key) → KeyTable (lead_of K.KIND) s.now ks index.entry.table index.entry.words.now → own < length ks → result ≡ some? (same_key (get_or ks own no_key)) (take own ks) }
 {
-    let from = t.next(words, own);
+    let from = index.table.next(index.words, own);
     if from.is_none() {
         return false;
     }
-    let byte = t.place(words, own) as usize;
+    let byte = index.table.place(index.words, own) as usize;
     let key = key_at::<K>(s, Place { byte, bit: 0 });
-    chain_has_key::<K>(s, words, t, from, key)
+    chain_has_key::<K>(s, index, from, key)
 }
 
 // Whether no two records in the table have the same key.
-fn table_distinct<K: Records>(s: &[u8], words: &[u32], t: Table) -> bool
-    ensures { (ks : List Key) → KeyTable (lead_of K.KIND) s.now ks t words.now → result ≡ distinct same_key ks }
+fn table_distinct<K: Records>(s: &[u8], index: KeyIndex<'_>) -> bool
+    ensures { (ks : List Key) → KeyTable (lead_of K.KIND) s.now ks index.entry.table index.entry.words.now → result ≡ distinct same_key ks }
 {
-    for i in (0..t.rows).rev() {
-        if has_twin::<K>(s, words, t, i) {
+    for i in (0..index.table.rows).rev() {
+        if has_twin::<K>(s, index, i) {
             return false;
         }
     }
@@ -119,7 +126,7 @@ pub(crate) fn all_distinct<K: Records>(s: &[u8], x: Section, words: &mut [u32]) 
     ensures { (of : Item K.KIND → Key) → Keyed K.KIND s.now of → (xs : List (Item K.KIND)) (end : ℕ) → Holds (format_of K.KIND) s.now x xs end → result ≡ distinct (λ (x y : Item K.KIND). same_key (of x) (of y)) xs }
 {
     match index_keys::<K>(s, x, words) {
-        Some(t) => table_distinct::<K>(s, words, t),
+        Some(table) => table_distinct::<K>(s, KeyIndex { table, words }),
         None => distinct::<K>(s, x),
     }
 }
@@ -134,7 +141,7 @@ pub(crate) fn distinct_in<K: Records>(
     ensures { (of : Item K.KIND → Key) → Keyed K.KIND s.now of → (xs : List (Item K.KIND)) (end : ℕ) → Holds (format_of K.KIND) s.now x xs end → TableFor (lead_of K.KIND) s.now (map of xs) made words.old → result ≡ distinct (λ (x y : Item K.KIND). same_key (of x) (of y)) xs }
 {
     match made {
-        Some(t) => table_distinct::<K>(s, words, t),
+        Some(table) => table_distinct::<K>(s, KeyIndex { table, words }),
         None => all_distinct::<K>(s, x, words),
     }
 }

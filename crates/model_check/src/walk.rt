@@ -9,11 +9,18 @@ use bits::{Field, Place};
 use index::Table;
 use model::{Counts, Places, Section, walk_behind, walk_head};
 
-// A table with no rows where there is none.
+// A table with no rows where there is none. No Option in the walk: Table::put does nothing in a table of no rows.
 fn table_of(made: Option<Table>) -> Table
     ensures { result ≡ table_in made }
 {
     made.unwrap_or(Table { at: 0, rows: 0 })
+}
+
+// The tables of the calendars' names and of the activities' ids, where there are any.
+#[derive(Clone, Copy)]
+pub(crate) struct Tables {
+    pub(crate) names: Option<Table>,
+    pub(crate) ids: Option<Table>,
 }
 
 // Passes over so many activities, and puts the id of each into a table: whether all are right, and the place behind. It ends at the first that
@@ -24,11 +31,12 @@ fn judge_activities(
     count: u32,
     calendars: Section,
     words: &mut [u32],
-    names: Option<Table>,
-    t: Table,
+    tables: Tables,
 ) -> Field<bool>
-    ensures { JudgedAll s.now p count calendars names t words.old words.new result }
+    ensures { JudgedAll s.now p count calendars tables.names (table_in tables.ids) words.old words.new result }
 {
+    let names = tables.names;
+    let t = table_of(tables.ids);
     let mut q = p;
     let mut right = true;
     for i in 0..count {
@@ -60,13 +68,11 @@ fn judge_activities(
     }
 }
 
-// The places between the sections, as model::open finds them; the tables of names and of ids; whether all activities are right, which says nothing of
-// the other three.
+// The places between the sections, as model::open finds them; the tables; whether all activities are right, which says nothing of the others.
 #[derive(Clone, Copy)]
 pub(crate) struct Walked {
     pub(crate) places: Places,
-    pub(crate) names: Option<Table>,
-    pub(crate) ids: Option<Table>,
+    pub(crate) tables: Tables,
     pub(crate) right: bool,
 }
 
@@ -85,21 +91,20 @@ pub(crate) fn walk_model(s: &[u8], n: Counts, words: &mut [u32]) -> Walked
         index::end_of(names, words.len()),
         n.value.activities,
     );
+    let tables = Tables { names, ids };
     let a = judge_activities(
         s,
         head.activities,
         n.value.activities,
         calendars,
         words,
-        names,
-        table_of(ids),
+        tables,
     );
     let places = walk_behind(s, n, head, a.next);
     let right = a.value;
     Walked {
         places,
-        names,
-        ids,
+        tables,
         right,
     }
 }

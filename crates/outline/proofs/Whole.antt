@@ -16,16 +16,9 @@ use Rattle.outline.proofs.ParentLaws.{length_parents}
 use Rattle.outline.proofs.Lists.{links_none}
 
 module _ (n room : ℕ) (work : List ℕ) where
-  short : (ltb room (2 * n) || ltb (length work) (4 * n)) ≡ true → outline_words n room work ≡ refused 9
-  unfolding outline_words
-  short h = rw h
-
   enough : 2 * n ≤ room → 4 * n ≤ length work → outline_words n room work ≡ gives (row_words (outline_of (parents_in n work)))
   unfolding outline_words
   enough h k = rw (le-ltb room (2 * n) h, le-ltb (length work) (4 * n) k)
-
-pub wrote_short : (n : ℕ) (rows work : List ℕ) → (ltb (length rows) (2 * n) || ltb (length work) (4 * n)) ≡ true → Wrote n rows work rows work 0
-wrote_short n rows work h = record { long_rows = refl; long_work = refl; room = omega arith; words = ap words_of (short n (length rows) work h) }
 
 pub room_for : (a b c d : ℕ) (t : Bool) → ltb a b ≡ t → (t || ltb c d) ≡ false → (b ≤ a) × (d ≤ c)
 room_for a b c d true e h = let z : ◌≡◌ {A = ℕ} 0 1 = cc in absurd (omega arith)

@@ -17,8 +17,8 @@ use model::{sections_of, take_counts};
 // A word that names no row, as the lent words hold it: a word has no room for an Option, so `climb`, `step` and `walk` test for it.
 const NONE: u32 = 0xFFFF_FFFF;
 
-// The words of a row in the lent slice. Rows name each other by number there: no heap holds nodes. A row becomes an index by `as`, as there is no
-// From from u32 to usize.
+// The words of a row in the lent slice, as offsets that are added to its place. Rows name each other by number there: no heap holds nodes. A row becomes
+// an index by `as`, as there is no From from u32 to usize.
 const PARENT: u32 = 0;
 
 const CHILD: u32 = 1;
@@ -34,6 +34,7 @@ struct Visit {
     depth: u32,
 }
 
+// index has this and the next for words from a place on; the outline does not stand on that crate.
 fn field(work: &[u32], row: u32, word: u32) -> u32
     ensures { result ≡ get_or work.now (4 * row + word) 0 }
 {
@@ -42,7 +43,7 @@ fn field(work: &[u32], row: u32, word: u32) -> u32
         .unwrap_or(0)
 }
 
-// By index: what is written through a `get_mut` is not known to the proof, which was tried.
+// By index: what is written through a slice's `get_mut` is not known to the proof, which was tried.
 fn set_field(work: &mut [u32], row: u32, word: u32, value: u32)
     ensures { work.new ≡ set work.old (4 * row + word) value }
 {
@@ -52,7 +53,7 @@ fn set_field(work: &mut [u32], row: u32, word: u32, value: u32)
     }
 }
 
-// Empties the lists of n rows.
+// Empties the lists of n rows. Here and below the number goes beside the words: a struct over both would hold the words lent.
 fn empty_lists(n: u32, work: &mut [u32])
     requires { 4 * n ≤ length work.old }
     ensures { Empty n work.old work.new }
@@ -96,11 +97,11 @@ fn link_rows(n: u32, work: &mut [u32])
 }
 
 // The row that follows a row and all below it.
-fn climb(work: &[u32], row: u32, depth: u32) -> Visit
-    ensures { Climbed work.now row depth result }
+fn climb(work: &[u32], at: Visit) -> Visit
+    ensures { Climbed work.now at.row at.depth result }
 {
-    let mut r = row;
-    for d in (0..depth).rev() {
+    let mut r = at.row;
+    for d in (0..at.depth).rev() {
         let next = field(work, r, NEXT);
         if next != NONE {
             return Visit {
@@ -117,18 +118,18 @@ fn climb(work: &[u32], row: u32, depth: u32) -> Visit
 }
 
 // The row that follows a row.
-fn step(n: u32, work: &[u32], row: u32, depth: u32) -> Visit
-    requires { depth < n }
-    ensures { Stepped n work.now row depth result }
+fn step(n: u32, work: &[u32], at: Visit) -> Visit
+    requires { at.depth < n }
+    ensures { Stepped n work.now at.row at.depth result }
 {
-    let child = field(work, row, CHILD);
-    if child != NONE && depth + 1 < n {
+    let child = field(work, at.row, CHILD);
+    if child != NONE && at.depth + 1 < n {
         return Visit {
             row: child,
-            depth: depth + 1,
+            depth: at.depth + 1,
         };
     }
-    climb(work, row, depth)
+    climb(work, at)
 }
 
 // Writes row k: two words, as a C host reads them.
@@ -158,26 +159,24 @@ fn walk(n: u32, rows: &mut [u32], work: &[u32]) -> u32
             return k;
         }
         put_row(rows, k, at.row, at.depth + 1);
-        at = step(n, work, at.row, at.depth);
+        at = step(n, work, at);
     }
     n
 }
 
 fn write_rows(n: u32, rows: &mut [u32], work: &mut [u32]) -> u32
+    requires { (2 * n ≤ length rows.old) × (4 * n ≤ length work.old) }
     ensures { Wrote n rows.old work.old rows.new work.new result }
 {
-    if is_short(n, rows.len(), work.len()) {
-        return 0;
-    }
     empty_lists(n, work);
     link_rows(n, work);
     walk(n, rows, work)
 }
 
 // The rows of the outline of n activities: row and level of each, with zeros behind, and zeros in work. Word 4 * i of work names the parent
-// of activity i; 0xFFFFFFFF, or any other row out of range, stands for none. Says how many rows there are; 0, and zeros alone, where rows has
-// less than 2 words an activity or work less than 4.
+// of activity i; 0xFFFFFFFF, or any other row out of range, stands for none. Says how many rows there are.
 fn outline_rows(n: u32, rows: &mut [u32], work: &mut [u32]) -> u32
+    requires { (2 * n ≤ length rows.old) × (4 * n ≤ length work.old) }
     ensures { Outlined n rows.old work.old rows.new work.new result }
 {
     let count = write_rows(n, rows, work);

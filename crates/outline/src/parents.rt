@@ -16,7 +16,8 @@ fn word_of(parent: Option<u32>) -> u32
     parent.unwrap_or(NONE)
 }
 
-// The word for the parent of the activity at a place, and the place of the next activity.
+// The word for the parent of the activity at a place, and the place of the next activity. The check goes the same way over an activity, and looks at its
+// calendar's name too.
 fn take_parent(s: &[u8], p: Place) -> Field<u32>
     ensures { ParentAt s.now p result }
 {

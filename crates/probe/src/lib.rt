@@ -1,6 +1,6 @@
-// Leaves that the boundary does not export, for compare/ alone, to which probe_c exports them: each beside the Rust, on the same texts. The answer of a leaf is 0 where
-// there is a value, which `out` then holds, 1 where there is none and 2 where document 01 refuses a number as too long, with 0 in `out`. A duration has two
-// values, its minutes and 1 where the sum was whole. Numbers and lent results, and no Option, for C.
+// Leaves that the boundary does not export, exported by probe_c for compare/ alone, which sets each beside the Rust on the same texts. The answer of a
+// leaf is 0 where there is a value, which `out` then holds, 1 where there is none and 2 where document 01 refuses a number as too long, with 0 in `out`.
+// A duration has two values, its minutes and 1 where the sum was whole. Numbers and lent results, and no Option, for C.
 #![tactic(auto)]
 
 use definition::{Date, Duration, Unread};
@@ -140,7 +140,7 @@ pub fn probe_number(s: &[u8], out: &mut f64) -> u32
 
 // ---- trees
 
-// The refusal of a tree, 0 for none.
+// The refusal of a tree, 0 for none. mspdi has number_of for answers of any type, and stands apart: this is its one use here.
 pub fn probe_tree(s: &[u8]) -> u32
     ensures { result ≡ tree_refusal s.now }
 {

@@ -86,18 +86,15 @@ fn sheet_is(model: &[u8], asked: &[u8], room: usize, answer: u32, s: &[u8]) -> b
     sheet_into(model, asked, &mut sheet[0..n], answer, s)
 }
 
-// In just the bytes that are needed, in more, and in one less.
 fn sheet_agrees(model: &[u8], asked: &[u8]) -> bool {
     let answer = parts::byte(parts::behind(asked, 8));
     let s = parts::behind(asked, 10);
-    let n = s.len();
-    let right = sheet_is(model, asked, SHEET, answer, s);
-    if n == 0 {
-        return right;
-    }
-    right
-        & sheet_is(model, asked, n, 0, s)
-        & sheet_is(model, asked, n - 1, u32::from(Refusal::NoRoom), &[])
+    parts::fits(
+        SHEET,
+        answer,
+        s,
+        |room, a, t| sheet_is(model, asked, room, a, t),
+    )
 }
 
 fn sheet_end(s: &[u8]) -> usize

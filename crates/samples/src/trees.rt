@@ -24,14 +24,8 @@ fn read_is(s: &[u8], room: usize, answer: u32, model: &[u8]) -> bool {
     read_into(s, &mut out[0..n], answer, model)
 }
 
-// In just the bytes that are needed, in more, and in one less.
 fn read_agrees(s: &[u8], answer: u32, model: &[u8]) -> bool {
-    let n = model.len();
-    let right = read_is(s, ROOM, answer, model);
-    if n == 0 {
-        return right;
-    }
-    right & read_is(s, n, 0, model) & read_is(s, n - 1, u32::from(Refusal::NoRoom), &[])
+    parts::fits(ROOM, answer, model, |room, a, m| read_is(s, room, a, m))
 }
 
 // ---- the check

@@ -14,4 +14,4 @@ pub loop-preserved : goal.loop-preserved
 loop-preserved c = let a = c.args in (omega arith, unmet_more days_dated c.loop.invariant.1 c.loop-test.true c.take_date-t.ensures (on_day c.take_date-t.result.value a.day c.eq.ensures) c.if-eq.false (date_passed a.s.now _ c.take_date-t.ensures ⨾ c.skip_periods-q.ensures))
 
 pub returns : goal.returns
-returns c = let a = c.args in λ d k l h. hours_missing a.s.now d l (unmet_all days_dated c.loop.invariant.1 (omega arith) d k l (exceptions_ahead a.s.now a.p c.take_u32-n.ensures h))
+returns c = let a = c.args in λ d k l h. hours_missing d l (unmet_all days_dated c.loop.invariant.1 (omega arith) d k l (exceptions_ahead a.s.now a.p c.take_u32-n.ensures h))

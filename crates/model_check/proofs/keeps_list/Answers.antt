@@ -5,7 +5,7 @@ use Rattle.definition.specs.Model.{Activity, Resource, Expense}
 use Rattle.definition.specs.Check.{keeps_list, if_given, is_calendar, link_right, assignment_right}
 use Rattle.model_check.specs.Walk.{id_key}
 use Rattle.model_check.proofs.Keyed.{activity_key, resource_key, expense_key}
-use Rattle.model_check.proofs.Whole.{both, distinct_map, every_plain}
+use Rattle.model_check.proofs.Whole.{both, in_row, distinct_map, every_plain}
 use Rattle.model_check.proofs.keeps_list.Goals as goal
 
 pub shape_of-words : goal.shape_of-words
@@ -17,7 +17,8 @@ unfolding keeps_list
 returns c =
     λ m d x.
     let n = x.names in
-    both
+    in_row c.distinct_in-ids_differ.result c.args.activities c.all_distinct-resource_ids.result c.every_right-resources.result c.every_right-links.result c.every_right-assignments.result c.every_right-expenses.result c.all_distinct-expenses_differ.result
+    ∙ both
     (c.distinct_in-ids_differ.ensures id_key activity_key m.activities _ d.activities x.ids ∙ distinct_map same (λ (a : Activity). a.id) m.activities)
     (both
     x.right

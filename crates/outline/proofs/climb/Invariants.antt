@@ -5,4 +5,4 @@ use Rattle.outline.specs.Steps.{climb_of}
 use Rattle.outline.proofs.climb.Given as goal
 
 abbrev pub invariant-loop-d : goal.invariant-loop-d
-invariant-loop-d l = (l.d ≤ l.depth) × (climb_of l.work l.d l.r ≡ climb_of l.work l.depth l.row)
+invariant-loop-d l = (l.d ≤ l.fn.at.depth) × (climb_of l.work l.d l.r ≡ climb_of l.work l.fn.at.depth l.fn.at.row)

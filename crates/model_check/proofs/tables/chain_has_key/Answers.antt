@@ -19,12 +19,12 @@ returns-then-has_key g c =
 pub loop-at-smaller : goal.loop-at-smaller
 loop-at-smaller g c =
     let b = c.args in
-    next_less b.words.now b.t c.in-Some.is c.next-at.ensures
+    next_less b.index.words.now b.index.table c.in-Some.is c.next-at.ensures
 
 pub loop-at-preserved : goal.loop-at-preserved
 loop-at-preserved g c =
     let b = c.args in
     λ ks x u.
     let v = c.loop-at.invariant ks x u in
-    let l = next_less b.words.now b.t c.in-Some.is c.next-at.ensures in
+    let l = next_less b.index.words.now b.index.table c.in-Some.is c.next-at.ensures in
     (omega (arith, l, v.0), seeks_next v.1 c.in-Some.is (sym (c.has_key.ensures _ (key_there x (row_in c.in-Some.is v.0) c.place-byte.ensures)) ∙ c.if-has_key.false) c.next-at.ensures)

@@ -11,8 +11,8 @@ use Rattle.model_check.proofs.tables.chain_has_key.Given as goal
 
 abbrev pub invariant-loop-at : goal.invariant-loop-at
 invariant-loop-at g l =
-    (ks : List Key) → KeyTable (lead_of g.K.Records.KIND) l.s ks l.t l.words → up_to l.initial.at ≤ length ks
-    → (up_to l.at ≤ length ks) × Seeks l.words l.t (λ (r : ℕ). same_key (key_of l.key) (get_or ks r no_key)) (find (λ (r : ℕ). same_key (key_of l.key) (get_or ks r no_key)) (chain l.words l.t l.initial.at)) l.at
+    (ks : List Key) → KeyTable (lead_of g.K.Records.KIND) l.s ks l.t l.index.words.now → up_to l.initial.at ≤ length ks
+    → (up_to l.at ≤ length ks) × Seeks l.index.words.now l.t (λ (r : ℕ). same_key (key_of l.key) (get_or ks r no_key)) (find (λ (r : ℕ). same_key (key_of l.key) (get_or ks r no_key)) (chain l.index.words.now l.t l.initial.at)) l.at
 
 abbrev pub decreases-loop-at : goal.decreases-loop-at
 decreases-loop-at g l = up_to l.at

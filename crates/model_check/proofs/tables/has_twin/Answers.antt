@@ -18,4 +18,4 @@ returns g c =
     let a = c.args in
     λ ks x h.
     let t = key_there x h c.place-byte.ensures in
-    c.chain_has_key.ensures ks x (next_in x h c.next-from.ensures) ∙ ap (λ (k : Key). given (find (λ (r : ℕ). same_key k (get_or ks r no_key)) (chain a.words.now a.t c.next-from.result))) (c.key_at-key.ensures _ t) ∙ some_twin x _ h c.next-from.ensures
+    c.chain_has_key.ensures ks x (next_in x h c.next-from.ensures) ∙ ap (λ (k : Key). given (find (λ (r : ℕ). same_key k (get_or ks r no_key)) (chain a.index.words.now a.index.table c.next-from.result))) (c.key_at-key.ensures _ t) ∙ some_twin x _ h c.next-from.ensures

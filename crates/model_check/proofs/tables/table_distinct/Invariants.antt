@@ -6,7 +6,7 @@ use Rattle.model_check.proofs.Twins.{Looked}
 use Rattle.model_check.proofs.tables.table_distinct.Given as goal
 
 abbrev pub invariant-loop-i : goal.invariant-loop-i
-invariant-loop-i g l = (ks : List Key) → KeyTable (lead_of g.K.Records.KIND) l.s ks l.t l.words → Looked ks l.i
+invariant-loop-i g l = (ks : List Key) → KeyTable (lead_of g.K.Records.KIND) l.s ks l.index.table l.index.words.now → Looked ks l.i
 
 abbrev pub decreases-loop-i : goal.decreases-loop-i
 decreases-loop-i g l = l.i

@@ -33,6 +33,7 @@ returns-then-q-gt7 c =
     let b = c.args in
     let y = c.judge_activity-a.ensures in
     let i = c.loop-i.i in
+    rw (← c.table_of-t.ensures)
     record {
       passes = pass_cut (record_of true Activities) (i + 1) b.count (omega arith) (pass_more (record_of true Activities) i v.2 y.next) (far b.s.now c.judge_activity-a.result.next c.if-q-gt7.true);
       kept = λ a. kept_then (v.4 a) (kept_added _ _ _ _ _ a c.put.ensures);
@@ -54,7 +55,7 @@ loop-i-preserved c =
       (λ a m end h n next r.
           let g = v.5 a m end h n next r in
           let u = tested g.along (omega arith) y.next in
-          judge_goes g u (y.right m end h (table_kept 0 _ _ b.names (kept_then (v.4 a) (kept_added _ _ _ _ _ a c.put.ensures)) n) u.item u.stands)),
+          judge_goes g u (y.right m end h (table_kept 0 _ _ b.tables.names (kept_then (v.4 a) (kept_added _ _ _ _ _ a c.put.ensures)) n) u.item u.stands)),
       λ small z e em xs next r.
           let g = v.6 small z e em xs next r in
           fill_goes g activity_key small (v.3 z) (omega arith) c.hash_at-hash.ensures refl c.put.ensures (tested g.along (omega arith) y.next),
@@ -67,6 +68,7 @@ pub returns : goal.returns
 returns c =
     let v = c.loop-i.invariant in
     let e : c.loop-i.i ≡ c.args.count = omega arith in
+    rw (← c.table_of-t.ensures)
     record {
       passes = rw e at v.2;
       kept = v.4;

@@ -9,4 +9,4 @@ shape_of-words c =
 
 pub returns : goal.returns
 returns c =
-    walked c.walk_head-head.ensures c.index_keys-names.ensures c.end_of.ensures c.empty_table-ids.ensures c.table_of.ensures c.judge_activities-a.ensures c.walk_behind-places.ensures
+    walked c.walk_head-head.ensures c.index_keys-names.ensures c.end_of.ensures c.empty_table-ids.ensures c.judge_activities-a.ensures c.walk_behind-places.ensures
