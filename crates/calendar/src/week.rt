@@ -25,7 +25,7 @@ fn place_by(a: Option<u64>) -> Option<u32>
 {
     let t = a?;
     if (1..=7).contains(&t) {
-        return Some(((t + 5) % 7) as u32);
+        return u32::try_from((t + 5) % 7).ok();
     }
     None
 }

@@ -1,12 +1,12 @@
 -- What the fields of an element come to. Assumes nothing.
-use Prim.Native.Nat.{ℕ, ◌+◌, ◌-◌, ◌%◌, ◌≤◌, ◌<◌, min}
+use Prim.Native.Nat.{ℕ, ◌+◌, ◌-◌, ◌%◌, ◌^◌, ◌≤◌, ◌<◌, min}
 use native.Mathlib.Omega.{arith}
-use mathlib.Core.Path.{◌≡◌, refl, ap, ◌∙◌}
-use Rattle.std.specs.Prelude.{Option, Some, None}
+use mathlib.Core.Path.{◌≡◌, refl, ap, subst, ◌∙◌}
+use Rattle.std.specs.Prelude.{Option, Some, None, Result, Ok, Err, unsigned_abs}
 use Rattle.std.specs.Option.{unwrap_or}
-use Rattle.std.specs.Int.{int_min}
+use Rattle.std.specs.Int.{int_min, FitsUnsignedBits}
+use Rattle.std.specs.Result.{OkIff, result_unwrap_or}
 use lib.IntN.{ℤ, pos, negsuc, nat_abs}
-use lib.Signed.{lt_z}
 use mir.Syntax.{w64}
 use mir.Val.{to_z, of_z, SFits}
 use mir.ValLaws.{to_z-of_z}
@@ -22,27 +22,26 @@ use Rattle.recurrence.specs.Element.{pick_of, mask_of, last_by}
 -- ---- numbers
 
 module _ (most below absent : ℕ) where
-  pub pick_below : (z : ℤ) → SFits w64 z → lt_z (to_z w64 (of_z w64 z)) (pos 0) ≡ true → below ≡ pick_of most below absent (Some z)
+  -- the smaller of z and `most`, which 32 bits hold, as the conversion gives it
+  pub pick_held : {E : Type 0} (z : ℤ) → SFits w64 z → (p : ℤ) → SFits w64 p → p ≡ pos most → most < 2 ^ 32 → (m : ℤ) → SFits w64 m
+      → m ≡ int_min (to_z w64 (of_z w64 z)) (to_z w64 (of_z w64 p))
+      → (r : Result ℕ E) → OkIff r (FitsUnsignedBits 32 (to_z w64 (of_z w64 m))) (unsigned_abs (to_z w64 (of_z w64 m)))
+      → result_unwrap_or r below ≡ pick_of most below absent (Some z)
   unfolding pick_of
-  pick_below z f h = go z (rw (to_z-of_z w64 z f) at h)
+  pick_held {E} z f p k e l m g q r h = go z (rw (to_z-of_z w64 z f, to_z-of_z w64 p k, e) at q) r (rw (to_z-of_z w64 m g) at h)
     where
-      go : (y : ℤ) → lt_z y (pos 0) ≡ true → below ≡ pick_of most below absent (Some y)
-      go (pos n) e = let l = ltb-true n 0 e in absurd (omega arith)
-      go (negsuc n) e = refl
+      smaller : (n : ℕ) (b : Bool) → ltb most n ≡ b → cond b (pos most) (pos n) ≡ pos (min n most)
+      smaller n true q = let l = ltb-true most n q in ap pos (omega arith)
+      smaller n false q = let l = ltb-false most n q in ap pos (omega arith)
 
-  -- the smaller of z and `most`
-  pub pick_held : (z : ℤ) → SFits w64 z → lt_z (to_z w64 (of_z w64 z)) (pos 0) ≡ false → (p : ℤ) → SFits w64 p → p ≡ pos most → (m : ℤ) → SFits w64 m
-      → m ≡ int_min (to_z w64 (of_z w64 z)) (to_z w64 (of_z w64 p)) → nat_abs (to_z w64 (of_z w64 m)) ≡ pick_of most below absent (Some z)
-  unfolding pick_of
-  pick_held z f h p k r m g e = rw (to_z-of_z w64 m g) (go z (rw (to_z-of_z w64 z f) at h) (rw (to_z-of_z w64 z f, to_z-of_z w64 p k, r) at e))
-    where
-      smaller : (n : ℕ) (b : Bool) → ltb most n ≡ b → nat_abs (cond b (pos most) (pos n)) ≡ min n most
-      smaller n true q = let l = ltb-true most n q in omega arith
-      smaller n false q = let l = ltb-false most n q in omega arith
+      fits : (n : ℕ) (r : Result ℕ E) → n < 2 ^ 32 → OkIff r (FitsUnsignedBits 32 (pos n)) n → result_unwrap_or r below ≡ n
+      fits n (Ok x) l h = h.1
+      fits n (Err e) l h = absurd (h (omega arith))
 
-      go : (y : ℤ) → lt_z y (pos 0) ≡ false → m ≡ int_min y (pos most) → nat_abs m ≡ pick_of most below absent (Some y)
-      go (pos n) s q = ap nat_abs q ∙ smaller n (ltb most n) refl
-      go (negsuc n) s q = let z : ◌≡◌ {A = ℕ} 0 1 = cc in absurd (omega arith)
+      go : (y : ℤ) → m ≡ int_min y (pos most) → (r : Result ℕ E) → OkIff r (FitsUnsignedBits 32 m) (unsigned_abs m) → result_unwrap_or r below ≡ pick_of most below absent (Some y)
+      go (pos n) q r h = fits (min n most) r (omega arith) (subst (λ v. OkIff r (FitsUnsignedBits 32 v) (unsigned_abs v)) (q ∙ smaller n (ltb most n) refl) h)
+      go (negsuc n) q (Ok x) h = absurd (subst (λ v. OkIff {E = E} (Ok x) (FitsUnsignedBits 32 v) (unsigned_abs v)) q h).0
+      go (negsuc n) q (Err e) h = refl
 
 -- the bits of a number that fits
 of_bits : (z : ℤ) → SFits w64 z → of_z w64 z ≡ twos 64 z

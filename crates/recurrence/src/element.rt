@@ -16,8 +16,7 @@ fn pick(a: Option<i64>, most: u32, below: u32, absent: u32) -> u32
     ensures { result ≡ pick_of most below absent a }
 {
     match a {
-        Some(n) if n < 0 => below,
-        Some(n) => n.min(i64::from(most)) as u32,
+        Some(n) => u32::try_from(n.min(i64::from(most))).unwrap_or(below),
         None => absent,
     }
 }

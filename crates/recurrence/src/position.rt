@@ -22,7 +22,7 @@ fn is_workday(w: u32) -> bool
     (1..=5).contains(&w)
 }
 
-// The item stays the number that a rule has: an enum would be made of it at each day.
+// The item stays the number that a rule has, as does the position: an enum would be made of it at each day.
 // Item 0 is any day, 1 Monday to Friday, 2 the weekend, 3 to 9 Sunday to Saturday.
 fn item_fits(item: u32, d: u32) -> bool
     ensures { result ≡ item_fits (pos item) d }
@@ -74,13 +74,11 @@ fn nth_of(y: u32, m: u32, item: u32, position: u32) -> Option<u32>
     }
     let first = day_in(y, m, 1)?;
     let end = first + length_in(y, m);
-    if position == 4 {
-        return last_fit(first, end, item);
+    match position {
+        0..=3 => nth_fit(first, end, item, position),
+        4 => last_fit(first, end, item),
+        _ => None,
     }
-    if position < 4 {
-        return nth_fit(first, end, item, position);
-    }
-    None
 }
 
 // How a rule names its candidate of a month: what the searches are generic over.

@@ -90,7 +90,7 @@ fn year_count(year: i32) -> u32
     requires { YearNumber year }
     ensures { pos result -ℤ pos 10000 ≡ year }
 {
-    (i64::from(year) + 10000) as u32
+    (year + 10000).cast_unsigned()
 }
 
 pub(crate) fn month_on(d: u32) -> Month

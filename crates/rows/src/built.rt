@@ -79,12 +79,10 @@ pub fn calendars(root: Root<'_>) -> CalendarsInOrder<'_>
 pub fn calendar_with<'a>(root: Root<'a>, uid: &[u8]) -> Option<(usize, Element<'a>)>
     ensures { calendar_meaning result ≡ with_uid_in (root_at root.entry) uid.now }
 {
-    let mut row: usize = 0;
-    for e in calendars(root) {
+    for (row, e) in calendars(root).enumerate() {
         if fields::text_is(e, b"UID", uid) {
             return Some((row, e));
         }
-        row += 1;
     }
     None
 }
