@@ -1,5 +1,5 @@
 -- The expenses of elements, one after another, with a table behind the tables of the section. Assumes nothing.
-use Rattle.std.proofs.Common.{◌≡◌, ℕ, ◌-◌, ◌^◌, ◌<◌, ◌≤◌, min, max, Bool, true, false, leb, List, [], ◌∷◌, map, length, take, sym, refl, ap, ◌∙◌, subst, arith, take_all, leb-false, leb-true}
+use Rattle.std.proofs.Common.{◌≡◌, ℕ, ◌-◌, ◌^◌, ◌<◌, ◌≤◌, min, Bool, true, false, leb, List, [], ◌∷◌, map, length, take, sym, refl, ap, ◌∙◌, subst, arith, take_all, leb-false, leb-true}
 use Rattle.std.specs.Prelude.{Option, Some, None}
 use Rattle.std.specs.Option.{option_map}
 use Rattle.pack.specs.Record.{expense_by}
@@ -15,7 +15,7 @@ use Rattle.laws.specs.Bits.{Bytes}
 use Rattle.bits.specs.Clear.{cleared}
 use Rattle.bits.specs.declared.Place.{Place}
 use Rattle.index.specs.declared.Table.{Table}
-use Rattle.index.specs.Chains.{table_of, zeros}
+use Rattle.index.specs.Chains.{table_of}
 use Rattle.index.specs.Law.{table_placed}
 use Rattle.index.specs.Below.{SameBelow, below_refl, below_then, below_zeros, below_take}
 use Rattle.tree.specs.Root.{root_at}
@@ -131,20 +131,6 @@ module _ (n : ℕ) (w : List ℕ) (rows : ℕ) {end : ℕ} (h : end ≡ min n (l
         by : (m : Option Table) → Behind n m → SameBelow n w (emptied w m)
         by None b = below_refl n w
         by (Some t) b = below_zeros t w (b.behind t refl)
-
-module _ (w : List ℕ) (end rows : ℕ) {m : Option Table} (e : m ≡ table_of (length w) end rows) where
-  pub empty_none : m ≡ None → (None ≡ table_of (length w) end rows) × (w ≡ emptied w None)
-  empty_none i = (sym i ∙ e, refl)
-
-  pub empty_table : {t : Table} → m ≡ Some t → {w' : List ℕ} → w' ≡ zeros w t.at t.rows → (Some t ≡ table_of (length w) end rows) × (w' ≡ emptied w (Some t))
-  empty_table i k = (sym i ∙ e, k)
-
--- where three tables end
-max_min : (x y l : ℕ) → max (min x l) (min y l) ≡ min (max x y) l
-max_min x y l = omega arith
-
-pub ends_are : (x y z l : ℕ) {a b c m r : ℕ} → a ≡ min x l → b ≡ min y l → c ≡ min z l → m ≡ max b c → r ≡ max a m → r ≡ min (max x (max y z)) l
-ends_are x y z l ea eb ec em er = er ∙ rw (em, ea, eb, ec) (ap (max (min x l)) (max_min y z l) ∙ max_min x (max y z) l)
 
 -- the words behind are cleared
 take_min : (n : ℕ) (w : List ℕ) → take (min n (length w)) w ≡ take n w

@@ -22,14 +22,15 @@ use model::records::Kind;
 use pack::{Expense, Records};
 use tree::Element;
 
-// What is written, and a table of it by activity and name, with the byte of each record; none once one does not fit there.
+// What is written, and a table of it by activity and name, with the byte of each record; none once one does not fit there. A table in
+// lent words and no map: there is no heap.
 #[derive(Clone, Copy)]
 struct Used {
     done: Done,
     made: Option<Table>,
 }
 
-// What tells expenses apart: the activity's row and the name.
+// What tells expenses apart: the activity's row and the name. No PartialEq: the other one is bits in the lent buffer.
 #[derive(Clone, Copy)]
 struct Key<'a> {
     activity: u32,
@@ -48,7 +49,7 @@ impl<'a> Key<'a> {
             && text::same(self.name, names::raw_text(out, row.next))
     }
 
-    // Whether one of so many from a place on has it, where they stand there.
+    // Whether one of so many from a place on has it, where they stand there. A walk as names' `taken`, with another test and another kind.
     fn is_there(self, out: &[u8], p: Place, count: usize) -> bool
         ensures { Tells out.now p count self.entry.activity self.entry.name.now result }
     {
@@ -63,13 +64,14 @@ impl<'a> Key<'a> {
         false
     }
 
+    // A hash of 32 bits for index's chains, which std's Hash would not give.
     fn hash(self) -> u32
         ensures { result ≡ key_of self.entry.activity self.entry.name.now }
     {
         index::hash_of(self.name).wrapping_add(self.activity)
     }
 
-    // Whether one in its chain has it.
+    // Whether one in its chain has it. By `while let`, as `rows::seek`, which says why.
     fn seek(self, out: &[u8], words: &[u32], t: Table) -> bool
         ensures { result ≡ is_used out.now words.now t self.entry.activity self.entry.name.now }
     {
@@ -126,7 +128,7 @@ fn table_behind(words: &mut [u32], end: usize, rows: u32) -> Option<Table>
     Some(t)
 }
 
-// How many Assignments there are, as 32 bits hold it.
+// How many Assignments there are, as 32 bits hold it. By hand: `count` gives a usize, and 32 bits are wanted.
 fn count_assignments(section: Element<'_>) -> u32
     ensures { result ≡ length (all (meaning section.entry) (bytes "Assignment")) % 2 ^ 32 }
 {
@@ -176,6 +178,7 @@ fn put_new(out: &mut [u8], start: Place, used: Used, words: &mut [u32], x: Expen
 fn put_all(out: &mut [u8], p: Place, tables: Tables<'_>, words: &mut [u32]) -> Done
     ensures { WroteBeside (ends_at tables.entry) (expenses_by (finders_at words.old tables.entry) (root_at tables.entry.root)) out.old p words.old out.new result words.new }
 {
+    // For proofs alone: says that a tree is bytes.
     rows::are_bytes(tables.root.tree);
     let section = tables.root.part(tables.root.assignments);
     let end = tables.end(words.len());

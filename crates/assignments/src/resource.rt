@@ -25,7 +25,7 @@ use pack::{Records, Resource, Starred};
 use rows::Listed;
 use tree::{Element, Root};
 
-// How many there are, as far as 32 bits go.
+// How many there are, as far as 32 bits go. By hand: `count` gives a usize, and 32 bits are wanted.
 fn count_work(root: Root<'_>) -> u32
     ensures { result ≡ min (length (work_resources (root_at root.entry))) 4294967295 }
 {
@@ -113,6 +113,7 @@ impl<'a> Section<'a> {
     fn put(self, out: &mut [u8], words: &mut [u32]) -> Done
         ensures { PutsResources self.entry out.old words.old out.new words.new result }
     {
+        // For proofs alone: says that a tree is bytes.
         rows::are_bytes(self.root.tree);
         let mut done = Done::none(self.start);
         for e in rows::elements(self.root, Listed::Work) {
@@ -135,6 +136,7 @@ fn put_all(
 {
     let count = count_work(root);
     if 5000000 < count || !names::calendars_before(out, c, root, p) {
+        // PAST and no Option: nothing fits behind it either, so `read` tests the end once.
         return Records {
             count: 0,
             next: PAST,

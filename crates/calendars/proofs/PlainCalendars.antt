@@ -65,7 +65,6 @@ module _ {d d1 : List ℕ} {p p1 : Place} where
   unfolding periods
   no_hours e x = put_same (ap hours_each (sym e)) (put_empty earlier period x)
 
-  pub day_hours_lem : {o : Option WorkingTime} {t : WorkingTime} {d2 d3 : List ℕ} {p2 p3 : Place} → o ≡ Some t → Puts count 1 d p d1 p1 → Puts (field 11) t.from d1 p1 d2 p2 → Puts (field 11) t.to d2 p2 d3 p3
-      → Puts periods (hours_each o) d p d3 p3
+  pub day_hours_lem : {o : Option WorkingTime} {t : WorkingTime} {d2 : List ℕ} {p2 : Place} → o ≡ Some t → Puts count 1 d p d1 p1 → Puts period (t.from, t.to) d1 p1 d2 p2 → Puts periods (hours_each o) d p d2 p2
   unfolding periods
-  day_hours_lem e x y z = put_same (ap hours_each (sym e)) (put_list 1 earlier period x (put_more 1 (put_no 1 period d1 p1) (put_period y z)))
+  day_hours_lem e x y = put_same (ap hours_each (sym e)) (put_list 1 earlier period x (put_more 1 (put_no 1 period d1 p1) y))

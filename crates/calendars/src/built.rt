@@ -25,7 +25,7 @@ use tree::{Element, Root};
 // ---- the section
 
 // The project, where its calendars begin in the buffer, the calendars by their UIDs and the names that are taken in lent words, and where the words behind
-// them begin.
+// them begin. Places in the words and no slices: they are lent anew to each record.
 #[derive(Clone, Copy)]
 pub(crate) struct Section<'a> {
     pub root: Root<'a>,
@@ -142,7 +142,7 @@ fn put_built(
     rows: u32,
 ) -> Records
     ensures built { PutsBuilt (root_at root.entry) out.old p out.new result }
-    ensures clears { cleared at words.new ≡ cleared at words.old }
+    ensures kept { cleared at words.new ≡ cleared at words.old }
 {
     let made = names::index_uids(root, words, at);
     let names = names::ids_for(out.len(), p, words, made.end, rows);
@@ -163,6 +163,7 @@ fn put_built(
 fn turn(out: &mut [u8], start: Place, row: usize)
     ensures { Turns row start out.old out.new }
 {
+    // No row is as high, since no calendars are put then; so row + 1 is one too.
     if 5_000_000 <= row {
         return;
     }
@@ -209,10 +210,12 @@ pub fn put_calendars(
     ensures written { WritesIf (nat_le (length (calendar_elements (root_at root.entry))) most_elements && p.bit % 8 == 0) (whole calendar) (calendars_of (context_of (root_at root.entry))) out.old p out.new result }
     ensures clears { words.new ≡ cleared at words.old }
 {
+    // For proofs alone: says that a tree is bytes.
     rows::are_bytes(root.tree);
     let n = names::count_calendars(root);
     if 5_000_000 < n || p.bit % 8 != 0 {
         bits::fill_from(words, at, 0);
+        // PAST and no Option: nothing fits behind it either, so `read` tests the end once.
         return Records {
             count: 0,
             next: PAST,

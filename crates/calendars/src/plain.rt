@@ -18,22 +18,21 @@ pub(crate) const EVERY_DAY: u32 = 0b1111111;
 
 pub(crate) const WHOLE_DAY: WorkingTime = WorkingTime { from: 0, to: 1440 };
 
-// The seven low bits of a number, Monday first.
+// The seven low bits of a number, Monday first. A name for the width and its contract, as pack's put_count.
 pub(crate) fn put_week(out: &mut [u8], p: Place, week: u32) -> Place
     ensures { Puts (times 7 flag) (flags_in week) out.old p out.new result }
 {
     bits::put(out, p, 7, u64::from(week))
 }
 
-// One period, or none.
+// One period, or none. A `match`, as in record.rt's put_base_hours.
 fn put_day_hours(out: &mut [u8], p: Place, hours: Option<WorkingTime>) -> Place
     ensures { Puts periods (hours_each hours) out.old p out.new result }
 {
     match hours {
         Some(t) => {
             let a = put_count(out, p, 1);
-            let b = bits::put(out, a, 11, u64::from(t.from));
-            bits::put(out, b, 11, u64::from(t.to))
+            model::parts::put_period(out, a, u64::from(t.from), u64::from(t.to))
         }
         None => put_count(out, p, 0),
     }

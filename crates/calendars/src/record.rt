@@ -84,7 +84,7 @@ fn put_base_hours(out: &mut [u8], p: Place, base: Option<CalendarPlaces>, day: u
 
 // ---- the whole
 
-// Where the base's lists of days stand; those of the default one, which are empty, nowhere.
+// Where the base's lists of days stand; nowhere, past every end, where there is none: `put_days` finds no list there, as where the base's do not fit.
 #[tactic(auto, unfolding(crate::specs::Base::days_place))]
 fn days_place(base: Option<CalendarPlaces>) -> Place
     ensures { result ≡ days_place base }
@@ -120,10 +120,10 @@ impl Entry<'_> {
         q
     }
 
-    // The words from `from` on are free.
+    // The words from `from` on are free; a place and no slice, as in built.rt.
     pub(crate) fn put(self, out: &mut [u8], p: Place, words: &mut [u32], from: usize) -> Place
         ensures written { PutsCalendar (meaning self.entry.calendar) self.entry.stars self.entry.base out.old p out.new result }
-        ensures clears { cleared from words.new ≡ cleared from words.old }
+        ensures kept { cleared from words.new ≡ cleared from words.old }
     {
         let e = self.calendar;
         let name = Starred {

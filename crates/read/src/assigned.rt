@@ -21,7 +21,7 @@ pub(crate) struct Assigned {
     pub expenses: Records,
 }
 
-// The tables of resources behind that of the kept tasks, each where it finds room.
+// The tables of resources behind that of the kept tasks, each where it finds room. Tasked is a premise here as in sections.rt.
 fn index_resources<'a>(root: Root<'a>, words: &mut [u32], tasks: Option<Table>) -> Tables<'a>
     requires { Tasked root words.old tasks }
     ensures finds { Finds (root_at root.entry) (finders_at words.new result) }

@@ -20,7 +20,7 @@ use links::TaskFinder;
 use pack::{Project, Skips};
 use tree::Root;
 
-// The title, else the name.
+// The title, else the name: as assignments' wanted_id, which says why each stands alone, over parts of the root.
 fn project_name(root: Root<'_>) -> &[u8]
     ensures { result.now ≡ ((text_in (root_at root.entry) "Title" or_else text_in (root_at root.entry) "Name") or []) }
 {
@@ -39,6 +39,7 @@ fn start_of(root: Root<'_>) -> Date
     fields::date_at(root.part(root.start)).unwrap_or(Date(0))
 }
 
+// Tasked, as in sections.rt: a TaskFinder is links', and may hold any words and table.
 fn skips_of(tasks: TaskFinder<'_>) -> Skips
     requires { Tasked tasks.root tasks.words.now tasks.table }
     ensures { Skipped (root_at tasks.entry.root) result }

@@ -31,6 +31,7 @@ fn put_sections(
     requires { Tasked root words.old tasks }
     ensures { SectionsPut (root_at root.entry) out.old p out.new result }
 {
+    // For proofs alone: says that a tree is bytes.
     rows::are_bytes(root.tree);
     let behind = index::end_of(tasks, words.len());
     let a = calendars::put_calendars(out, p, root, words, behind);
@@ -79,7 +80,7 @@ pub(crate) fn put_all(out: &mut [u8], root: Root<'_>, words: &mut [u32]) -> Sect
     put_sections(out, q, root, words, tasks)
 }
 
-// The six counts put in their places.
+// The six counts put in their places. Written over, where pack's put_counts appends; by an array, since each place comes of the one before.
 pub(crate) fn close_counts(out: &mut [u8], n: Counts)
     ensures { Closes n out.old out.new }
 {

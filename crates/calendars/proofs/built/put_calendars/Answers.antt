@@ -9,5 +9,5 @@ returns c =
     let a = c.args in
     record {
       written = calendars_if (root_at a.root) {p = a.p} c.count_calendars-n.ensures (small_root a.root c.are_bytes.ensures.bytes) (omega arith) (omega arith) c.put_built-done.ensures.built c.turn_main.ensures c.put_elapsed.ensures;
-      clears = c.fill_from-2.ensures ∙ c.put_built-done.ensures.clears;
+      clears = c.fill_from-2.ensures ∙ c.put_built-done.ensures.kept;
     }
