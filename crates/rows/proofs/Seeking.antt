@@ -1,5 +1,5 @@
 -- A walk over the chain of a UID: from where it stands on, the first row whose element has the UID is the one that is sought. Assumes nothing.
-use Rattle.std.proofs.Common.{◌≡◌, ℕ, Bool, true, false, List, sym, refl, ap, ◌∙◌, arith}
+use Rattle.std.proofs.Common.{◌≡◌, ℕ, Bool, true, false, List, sym, ap, ◌∙◌}
 use Rattle.std.specs.Prelude.{Option, Some, None}
 use Rattle.definition.specs.Base.{same}
 use Rattle.definition.specs.Text.{Text}

@@ -80,11 +80,7 @@ pub fn parent_row(root: Root<'_>, row: u32, level: u64) -> Option<u32>
     ensures { result ≡ parent_of (map level_of (take row (kept_tasks (root_at root.entry)))) level }
 {
     let mut found = None;
-    let mut kept = kept_tasks(root);
-    for n in 0..row {
-        let Some(task) = kept.next() else {
-            return found;
-        };
+    for (n, task) in (0..row).zip(kept_tasks(root)) {
         let lower = (tasks::level_of(task) < level).then_some(n);
         found = lower.or(found);
     }

@@ -91,11 +91,7 @@ fn count_listed(root: Root<'_>, list: Listed) -> u32
     requires { length root.tree.now < 2 ^ 32 }
     ensures { result ≡ length (listed list (root_at root.entry)) }
 {
-    let mut n: u32 = 0;
-    for _e in elements(root, list) {
-        n += 1;
-    }
-    n
+    elements(root, list).count() as u32
 }
 
 fn fill(root: Root<'_>, list: Listed, words: &mut [u32], t: Table)

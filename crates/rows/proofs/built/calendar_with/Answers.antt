@@ -1,28 +1,38 @@
-use Rattle.std.proofs.Common.{length, sym, ap, ◌∙◌, arith}
-use Rattle.rows.specs.Rows.{calendar_meaning}
+use Rattle.std.proofs.Common.{ℕ, ◌+◌, ◌<◌, ◌^◌, length, sym, ap, subst, ◌∙◌, arith, Some}
+use mathlib.Core.Logic.{inl}
+use Rattle.tree.specs.Place.{meaning}
+use Rattle.tree.specs.Root.{root_at}
+use Rattle.rows.specs.Rows.{calendar_meaning, has_uid, with_uid_in}
 use Rattle.rows.specs.Walks.{calendars_left}
-use Rattle.rows.specs.declared.built.CalendarsInOrder.{CalendarsInOrder}
 use Rattle.rows.specs.Turns.{step_less}
-use Rattle.rows.proofs.Lasts.{find_begin, find_end, find_here, find_on}
+use Rattle.rows.proofs.Lasts.{FirstIn, find_begin, find_end, find_here, find_on}
 use Rattle.rows.proofs.Walking.{order_few}
 use Rattle.rows.proofs.built.calendar_with.Goals as goal
 
-pub loop-e-init : goal.loop-e-init
-loop-e-init c =
-    let i = sym (ap (λ (k : CalendarsInOrder). calendars_left k) c.into_iter-e-iterator.ensures.into_iter_gives ∙ c.calendars-e-items.ensures.is) in
-    (find_begin _ i, omega (arith, ap length i, order_few c.args.root))
+pub loop-row-init : goal.loop-row-init
+loop-row-init c =
+    let i = sym (ap (λ k. calendars_left k.iter) c.into_iter-row-iterator.ensures.into_iter_gives ∙ ap calendars_left c.enumerate-row-items.ensures.source ∙ c.calendars.ensures.is) in
+    let z = ap (λ k. k.count) c.into_iter-row-iterator.ensures.into_iter_gives ∙ c.enumerate-row-items.ensures.count in
+    let few = order_few c.args.root in
+    let bound : c.into_iter-row-iterator.result.count + length (calendars_left c.into_iter-row-iterator.result.iter) < 2 ^ 64 = omega (arith, z, ap length i, few, c.well_formed) in
+    (subst (λ n. FirstIn (has_uid c.args.uid.now) (with_uid_in (root_at c.args.root) c.args.uid.now) n (calendars_left c.into_iter-row-iterator.result.iter)) (sym z) (find_begin _ i), omega (arith, z, ap length i, few), (tt, tt, inl bound), tt)
 
 pub returns : goal.returns
 unfolding calendar_meaning
-returns c = find_end c.loop-e.invariant.0 c.in-None.ensures.steps.0
+returns c = find_end c.loop-row.invariant.0 c.in-None.ensures.steps.0.0
 
 pub returns-then-text_is : goal.returns-then-text_is
 unfolding calendar_meaning
-returns-then-text_is c = find_here c.loop-e.invariant.0 c.in-Some.ensures.steps.0 (sym c.text_is.ensures ∙ c.if-text_is.true)
+returns-then-text_is c =
+    ap (λ (n : ℕ). Some (n, meaning c.in-Some.e)) c.in-Some.ensures.steps.1 ∙ find_here c.loop-row.invariant.0 c.in-Some.ensures.steps.0.0 (sym c.text_is.ensures ∙ c.if-text_is.true)
 
-pub overflow_add-row : goal.overflow_add-row
-overflow_add-row c = omega (arith, c.loop-e.invariant.1, step_less c.in-Some.ensures.steps.0, c.well_formed)
-
-pub loop-e-preserved : goal.loop-e-preserved
-loop-e-preserved c =
-    (find_on c.loop-e.invariant.0 c.in-Some.ensures.steps.0 (sym c.text_is.ensures ∙ c.if-text_is.false), omega (arith, c.loop-e.invariant.1, step_less c.in-Some.ensures.steps.0))
+pub loop-row-preserved : goal.loop-row-preserved
+loop-row-preserved c =
+    let less = step_less c.in-Some.ensures.steps.0.0 in
+    let z = c.in-Some.ensures.steps.2 in
+    let bound : c.next.new.self.count + length (calendars_left c.next.new.self.iter) < 2 ^ 64 = omega (arith, z, c.loop-row.invariant.1, less, c.well_formed) in (
+      subst (λ n. FirstIn (has_uid c.args.uid.now) (with_uid_in (root_at c.args.root) c.args.uid.now) n (calendars_left c.next.new.self.iter)) (sym z) (find_on c.loop-row.invariant.0 c.in-Some.ensures.steps.0.0 (sym c.text_is.ensures ∙ c.if-text_is.false)),
+      omega (arith, z, c.loop-row.invariant.1, less),
+      (tt, tt, inl bound),
+      tt,
+    )

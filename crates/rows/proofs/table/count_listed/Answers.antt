@@ -1,17 +1,23 @@
-use Rattle.std.proofs.Common.{length, ap, arith}
-use Rattle.rows.specs.Tables.{elements_left}
-use Rattle.rows.specs.declared.table.ListElements.{ListElements}
+use Rattle.std.proofs.Common.{◌≡◌, ◌+◌, ◌<◌, ◌^◌, length, ap, ◌∙◌, arith}
+use Rattle.std.proofs.lemmas.Iterator.Consumers.{count_from_yields_List}
+use mathlib.Core.Logic.{inl}
+use Rattle.tree.specs.Root.{root_at}
+use Rattle.rows.specs.Lists.{gives_list}
+use Rattle.rows.specs.Tables.{listed, elements_left, ElementsOf}
 use Rattle.rows.proofs.Listing.{listed_few}
+use Rattle.rows.proofs.table.count_listed.Goals.{After-count}
 use Rattle.rows.proofs.table.count_listed.Goals as goal
 
-pub loop-e-init : goal.loop-e-init
-loop-e-init c = omega (arith, ap (λ (k : ListElements). length (elements_left k)) c.into_iter-e-iterator.ensures.into_iter_gives, ap length c.elements-e-items.ensures.is)
+counted : (c : After-count) → c.count.result ≡ length (listed c.args.list (root_at c.args.root))
+counted c = count_from_yields_List _ _ c.count.ensures.ran (gives_list ElementsOf elements_left c.elements.result) ∙ ap length c.elements.ensures.is
+
+pub count-requires-clause-fits : goal.count-requires-clause-fits
+count-requires-clause-fits c =
+    let few : 0 + length (elements_left c.elements.result) < 2 ^ 64 = omega (arith, ap length c.elements.ensures.is, listed_few c.args.root c.args.list c.requires) in
+    inl few
+
+pub overflow_cast-result : goal.overflow_cast-result
+overflow_cast-result c = omega (arith, counted (goal.at.overflow_cast-result c).After-count, listed_few c.args.root c.args.list c.requires)
 
 pub returns : goal.returns
-returns c = omega (arith, c.loop-e.invariant, ap length c.in-None.ensures.steps.0)
-
-pub overflow_add-n : goal.overflow_add-n
-overflow_add-n c = omega (arith, c.loop-e.invariant, ap length c.in-Some.ensures.steps.0, listed_few c.args.root c.args.list c.requires)
-
-pub loop-e-preserved : goal.loop-e-preserved
-loop-e-preserved c = omega (arith, c.loop-e.invariant, ap length c.in-Some.ensures.steps.0)
+returns c = counted (goal.at.returns c).After-count
