@@ -97,10 +97,10 @@ impl<'a> Iterator for Exceptions<'a> {
 
 // ---- the days
 
-// The kind of a daily rule.
+// The kind of a daily rule: a number, as recurrence's Rule has it, since callers of that crate may pass any.
 pub(crate) const DAILY: u32 = 1;
 
-// Days in a row, as a rule. Not From<Range> for Rule: both types are recurrence's.
+// Days in a row, as a rule. Not From<Range> for Rule: both types are recurrence's, which has no use for it.
 fn daily(r: Range) -> Rule
     ensures { result ≡ daily_by r }
 {

@@ -32,6 +32,7 @@ fn put_lists(
 }
 
 // The same, over the lists that stand from `base` on and end before p, or over none where there are none. The words from `from` on are free.
+// Seven parameters: the caller's words go with a place in them, since tables before it count from their front.
 pub fn put_days(
     out: &mut [u8],
     p: Place,
