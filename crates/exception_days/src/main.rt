@@ -9,11 +9,9 @@ use definition::{Date, Refusal, Ymd};
 use recurrence::{Rule, Step};
 use std::io;
 use std::io::Cursor;
+use tree::Element;
 
 const MOST: usize = 65536;
-
-// No rule has more days.
-const DAYS: u32 = 5000;
 
 const WEEKDAYS: [&str; 7] = [
     "Monday",
@@ -85,10 +83,11 @@ fn put_tree(rt: &impl Print, s: &[u8]) -> io::Result<()> {
     if let Err(Refusal::Layout | Refusal::Utf8) = tree::judge(s) {
         return Ok(());
     }
-    if !tree::name_is(s, 0, b"Exception") {
+    let root = Element { tree: s, at: 0 };
+    if !root.name_is(b"Exception") {
         return Ok(());
     }
-    match recurrence::rule_of(s, 0) {
+    match recurrence::rule_of(root) {
         Some(r) => put_days(rt, r),
         None => println!(rt; "skipped"),
     }
