@@ -10,7 +10,7 @@ mod shifts; // some bits of a number
 mod signs; // signed fields
 mod texts; // bytes and texts
 mod writing; // fields written
-mod zeros; // what is written over up to the end
+mod zeros; // one value from an index on
 
 pub use copying::copy_bits;
 pub use places::inside;

@@ -13,9 +13,6 @@ use tree::Element;
 
 const MOST: usize = 65536;
 
-// No rule has more days.
-const DAYS: u32 = 5000;
-
 const WEEKDAYS: [&str; 7] = [
     "Monday",
     "Tuesday",

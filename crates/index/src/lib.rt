@@ -2,7 +2,8 @@
 // head for each of n buckets, then for each row the one before it in its chain, then for each row a place, where what it stands for is found. A head
 // names the last row of its bucket: 0 for none, else the row plus 1, as does the word of a row. Words past the end read as 0 and store nothing.
 // What the words mean is said in specs/. The words are lent, as there is no heap for a map, and a column of heads, of rows and of places stands in
-// them. Casts by `as`: 32 bits to an index and a length to 64, for which there is no From, and the low 32 bits of a hash.
+// them. Casts by `as`: 32 bits to an index and a length to 64, for which there is no From, and `try_from` would need a case for what never is; and the
+// low 32 bits of a hash.
 #![tactic(auto)]
 
 ghost use Rattle.std.specs.Prelude.{◌≡◌, ◌+◌, ◌-◌, ◌*◌, ◌%◌, ◌^◌, ◌≤◌, ◌<◌, min, ◌++◌, length, get_or, set, replicate};
@@ -10,7 +11,7 @@ ghost use Rattle.index.specs.Hash.{quad_at, mixed, hash_after, hash_of};
 ghost use Rattle.laws.specs.Stars.{starred_by};
 ghost use Rattle.index.specs.Chains.{zeros, added, first_of, next_of, place_of, table_of, row_below, end_in};
 
-// Where its words begin, and how many rows there may be. A span of marks and a section of a model are numbers of the same kinds and mean others.
+// Where its words begin, and how many rows there may be. A span of marks and a section of a model are numbers of the same kinds and mean other things.
 #[derive(Clone, Copy, Debug, PartialEq, Eq)]
 pub struct Table {
     pub at: usize,
@@ -27,7 +28,7 @@ fn quad(s: &[u8], i: usize) -> u32
     u32::from_le_bytes([s[i], s[i + 1], s[i + 2], s[i + 3]])
 }
 
-// A byte of a text with so many `*` behind it; past its end 0.
+// A byte of a text with so many `*` behind it; past its end 0 and no Option, as the hash takes zeros there.
 fn starred(s: &[u8], stars: u32, i: usize) -> u8
     ensures { result ≡ get_or (starred_by s.now stars) i 0 }
 {
@@ -96,6 +97,7 @@ pub fn hash_of(s: &[u8]) -> u32
     hash_starred(s, 0)
 }
 
+// A word from a place on; 0 past the end and no Option, as 0 is an empty head and slot.
 pub fn word(words: &[u32], from: usize, i: usize) -> u32
     ensures { result ≡ get_or words.now (from + i) 0 }
 {
@@ -105,6 +107,7 @@ pub fn word(words: &[u32], from: usize, i: usize) -> u32
     words.get(k).copied().unwrap_or(0)
 }
 
+// By index: what is written through a slice's `get_mut` is not known to a proof.
 pub fn set_word(words: &mut [u32], from: usize, i: usize, value: u32)
     ensures { words.new ≡ set words.old (from + i) value }
 {
@@ -203,7 +206,7 @@ impl Table {
     }
 }
 
-// Where a table ends, 0 where there is none; no more than the length of the words.
+// Where a table ends, no more than the length of the words; 0 where there is none, so that what comes next begins at the start.
 pub fn end_of(made: Option<Table>, len: usize) -> usize
     ensures { result ≡ min (end_in made) len }
 {

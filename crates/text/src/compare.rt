@@ -3,7 +3,7 @@ ghost use Rattle.std.specs.Prelude.{◌≡◌};
 ghost use Rattle.definition.specs.Base.{same as same_bytes};
 ghost use Rattle.definition.specs.Text.{is_yes};
 
-// The same bytes.
+// The same bytes: `==`, in the word of the definition, which its callers' contracts have.
 pub fn same(a: &[u8], b: &[u8]) -> bool
     ensures { result ≡ same_bytes a.now b.now }
 {

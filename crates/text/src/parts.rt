@@ -3,7 +3,7 @@ ghost use Rattle.std.specs.Prelude.{◌≡◌, eqb, get_or, MatchOption, None, S
 ghost use Rattle.definition.specs.Text.{before as before_of, after};
 ghost use Rattle.text.specs.Cut.{place_of};
 
-// The byte at i; 0 past the end, as `get_or` has it in the definition: no byte that callers ask for is 0.
+// The byte at i; 0 past the end and no Option, as `get_or` has it in the definition.
 pub fn byte_at(s: &[u8], i: usize) -> u8
     ensures { result ≡ get_or s.now i 0 }
 {

@@ -38,7 +38,8 @@ fn plain(a: u8) -> bool
     (33..=127).contains(&a)
 }
 
-// What follows the white space that a text begins with; what stands before that which it ends with. None where there is none.
+// What follows the white space that a text begins with; what stands before that which it ends with. None where there is none. Two functions, as a
+// pattern takes from one end.
 #[tactic(auto, using(crate::proofs::Strip::front_one, crate::proofs::Strip::front_two, crate::proofs::Strip::front_none, crate::proofs::Strip::front_plain))]
 fn behind(s: &[u8]) -> Option<&[u8]>
     ensures { MatchOption result (trim_front s.now ≡ s.now) (λ r. (trim_front r.now ≡ trim_front s.now) × (length r.now < length s.now)) }
