@@ -122,8 +122,8 @@ pub fn skip_days(s: &[u8], p: Place) -> Place
     skip_list::<WorkingDay>(s, p)
 }
 
-// So many lists of periods: a week's, or those of the days before one. records::skip_records is this loop over another step: with the step as a
-// closure, its kind would go into one, and a function that has a const parameter takes none.
+// So many lists of periods: a week's, or those of the days before one. records::skip_records is this loop over another step: the step as a closure would
+// stand in a function that has a const parameter, where a closure is not proved, which was tried.
 pub fn skip_hours(s: &[u8], p: Place, count: usize) -> Place
     ensures { Passes (times count periods) s.now p result }
 {
