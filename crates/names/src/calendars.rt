@@ -25,11 +25,7 @@ use tree::{Element, Root};
 pub fn count_calendars(root: Root<'_>) -> usize
     ensures { result ≡ length (calendar_elements (root_at root.entry)) }
 {
-    let mut n = 0;
-    for _e in root.part(root.calendars).children(b"Calendar") {
-        n += 1;
-    }
-    n
+    root.part(root.calendars).children(b"Calendar").count()
 }
 
 // Whether a place is not behind another. No derived order says this: a bit may be past 7, so that two places differ and are the same bit.

@@ -20,7 +20,7 @@ pub struct Ids {
 
 // ---- both tables
 
-// Tables of so many rows in the words from a place on, where there is room for both.
+// Tables of so many rows in the words from a place on, where there is room for both: by one test, where `index::table_at` for each would test twice.
 fn ids_at(len: usize, at: usize, rows: u32) -> Option<Ids>
     ensures { result ≡ ids_of len at rows }
 {

@@ -129,6 +129,7 @@ fn by_word(word: u32) -> Option<u32>
 }
 
 // The name that a calendar wants, and how many `*` its name has behind that; no number where there is no name to be put.
+// Two fields and no Option of pack's `Starred`: the text is known where the number is none, and `Starred::named` makes the one of the other.
 #[derive(Clone, Copy)]
 pub struct CalendarName<'a> {
     pub text: &'a [u8],

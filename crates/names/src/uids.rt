@@ -26,7 +26,7 @@ fn room_for(root: Root<'_>, len: usize, at: usize) -> Option<Table>
     if 5000000 < n {
         return None;
     }
-    // One row at least: a table of no rows would be none.
+    // One row at least: a table of no rows would be none. By `as`: 5,000,000 are the most here, so that `try_from` would have an error that cannot occur.
     let rows = (n as u32).max(1);
     if len <= rows as usize {
         return None;
@@ -39,7 +39,7 @@ fn note_places(root: Root<'_>, words: &mut [u32], t: Table) -> u32
     requires { Ripe root.tree.now (root_at root) t (length words.old) }
     ensures { (result ≡ how_many (root_at root.entry)) × Stand root.entry.tree.now (root_at root.entry) t 0 words.new × Stays t.at (names_end t) words.old words.new }
 {
-    // The row is counted by hand: it falls from the last one on.
+    // The row is counted by hand: it falls from the last one on, and where it ends gives the answer.
     let mut left = t.rows;
     for e in rows::calendars(root) {
         left -= 1;

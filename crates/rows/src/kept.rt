@@ -94,7 +94,7 @@ pub fn any_elapsed(root: Root<'_>) -> bool
     kept_tasks(root).any(|task| tasks::is_elapsed(task))
 }
 
-// How many kept tasks have a Duration that gives minutes and was not whole.
+// How many kept tasks have a Duration that gives minutes and was not whole. By `for`: `filter` takes a reference, and `count` gives a usize to be cast.
 pub fn count_fractional(root: Root<'_>) -> u32
     ensures { result ≡ length (keep is_fractional (kept_tasks (root_at root.entry))) }
 {

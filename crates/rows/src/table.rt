@@ -1,6 +1,6 @@
 // Tables of the elements that have a UID, in lent words: the hash of each UID, and where its element stands in the tree.
-// A row or a word is made a place by `as usize`, which has no From<u32>. The words and their table go side by side: the words are written between two
-// looks, so that a struct over both would be made anew for each.
+// A row or a word is made a place by `as usize`, which has no From<u32>. The words and their table go side by side, here and there with
+// the root: the words are written between two looks, so that a struct over both would be made anew for each.
 ghost use Rattle.std.specs.Prelude.{◌≡◌, ◌^◌, ◌<◌, length};
 ghost use Rattle.std.specs.Iterator.{item_count};
 ghost use Rattle.tree.specs.Root.{root_at};
