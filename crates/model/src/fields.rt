@@ -81,8 +81,8 @@ fn in_years(d: u64) -> Option<u64>
     (366..=7304849).contains(&d).then_some(d)
 }
 
-// The date of a day number of 32 bits, counted from the year -10000, if it lies in the years. By the halves of a u32: for a sum in i64, which was tried,
-// the proof did not close.
+// The date of a day number of 32 bits, counted from the year -10000, if it lies in the years. By the halves of a u32, as
+// the definition's `signed` has them: a sum in i64 would have a conversion that may fail in their place, and laws for numbers with a sign.
 fn date_of(v: u32) -> Option<u64>
     ensures { result ≡ from_days (signed 32 v) }
 {
