@@ -94,13 +94,11 @@ pub fn any_elapsed(root: Root<'_>) -> bool
     kept_tasks(root).any(|task| tasks::is_elapsed(task))
 }
 
-// How many kept tasks have a Duration that gives minutes and was not whole. By `for`: `filter` takes a reference, and `count` gives a usize to be cast.
+// How many kept tasks have a Duration that gives minutes and was not whole. By `as`: 100,000 are the most.
 pub fn count_fractional(root: Root<'_>) -> u32
     ensures { result ≡ length (keep is_fractional (kept_tasks (root_at root.entry))) }
 {
-    let mut count: u32 = 0;
-    for task in kept_tasks(root) {
-        count += u32::from(tasks::is_fractional(task));
-    }
-    count
+    kept_tasks(root)
+        .filter(|task| tasks::is_fractional(*task))
+        .count() as u32
 }

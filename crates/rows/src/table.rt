@@ -86,7 +86,7 @@ pub fn elements(root: Root<'_>, list: Listed) -> ListElements<'_>
 
 // ---- a table is made
 
-// How many there are, in a tree of fewer than 2 ^ 32 bytes.
+// How many there are, in a tree of fewer than 2 ^ 32 bytes: fewer than those, so that `as` loses nothing.
 fn count_listed(root: Root<'_>, list: Listed) -> u32
     requires { length root.tree.now < 2 ^ 32 }
     ensures { result ≡ length (listed list (root_at root.entry)) }

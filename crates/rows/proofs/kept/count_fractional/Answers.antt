@@ -1,33 +1,41 @@
-use Rattle.std.proofs.Common.{Bool, true, false, refl, ◌≡◌, ◌≤◌, List, length, sym, ap, ◌∙◌, arith}
-use mir.Val.{bool_byte}
+use Rattle.std.proofs.Common.{rules, tests, refl, ◌≡◌, ◌≤◌, ◌<◌, ◌+◌, ◌^◌, Bool, List, [], ◌∷◌, length, ap, ◌∙◌, arith}
+use mathlib.Core.Logic.{inl}
+use Rattle.std.specs.List.{filter}
+use Rattle.std.proofs.lemmas.Iterator.Consumers.{count_from_yields_List, YieldsList-from_filter}
 use Rattle.definition.specs.Base.{keep}
 use Rattle.definition.specs.Tree.{Element}
 use Rattle.definition.specs.Task.{is_fractional, kept_tasks}
-use Rattle.laws.specs.Keep.{one_if}
 use Rattle.laws.specs.FitTrees.{keep_most, tasks_most}
-use Rattle.rows.specs.Walks.{kept_left}
-use Rattle.rows.specs.declared.kept.KeptTasks.{KeptTasks}
-use Rattle.rows.specs.Turns.{many_begin, many_end, many_room, many_on}
+use Rattle.tree.specs.Root.{root_at}
+use Rattle.rows.specs.Lists.{gives_list}
+use Rattle.rows.specs.Walks.{kept_left, KeptOf}
+use Rattle.rows.proofs.kept.count_fractional.Goals.{After-count}
 use Rattle.rows.proofs.kept.count_fractional.Goals as goal
 
-few : (root : Element) {l : List Element} → kept_tasks root ≡ l → length (keep is_fractional l) ≤ 100000
-few root {l} e = omega (arith, keep_most is_fractional l, ap length e, tasks_most root)
+kept : {A : Type 0} (p : A → Bool) (l : List A) → filter p l ≡ keep p l
+unfolding keep
+kept p [] = refl
+kept p (x ∷ l) = rw (kept p l)
 
-counted : (b : Bool) → bool_byte b ≡ one_if b
-counted true = refl
-counted false = refl
+counted : (c : After-count) → c.count.result ≡ length (keep is_fractional (kept_tasks (root_at c.args.root)))
+counted c =
+    count_from_yields_List _ _ c.count.ensures.ran (YieldsList-from_filter _ is_fractional (gives_list KeptOf kept_left c.filter.result.iter) refl (λ x b q k. search (rules, tests)))
+    ∙ ap length (kept is_fractional _)
+    ∙ ap (λ (l : List Element). length (keep is_fractional l)) (ap kept_left c.filter.ensures.source ∙ c.kept_tasks.ensures.is)
 
-pub loop-task-init : goal.loop-task-init
-loop-task-init c = many_begin is_fractional _
+kept_fits : (root : Element) → length (kept_tasks root) ≤ 100000
+kept_fits root = tasks_most root
+
+few : (root : Element) → length (keep is_fractional (kept_tasks root)) ≤ 100000
+few root = omega (arith, keep_most is_fractional (kept_tasks root), tasks_most root)
+
+pub count-requires-clause-fits : goal.count-requires-clause-fits
+count-requires-clause-fits c =
+    let room : 0 + length (kept_left c.filter.result.iter) < 2 ^ 64 = omega (arith, ap length (ap kept_left c.filter.ensures.source ∙ c.kept_tasks.ensures.is), kept_fits (root_at c.args.root)) in
+    inl room
+
+pub overflow_cast-result : goal.overflow_cast-result
+overflow_cast-result c = omega (arith, counted (goal.at.overflow_cast-result c).After-count, few (root_at c.args.root))
 
 pub returns : goal.returns
-returns c =
-    many_end c.loop-task.invariant c.in-None.ensures.steps.0 ∙ ap (λ (l : List Element). length (keep is_fractional l)) (ap (λ (k : KeptTasks). kept_left k) c.into_iter-task-iterator.ensures.into_iter_gives ∙ c.kept_tasks-task-items.ensures.is)
-
-pub overflow_add-count : goal.overflow_add-count
-overflow_add-count c =
-    omega (arith, many_room c.loop-task.invariant c.in-Some.ensures.steps.0 (c.from-count.ensures ∙ counted _ ∙ ap one_if c.is_fractional.ensures), few _ (sym (ap (λ (k : KeptTasks). kept_left k) c.into_iter-task-iterator.ensures.into_iter_gives ∙ c.kept_tasks-task-items.ensures.is)))
-
-pub loop-task-preserved : goal.loop-task-preserved
-loop-task-preserved c =
-    many_on c.loop-task.invariant c.in-Some.ensures.steps.0 (c.from-count.ensures ∙ counted _ ∙ ap one_if c.is_fractional.ensures) refl
+returns c = counted (goal.at.returns c).After-count
