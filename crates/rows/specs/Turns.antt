@@ -1,5 +1,5 @@
 -- What a loop over a walk learns in each turn: the list that is left is the element and what the next answer stands for, and less is left. Assumes nothing.
-use Rattle.std.specs.Prelude.{if◌then◌else◌, ◌≡◌, ℕ, suc, ◌+◌, ◌<◌, ◌≤◌, Bool, true, false, not, ◌&&◌, List, [], ◌∷◌, length, ◌≢◌, refl}
+use Rattle.std.specs.Prelude.{if◌then◌else◌, ◌≡◌, ℕ, suc, ◌+◌, ◌<◌, Bool, true, false, not, ◌&&◌, List, [], ◌∷◌, length, ◌≢◌, refl}
 use Rattle.std.proofs.Common.{arith, ◌∙◌}
 use Rattle.std.proofs.Math.Path.{sym, ap}
 use Rattle.std.proofs.lemmas.Bool.{false≢true}
@@ -10,7 +10,6 @@ use Rattle.definition.specs.Ascii.{bytes}
 use Rattle.definition.specs.Text.{Text, trim}
 use Rattle.definition.specs.Tree.{Element, child, all_in, non_empty}
 use Rattle.definition.specs.Resource.{is_resource, is_cost, work_resources, cost_resources}
-use Rattle.laws.specs.Keep.{one_if, keep_more}
 use Rattle.tree.specs.Place.{meaning, later, list_of, Within, Past, Starts}
 use Rattle.tree.specs.Root.{own_text}
 use Rattle.tree.specs.declared.element.Element.{Element as Place}
@@ -109,29 +108,6 @@ module _ {A : Type 0} {p : A → Bool} {t : Bool} {l : List A} (h : AnyIn p t l)
     pub any_on : p x ≡ false → {k' : List A} → k ≡ k' → AnyIn p t k'
     unfolding some?
     any_on j z = record { is = h.is ∙ rw (i, j, z) }
-
--- ---- how many of a list pass: n before those that are left
-
-pub record ManyIn {A : Type 0} (p : A → Bool) (t n : ℕ) (l : List A) : Type 0 where
-  pub is : t ≡ n + length (keep p l)
-
-pub many_begin : {A : Type 0} (p : A → Bool) (l : List A) → ManyIn p (length (keep p l)) 0 l
-many_begin p l = record { is = omega arith }
-
-module _ {A : Type 0} {p : A → Bool} {t n : ℕ} {l : List A} (h : ManyIn p t n l) where
-  pub many_end : l ≡ [] → n ≡ t
-  unfolding keep
-  many_end i = omega (arith, h.is ∙ ap (λ l. n + length (keep p l)) i)
-
-  module _ {x : A} {k : List A} (i : l ≡ x ∷ k) {m : ℕ} (j : m ≡ one_if (p x)) where
-    many_next : t ≡ n + m + length (keep p k)
-    many_next = omega (arith, h.is ∙ ap (λ l. n + length (keep p l)) i, j, keep_more p x k)
-
-    pub many_room : n + m ≤ t
-    many_room = omega (arith, many_next)
-
-    pub many_on : {k' : List A} → k ≡ k' → ManyIn p t (n + m) k'
-    many_on z = record { is = many_next ∙ ap (λ l. n + m + length (keep p l)) z }
 
 -- ---- a text that may be missing
 
