@@ -38,19 +38,24 @@ def functions(c):
         L = open(f).read().split('\n')
         i = 0
         while i < len(L):
-            m = re.match(r'^(pub(\(crate\))? )?(extern "C" )?fn (\w+)(<[^>]*>)?\(', L[i])
+            m = re.match(r'^( *)(?:pub(?:\(crate\))? )?((?:unsafe )?extern "C" )?fn (\w+)(<.*?>)?\(', L[i])
             if not m:
                 i += 1
                 continue
             fn = Fn()
-            fn.crate, fn.file, fn.line, fn.name = c, os.path.relpath(f, ROOT + 'crates'), i + 1, m.group(4)
+            fn.crate, fn.file, fn.line, fn.name = c, os.path.relpath(f, ROOT + 'crates'), i + 1, m.group(3)
             fn.req, fn.ens, sig, j = [], [], '', i
             while True:
                 l = L[j].rstrip()
-                ms = re.match(r'^\s+(requires|ensures)(\s+\w+)? \{(.*)\}$', l)
+                ms = re.match(r'^\s+(requires|ensures)(\s+\w+)? \{(.*)\};?$', l)
                 if ms and j > i:
                     (fn.req if ms.group(1) == 'requires' else fn.ens).append(ms.group(3).strip())
-                elif l == '{':
+                    if l.endswith(';'):
+                        break
+                elif l.strip() in ('{', '{}'):
+                    break
+                elif j > i and l.strip().endswith('};') or l.endswith(';'):
+                    sig += ' ' + l.rstrip(';') if j == i else ''  # of a trait, with no body
                     break
                 elif l.endswith('{'):
                     sig += ' ' + l[:-1]
@@ -59,21 +64,24 @@ def functions(c):
                     sig += ' ' + l.strip()
                 j += 1
             sig = re.sub(r'^pub\(crate\) ', '', sig.strip())
-            k = sig.index('(', sig.index('>') if m.group(5) else 0)
+            k = sig.index('(', sig.index(m.group(4)) + len(m.group(4)) if m.group(4) else 0)
             d = 0
             for e in range(k, len(sig)):
                 d += (sig[e] == '(') - (sig[e] == ')')
                 if d == 0:
                     break
-            fn.params = [tuple(x.strip() for x in p.split(':', 1)) for p in split_top(sig[k + 1:e], ',')]
+            fn.params = [tuple(x.strip() for x in p.split(':', 1)) for p in split_top(sig[k + 1:e], ',') if ':' in p]  # without self
             fn.params = [(a.replace('mut ', ''), b.replace("&'a ", '&')) for a, b in fn.params]
             mr = re.search(r'->\s*(.+)$', sig[e + 1:])
             fn.ret = mr.group(1).strip() if mr else ''
             fn.bstart = j + 2
             b = j
-            while L[j] != '}':
-                j += 1
-            fn.body = L[b + 1:j]
+            if L[j].rstrip().endswith((';', '{}')):
+                fn.body = []
+            else:
+                while L[j] != m.group(1) + '}':
+                    j += 1
+                fn.body = [l[len(m.group(1)):] for l in L[b + 1:j]]
             yield fn
             i = j + 1
 
