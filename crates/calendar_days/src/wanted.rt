@@ -23,7 +23,8 @@ pub(crate) trait Wanted: Copy {
     fn are_such(e: Element<'_>) -> bool
         ensures { result ≡ such (meaning e.entry) };
 
-    // Whether one of them counts, by its weekday. A premise, here and in dates.rt, notes.rt, own.rt: a Date may hold any number, and definition's type has no ghost field.
+    // Whether one of them counts, by its weekday. A premise, here and in dates.rt, notes.rt, own.rt: a Date may hold any number, and definition's type
+    // has no ghost field.
     fn counts(self, d: Date) -> bool
         ensures { InYears (date_by d.0) → result ≡ test self (date_by d.0) };
 }
