@@ -64,6 +64,7 @@ print('\n## Functions that are gone or have another name (%d)\n' % len(d['functi
 for x in d['functions not found again']:
     key = re.sub(r' \(.*', '', x)
     print('- %s%s' % (x, ', public' if key in pub else ''))
+print('\nWhat states the promise of each public one now: docs/design/GONE.md. Of the others, each was inside its crate, or stands under another name in this list.')
 print('\n## Definitions and lemmas of specs/ that changed (%d)' % len(d['definitions']['changed']))
 for c, n, a, b in d['definitions']['changed']:
     print('\n%s %s' % (c, n))

@@ -1,6 +1,6 @@
 #!/usr/bin/env python3
 """What became of the places of docs/design/PLACES.md: a place counts as changed where the item that it names is gone, or reads otherwise than at the beginning of the pass
-(brought to today's spelling by tools/design_spell.py), signature and clauses included; else it stands. A place that stands is kept where docs/design/KEPT.md has a line for it,
+(brought to today's spelling by tools/design_spell.py), signature and clauses included; else it stands. A place is kept where docs/design/KEPT.md has a line for it, even where its spelling changed,
 `- POINT crate/file.rt name | a, b, c or d | reason`; the others are still to do. usage: docs/design/state.py OLD [NEW [--list]]"""
 import glob, os, re, sys
 from collections import OrderedDict
@@ -9,8 +9,8 @@ new = sys.argv[2] if len(sys.argv) > 2 else '.'
 full = '--list' in sys.argv
 
 
-def items(top):
-    """(crate, name) -> texts of the items of that name: a function, struct, enum, const."""
+def items(top, by_file):
+    """(crate, name), or (crate, file, name), -> texts of the items of that name: a function, struct, enum, const, with its derives."""
     found = {}
     for f in sorted(glob.glob(top + '/crates/*/src/**/*.rt', recursive=True)):
         crate = f[len(top):].split('/crates/')[1].split('/')[0]
@@ -27,11 +27,13 @@ def items(top):
                         if ls[j].startswith(ind + '}'):
                             break
             text = re.sub(r'\s+', ' ', re.sub(r'//[^\n]*', '', '\n'.join(ls[i:j + 1]))).replace('pub(crate) ', '').replace('pub ', '')
-            found.setdefault((crate, m.group(3)), []).append(text.strip())
+            text = (ls[i - 1].strip() + ' ' if i and ls[i - 1].strip().startswith('#[derive') else '') + text.strip()
+            key = (crate, f.split('/src/')[-1], m.group(3)) if by_file else (crate, m.group(3))
+            found.setdefault(key, []).append(text)
     return found
 
 
-a, b = items(old), items(new)
+a, b = items(old, True), items(new, False)
 here = os.path.dirname(os.path.abspath(__file__))
 rows = OrderedDict()
 part = None
@@ -53,10 +55,9 @@ for l in open(os.path.join(here, 'PLACES.md')):
     for m in re.finditer(r'(\w+)/src/(\S+?\.rt):\d+\s+(\w+)', l):
         key = (m.group(1), m.group(3))
         rows[part][0] += 1
-        if key in b and any(t in b[key] for t in a.get(key, [])):
-            if (part, '%s/%s' % (m.group(1), m.group(2)), m.group(3)) in kept:
-                rows[part][2] += 1
-                continue
+        if key in b and (part, '%s/%s' % (m.group(1), m.group(2)), m.group(3)) in kept:
+            rows[part][2] += 1
+        elif key in b and any(t in b[key] for t in a.get(m.groups(), [])):
             rows[part][3] += 1
             rows[part][4].append('%s/%s %s' % (m.group(1), m.group(2), m.group(3)))
         else:

@@ -23,7 +23,7 @@ fn or_derived<'a>(root: Root<'a>, plain: Option<Element<'a>>) -> Option<Element<
 }
 
 // The first calendar to be built.
-fn first_calendar(root: Root<'_>) -> Option<Element<'_>>
+pub fn first_calendar(root: Root<'_>) -> Option<Element<'_>>
     ensures is { in_order (root_at root.entry) ≡ order_by (root_at root.entry) result }
     ensures there { Past root.entry.tree.now 0 result }
 {
@@ -34,7 +34,7 @@ fn first_calendar(root: Root<'_>) -> Option<Element<'_>>
 }
 
 // The one to be built after another.
-fn next_calendar<'a>(root: Root<'a>, e: Element<'a>) -> Option<Element<'a>>
+pub fn next_calendar<'a>(root: Root<'a>, e: Element<'a>) -> Option<Element<'a>>
     ensures is { later_in_order (root_at root.entry) e.entry ≡ order_by (root_at root.entry) result }
     ensures there { e.entry.tree.now ≡ root.entry.tree.now → Past root.entry.tree.now 0 result }
 {

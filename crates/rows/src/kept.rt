@@ -31,7 +31,7 @@ fn kept_from(start: Option<Element<'_>>, most: u32) -> Option<(Element<'_>, u32)
 }
 
 // The first kept task.
-pub(crate) fn first_kept(root: Root<'_>) -> Option<(Element<'_>, u32)>
+pub fn first_kept(root: Root<'_>) -> Option<(Element<'_>, u32)>
     ensures is { kept_tasks (root_at root.entry) ≡ kept_by result }
     ensures there { Past root.entry.tree.now 0 (place_in result) }
 {
@@ -39,7 +39,7 @@ pub(crate) fn first_kept(root: Root<'_>) -> Option<(Element<'_>, u32)>
 }
 
 // The next one, of at most `left` tasks after another.
-pub(crate) fn next_kept(task: Element<'_>, left: u32) -> Option<(Element<'_>, u32)>
+pub fn next_kept(task: Element<'_>, left: u32) -> Option<(Element<'_>, u32)>
     ensures is { keep is_kept (take left (later (bytes "Task") task.entry)) ≡ kept_by result }
     ensures there { Past task.entry.tree.now 0 (place_in result) }
 {

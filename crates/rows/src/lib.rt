@@ -9,8 +9,12 @@ mod resource; // cost resources
 mod section; // elements of a section that pass a test
 mod table; // rows by their UIDs, from tables in lent words
 
-pub use built::{CalendarsInOrder, calendar_with, calendars, main_calendar};
+pub use built::{
+    CalendarsInOrder, calendar_with, calendars, first_calendar, main_calendar, next_calendar,
+};
 pub use bytes::are_bytes;
-pub use kept::{KeptTasks, any_elapsed, count_fractional, kept_tasks, parent_row};
+pub use kept::{
+    KeptTasks, any_elapsed, count_fractional, first_kept, kept_tasks, next_kept, parent_row,
+};
 pub use section::first_in;
 pub use table::{ListElements, Listed, cost_with, elements, index_rows, row_with, seek};

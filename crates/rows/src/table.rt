@@ -16,7 +16,7 @@ use tree::{Element, Root};
 
 // The kept tasks, the work resources, the cost resources.
 // An enum, where `section` has a trait: the contracts of the crates above name the list as a value.
-#[derive(Clone, Copy)]
+#[derive(Clone, Copy, Debug, PartialEq, Eq)]
 pub enum Listed {
     Tasks,
     Work,
