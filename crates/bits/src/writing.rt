@@ -43,6 +43,7 @@ pub fn overwrite(out: &mut [u8], p: Place, width: usize, v: u64) -> Place
 }
 
 // Writes the `width` low bits of v at a place, and says where the next field goes.
+// It is `overwrite` with the promise of a step: steps follow one another, and say nothing of what stands further on.
 pub fn put(out: &mut [u8], p: Place, width: usize, v: u64) -> Place
     requires { width ≤ 64 }
     ensures { Puts (field width) v out.old p out.new result }

@@ -43,6 +43,7 @@ fn has_date(s: &[u8], p: Place, day: Date) -> bool
 }
 
 // Where the periods of a day stand among the exceptions, if it is one.
+// has_date is this loop over dates alone: one over both would take the step as a closure, and promise of two formats.
 fn exception_place(s: &[u8], p: Place, day: Date) -> Option<Place>
     ensures { (d : DateOf) → from_days day.0 ≡ Some d → (l : List (DateOf × List PeriodOf)) → Stands exceptions s.now p l → ListedAt s.now result (hours_on l d) }
 {

@@ -21,6 +21,7 @@ pub struct Figures {
 #[derive(Clone, Copy, Debug, PartialEq, Eq)]
 pub struct Duration {
     pub minutes: u32,
+    // No Option of the minutes: they stand, rounded, where the sum was not whole too.
     pub whole: bool,
 }
 

@@ -23,6 +23,7 @@ const WEEKDAYS: [&str; 7] = [
     "Sunday",
 ];
 
+// number has one for its own texts, over 64 bits and private; this program does not stand on that crate.
 fn digit(n: u32) -> u8
     ensures { result ≡ digit_of n }
 {

@@ -1,6 +1,7 @@
 // Fields: how each is passed over, and what is read of it where the next field depends on it. The bytes and the place stay two parameters, here and in
 // the files above: a function gives the place alone, and a Reader that came back would need a promise that its bytes are the same ones. A code is the
 // number that the format has: what it means is for the crates that write it.
+// The same holds of the bytes and the place in model_check, outline and day_sheet.
 ghost use Rattle.std.specs.Prelude.{◌≡◌, ◌+◌, ◌≤◌, length, false};
 ghost use Rattle.definition.specs.Bits.{signed};
 ghost use Rattle.definition.specs.Date.{in_years, from_days};
@@ -75,6 +76,7 @@ pub(crate) fn skip_text<const CHECK: bool>(s: &[u8], p: Place) -> Place
 }
 
 // A date, if its year is in range.
+// The crate date has this for its numbers; this crate does not stand on it.
 fn in_years(d: u64) -> Option<u64>
     ensures { result ≡ in_years d }
 {
@@ -131,6 +133,7 @@ pub fn take_period_key(s: &[u8], p: Place) -> Field<u64>
 // ---- what may be missing
 
 // Behind a flag, passed over by a function where the flag is set.
+// By `take` and not `take_flag`: Flagged, on which those below build, speaks of the field of one bit.
 fn skip_flagged<F: Fn(&[u8], Place) -> Place>(s: &[u8], p: Place, skip: F) -> Place
     requires { F.IsAlwaysCallable skip }
     ensures { Flagged s.now p result (λ q. F.post skip s.entry q result) }

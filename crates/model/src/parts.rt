@@ -92,6 +92,7 @@ pub fn take_rows(s: &[u8], p: Place) -> Field<(u32, u32)>
 }
 
 // Whether a day lies in the years of dates.
+// fields.rt has the bounds counted from the year -10000, and the crate date, on which this one does not stand, has them for itself.
 fn is_date(n: i32) -> bool
     ensures { result ≡ given (from_days n) }
 {

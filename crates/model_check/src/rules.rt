@@ -1,4 +1,5 @@
 // The rules that each record keeps by itself: rows in range, a parent's row below its own, names of calendars.
+// NamesIn is a premise, for the reason that tables.rt gives for KeyTable.
 ghost use Rattle.std.specs.Prelude.{◌≡◌, List, ℕ, ltb};
 ghost use Rattle.std.specs.Prelude.{Option};
 ghost use Rattle.definition.specs.Base.{every?, numbered};
@@ -26,6 +27,7 @@ use model::{Section, Sections};
 // The names of the calendars: their table, if there is one, in the words that hold it.
 #[derive(Clone, Copy)]
 pub(crate) struct Names<'a> {
+    // No Option of a KeyIndex: the walk writes further words in between, so its clauses speak of the table and of the words one by one.
     pub(crate) table: Option<Table>,
     pub(crate) words: &'a [u32],
 }

@@ -1,5 +1,6 @@
 // Keys in tables of lent words: each row's key by its hash, and the byte at which its record stands. Casts by `as`: the low 32 bits of a row and of a
 // byte's place, by a remainder since `as` asks that the value fits, and a word to an index, for which there is no From.
+// KeyTable is a premise and no invariant of KeyIndex: a table is filled before it is known that the bytes decode, so there may be no keys to speak of.
 ghost use Rattle.std.specs.Prelude.{◌≡◌, List, map, ℕ, ◌<◌, ◌≤◌, ◌^◌, length, get_or, take};
 ghost use Rattle.definition.specs.Base.{given, find, some?};
 ghost use Rattle.definition.specs.Check.{distinct};

@@ -40,8 +40,8 @@ pub fn place_of_row(out: &[u8], p: Place, kind: Kind, row: usize) -> Place
     PAST
 }
 
-// The text at a place, whatever its bytes are; no text where there is none. By start and length, as `bits` says where it stands.
-// `text_at` of model_check has this body for texts that are there; that crate does not use this one, nor this one that.
+// The text at a place, whatever its bytes are; no text where there is none. By start and length, and not by model's `text_in`, whose condition would be
+// a goal here as the slice's is. `text_at` of model_check is this for texts that are there; neither crate uses the other.
 pub fn raw_text(out: &[u8], p: Place) -> &[u8]
     ensures { result.now ≡ ((read_at raw out.now p).0 or []) }
 {

@@ -43,7 +43,7 @@ fn field(work: &[u32], row: u32, word: u32) -> u32
         .unwrap_or(0)
 }
 
-// By index: what is written through a slice's `get_mut` is not known to the proof, which was tried.
+// By index: what is written through a slice's `get_mut` is not known to the proof.
 fn set_field(work: &mut [u32], row: u32, word: u32, value: u32)
     ensures { work.new ≡ set work.old (4 * row + word) value }
 {

@@ -18,6 +18,7 @@ fn word_of(parent: Option<u32>) -> u32
 
 // The word for the parent of the activity at a place, and the place of the next activity. The check goes the same way over an activity, and looks at its
 // calendar's name too.
+// A function for both would give three values: the parent, the place behind it, and that of the next activity.
 fn take_parent(s: &[u8], p: Place) -> Field<u32>
     ensures { ParentAt s.now p result }
 {

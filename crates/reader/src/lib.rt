@@ -26,6 +26,7 @@ impl<'a> Reader<'a> {
     }
 
     // The field of so many bits, and the reader behind it.
+    // take_u32 is this around another function of bits: one over both would take it as a closure, and be no shorter.
     pub fn take(self, width: usize) -> Field<u64, Reader<'a>>
         requires { width ≤ 64 }
         ensures { result ≡ took self.entry width }

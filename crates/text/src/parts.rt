@@ -18,6 +18,7 @@ pub fn place(s: &[u8], b: u8) -> usize
 }
 
 // What stands before the first byte b, the whole text where there is none.
+// Not by `split`: its first piece comes in an Option that is never None.
 pub fn before(s: &[u8], b: u8) -> &[u8]
     ensures { result.now ≡ before_of (eqb b) s.now }
 {
@@ -26,6 +27,7 @@ pub fn before(s: &[u8], b: u8) -> &[u8]
 }
 
 // What stands before the first byte b, and behind it.
+// By `place`, as what stands before and behind a byte is proved of the number that it gives.
 pub fn cut_at(s: &[u8], b: u8) -> Option<(&[u8], &[u8])>
     ensures { MatchOption result ((before_of (eqb b) s.now ≡ s.now) × (after (eqb b) s.now ≡ None)) (λ p. (before_of (eqb b) s.now ≡ p.0.now) × (after (eqb b) s.now ≡ Some p.1.now)) }
 {
