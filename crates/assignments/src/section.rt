@@ -84,7 +84,7 @@ impl Done {
         Done { count: 0, next }
     }
 
-    // One more, behind which `next` stands.
+    // One more, behind which `next` stands. The count wraps, since no `requires` bounds it.
     pub(crate) fn more(self, next: Place) -> Done
         ensures { (result.count ≡ (self.count + 1) % 2 ^ 64) × (result.next ≡ next) }
     {

@@ -98,6 +98,7 @@ impl Section<'_> {
         };
         let next = entry.put(out, p, words, self.from);
         names::note_stars(words, self.names, count, name, stars, p);
+        // The count wraps, here and in `put_elapsed`, since no `requires` bounds it.
         Records {
             count: count.wrapping_add(1),
             next,

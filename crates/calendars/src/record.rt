@@ -43,6 +43,7 @@ fn is_of(e: Element<'_>, day: u32) -> bool
 fn last_day(e: Element<'_>, day: u32) -> Option<Element<'_>>
     ensures { found_meaning result ≡ find_last (on_place day) (week_days (meaning e.entry)) }
 {
+    // The last by hand: `.filter(..).last()` was tried, and the search finds no way from `last` to find_last.
     let mut found = None;
     for d in e.child(b"WeekDays")?.children(b"WeekDay") {
         let named = is_of(d, day).then_some(d);

@@ -29,6 +29,7 @@ pub(crate) fn not_whole(a: Result<Duration, Unread>) -> bool
 pub(crate) fn unsigned_or(a: Option<i64>, below: u64, absent: u64) -> u64
     ensures { result ≡ unsigned_or below absent a }
 {
+    // A `match`, since it shows both defaults side by side; `map_or` would have one of them in a closure.
     match a {
         Some(n) => u64::try_from(n).unwrap_or(below),
         None => absent,

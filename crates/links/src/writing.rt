@@ -35,6 +35,7 @@ fn put_kept(
         lag: LagFields::from(tasks::link_lag(link, per_day)),
     };
     let next = record.put(out, done.next);
+    // The count wraps, since no `requires` bounds it.
     Records {
         count: done.count.wrapping_add(1),
         next,

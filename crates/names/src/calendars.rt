@@ -111,6 +111,7 @@ pub(crate) fn stars_of(out: &[u8], c: Place, root: Root<'_>, row: usize, e: Elem
 fn is_main(out: &[u8], c: Place, root: Root<'_>, text: &[u8], stars: u32) -> bool
     ensures { result ≡ same (starred_by text.now stars) (context_at out.now c (root_at root.entry)).main.name }
 {
+    // A `match`: of a closure over an element the proof learns nothing, as in `main_row`.
     match rows::main_calendar(root) {
         Some((row, e)) => {
             let m = stars_of(out, c, root, row, e);
@@ -133,7 +134,8 @@ pub(crate) fn unless_main(
     (!is_main(out, c, root, text, stars)).then_some(stars)
 }
 
-// The elapsed calendar's name, unless it is the main one's.
+// The elapsed calendar's name, unless it is the main one's. Its letters stand here, in named.rt, in activities and in calendars: clauses have the
+// definition's elapsed_name, and a const would be one more name to unfold in each.
 pub(crate) fn elapsed_named(out: &[u8], c: Place, root: Root<'_>) -> Option<u32>
     ensures { name_meaning elapsed_name result ≡ unless_main (context_at out.now c (root_at root.entry)) elapsed_name }
 {

@@ -119,6 +119,7 @@ impl Ids {
 pub fn ids_for(len: usize, p: Place, words: &mut [u32], at: usize, rows: u32) -> Option<Ids>
     ensures { (result ≡ ids_for len p (length words.old) at rows) × (words.new ≡ begun words.old result) }
 {
+    // By its bound, as in `rows`.
     if p.bit != 0 || 4294967295 < len {
         return None;
     }
@@ -131,6 +132,7 @@ pub fn ids_for(len: usize, p: Place, words: &mut [u32], at: usize, rows: u32) ->
 pub fn end_of_ids(ids: Option<Ids>, at: usize, len: usize) -> usize
     ensures { result ≡ end_ids ids at len }
 {
+    // A `match`: `map_or` with a closure over this one call would be as long.
     match ids {
         Some(t) => index::end_of(Some(t.wanted), len),
         None => at,
@@ -139,8 +141,8 @@ pub fn end_of_ids(ids: Option<Ids>, at: usize, len: usize) -> usize
 
 // How many `*` an id needs that is wanted for the row at p: by the tables, or by a look at all records where these have no words for so many. The section
 // begins at `start`. Once the room is spent nothing is tried.
-// The kind is a value: model's `skip_record` takes it so. Kind, start and tables go side by side: a struct of them would be filled for each call, and
-// `note_stars` needs the tables alone.
+// The kind is a value: model's `skip_record` takes it so. Kind, start and tables go side by side, here and in `place_in`: the sections above have start
+// and tables among their own fields, and a struct of the three would be one more in each.
 pub fn stars_for(
     out: &[u8],
     kind: Kind,

@@ -46,7 +46,7 @@ fn either(test: bool, p: Place, q: Place) -> Place
 }
 
 // The word of a row, counted from the first calendar. The main one's record stands at c, those of the others from q on; answers where the next stands.
-// The parameters go side by side: the words are written at each row, and a struct of the others would be made for this call alone.
+// The parameters go side by side, here and in `note_names`: the words are written at each row, and a struct of the others would serve these two alone.
 fn note_name(
     out: &[u8],
     c: Place,
@@ -119,7 +119,7 @@ pub fn index_calendars(
     made
 }
 
-// ---- names by it
+// ---- names by it. The buffer, the root, the words and their table go side by side, as in `stars_of` and in `rows`, which say why.
 
 // What a word says of a name.
 fn by_word(word: u32) -> Option<u32>

@@ -1,4 +1,5 @@
 // Texts with `*` behind them.
+// A number of stars is made a length by `as usize`, which has no From<u32>.
 ghost use Rattle.std.specs.Prelude.{◌≡◌, get_or};
 ghost use Rattle.definition.specs.Base.{same};
 ghost use Rattle.pack.specs.Value.{starred_by};

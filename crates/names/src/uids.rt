@@ -19,6 +19,7 @@ use tree::{Element, Root};
 fn room_for(root: Root<'_>, len: usize, at: usize) -> Option<Table>
     ensures { result ≡ made_in root.entry.tree.now (root_at root.entry) len at }
 {
+    // By its bound, as in `rows`.
     if 4294967295 < root.tree.len() {
         return None;
     }
@@ -123,6 +124,7 @@ pub fn calendar_by<'a>(
 ) -> Option<(usize, Element<'a>)>
     ensures { calendar_meaning result ≡ calendar_by root.entry.tree.now (root_at root.entry) words.now table uid.now }
 {
+    // One way needs the words, the other the tree alone: as in `row_with` of rows.
     match table {
         Some(t) => in_order(root, words, t, rows::seek(root.tree, words, t, uid)),
         None => rows::calendar_with(root, uid),

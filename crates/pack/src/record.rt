@@ -42,6 +42,7 @@ impl From<ActivityKind> for u32 {
     }
 }
 
+// The kind is a number, as is the duration type of Progress: see the records below.
 // What an activity is: its kind, its duration in days, with the minutes where they are not whole days, and its parent's row.
 #[derive(Clone, Copy, Debug, PartialEq, Eq)]
 pub struct Plan {
@@ -247,7 +248,7 @@ impl Activity<'_> {
 
 // ---- counts
 
-// Six fields of a struct by their names: an array to loop over would hold the same again.
+// Field by field, as the records above: an array of the six and a loop over it would be longer.
 pub fn put_counts(out: &mut [u8], p: Place, n: Counts) -> Place
     ensures { Puts counts (counts_by n) out.old p out.new result }
 {

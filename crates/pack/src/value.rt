@@ -31,7 +31,7 @@ pub(crate) fn put_number(out: &mut [u8], p: Place, v: i64) -> Place
     bits::put_i64(out, p, v)
 }
 
-// The number of a day in the years; day 0 of the year -10000 for any other.
+// The number of a day in the years; day 0 of the year -10000 for any other: a Date may hold any number, and a writer cannot fail.
 fn day_number(d: Date) -> i32
     ensures { result ≡ day_number (date_by d.0) }
 {
@@ -163,7 +163,7 @@ impl Put for Constraint {
 }
 
 // A lag as the format has it: the days and the minutes, and the code of its kind, 0 working time, 1 elapsed time, 2 a share of the predecessor's
-// duration, with that share. Any four values may be put.
+// duration, with that share. The code is a number, as record.rt says: any four values may be put.
 #[derive(Clone, Copy, Debug, PartialEq, Eq)]
 pub struct LagFields {
     pub days: i64,

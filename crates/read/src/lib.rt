@@ -36,6 +36,7 @@ fn put_model(tree: &[u8], model: &mut [u8], work: &mut [u32]) -> Result<usize, R
 fn answer(tree: &[u8], model: &mut [u8], work: &mut [u32]) -> Result<usize, Refusal>
     ensures { Leaves (length model.old) (read_answer tree.now (length model.old)) result model.new }
 {
+    // A `match`: `?` would answer before the zeros are written.
     match tree::judge(tree) {
         Ok(()) => put_model(tree, model, work),
         Err(refusal) => {

@@ -15,6 +15,7 @@ use tree::Element;
 fn pick(a: Option<i64>, most: u32, below: u32, absent: u32) -> u32
     ensures { result ≡ pick_of most below absent a }
 {
+    // A `match`, since it shows both defaults side by side; `map_or` would have one of them in a closure.
     match a {
         Some(n) => u32::try_from(n.min(i64::from(most))).unwrap_or(below),
         None => absent,

@@ -73,6 +73,7 @@ pub fn resource_kind(e: Element<'_>) -> ResourceKind
 
 // A test and then hundredths, here and in price_from, money_from and tasks::percent_from: each has its own bounds, and no range of the library is
 // open below.
+// Closed bounds, and yet by `<=` and no range: as in tasks' `day_from`, which says why.
 fn units_from(u: f64) -> Option<i64>
     ensures { result ≡ units_from u }
 {

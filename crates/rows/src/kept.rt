@@ -79,6 +79,7 @@ pub fn kept_tasks(root: Root<'_>) -> KeptTasks<'_>
 pub fn parent_row(root: Root<'_>, row: u32, level: u64) -> Option<u32>
     ensures { result ≡ parent_of (map level_of (take row (kept_tasks (root_at root.entry)))) level }
 {
+    // The last by hand, as `cost_resource` says: the definition's parent is a find_last too.
     let mut found = None;
     for (n, task) in (0..row).zip(kept_tasks(root)) {
         let lower = (tasks::level_of(task) < level).then_some(n);

@@ -12,6 +12,7 @@ use tree::{Element, Root};
 pub(crate) fn cost_resource<'a>(root: Root<'a>, uid: &[u8]) -> Option<Element<'a>>
     ensures { found_meaning result ≡ find_last (has_uid uid.now) (cost_resources (root_at root.entry)) }
 {
+    // The last by hand, here and in `scan`: `.filter(..).last()` was tried in calendars, and the search finds no way from `last` to find_last.
     let mut found = None;
     for e in elements(root, Listed::Cost) {
         let named = fields::text_is(e, b"UID", uid).then_some(e);

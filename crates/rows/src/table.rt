@@ -113,6 +113,7 @@ fn fill(root: Root<'_>, list: Listed, words: &mut [u32], t: Table)
 pub fn index_rows(root: Root<'_>, list: Listed, words: &mut [u32], at: usize) -> Option<Table>
     ensures { Makes root.entry.tree.now (root_at root.entry) list at words.old words.new result }
 {
+    // By its bound, as in `names`: `u32::try_from` would make a number that is thrown away.
     if 4294967295 < root.tree.len() {
         return None;
     }
@@ -125,8 +126,8 @@ pub fn index_rows(root: Root<'_>, list: Listed, words: &mut [u32], at: usize) ->
 
 // ---- the last with a UID
 
-// The first row of a chain whose element has the UID. By `while let`, as in `names`: a chain is walked in three places, each a few lines, and an
-// iterator would need a law of its own.
+// The first row of a chain whose element has the UID. By `while let`, as in `names` and `assignments`: a chain is walked in four places, each a few
+// lines, and an iterator would need a law of its own.
 pub fn seek(tree: &[u8], words: &[u32], t: Table, uid: &[u8]) -> Option<u32>
     ensures { result ≡ sought_in tree.now words.now t uid.now }
 {
