@@ -61,6 +61,7 @@ fn put_sections(
 pub(crate) fn put_all(out: &mut [u8], root: Root<'_>, words: &mut [u32]) -> Sections
     ensures { AllPut (root_at root.entry) out.old out.new result }
 {
+    // Six zeros by name, as the clause of each field asks; a default would be derived for this one use.
     let open = Counts {
         calendars: 0,
         activities: 0,
