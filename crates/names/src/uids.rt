@@ -2,7 +2,7 @@
 // that the first one with a UID is found: its UID by its hash, and where its element stands in the tree. Behind the table there is a word for each row, and
 // one more, for what is to be noted of them. A row or a word is made a place by `as usize`, which has no From<u32>. The words and their table go side by
 // side, as in `rows`.
-ghost use Rattle.std.specs.Prelude.{◌≡◌, suc, ◌-◌, ◌≤◌, max, length};
+ghost use Rattle.std.specs.Prelude.{◌≡◌, suc, ◌-◌, ◌≤◌, max, length, IfSome};
 ghost use Rattle.definition.specs.Base.{◌>>=◌ as bind};
 ghost use Rattle.index.specs.Law.{Fits};
 ghost use Rattle.rows.specs.Rows.{calendar_meaning};
@@ -109,7 +109,8 @@ fn in_order<'a>(
     t: Table,
     row: Option<u32>,
 ) -> Option<(usize, Element<'a>)>
-    ensures { calendar_meaning result ≡ bind row (row_found root.entry.tree.now words.now t) }
+    ensures is { calendar_meaning result ≡ bind row (row_found root.entry.tree.now words.now t) }
+    ensures there { IfSome result (λ x. x.1.tree.now ≡ root.entry.tree.now) }
 {
     let r = row?;
     Some((order_row(t.rows, r), root.part(t.place(words, r) as usize)))
@@ -122,7 +123,8 @@ pub fn calendar_by<'a>(
     table: Option<Table>,
     uid: &[u8],
 ) -> Option<(usize, Element<'a>)>
-    ensures { calendar_meaning result ≡ calendar_by root.entry.tree.now (root_at root.entry) words.now table uid.now }
+    ensures is { calendar_meaning result ≡ calendar_by root.entry.tree.now (root_at root.entry) words.now table uid.now }
+    ensures there { IfSome result (λ x. x.1.tree.now ≡ root.entry.tree.now) }
 {
     // One way needs the words, the other the tree alone: as in `row_with` of rows.
     match table {

@@ -1,7 +1,7 @@
 -- The last of a list that passes a test, and its row, found from the front on. Assumes nothing.
 use Rattle.std.proofs.Common.{◌≡◌, ℕ, suc, ◌+◌, ◌-◌, ◌%◌, Bool, true, false, ltb, List, [], ◌∷◌, map, take, sym, refl, ap, ◌∙◌, arith}
 use native.Mathlib.Nat.{zero-mod, mod-add-mod}
-use Rattle.std.specs.Prelude.{Option, Some, None}
+use Rattle.std.specs.Prelude.{Option, Some, None, IfSome}
 use Rattle.definition.specs.Base.{◌>>=◌, ◌or_else◌, when, first, keep, find, find_last, numbered}
 use Rattle.definition.specs.Text.{Text}
 use Rattle.definition.specs.Tree.{Element}
@@ -125,6 +125,11 @@ module _ {p : Element → Bool} {t : Option Element} {l : List Element} {found :
   pub last_end : l ≡ [] → found_meaning found ≡ t
   unfolding find_last
   last_end i = sym (h.is ∙ rw i)
+
+-- what is found is of the same tree
+pub found_there : (s : Text) (t : Bool) (x : Place) → x.tree.now ≡ s → (found : Option Place) → IfSome found (λ e. e.tree.now ≡ s) → {here : Option Place} → here ≡ when t x → {found' : Option Place} → found' ≡ (here or_else found) → IfSome found' (λ e. e.tree.now ≡ s)
+found_there s true x e found h w j = rw (j, w) e
+found_there s false x e found h w j = rw (j, w) h
 
 -- ---- the first that passes, with its row
 

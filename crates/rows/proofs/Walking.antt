@@ -1,6 +1,6 @@
 -- The walks: each turn of the search for the next element that counts. Assumes nothing.
 use Rattle.std.proofs.Common.{◌≡◌, ℕ, zero, suc, ◌+◌, ◌-◌, ◌<◌, ◌≤◌, Bool, true, false, not, List, [], ◌∷◌, length, take, length-append, sym, refl, ap, ◌∙◌, arith}
-use Rattle.std.specs.Prelude.{Option, Some, None, is_some}
+use Rattle.std.specs.Prelude.{Option, Some, None, is_some, IfSome}
 use Rattle.std.proofs.lemmas.Bool.{false≢true}
 use lib.Seq.{take-nil}
 use borrow.Author.Tests.{not-true}
@@ -201,6 +201,11 @@ pub first_row : (root : Element) (c : Option Place) → in_order root ≡ order_
 unfolding calendar_meaning order_by numbered first
 first_row root None h = rw h
 first_row root (Some x) h = rw h
+
+pub row_there : (s : Text) (c : Option Place) → Past s 0 c → IfSome (row_zero c) (λ x. x.1.tree.now ≡ s)
+unfolding Past
+row_there s None h = tt
+row_there s (Some x) h = h.tree
 
 pub named_first : (c : Option (ℕ × Place)) (o : Option (ℕ × Element)) → is_some c ≡ true → calendar_meaning c ≡ (calendar_meaning c or_else o)
 unfolding calendar_meaning

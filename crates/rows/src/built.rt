@@ -1,5 +1,5 @@
 // The calendars in the order in which they are built: those without a base, then the others.
-ghost use Rattle.std.specs.Prelude.{◌≡◌};
+ghost use Rattle.std.specs.Prelude.{◌≡◌, IfSome};
 ghost use Rattle.std.specs.Iterator.{item_count};
 ghost use Rattle.definition.specs.Base.{◌>>=◌ as bind, first as first_of, numbered};
 ghost use Rattle.definition.specs.Field.{text_in};
@@ -77,7 +77,8 @@ pub fn calendars(root: Root<'_>) -> CalendarsInOrder<'_>
 
 // The first calendar with a UID, in the order in which calendars are built, and its row.
 pub fn calendar_with<'a>(root: Root<'a>, uid: &[u8]) -> Option<(usize, Element<'a>)>
-    ensures { calendar_meaning result ≡ with_uid_in (root_at root.entry) uid.now }
+    ensures is { calendar_meaning result ≡ with_uid_in (root_at root.entry) uid.now }
+    ensures there { IfSome result (λ x. x.1.tree.now ≡ root.entry.tree.now) }
 {
     for (row, e) in calendars(root).enumerate() {
         if fields::text_is(e, b"UID", uid) {
@@ -89,7 +90,8 @@ pub fn calendar_with<'a>(root: Root<'a>, uid: &[u8]) -> Option<(usize, Element<'
 
 // The calendar of CalendarUID.
 fn named_calendar(root: Root<'_>) -> Option<(usize, Element<'_>)>
-    ensures { calendar_meaning result ≡ bind (text_in (root_at root.entry) "CalendarUID") (with_uid_in (root_at root.entry)) }
+    ensures is { calendar_meaning result ≡ bind (text_in (root_at root.entry) "CalendarUID") (with_uid_in (root_at root.entry)) }
+    ensures there { IfSome result (λ x. x.1.tree.now ≡ root.entry.tree.now) }
 {
     let uid = root.part(root.calendar).own_text();
     if uid.is_empty() {
@@ -100,14 +102,16 @@ fn named_calendar(root: Root<'_>) -> Option<(usize, Element<'_>)>
 
 // The first to be built, with its row.
 fn first_row(root: Root<'_>) -> Option<(usize, Element<'_>)>
-    ensures { calendar_meaning result ≡ first_of (numbered 0 (in_order (root_at root.entry))) }
+    ensures is { calendar_meaning result ≡ first_of (numbered 0 (in_order (root_at root.entry))) }
+    ensures there { IfSome result (λ x. x.1.tree.now ≡ root.entry.tree.now) }
 {
     first_calendar(root).map(|e| (0, e))
 }
 
 // The main calendar: that of CalendarUID, else the first.
 pub fn main_calendar(root: Root<'_>) -> Option<(usize, Element<'_>)>
-    ensures { calendar_meaning result ≡ main_in (root_at root.entry) }
+    ensures is { calendar_meaning result ≡ main_in (root_at root.entry) }
+    ensures there { IfSome result (λ x. x.1.tree.now ≡ root.entry.tree.now) }
 {
     // no `or_else`, as above
     let named = named_calendar(root);

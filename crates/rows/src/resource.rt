@@ -1,5 +1,5 @@
 // Cost resources by their UID.
-ghost use Rattle.std.specs.Prelude.{◌≡◌};
+ghost use Rattle.std.specs.Prelude.{◌≡◌, IfSome};
 ghost use Rattle.definition.specs.Base.{find_last};
 ghost use Rattle.definition.specs.Resource.{cost_resources};
 ghost use Rattle.tree.specs.Root.{root_at};
@@ -10,7 +10,8 @@ use tree::{Element, Root};
 
 // The last cost resource with a UID. `scan` of `table` asks for the row: a walk for both would give its callers a pair, of which each needs one half.
 pub(crate) fn cost_resource<'a>(root: Root<'a>, uid: &[u8]) -> Option<Element<'a>>
-    ensures { found_meaning result ≡ find_last (has_uid uid.now) (cost_resources (root_at root.entry)) }
+    ensures is { found_meaning result ≡ find_last (has_uid uid.now) (cost_resources (root_at root.entry)) }
+    ensures there { IfSome result (λ e. e.tree.now ≡ root.entry.tree.now) }
 {
     // The last by hand, here and in `scan`: `.filter(..).last()` was tried in calendars, and the search finds no way from `last` to find_last.
     let mut found = None;

@@ -1,7 +1,7 @@
 // Tables of the elements that have a UID, in lent words: the hash of each UID, and where its element stands in the tree.
 // A row or a word is made a place by `as usize`, which has no From<u32>. The words and their table go side by side, here and there with
 // the root: the words are written between two looks, so that a struct over both would be made anew for each.
-ghost use Rattle.std.specs.Prelude.{◌≡◌, ◌^◌, ◌<◌, length};
+ghost use Rattle.std.specs.Prelude.{◌≡◌, ◌^◌, ◌<◌, length, IfSome};
 ghost use Rattle.std.specs.Iterator.{item_count};
 ghost use Rattle.tree.specs.Root.{root_at};
 ghost use Rattle.rows.specs.Rows.{found_meaning};
@@ -175,7 +175,8 @@ pub fn row_with(
 
 // The element of a row.
 fn element_of<'a>(root: Root<'a>, words: &[u32], t: Table, row: Option<u32>) -> Option<Element<'a>>
-    ensures { found_meaning result ≡ found_in root.entry.tree.now words.now t row }
+    ensures is { found_meaning result ≡ found_in root.entry.tree.now words.now t row }
+    ensures there { IfSome result (λ e. e.tree.now ≡ root.entry.tree.now) }
 {
     Some(root.part(t.place(words, row?) as usize))
 }
@@ -187,7 +188,8 @@ pub fn cost_with<'a>(
     made: Option<Table>,
     uid: &[u8],
 ) -> Option<Element<'a>>
-    ensures { found_meaning result ≡ cost_in root.entry.tree.now (root_at root.entry) words.now made uid.now }
+    ensures is { found_meaning result ≡ cost_in root.entry.tree.now (root_at root.entry) words.now made uid.now }
+    ensures there { IfSome result (λ e. e.tree.now ≡ root.entry.tree.now) }
 {
     // as in `row_with`
     match made {

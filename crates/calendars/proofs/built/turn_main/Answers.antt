@@ -8,4 +8,4 @@ returns-in-Some c = rw (← c.in-Some.ensures) c.turn.ensures
 
 pub returns-in_default : goal.returns-in_default
 unfolding TurnsBy calendar_meaning
-returns-in_default c = rw (← c.main_calendar.ensures, c.in_default.is)
+returns-in_default c = rw (← c.main_calendar.ensures.is, c.in_default.is)

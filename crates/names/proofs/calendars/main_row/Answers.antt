@@ -10,9 +10,9 @@ use Rattle.names.proofs.calendars.main_row.Goals as goal
 pub returns : goal.returns
 returns c =
     let x = c.main_calendar in
-    sym (ap (λ (o : Option (ℕ × Element)). (o >>= λ x. Some x.0) or 0) (is_there x.result x.ensures c.in-Some.is))
+    sym (ap (λ (o : Option (ℕ × Element)). (o >>= λ x. Some x.0) or 0) (is_there x.result x.ensures.is c.in-Some.is))
 
 pub returns-in_default : goal.returns-in_default
 returns-in_default c =
     let x = c.main_calendar in
-    sym (ap (λ (o : Option (ℕ × Element)). (o >>= λ x. Some x.0) or 0) (is_absent x.result x.ensures c.in_default.is))
+    sym (ap (λ (o : Option (ℕ × Element)). (o >>= λ x. Some x.0) or 0) (is_absent x.result x.ensures.is c.in_default.is))

@@ -1,10 +1,14 @@
+use Rattle.std.proofs.Common.{refl}
 use Rattle.rows.specs.Rows.{calendar_meaning}
 use Rattle.names.proofs.uids.in_order.Goals as goal
 
-pub returns-in_err-r : goal.returns-in_err-r
+pub returns-in_err-r-clause-is : goal.returns-in_err-r-clause-is
 unfolding calendar_meaning
-returns-in_err-r c = rw (c.from_residual.ensures, c.in_err-r.was)
+returns-in_err-r-clause-is c = rw (c.from_residual.ensures, c.in_err-r.was)
 
-pub returns : goal.returns
+pub returns-clause-is : goal.returns-clause-is
 unfolding calendar_meaning
-returns c = rw (c.in_ok-r.was, c.order_row.ensures, c.part.ensures, c.place.ensures)
+returns-clause-is c = rw (c.in_ok-r.was, c.order_row.ensures, c.part.ensures, c.place.ensures)
+
+pub returns-clause-there : goal.returns-clause-there
+returns-clause-there c = rw c.part.ensures refl

@@ -7,16 +7,16 @@ use Rattle.rows.specs.Rows.{main_in, in_order}
 use Rattle.rows.proofs.Walking.{named_first, or_first_row}
 use Rattle.rows.proofs.built.main_calendar.Goals as goal
 
-pub returns-then-is_some : goal.returns-then-is_some
+pub returns-then-is_some-clause-is : goal.returns-then-is_some-clause-is
 unfolding main_in
-returns-then-is_some c =
+returns-then-is_some-clause-is c =
     let first_one = first (numbered 0 (in_order (root_at c.args.root))) in
     named_first c.named_calendar-named.result first_one (sym c.is_some.ensures ∙ c.if-is_some.true)
-    ∙ ap (λ (o : Option (ℕ × Element)). o or_else first_one) c.named_calendar-named.ensures
+    ∙ ap (λ (o : Option (ℕ × Element)). o or_else first_one) c.named_calendar-named.ensures.is
 
-pub returns : goal.returns
+pub returns-clause-is : goal.returns-clause-is
 unfolding main_in
-returns c =
+returns-clause-is c =
     let first_one = first (numbered 0 (in_order (root_at c.args.root))) in
-    or_first_row c.named_calendar-named.result _ first_one (sym c.is_some.ensures ∙ c.if-is_some.false) c.first_row.ensures
-    ∙ ap (λ (o : Option (ℕ × Element)). o or_else first_one) c.named_calendar-named.ensures
+    or_first_row c.named_calendar-named.result _ first_one (sym c.is_some.ensures ∙ c.if-is_some.false) c.first_row.ensures.is
+    ∙ ap (λ (o : Option (ℕ × Element)). o or_else first_one) c.named_calendar-named.ensures.is

@@ -1,10 +1,14 @@
+use Rattle.std.proofs.Common.{refl}
 use Rattle.rows.specs.Rows.{found_meaning}
 use Rattle.rows.proofs.table.element_of.Goals as goal
 
-pub returns-in_err-row : goal.returns-in_err-row
+pub returns-in_err-row-clause-is : goal.returns-in_err-row-clause-is
 unfolding found_meaning
-returns-in_err-row c = rw (c.from_residual.ensures, c.in_err-row.was)
+returns-in_err-row-clause-is c = rw (c.from_residual.ensures, c.in_err-row.was)
 
-pub returns : goal.returns
+pub returns-clause-is : goal.returns-clause-is
 unfolding found_meaning
-returns c = rw (c.in_ok-row.was, c.part.ensures, c.place.ensures)
+returns-clause-is c = rw (c.in_ok-row.was, c.part.ensures, c.place.ensures)
+
+pub returns-clause-there : goal.returns-clause-there
+returns-clause-there c = rw c.part.ensures refl

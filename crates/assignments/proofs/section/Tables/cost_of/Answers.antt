@@ -13,4 +13,4 @@ returns-in_err-uid c =
 pub returns : goal.returns
 returns c =
     let a = c.args in
-    look_up _ c.said.ensures (cost_in a.self.root.tree.now (root_at a.self.root) a.words.now a.self.cost) c.in_ok-uid.was c.cost_with.ensures
+    look_up _ c.said.ensures (cost_in a.self.root.tree.now (root_at a.self.root) a.words.now a.self.cost) c.in_ok-uid.was c.cost_with.ensures.is

@@ -12,8 +12,8 @@ returns-then-not-has_base c =
 
 pub returns-in_err-row : goal.returns-in_err-row
 returns-in_err-row c =
-    rw c.from_residual.ensures (base_found c.args.self.root.tree.now (sym c.has_base.ensures ∙ c.if-not-has_base.false) _ c.text_of-uid.ensures c.calendar_by.ensures (rw c.in_err-row.was base_absent))
+    rw c.from_residual.ensures (base_found c.args.self.root.tree.now (sym c.has_base.ensures ∙ c.if-not-has_base.false) _ c.text_of-uid.ensures c.calendar_by.ensures.is (rw c.in_err-row.was base_absent))
 
 pub returns : goal.returns
 returns c =
-    base_found c.args.self.root.tree.now (sym c.has_base.ensures ∙ c.if-not-has_base.false) _ c.text_of-uid.ensures c.calendar_by.ensures (rw c.in_ok-row.was c.base_at.ensures)
+    base_found c.args.self.root.tree.now (sym c.has_base.ensures ∙ c.if-not-has_base.false) _ c.text_of-uid.ensures c.calendar_by.ensures.is (rw c.in_ok-row.was c.base_at.ensures)
