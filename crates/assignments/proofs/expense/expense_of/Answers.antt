@@ -1,3 +1,4 @@
+use Rattle.std.proofs.Common.{◌∙◌}
 use Rattle.tree.specs.Place.{meaning}
 use Rattle.assignments.specs.Records.{finders_at}
 use Rattle.assignments.proofs.Expenses.{no_task, no_cost, both_there}
