@@ -4,7 +4,7 @@ use Rattle.calendars.proofs.built.turn_main.Goals as goal
 
 pub returns-in-Some : goal.returns-in-Some
 unfolding TurnsBy calendar_meaning
-returns-in-Some c = rw (← c.in-Some.ensures) c.turn.ensures
+returns-in-Some c = rw (← c.in-Some.ensures.is) c.turn.ensures
 
 pub returns-in_default : goal.returns-in_default
 unfolding TurnsBy calendar_meaning

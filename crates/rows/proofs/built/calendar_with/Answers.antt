@@ -14,8 +14,13 @@ loop-row-init c =
     let i = sym (ap (λ k. calendars_left k.iter) c.into_iter-row-iterator.ensures.into_iter_gives ∙ ap calendars_left c.enumerate-row-items.ensures.source ∙ c.calendars.ensures.is) in
     let z = ap (λ k. k.count) c.into_iter-row-iterator.ensures.into_iter_gives ∙ c.enumerate-row-items.ensures.count in
     let few = order_few c.args.root in
-    let bound : c.into_iter-row-iterator.result.count + length (calendars_left c.into_iter-row-iterator.result.iter) < 2 ^ 64 = omega (arith, z, ap length i, few, c.well_formed) in
-    (subst (λ n. FirstIn (has_uid c.args.uid.now) (with_uid_in (root_at c.args.root) c.args.uid.now) n (calendars_left c.into_iter-row-iterator.result.iter)) (sym z) (find_begin _ i), omega (arith, z, ap length i, few), rw c.into_iter-row-iterator.ensures.into_iter_gives (rw c.enumerate-row-items.ensures.source c.calendars.ensures.of), (tt, tt, inl bound), tt)
+    let bound : c.into_iter-row-iterator.result.count + length (calendars_left c.into_iter-row-iterator.result.iter) < 2 ^ 64 = omega (arith, z, ap length i, few, c.well_formed) in (
+      subst (λ n. FirstIn (has_uid c.args.uid.now) (with_uid_in (root_at c.args.root) c.args.uid.now) n (calendars_left c.into_iter-row-iterator.result.iter)) (sym z) (find_begin _ i),
+      omega (arith, z, ap length i, few),
+      rw c.into_iter-row-iterator.ensures.into_iter_gives (rw c.enumerate-row-items.ensures.source c.calendars.ensures.of),
+      (tt, tt, inl bound),
+      tt,
+    )
 
 pub returns-clause-is : goal.returns-clause-is
 unfolding calendar_meaning
