@@ -30,9 +30,8 @@ use Rattle.links.specs.Given.{given_none, given_some}
 use Rattle.pack.specs.Record.{activity_by}
 use Rattle.pack.specs.Value.{given_by, starred, starred_by, name_meaning}
 use Rattle.pack.specs.Writes.{put_any}
-use Rattle.names.specs.Named.{named_in, elapsed_in, calendar_name}
+use Rattle.names.specs.Named.{named_in, elapsed_in}
 use Rattle.names.specs.Naming.{Finds}
-use Rattle.names.specs.declared.named.CalendarName.{CalendarName}
 use Rattle.pack.specs.declared.record.Activity.{Activity}
 use Rattle.pack.specs.declared.record.Plan.{Plan}
 use Rattle.activities.specs.Values.{day_by, names_calendar, calendar_by, calendar_in, PlanOf, DatesOf, ProgressOf, activity_planned}
@@ -91,8 +90,8 @@ module _ (x : Context) (s : Text) (w : List ℕ) (k : Option Table) (t : Element
     pub by_none : not b ≡ true → None ≡ calendar_in x s w k e t
     by_none h = rw (i, no_calendar (text_in t "CalendarUID") (named_in x s w k) (sym names_is ∙ not-true b h))
 
-    pub by_own : not b ≡ false → (r : CalendarName) → calendar_name r ≡ named_in x s w k u → name_meaning r.text.now r.stars ≡ calendar_in x s w k e t
-    by_own h r m = rw (i, own_calendar (text_in t "CalendarUID") (named_in x s w k) (sym names_is ∙ not-false b h)) (m ∙ ap (named_in x s w k) j)
+    pub by_own : not b ≡ false → {r : Option Text} → r ≡ named_in x s w k u → r ≡ calendar_in x s w k e t
+    by_own h m = rw (i, own_calendar (text_in t "CalendarUID") (named_in x s w k) (sym names_is ∙ not-false b h)) (m ∙ ap (named_in x s w k) j)
 
 -- words that say the names give the calendar's
 pub calendar_found : {x : Context} {s : Text} {k : Option Table} {w : List ℕ} → Finds x s k w → (e : Bool) (t : Element) → calendar_in x s w k e t ≡ calendar_by x e t

@@ -57,8 +57,7 @@ pub(crate) fn calendar_for<'a>(
     if !names_calendar(uid) {
         return None;
     }
-    let found = names::calendar_in(out, c, root, words, table, uid);
-    Starred::named(found.text, found.stars)
+    names::calendar_in(out, c, root, words, table, uid)
 }
 
 // ---- what an activity is

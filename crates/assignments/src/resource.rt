@@ -82,8 +82,7 @@ impl<'a> Section<'a> {
         ensures { given_by starred result ≡ bind (text_in (meaning e.entry) "CalendarUID") (section_names self.entry out.now words.now) }
     {
         let uid = said(e, b"CalendarUID")?;
-        let name = names::calendar_in(out, self.calendars, self.root, words, self.names, uid);
-        Starred::named(name.text, name.stars)
+        names::calendar_in(out, self.calendars, self.root, words, self.names, uid)
     }
 
     // One more.

@@ -14,11 +14,10 @@ use Rattle.model.specs.Answers.{read_at}
 use Rattle.model.specs.Parts.{raw, record_of}
 use Rattle.model.specs.Passes.{Passes}
 use Rattle.model.specs.declared.records.Kind.TheVariants as kind
-use Rattle.pack.specs.Value.{starred_by, name_meaning}
+use Rattle.pack.specs.Value.{starred_by}
 use Rattle.rows.specs.Rows.{main_in}
 use Rattle.rows.specs.Tables.{sought_in}
 use Rattle.tree.specs.Place.{element_at}
-use Rattle.names.specs.declared.named.CalendarName.{CalendarName}
 use Rattle.names.specs.declared.uids.CalendarTable.{CalendarTable}
 use Rattle.names.specs.declared.named.Main.{Main}
 use Rattle.names.specs.Texts.{text_at}
@@ -57,10 +56,6 @@ named_in x s w (Some t) u = name_of_row s w t (sought_in s w t u)
 unfoldable pub elapsed_in : Context → List ℕ → Option Table → Option Text
 elapsed_in x w None = unless_main x elapsed_name
 elapsed_in x w (Some t) = name_by elapsed_name (get_or w (name_at t t.rows) 0)
-
--- what an answer means
-abbrev pub calendar_name : CalendarName → Option Text
-calendar_name r = name_meaning r.text.now r.stars
 
 -- ---- a table of all calendars
 

@@ -1,13 +1,13 @@
 // The name of a calendar by its UID, from a table in lent words: behind that of the UIDs each row has a word for its name in the buffer, 0 where it is
 // the main calendar's, else how many `*` it has behind the wanted name, plus 1. A last word is for the elapsed calendar's name.
-ghost use Rattle.std.specs.Prelude.{if◌then◌else◌, ◌≡◌, ◌+◌, ◌^◌, ◌≤◌, ◌<◌, length, None};
+ghost use Rattle.std.specs.Prelude.{if◌then◌else◌, ◌≡◌, ◌+◌, ◌^◌, ◌≤◌, ◌<◌, length};
 ghost use Rattle.definition.specs.Calendar.{elapsed_name};
 ghost use Rattle.definition.specs.Text.{Text};
 ghost use Rattle.index.specs.Chains.{end_of};
 ghost use Rattle.tree.specs.Root.{root_at};
-ghost use Rattle.pack.specs.Value.{name_meaning};
+ghost use Rattle.pack.specs.Value.{given_by, starred, name_meaning};
 ghost use Rattle.names.specs.Context.{context_at};
-ghost use Rattle.names.specs.Named.{name_word, name_by, calendar_name, name_of_row, named_by, named_in, elapsed_in, main_text, NotesName, NamesNoted, Calendars, Makes};
+ghost use Rattle.names.specs.Named.{name_word, name_by, name_of_row, named_by, named_in, elapsed_in, main_text, NotesName, NamesNoted, Calendars, Makes};
 ghost use Rattle.names.specs.Uids.{names_end, Stays, Uids};
 
 use crate::calendars::{elapsed_named, stars_at, stars_of, unless_main, wanted_name};
@@ -16,6 +16,7 @@ use crate::uids::{CalendarTable, index_uids};
 use bits::Place;
 use index::Table;
 use model::records::{Kind, skip_record};
+use pack::Starred;
 use tree::{Element, Root};
 
 // ---- the words of the names: numbers, as words are lent. Rows are cast, as usize has no From<u32>.
@@ -128,48 +129,22 @@ fn by_word(word: u32) -> Option<u32>
     word.checked_sub(1)
 }
 
-// The name that a calendar wants, and how many `*` its name has behind that; no number where there is no name to be put.
-// Two fields and no Option of pack's `Starred`: the text is known where the number is none, and `Starred::named` makes the one of the other.
-#[derive(Clone, Copy)]
-pub struct CalendarName<'a> {
-    pub text: &'a [u8],
-    pub stars: Option<u32>,
-}
-
-fn no_name<'a>() -> CalendarName<'a>
-    ensures { calendar_name result ≡ None }
+fn name_of<'a>(root: Root<'a>, words: &[u32], t: Table, row: Option<u32>) -> Option<Starred<'a>>
+    ensures { given_by starred result ≡ name_of_row root.entry.tree.now words.now t row }
 {
-    CalendarName {
-        text: b"",
-        stars: None,
-    }
-}
-
-fn name_of<'a>(root: Root<'a>, words: &[u32], t: Table, row: Option<u32>) -> CalendarName<'a>
-    ensures { calendar_name result ≡ name_of_row root.entry.tree.now words.now t row }
-{
-    let Some(r) = row else {
-        return no_name();
-    };
+    let r = row?;
     let e = root.part(t.place(words, r) as usize);
-    CalendarName {
-        text: wanted_name(e, b"Calendar"),
-        stars: by_word(index::word(words, t.at, 3 * (t.rows as usize) + r as usize)),
-    }
+    let word = index::word(words, t.at, 3 * (t.rows as usize) + r as usize);
+    Starred::named(wanted_name(e, b"Calendar"), by_word(word))
 }
 
-fn scan<'a>(out: &[u8], c: Place, root: Root<'a>, uid: &[u8]) -> CalendarName<'a>
-    ensures { calendar_name result ≡ named_by (context_at out.now c (root_at root.entry)) uid.now }
+fn scan<'a>(out: &[u8], c: Place, root: Root<'a>, uid: &[u8]) -> Option<Starred<'a>>
+    ensures { given_by starred result ≡ named_by (context_at out.now c (root_at root.entry)) uid.now }
 {
-    let Some((row, e)) = rows::calendar_with(root, uid) else {
-        return no_name();
-    };
+    let (row, e) = rows::calendar_with(root, uid)?;
     let text = wanted_name(e, b"Calendar");
     let stars = stars_of(out, c, root, row, e);
-    CalendarName {
-        text,
-        stars: unless_main(out, c, root, text, stars),
-    }
+    Starred::named(text, unless_main(out, c, root, text, stars))
 }
 
 // The name of the first calendar with a UID, unless it is the main one's, by a table in the words; by a scan where there is none. The calendars stand at c.
@@ -180,8 +155,8 @@ pub fn calendar_in<'a>(
     words: &[u32],
     table: Option<Table>,
     uid: &[u8],
-) -> CalendarName<'a>
-    ensures { calendar_name result ≡ named_in (context_at out.now c (root_at root.entry)) root.entry.tree.now words.now table uid.now }
+) -> Option<Starred<'a>>
+    ensures { given_by starred result ≡ named_in (context_at out.now c (root_at root.entry)) root.entry.tree.now words.now table uid.now }
 {
     // One way needs the words, the other the buffer: a trait over both is no plainer.
     match table {

@@ -1,5 +1,4 @@
 -- `activities::value::calendar_for` meets its contract. Assumes nothing.
-use mathlib.Core.Path.{◌∙◌}
 use Rattle.names.specs.Context.{context_at}
 use Rattle.tree.specs.Place.{meaning}
 use Rattle.tree.specs.Root.{root_at}
@@ -16,4 +15,4 @@ pub returns : goal.returns
 returns c =
     let a = c.args in
     let x = a.section in
-    c.named-2.ensures ∙ by_own (context_at a.out.now x.calendars (root_at x.root)) x.root.tree.now a.words.now x.own.calendars (meaning a.task) c.if-elapsed.false _ c.text_of-uid.ensures c.names_calendar.ensures c.if-not-names_calendar.false-raw c.calendar_in-found.result c.calendar_in-found.ensures
+    by_own (context_at a.out.now x.calendars (root_at x.root)) x.root.tree.now a.words.now x.own.calendars (meaning a.task) c.if-elapsed.false _ c.text_of-uid.ensures c.names_calendar.ensures c.if-not-names_calendar.false-raw c.calendar_in.ensures

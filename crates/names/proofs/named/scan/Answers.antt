@@ -9,10 +9,10 @@ pub returns : goal.returns
 returns c =
     let a = c.args in
     let x = c.calendar_with in
-    scan_there a.out.now a.c (root_at a.root) a.uid.now _ _ _ (is_there x.result x.ensures.is c.in-Some.is) c.wanted_name-text.ensures c.stars_of-stars.ensures c.unless_main.ensures
+    c.named.ensures ∙ scan_there a.out.now a.c (root_at a.root) a.uid.now _ _ _ (is_there x.result x.ensures.is c.in_ok-row.was) c.wanted_name-text.ensures c.stars_of-stars.ensures c.unless_main.ensures
 
-pub returns-in_default : goal.returns-in_default
-returns-in_default c =
+pub returns-in_err-row : goal.returns-in_err-row
+returns-in_err-row c =
     let a = c.args in
     let x = c.calendar_with in
-    c.no_name.ensures ∙ scan_absent a.out.now a.c (root_at a.root) a.uid.now (is_absent x.result x.ensures.is c.in_default.is)
+    rw c.from_residual.ensures (scan_absent a.out.now a.c (root_at a.root) a.uid.now (is_absent x.result x.ensures.is c.in_err-row.was))
