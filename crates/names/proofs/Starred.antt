@@ -8,8 +8,8 @@ use lib.ListN.{length, drop, get_or, get_or-replicate}
 use lib.Dec.{eqb}
 use Rattle.std.proofs.Common.{◌⊎◌, inl, inr}
 use Rattle.std.specs.List.{list_all, find, range_with_len}
-use Rattle.std.specs.Option.{unwrap_or}
-use Rattle.std.specs.Prelude.{if◌then◌else◌, not}
+use Rattle.std.specs.Option.{unwrap_or, option_map}
+use Rattle.std.specs.Prelude.{if◌then◌else◌, not, Option, Some, None}
 use Rattle.std.proofs.lemmas.Bool.Decides.{eqb_tells}
 use Rattle.definition.specs.Base.{same}
 use Rattle.definition.specs.Text.{Text}
@@ -77,3 +77,7 @@ find_tries p (suc k) i = by (p i) refl (find_tries p k (suc i))
         → unwrap_or (find (λ j. not (p j)) (range_with_len i (suc k))) (i + suc k) ≡ (if p i then tries k p (suc i) else i)
     by true e h = let z : i + suc k ≡ suc i + k = omega arith in let y : i + 1 ≡ suc i = omega arith in rw (e, y, z) h
     by false e h = rw e
+
+pub found_tries : (p : ℕ → Bool) (k i : ℕ) (o : Option ℕ) → option_map (λ x. x) o ≡ find (λ j. not (p j)) (range_with_len i k) → {m : ℕ} → m ≡ i + k → unwrap_or o m ≡ tries k p i
+found_tries p k i None h e = rw e (ap (λ (o : Option ℕ). unwrap_or o (i + k)) h ∙ find_tries p k i)
+found_tries p k i (Some x) h e = ap (λ (o : Option ℕ). unwrap_or o (i + k)) h ∙ find_tries p k i
