@@ -33,17 +33,17 @@ module _ (a b : Text) (m n : ℕ) where
   other_lengths h = sym (same_lengths left_text right_text (λ e. h (sym (star_length a m) ∙ e ∙ star_length b n)))
 
   module _ (e : length a + m ≡ length b + n) (i : ℕ) where
-    pub other_byte : i < length a + m → (get_or a i 42 ≡ get_or b i 42 → ⊥) → same (drop i left_text) (drop i right_text) ≡ false
+    other_byte : i < length a + m → (get_or a i 42 ≡ get_or b i 42 → ⊥) → same (drop i left_text) (drop i right_text) ≡ false
     other_byte h d =
         same_off left_text right_text i (omega (arith, star_length a m)) (omega (arith, star_length b n))
         (λ z. d (sym (star_byte a m i h) ∙ z ∙ star_byte b n i (omega arith)))
 
-    pub same_byte : i < length a + m → get_or a i 42 ≡ get_or b i 42 → same (drop i left_text) (drop i right_text) ≡ same (drop (i + 1) left_text) (drop (i + 1) right_text)
+    same_byte : i < length a + m → get_or a i 42 ≡ get_or b i 42 → same (drop i left_text) (drop i right_text) ≡ same (drop (i + 1) left_text) (drop (i + 1) right_text)
     same_byte h d =
         same_on left_text right_text i (omega (arith, star_length a m)) (omega (arith, star_length b n))
         (star_byte a m i h ∙ d ∙ sym (star_byte b n i (omega arith)))
 
-    pub all_bytes : length a + m ≤ i → same (drop i left_text) (drop i right_text) ≡ true
+    all_bytes : length a + m ≤ i → same (drop i left_text) (drop i right_text) ≡ true
     all_bytes h = same_end left_text right_text i (omega (arith, star_length a m)) (omega (arith, star_length b n))
 
   -- whether they are the same from a byte on
@@ -68,7 +68,7 @@ pub seen_text : (t : Text) {x y z : Text} {r b : Bool} → r ≡ same t (starred
 seen_text t {x} e h i k = ap (same t) (sym (star_none x ∙ h ∙ i)) ∙ sym e ∙ k
 
 -- the first of the numbers from i on that does not pass, or the one behind them
-pub find_tries : (p : ℕ → Bool) (k i : ℕ) → unwrap_or (find (λ j. not (p j)) (range_with_len i k)) (i + k) ≡ tries k p i
+find_tries : (p : ℕ → Bool) (k i : ℕ) → unwrap_or (find (λ j. not (p j)) (range_with_len i k)) (i + k) ≡ tries k p i
 unfolding tries
 find_tries p zero i = omega arith
 find_tries p (suc k) i = by (p i) refl (find_tries p k (suc i))

@@ -1,4 +1,4 @@
-use Rattle.std.proofs.Common.{◌+◌, eqb, get_or, length, rules, tests, refl, sym, ◌∙◌, arith}
+use Rattle.std.proofs.Common.{◌+◌, eqb, get_or, length, rules, tests, refl, ◌∙◌, arith}
 use Rattle.std.proofs.lemmas.Iterator.{YieldsList-from_range}
 use Rattle.std.proofs.lemmas.Iterator.Search.{all_from_yields_List}
 use Rattle.names.proofs.Starred.{other_lengths, all_same}
