@@ -102,13 +102,9 @@ impl Ids {
         ensures { result ≡ free_in out.now words.now self count wanted.now }
     {
         let first = self.stars_from(out, words, count, wanted);
-        // `(first..count).find(..)` was tried: the search finds no way from the closure to the contract.
-        for stars in first..count {
-            if !self.is_taken(out, words, wanted, stars) {
-                return stars;
-            }
-        }
-        first.max(count)
+        (first..count)
+            .find(|stars| !self.is_taken(out, words, wanted, *stars))
+            .unwrap_or(first.max(count))
     }
 }
 

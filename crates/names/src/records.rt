@@ -69,11 +69,7 @@ fn taken(out: &[u8], p: Place, kind: Kind, count: u32, wanted: &[u8], stars: u32
 pub(crate) fn free_stars(out: &[u8], p: Place, kind: Kind, count: u32, wanted: &[u8]) -> u32
     ensures { starred_by wanted.now result ≡ free (texts_at kind out.now p count) wanted.now }
 {
-    // A loop as in `Ids::free`, where `find` was tried.
-    for stars in 0..count {
-        if !taken(out, p, kind, count, wanted, stars) {
-            return stars;
-        }
-    }
-    count
+    (0..count)
+        .find(|stars| !taken(out, p, kind, count, wanted, *stars))
+        .unwrap_or(count)
 }

@@ -19,11 +19,5 @@ pub(crate) fn same_starred(a: &[u8], m: u32, b: &[u8], n: u32) -> bool
     if len != b.len() + n as usize {
         return false;
     }
-    // `(0..len).all(..)` was tried: the search finds no way from the closure to the contract.
-    for i in 0..len {
-        if byte_of(a, i) != byte_of(b, i) {
-            return false;
-        }
-    }
-    true
+    (0..len).all(|i| byte_of(a, i) == byte_of(b, i))
 }

@@ -1,28 +1,19 @@
-use mathlib.Core.Path.{◌≡◌, sym, ap, ◌∙◌}
-use Prim.Native.Nat.{ℕ, ◌-◌}
-use native.Mathlib.Omega.{arith}
-use Rattle.names.specs.Stars.{tries, tries_on, tries_here, tries_end}
+use Rattle.std.proofs.Common.{ℕ, ◌-◌, rules, tests, refl, ap, ◌∙◌, arith}
+use Rattle.std.specs.Prelude.{not}
+use Rattle.std.proofs.lemmas.Iterator.{YieldsList-from_range}
+use Rattle.std.proofs.lemmas.Iterator.Search.{find_from_yields_List}
+use Rattle.names.specs.Stars.{tries}
 use Rattle.names.specs.Ids.{taken_in, free_in}
+use Rattle.names.proofs.Starred.{found_tries}
 use Rattle.names.proofs.ids.Ids.free.Goals as goal
 
-pub loop-stars-init : goal.loop-stars-init
-unfolding free_in
-loop-stars-init c =
-    let a = c.args in
-    (ap (λ (k : ℕ). tries (a.count - k) (taken_in a.out.now a.words.now a.self a.wanted.now) k) c.stars_from-first.ensures, omega arith)
-
-pub returns-then-not-is_taken : goal.returns-then-not-is_taken
-returns-then-not-is_taken c =
-    let a = c.args in
-    sym (tries_here a.count (taken_in a.out.now a.words.now a.self a.wanted.now) c.loop-stars.stars (sym c.is_taken.ensures ∙ c.if-not-is_taken.true)) ∙ c.loop-stars.invariant.0
-
-pub loop-stars-preserved : goal.loop-stars-preserved
-loop-stars-preserved c =
-    let a = c.args in
-    (sym (tries_on a.count (taken_in a.out.now a.words.now a.self a.wanted.now) c.loop-stars.stars (omega arith) (sym c.is_taken.ensures ∙ c.if-not-is_taken.false)) ∙ c.loop-stars.invariant.0, omega arith)
-
 pub returns : goal.returns
+unfolding free_in
 returns c =
     let a = c.args in
-    let e : c.max.result ≡ c.loop-stars.stars = omega (arith, c.loop-stars.invariant.1) in
-    e ∙ sym (tries_end a.count (taken_in a.out.now a.words.now a.self a.wanted.now) c.loop-stars.stars (omega arith)) ∙ c.loop-stars.invariant.0
+    let p = taken_in a.out.now a.words.now a.self a.wanted.now in
+    let k = c.stars_from-first.result in
+    let found = find_from_yields_List (λ j. not (p j)) c.find.new.self _ _ c.find.ensures.ran (YieldsList-from_range k a.count (a.count - k) refl refl) (λ x b q h. search (rules, tests)) in
+    c.unwrap_or.ensures
+    ∙ found_tries p (a.count - k) k c.find.result found (omega (arith, c.max.ensures))
+    ∙ ap (λ (k : ℕ). tries (a.count - k) p k) c.stars_from-first.ensures
