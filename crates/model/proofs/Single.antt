@@ -26,14 +26,14 @@ use Rattle.bits.specs.Reads.{rest, Reads, Refuses, refused, taken_at, flag_at, i
 use Rattle.bits.specs.declared.Place.{Place}
 use Rattle.bits.specs.declared.Field.{Field}
 use Rattle.bits.specs.declared.Span.{Span}
-use Rattle.laws.specs.Options.{bind_ext, never}
+use Rattle.laws.specs.Options.{Some-injective, bind_ext, never}
 use Rattle.laws.specs.Fields.{day_days}
 use Rattle.model.specs.Lax.{behind, left, like_named, like_optional}
 use Rattle.model.specs.Passes.{Passes, Flagged, pass_like, pass_read, pass_refused, pass_some, pass_none, pass_both, pass_alone}
 use Rattle.model.specs.Answers.{read_at, counts_at, row_at, rows_at, date_at, spanned, name_at, read_there, read_nowhere, or_there, or_nowhere}
 use Rattle.model.specs.Splits.{stands_is, not_refused}
 use Rattle.model.specs.Sections.{start, counts_by}
-use Rattle.model.specs.Places.{NameTaken, text_in, name_in, name_is}
+use Rattle.model.specs.Places.{NamePlaced, NameTaken, span_ends, text_in, name_in, name_is}
 use Rattle.std.specs.Borrow.{Bor}
 use Rattle.model.specs.Rising.{Finds, PeriodKey, DayKey}
 use Rattle.model.specs.Parts.{raw, text_by}
@@ -363,17 +363,17 @@ module _ (s : List ℕ) (p : Place) {x : Field Bool Place} (e : x ≡ flag_at s 
 
   -- ---- names
 
-  -- what is answered, from where it stands
-  name_as : (o : Option (ℕ × ℕ)) (q : Place) → (o, q) ≡ name_at s p → ◌≡◌ {A = Option Text × Place} (name_in s o, q) (name_in s (name_at s p).0, (name_at s p).1)
-  name_as o q = ap (λ (y : Option (ℕ × ℕ) × Place). (name_in s y.0, y.1))
-
-  pub name_missing : x.value ≡ false → NameTaken s p (record { value = None; next = x.next })
+  pub name_missing : x.value ≡ false → NamePlaced s p (record { value = None; next = x.next })
   unfolding name_at
   name_missing h =
       record {
-        is = name_as None x.next (let z : (flag_at s p).value ≡ false = ap (λ (y : Field Bool Place). y.value) (sym e) ∙ h in rw z (ap (λ (y : Field Bool Place). (None, y.next)) e));
+        is = let z : (flag_at s p).value ≡ false = ap (λ (y : Field Bool Place). y.value) (sym e) ∙ h in rw z (ap (λ (y : Field Bool Place). (None, y.next)) e);
+        within = λ start len z. absurd (no_name z);
         text = λ o k. sym (stands_is k (read_none text (flag_as h)));
       }
+    where
+      no_name : {a b : ℕ} → ◌≡◌ {A = Option (ℕ × ℕ)} None (Some (a, b)) → ⊥
+      no_name = never
 
   module _ {t : Span} (h : x.value ≡ true) (k : Spans s x.next t) where
     name_by : name_at s p ≡ spanned t
@@ -389,19 +389,48 @@ module _ (s : List ℕ) (p : Place) {x : Field Bool Place} (e : x ≡ flag_at s 
         by_utf8 true z = refused (k.reads z) (far s t.next b)
         by_utf8 false z = k.refuses z
 
-    pub name_cut : 7 < t.next.bit → NameTaken s p (record { value = None; next = past })
+    pub name_cut : 7 < t.next.bit → NamePlaced s p (record { value = None; next = past })
     name_cut b =
         record {
-          is = name_as None past (sym (name_by ∙ rw (lt-ltb 7 t.next.bit b)));
+          is = sym (name_by ∙ rw (lt-ltb 7 t.next.bit b));
+          within = λ start len z. absurd (no_name z);
           text = λ o z. absurd (not_refused z (refuse_some (flag_as h) (no_text b)));
         }
+      where
+        no_name : {a b : ℕ} → ◌≡◌ {A = Option (ℕ × ℕ)} None (Some (a, b)) → ⊥
+        no_name = never
 
-    pub name_given : t.next.bit ≤ 7 → {u : Bor (List ℕ)} → u.now ≡ text_in s (t.start, t.len) → NameTaken s p (record { value = Some u; next = t.next })
-    name_given b i =
+    pub name_given : t.next.bit ≤ 7 → NamePlaced s p (record { value = Some (t.start, t.len); next = t.next })
+    name_given b =
         record {
-          is = ap (λ (v : List ℕ). (Some v, t.next)) i ∙ name_as (Some (t.start, t.len)) t.next (sym (name_by ∙ rw (le-ltb 7 t.next.bit b)));
-          text = λ o z. name_is z (flag_as h) k ∙ ap Some (sym i);
+          is = sym (name_by ∙ rw (le-ltb 7 t.next.bit b));
+          within = λ start len z.
+              let q : ◌≡◌ {A = ℕ × ℕ} (t.start, t.len) (start, len) = Some-injective _ _ z in
+              let u : t.start ≡ start = ap (λ (x : ℕ × ℕ). x.0) q in
+              let v : t.len ≡ len = ap (λ (x : ℕ × ℕ). x.1) q in
+              let w = span_ends s x.next k.is in
+              omega arith;
+          text = λ o z. name_is z (flag_as h) k;
         }
+
+-- the text, from where it stands
+module _ {s : List ℕ} {p : Place} {r : Field (Option (ℕ × ℕ)) Place} (h : NamePlaced s p r) where
+  name_as : (o : Option (ℕ × ℕ)) (q : Place) → (o, q) ≡ name_at s p → ◌≡◌ {A = Option Text × Place} (name_in s o, q) (name_in s (name_at s p).0, (name_at s p).1)
+  name_as o q = ap (λ (y : Option (ℕ × ℕ) × Place). (name_in s y.0, y.1))
+
+  pub text_none : r.value ≡ None → NameTaken s p (record { value = None; next = r.next })
+  text_none e =
+      record {
+        is = name_as None r.next (ap (λ (o : Option (ℕ × ℕ)). (o, r.next)) (sym e) ∙ h.is);
+        text = λ o k. h.text o k ∙ ap (name_in s) e;
+      }
+
+  pub text_some : {start len : ℕ} → r.value ≡ Some (start, len) → {u : Bor (List ℕ)} → u.now ≡ text_in s (start, len) → NameTaken s p (record { value = Some u; next = r.next })
+  text_some {start = start} {len = len} e i =
+      record {
+        is = ap (λ (v : List ℕ). (Some v, r.next)) i ∙ name_as (Some (start, len)) r.next (ap (λ (o : Option (ℕ × ℕ)). (o, r.next)) (sym e) ∙ h.is);
+        text = λ o k. h.text o k ∙ ap (name_in s) e ∙ ap Some (sym i);
+      }
 
 -- ---- two rows
 

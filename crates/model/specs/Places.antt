@@ -1,6 +1,6 @@
 -- What the readers of parts answer, and what the parts of a decoded record are: each law goes from a record that stands at a place, and from what a
 -- reader answered there, to the field of the record. Assumes nothing.
-use Rattle.std.specs.Prelude.{◌≡◌, refl, Bool, true, false, List, ℕ, ◌%◌, take, drop}
+use Rattle.std.specs.Prelude.{◌≡◌, refl, Bool, true, false, List, ℕ, ◌+◌, ◌%◌, ◌≤◌, length, take, drop}
 use Rattle.std.proofs.Common.{sym, ap, ◌∙◌}
 use Rattle.std.specs.Prelude.{Option, Some}
 use Rattle.std.specs.Borrow.{Bor}
@@ -33,7 +33,13 @@ text_in s x = take x.1 (drop x.0 s)
 abbrev pub name_in : List ℕ → Option (ℕ × ℕ) → Option Text
 name_in s o = o >>= λ x. Some (text_in s x)
 
--- a flag, and the text behind it if it is set; where an optional text stands, it is that
+-- a flag, and where the text behind it stands if it is set; where an optional text stands, it is that
+pub record NamePlaced (s : List ℕ) (p : Place) (r : Field (Option (ℕ × ℕ)) Place) : Type 0 where
+  pub is : (r.value, r.next) ≡ name_at s p
+  pub within : (start len : ℕ) → r.value ≡ Some (start, len) → start + len ≤ length s
+  pub text : (o : Option Text) → Stands (optional text) s p o → o ≡ name_in s r.value
+
+-- the text itself; where an optional text stands, it is that
 pub record NameTaken (s : List ℕ) (p : Place) (r : Field (Option (Bor (List ℕ))) Place) : Type 0 where
   pub is : ◌≡◌ {A = Option Text × Place} (option_copied r.value, r.next) (name_in s (name_at s p).0, (name_at s p).1)
   pub text : (o : Option Text) → Stands (optional text) s p o → o ≡ option_copied r.value

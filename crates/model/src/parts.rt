@@ -9,13 +9,13 @@ ghost use Rattle.bits.specs.Steps.{Puts};
 ghost use Rattle.model.specs.Passes.{Passes};
 ghost use Rattle.model.specs.Parts.{text_by, activity_head, resource_head};
 ghost use Rattle.model.specs.Answers.{read_at, row_at, rows_at, date_at, period_meaning};
-ghost use Rattle.model.specs.Places.{NameTaken, CalendarAt};
+ghost use Rattle.model.specs.Places.{NamePlaced, NameTaken, CalendarAt};
 
 pub use crate::fields::text_in;
 use crate::fields::{skip, skip_code, skip_optional, skip_text};
 use crate::lists::skip_dates;
 pub use crate::lists::{skip_hours, skip_periods};
-use bits::{Field, PAST, Place};
+use bits::{Field, PAST, Place, Span};
 use definition::Date;
 
 // ---- what stands at a place. Where nothing can be read, a value is missing or 0, and the next place is past every end. A row and a name are two
@@ -46,9 +46,9 @@ pub fn take_row(s: &[u8], p: Place) -> Field<Option<u32>>
     }
 }
 
-// An optional text. It is not tested for UTF-8.
-pub fn take_name(s: &[u8], p: Place) -> Field<Option<&[u8]>>
-    ensures { NameTaken s.now p result }
+// Where an optional text starts, and its length. It is not tested for UTF-8.
+pub fn take_name_place(s: &[u8], p: Place) -> Field<Option<(usize, usize)>>
+    ensures { NamePlaced s.now p result }
 {
     let f = bits::take_flag(s, p);
     let at = f.next;
@@ -67,7 +67,22 @@ pub fn take_name(s: &[u8], p: Place) -> Field<Option<&[u8]>>
         };
     }
     Field {
-        value: Some(text_in(s, t)),
+        value: Some((t.start, t.len)),
+        next,
+    }
+}
+
+// The text itself.
+pub fn take_name(s: &[u8], p: Place) -> Field<Option<&[u8]>>
+    ensures { NameTaken s.now p result }
+{
+    let n = take_name_place(s, p);
+    let next = n.next;
+    let Some((start, len)) = n.value else {
+        return Field { value: None, next };
+    };
+    Field {
+        value: Some(text_in(s, Span { start, len, next })),
         next,
     }
 }

@@ -1,16 +1,11 @@
-use borrow.Author.Tests.{not-true, not-false}
-use Rattle.model.specs.Places.{span_ends}
-use Rattle.model.proofs.Single.{name_missing, name_cut, name_given}
+use Rattle.model.proofs.Single.{text_none, text_some}
 use Rattle.model.proofs.parts.take_name.Goals as goal
 
-pub returns-then-not-f : goal.returns-then-not-f
-returns-then-not-f c = let a = c.args in name_missing a.s.now a.p c.take_flag-f.ensures (not-true _ c.if-not-f.true)
-
-pub returns-then-next-gt7 : goal.returns-then-next-gt7
-returns-then-next-gt7 c = let a = c.args in name_cut a.s.now a.p c.take_flag-f.ensures (not-false _ c.if-not-f.false) c.take_text-t.ensures c.if-next-gt7.true
+pub returns-in_default : goal.returns-in_default
+returns-in_default c = text_none c.take_name_place-n.ensures c.in_default.is
 
 pub text_in-requires : goal.text_in-requires
-text_in-requires c = span_ends c.args.s.now c.take_flag-f.result.next c.take_text-t.ensures.is
+text_in-requires c = c.take_name_place-n.ensures.within _ _ c.in-Some.is
 
 pub returns : goal.returns
-returns c = let a = c.args in name_given a.s.now a.p c.take_flag-f.ensures (not-false _ c.if-not-f.false) c.take_text-t.ensures c.if-next-gt7.false c.text_in.ensures
+returns c = text_some c.take_name_place-n.ensures c.in-Some.is c.text_in.ensures
