@@ -41,11 +41,11 @@ for l in run('python3', 'docs/design/state.py', spelled, '.'):
 old = {n: int(v) for n, v in a if n.startswith('8')}
 new = {n: int(b[n]) for n in old}
 files, lines = old['8 files of proofs/'], old['8 lines of proofs/']
-two.append('| 8 proofs | %d files, %d lines | %d files and %d lines fewer | DONE8 | 0 |' % (files, lines, files - new['8 files of proofs/'], lines - new['8 lines of proofs/']))
+two.append('| 8 proofs | %d files, %d lines | %d files and %d lines fewer | DONE8 | TODO8 |' % (files, lines, files - new['8 files of proofs/'], lines - new['8 lines of proofs/']))
 p = 'docs/DESIGN-PASS.md'
 s = open(p).read()
 eight = re.search(r'^\| 8 proofs .*$', s, re.M).group(0)
-two[-1] = two[-1].replace('DONE8', eight.split('|')[4].strip())
+two[-1] = two[-1].replace('DONE8', eight.split('|')[4].strip()).replace('TODO8', eight.split('|')[5].strip())
 for mark, t in (('counts', one), ('table', two)):
     s = re.sub(r'(<!-- %s -->\n).*?(<!-- %s -->)' % (mark, mark), lambda m: m.group(1) + '\n'.join(t) + '\n' + m.group(2), s, flags=re.S)
 open(p, 'w').write(s)
