@@ -13,7 +13,7 @@ use Rattle.tree.specs.Few.{children_few}
 use Rattle.tree.specs.Root.{root_at, in_resources}
 use Rattle.tree.specs.declared.root.Root.{Root}
 use Rattle.tree.specs.declared.element.Element.{Element as Place}
-use Rattle.rows.specs.Turns.{work_picked, cost_picked}
+use Rattle.rows.specs.Turns.{past_all, work_picked, cost_picked}
 use Rattle.rows.specs.Walks.{kept_by, place_in, is_work, is_cost_resource, picked_by, Picks}
 use Rattle.rows.specs.Tables.{listed, later_in, listed_by, Lists, unbounded_of}
 use Rattle.rows.specs.declared.table.Listed.{Listed}
@@ -28,30 +28,30 @@ kept_is (Some (x, left)) = refl
 pub tasks_lists : {s : Text} {es : List Element} {r : Option (Place × ℕ)} → es ≡ kept_by r → Past s 0 (place_in r) → Lists s Listed.Tasks es r
 tasks_lists {r = r} h k = record { is = h ∙ kept_is r; there = k }
 
-picks_lists : {s : Text} {l : Listed} {w : Element → Bool} {k es : List Element} (f : Option Place) {r : Option (Place × ℕ)}
-    → ((x : Place) → picked_by (bytes "Resource") w (Some x) ≡ listed_by l (Some (x, 0))) → keep w k ≡ es → Picks s (bytes "Resource") w k f → r ≡ unbounded_of f → Lists s l es r
+picks_lists : {s : Text} {l : Listed} {w : Element → Bool} {k es : List Element} {m : ℕ} (f : Option Place) {r : Option (Place × ℕ)}
+    → ((x : Place) → picked_by (bytes "Resource") w (Some x) ≡ listed_by l (Some (x, 0))) → keep w k ≡ es → Picks s (bytes "Resource") w k m f → r ≡ unbounded_of f → Lists s l es r
 unfolding picked_by listed_by Past
 picks_lists None list e h i = rw i (record { is = sym e ∙ h.is; there = tt })
-picks_lists (Some x) list e h i = rw i (record { is = sym e ∙ h.is ∙ list x; there = h.there })
+picks_lists {s} {m = m} (Some x) list e h i = rw i (record { is = sym e ∙ h.is ∙ list x; there = past_all s m (Some x) h.there })
 
 abbrev resources_in : Element → List Element
 resources_in root = all_in (child root (bytes "Resources")) (bytes "Resource")
 
-module _ {s : Text} {f : Option Place} {r : Option (Place × ℕ)} where
-  pub first_work : (root : Element) → Picks s (bytes "Resource") is_work (resources_in root) f → r ≡ unbounded_of f → Lists s Listed.Work (work_resources root) r
+module _ {s : Text} {m : ℕ} {f : Option Place} {r : Option (Place × ℕ)} where
+  pub first_work : (root : Element) → Picks s (bytes "Resource") is_work (resources_in root) m f → r ≡ unbounded_of f → Lists s Listed.Work (work_resources root) r
   unfolding picked_by listed_by later_in
   first_work root = picks_lists f (λ x. refl) (work_picked root)
 
-  pub first_cost : (root : Element) → Picks s (bytes "Resource") is_cost_resource (resources_in root) f → r ≡ unbounded_of f → Lists s Listed.Cost (cost_resources root) r
+  pub first_cost : (root : Element) → Picks s (bytes "Resource") is_cost_resource (resources_in root) m f → r ≡ unbounded_of f → Lists s Listed.Cost (cost_resources root) r
   unfolding picked_by listed_by later_in
   first_cost root = picks_lists f (λ x. refl) (cost_picked root)
 
   module _ (x : Place) (left : ℕ) where
-    pub next_work : Picks s (bytes "Resource") is_work (later (bytes "Resource") x) f → r ≡ unbounded_of f → Lists s Listed.Work (later_in Listed.Work x left) r
+    pub next_work : Picks s (bytes "Resource") is_work (later (bytes "Resource") x) m f → r ≡ unbounded_of f → Lists s Listed.Work (later_in Listed.Work x left) r
     unfolding picked_by listed_by later_in
     next_work = picks_lists f (λ x. refl) refl
 
-    pub next_cost : Picks s (bytes "Resource") is_cost_resource (later (bytes "Resource") x) f → r ≡ unbounded_of f → Lists s Listed.Cost (later_in Listed.Cost x left) r
+    pub next_cost : Picks s (bytes "Resource") is_cost_resource (later (bytes "Resource") x) m f → r ≡ unbounded_of f → Lists s Listed.Cost (later_in Listed.Cost x left) r
     unfolding picked_by listed_by later_in
     next_cost = picks_lists f (λ x. refl) refl
 

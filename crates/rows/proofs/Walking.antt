@@ -1,6 +1,6 @@
 -- The walks: each turn of the search for the next element that counts. Assumes nothing.
 use Rattle.std.proofs.Common.{◌≡◌, ℕ, zero, suc, ◌+◌, ◌-◌, ◌<◌, ◌≤◌, Bool, true, false, not, List, [], ◌∷◌, length, take, length-append, sym, refl, ap, ◌∙◌, arith}
-use Rattle.std.specs.Prelude.{Option, Some, None, is_some, IfSome}
+use Rattle.std.specs.Prelude.{if◌then◌else◌, Option, Some, None, is_some, IfSome}
 use Rattle.std.proofs.lemmas.Bool.{false≢true}
 use lib.Seq.{take-nil}
 use borrow.Author.Tests.{not-true}
@@ -19,7 +19,7 @@ use Rattle.tree.specs.declared.root.Root.{Root}
 use Rattle.tree.specs.declared.element.Element.{Element as Place}
 use Rattle.rows.specs.Rows.{in_order, calendar_meaning, row_zero}
 use Rattle.rows.specs.Turns.{list_at, list_end, past_all, past_in, past_on, past_from, keep_head}
-use Rattle.rows.specs.Walks.{kept_by, place_in, KeptFrom, is_plain, is_derived, picked_by, Picks, PicksFrom, later_in_order, order_by, OrdersAfter}
+use Rattle.rows.specs.Walks.{kept_by, place_in, room, KeptFrom, is_plain, is_derived, picked_by, Picks, PicksFrom, later_in_order, order_by, order_room, OrdersAfter}
 
 -- ---- the kept tasks
 
@@ -40,35 +40,37 @@ pub take_out : {A : Type 0} (n : ℕ) {l : List A} → l ≡ [] → take n l ≡
 take_out n e = ap (take n) e ∙ take-nil n
 
 -- the search among at most so many: what is left of it
-pub record TasksIn (start : Option Place) (l : List Element) (next : Option Place) (left : ℕ) : Type 0 where
-  pub is : l ≡ keep is_kept (take left (list_of (bytes "Task") next))
+pub record TasksIn (start : Option Place) (most : ℕ) (next : Option Place) (left : ℕ) : Type 0 where
+  pub is : keep is_kept (take most (list_of (bytes "Task") start)) ≡ keep is_kept (take left (list_of (bytes "Task") next))
   pub there : (s : Text) → Past s 0 start → Past s 0 next
+  pub few : left ≤ most
 
-pub tasks_all : (start : Option Place) (most : ℕ) → TasksIn start (keep is_kept (take most (list_of (bytes "Task") start))) start most
-tasks_all start most = record { is = refl; there = λ s h. h }
+pub tasks_all : (start : Option Place) (most : ℕ) → TasksIn start most start most
+tasks_all start most = record { is = refl; there = λ s h. h; few = omega arith }
 
-module _ {start next : Option Place} (most : ℕ) {left : ℕ} (h : TasksIn start (keep is_kept (take most (list_of (bytes "Task") start))) next left) where
+module _ {start next : Option Place} (most : ℕ) {left : ℕ} (h : TasksIn start most next left) where
   pub kept_none : next ≡ None → KeptFrom start most None
-  unfolding kept_by keep Past
-  kept_none e = record { is = h.is ∙ ap (λ (l : List Element). keep is_kept (take left l)) (list_end (bytes "Task") e) ∙ ap (keep is_kept) (take-nil left); there = λ s z. tt }
+  unfolding kept_by room keep Past
+  kept_none e = record { is = h.is ∙ ap (λ (l : List Element). keep is_kept (take left l)) (list_end (bytes "Task") e) ∙ ap (keep is_kept) (take-nil left); there = λ s z. tt; few = omega arith }
 
   pub kept_out : left ≡ 0 → KeptFrom start most None
-  unfolding kept_by keep Past
-  kept_out e = record { is = h.is ∙ rw e; there = λ s z. tt }
+  unfolding kept_by room keep Past
+  kept_out e = record { is = h.is ∙ rw e; there = λ s z. tt; few = omega arith }
 
   module _ {x : Place} (e : next ≡ Some x) (k : 0 < left) where
     is_more : keep is_kept (take most (list_of (bytes "Task") start)) ≡ keep is_kept (meaning x ∷ take (left - 1) (later (bytes "Task") x))
     is_more = h.is ∙ ap (λ (l : List Element). keep is_kept (take left l)) (list_at (bytes "Task") e) ∙ ap (keep is_kept) (take_more left (meaning x) (later (bytes "Task") x) k)
 
     pub kept_here : is_kept (meaning x) ≡ true → KeptFrom start most (Some (x, (left - 1)))
-    unfolding kept_by
-    kept_here i = record { is = is_more ∙ keep_yes is_kept (meaning x) _ i; there = λ s z. rw e at (h.there s z) }
+    unfolding kept_by room
+    kept_here i = record { is = is_more ∙ keep_yes is_kept (meaning x) _ i; there = λ s z. rw e at (h.there s z); few = omega (arith, h.few, k) }
 
     pub tasks_later : is_kept (meaning x) ≡ false → {r : Option Place} → Starts x.tree.now (bytes "Task") (later (bytes "Task") x) (x.at + 1) r
-        → TasksIn start (keep is_kept (take most (list_of (bytes "Task") start))) r (left - 1)
+        → TasksIn start most r (left - 1)
     tasks_later i {r} j = record {
       is = is_more ∙ keep_no is_kept (meaning x) _ i ∙ ap (λ (l : List Element). keep is_kept (take (left - 1) l)) j.is;
       there = λ s z. past_on r (past_in e (h.there s z)) j.on;
+      few = omega (arith, h.few);
     }
 
 pub kept_first : (root : Element) {s : Text} {m : ℕ} {f : Option Place} {r : Option (Place × ℕ)} → Starts s (bytes "Task") (all_in (child root (bytes "Tasks")) (bytes "Task")) m f → KeptFrom f most_tasks r → kept_tasks root ≡ kept_by r
@@ -99,29 +101,29 @@ kept_stop e = rw e
 -- the search from where a list starts: what is left of it
 pub record Left (n : Text) (w : Element → Bool) (start e : Option Place) : Type 0 where
   pub is : keep w (list_of n start) ≡ keep w (list_of n e)
-  pub on : (s : Text) → Past s 0 start → Past s 0 e
+  pub on : (s : Text) (m : ℕ) → Past s m start → Past s m e
 
 pub left_all : {n : Text} {w : Element → Bool} {e : Option Place} → Left n w e e
-left_all = record { is = refl; on = λ s h. h }
+left_all = record { is = refl; on = λ s m h. h }
 
 module _ {n : Text} {w : Element → Bool} {start e : Option Place} (h : Left n w start e) where
   pub picks_none : e ≡ None → PicksFrom n w start None
   unfolding keep picked_by Past
-  picks_none i = record { is = h.is ∙ ap (keep w) (list_end n i); there = λ s k. tt }
+  picks_none i = record { is = h.is ∙ ap (keep w) (list_end n i); there = λ s m k. tt }
 
   module _ {x : Place} (i : e ≡ Some x) where
     pub picks_here : w (meaning x) ≡ true → PicksFrom n w start (Some x)
     unfolding picked_by
-    picks_here j = record { is = h.is ∙ ap (keep w) (list_at n i) ∙ keep_yes w (meaning x) _ j; there = λ s k. rw i at (h.on s k) }
+    picks_here j = record { is = h.is ∙ ap (keep w) (list_at n i) ∙ keep_yes w (meaning x) _ j; there = λ s m k. rw i at (h.on s m k) }
 
     pub left_later : w (meaning x) ≡ false → {r : Option Place} → Starts x.tree.now n (later n x) (x.at + 1) r → Left n w start r
     left_later j {r} k = record {
       is = h.is ∙ ap (keep w) (list_at n i) ∙ keep_no w (meaning x) _ j ∙ ap (keep w) k.is;
-      on = λ s z. past_on r (past_in i (h.on s z)) k.on;
+      on = λ s m z. past_from r (past_in i (h.on s m z)) k.on;
     }
 
-pub picks_of : {s n : Text} {w : Element → Bool} {l : List Element} {m : ℕ} {f r : Option Place} → Starts s n l m f → PicksFrom n w f r → Picks s n w l r
-picks_of {s} {w = w} {f = f} i h = record { is = ap (keep w) i.is ∙ h.is; there = h.there s (past_all s _ f i.on) }
+pub picks_of : {s n : Text} {w : Element → Bool} {l : List Element} {m : ℕ} {f r : Option Place} → Starts s n l m f → PicksFrom n w f r → Picks s n w l m r
+picks_of {s} {w = w} {m = m} i h = record { is = ap (keep w) i.is ∙ h.is; there = h.there s m i.on }
 
 -- ---- a section
 
@@ -138,6 +140,30 @@ pub none_if : {A : Type 0} (o : Option A) → is_some o ≡ false → o ≡ None
 none_if None h = refl
 none_if (Some x) h = absurd (false≢true (sym h))
 
+-- how many follow an element: over no base, at most those of the root's tree and those from its position on; over one, these
+module _ (s : Text) where
+  room_from : (u : Text) (m : ℕ) (f : Option Place) → Past u m f → order_room s f < suc (length s + (suc (length u) - m))
+  unfolding order_room Past
+  room_from u m None h = omega arith
+  room_from u m (Some x) h = by (given (base_of (meaning x)))
+    where
+      by : (t : Bool) → (if t then suc (length x.tree.now - x.at) else suc (length s + (length x.tree.now - x.at))) < suc (length s + (suc (length u) - m))
+      by true = rw h.tree (omega (arith, h.after, h.inside))
+      by false = rw h.tree (omega (arith, h.after, h.inside))
+
+  room_over : {u : Text} {m : ℕ} {l : List Element} (f : Option Place) → Picks u (bytes "Calendar") is_derived l m f → order_room s f ≤ suc (length u) - m
+  unfolding order_room Past picked_by is_derived
+  room_over None h = omega arith
+  room_over {l = l} (Some x) h = rw (keep_head is_derived l h.is, h.there.tree) (omega (arith, h.there.after, h.there.inside))
+
+  pub room_next : (x : Place) {l : List Element} {r : Option Place} → given (base_of (meaning x)) ≡ true → Picks x.tree.now (bytes "Calendar") is_derived l (x.at + 1) r → order_room s r < order_room s (Some x)
+  unfolding order_room
+  room_next x {r = r} g h = rw g (omega (arith, room_over r h))
+
+  pub room_on : (x : Place) (r : Option Place) → given (base_of (meaning x)) ≡ false → order_room s r < suc (length s + (suc (length x.tree.now) - (x.at + 1))) → order_room s r < order_room s (Some x)
+  unfolding order_room
+  room_on x r g h = rw g (omega (arith, h))
+
 module _ (root : Element) where
   derived_list : (l : List Element) (r : Option Place) → keep is_derived l ≡ picked_by (bytes "Calendar") is_derived r → keep is_derived l ≡ order_by root r
   unfolding picked_by order_by later_in_order is_derived
@@ -146,35 +172,37 @@ module _ (root : Element) where
 
   pub after_plain : {s : Text} {f : Option Place} {x : Place} → f ≡ Some x → OrdersAfter s root f (Some x)
   unfolding picked_by order_by later_in_order is_plain
-  after_plain {f = f} {x} e = record {
+  after_plain {s} {f} {x} e = record {
     is = λ l h.
         let i : keep is_plain l ≡ picked_by (bytes "Calendar") is_plain (Some x) = rw e at h in
         let g : given (base_of (meaning x)) ≡ false = not-true _ (keep_head is_plain l i) in
         rw (i, g);
     there = λ h. rw e at h;
+    few = λ u m h. room_from s u m (Some x) (rw e at h);
   }
 
-  pub after_none : {s : Text} {f : Option Place} {r : Option Place} → f ≡ None → Picks s (bytes "Calendar") is_derived (calendar_elements root) r → OrdersAfter s root f r
+  pub after_none : {s : Text} (m : ℕ) {f : Option Place} {r : Option Place} → f ≡ None → Picks s (bytes "Calendar") is_derived (calendar_elements root) (m + 1) r → OrdersAfter s root f r
   unfolding picked_by
-  after_none {f = f} {r} e d = record {
+  after_none {s} m {f} {r} e d = record {
     is = λ l h. let i : keep is_plain l ≡ [] = rw e at h in rw i (derived_list (calendar_elements root) r d.is);
-    there = λ h. d.there;
+    there = λ h. past_all s (m + 1) r d.there;
+    few = λ u k h. omega (arith, room_over s r d);
   }
 
   pub after_some : {s : Text} (f : Option Place) → is_some f ≡ true → OrdersAfter s root f f
   after_some None h = absurd (false≢true h)
   after_some (Some x) h = after_plain refl
 
-  pub order_first : {s : Text} {f r : Option Place} → Picks s (bytes "Calendar") is_plain (calendar_elements root) f → OrdersAfter s root f r → in_order root ≡ order_by root r
+  pub order_first : {s : Text} {m : ℕ} {f r : Option Place} → Picks s (bytes "Calendar") is_plain (calendar_elements root) m f → OrdersAfter s root f r → in_order root ≡ order_by root r
   unfolding in_order is_plain is_derived
   order_first h a = a.is (calendar_elements root) h.is
 
   module _ (x : Place) where
-    pub order_over : {s : Text} {r : Option Place} → given (base_of (meaning x)) ≡ true → Picks s (bytes "Calendar") is_derived (later (bytes "Calendar") x) r → later_in_order root x ≡ order_by root r
+    pub order_over : {s : Text} {m : ℕ} {r : Option Place} → given (base_of (meaning x)) ≡ true → Picks s (bytes "Calendar") is_derived (later (bytes "Calendar") x) m r → later_in_order root x ≡ order_by root r
     unfolding later_in_order
     order_over {r = r} g h = rw g (derived_list _ r h.is)
 
-    pub order_plain : {s u : Text} {f r : Option Place} → given (base_of (meaning x)) ≡ false → Picks s (bytes "Calendar") is_plain (later (bytes "Calendar") x) f → OrdersAfter u root f r → later_in_order root x ≡ order_by root r
+    pub order_plain : {s u : Text} {m : ℕ} {f r : Option Place} → given (base_of (meaning x)) ≡ false → Picks s (bytes "Calendar") is_plain (later (bytes "Calendar") x) m f → OrdersAfter u root f r → later_in_order root x ≡ order_by root r
     unfolding later_in_order
     order_plain g h a = rw g (a.is (later (bytes "Calendar") x) h.is)
 

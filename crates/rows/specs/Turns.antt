@@ -139,5 +139,5 @@ own_missing e {t} h k = by (trim e.text) h
 pub starts_same : {s n : Text} {l k : List Element} {m : ℕ} {r : Option Place} → k ≡ l → Starts s n l m r → Starts s n k m r
 starts_same e h = record { is = e ∙ h.is; on = h.on }
 
-pub picks_same : {s n : Text} {w : Element → Bool} {l k : List Element} {r : Option Place} → k ≡ l → Picks s n w l r → Picks s n w k r
+pub picks_same : {s n : Text} {w : Element → Bool} {l k : List Element} {m : ℕ} {r : Option Place} → k ≡ l → Picks s n w l m r → Picks s n w k m r
 picks_same {w = w} e h = record { is = ap (keep w) e ∙ h.is; there = h.there }

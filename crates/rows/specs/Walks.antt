@@ -1,5 +1,5 @@
--- Walks over elements: what an answer stands for, and what an iterator has left. Assumes nothing: these are definitions.
-use Rattle.std.specs.Prelude.{if◌then◌else◌, ◌≡◌, ℕ, Bool, not, ◌&&◌, List, [], ◌∷◌, ◌++◌, take}
+-- Walks over elements: what an answer stands for, how much is left behind it, and what an iterator has left. Assumes nothing: these are definitions.
+use Rattle.std.specs.Prelude.{if◌then◌else◌, ◌≡◌, ℕ, suc, ◌+◌, ◌-◌, ◌<◌, ◌≤◌, Bool, not, ◌&&◌, List, [], ◌∷◌, ◌++◌, length, take}
 use Rattle.std.specs.Prelude.{None, Option, Some, MatchOption}
 use Rattle.definition.specs.Base.{given, keep}
 use Rattle.definition.specs.Ascii.{bytes}
@@ -29,10 +29,16 @@ abbrev pub place_in : Option (Place × ℕ) → Option Place
 place_in None = None
 place_in (Some (x, left)) = Some x
 
+-- at most so many
+unfoldable pub room : Option (Place × ℕ) → ℕ
+room None = 0
+room (Some (x, left)) = suc left
+
 -- r stands for those that are kept of the first so many, from where a list of tasks starts
 pub record KeptFrom (start : Option Place) (most : ℕ) (r : Option (Place × ℕ)) : Type 0 where
   pub is : keep is_kept (take most (list_of (bytes "Task") start)) ≡ kept_by r
   pub there : (s : Text) → Past s 0 start → Past s 0 (place_in r)
+  pub few : room r ≤ most
 
 abbrev pub kept_left : KeptTasks → List Element
 kept_left k = kept_by k.next
@@ -62,15 +68,15 @@ unfoldable pub picked_by : Text → (Element → Bool) → Option Place → List
 picked_by n w None = []
 picked_by n w (Some x) = meaning x ∷ keep w (later n x)
 
--- r stands for those of l that pass
-pub record Picks (s n : Text) (w : Element → Bool) (l : List Element) (r : Option Place) : Type 0 where
+-- r stands for those of l that pass, from a position on
+pub record Picks (s n : Text) (w : Element → Bool) (l : List Element) (from : ℕ) (r : Option Place) : Type 0 where
   pub is : keep w l ≡ picked_by n w r
-  pub there : Past s 0 r
+  pub there : Past s from r
 
 -- from where a list of elements starts
 pub record PicksFrom (n : Text) (w : Element → Bool) (start r : Option Place) : Type 0 where
   pub is : keep w (list_of n start) ≡ picked_by n w r
-  pub there : (s : Text) → Past s 0 start → Past s 0 r
+  pub there : (s : Text) (from : ℕ) → Past s from start → Past s from r
 
 -- ---- the calendars in the order in which they are built
 
@@ -85,10 +91,16 @@ unfoldable pub order_by : Element → Option Place → List Element
 order_by root None = []
 order_by root (Some x) = meaning x ∷ later_in_order root x
 
+-- at most so many, in a tree s: those over one that stand behind an element over one; behind another, all that are over one too
+unfoldable pub order_room : Text → Option Place → ℕ
+order_room s None = 0
+order_room s (Some x) = if given (base_of (meaning x)) then suc (length x.tree.now - x.at) else suc (length s + (length x.tree.now - x.at))
+
 -- after those without a base
 pub record OrdersAfter (s : Text) (root : Element) (plain r : Option Place) : Type 0 where
   pub is : (l : List Element) → keep is_plain l ≡ picked_by (bytes "Calendar") is_plain plain → keep is_plain l ++ keep is_derived (calendar_elements root) ≡ order_by root r
   pub there : Past s 0 plain → Past s 0 r
+  pub few : (u : Text) (from : ℕ) → Past u from plain → order_room s r < suc (length s + (suc (length u) - from))
 
 abbrev pub calendars_left : CalendarsInOrder → List Element
 calendars_left c = order_by (root_at c.root) c.next

@@ -1,12 +1,12 @@
 // The calendars in the order in which they are built: those without a base, then the others.
-ghost use Rattle.std.specs.Prelude.{◌≡◌, IfSome};
+ghost use Rattle.std.specs.Prelude.{◌≡◌, suc, ◌+◌, ◌<◌, length, Some, IfSome};
 ghost use Rattle.std.specs.Iterator.{item_count};
 ghost use Rattle.definition.specs.Base.{◌>>=◌ as bind, first as first_of, numbered};
 ghost use Rattle.definition.specs.Field.{text_in};
 ghost use Rattle.tree.specs.Place.{Past};
 ghost use Rattle.tree.specs.Root.{root_at};
 ghost use Rattle.rows.specs.Rows.{in_order, with_uid_in, main_in, calendar_meaning};
-ghost use Rattle.rows.specs.Walks.{Gives, later_in_order, order_by, OrdersAfter, calendars_left, CalendarsOf};
+ghost use Rattle.rows.specs.Walks.{Gives, later_in_order, order_by, order_room, OrdersAfter, calendars_left, CalendarsOf};
 
 use crate::section::{Derived, Plain, first_which, next_which};
 use tree::{Element, Root};
@@ -26,6 +26,7 @@ fn or_derived<'a>(root: Root<'a>, plain: Option<Element<'a>>) -> Option<Element<
 pub fn first_calendar(root: Root<'_>) -> Option<Element<'_>>
     ensures is { in_order (root_at root.entry) ≡ order_by (root_at root.entry) result }
     ensures there { Past root.entry.tree.now 0 result }
+    ensures few { order_room root.entry.tree.now result < suc (length root.entry.tree.now + length root.entry.tree.now) }
 {
     or_derived(
         root,
@@ -37,6 +38,7 @@ pub fn first_calendar(root: Root<'_>) -> Option<Element<'_>>
 pub fn next_calendar<'a>(root: Root<'a>, e: Element<'a>) -> Option<Element<'a>>
     ensures is { later_in_order (root_at root.entry) e.entry ≡ order_by (root_at root.entry) result }
     ensures there { e.entry.tree.now ≡ root.entry.tree.now → Past root.entry.tree.now 0 result }
+    ensures few { order_room root.entry.tree.now result < order_room root.entry.tree.now (Some e.entry) }
 {
     if calendar::has_base(e) {
         return next_which::<Derived>(e, b"Calendar");

@@ -1,12 +1,12 @@
 // The kept tasks: those among the first 100,000 that have a UID other than `0` and a level of at least 1.
-ghost use Rattle.std.specs.Prelude.{◌≡◌, map, length, take};
+ghost use Rattle.std.specs.Prelude.{◌≡◌, ◌≤◌, map, length, take};
 ghost use Rattle.std.specs.Iterator.{item_count};
 ghost use Rattle.definition.specs.Base.{keep, some?};
 ghost use Rattle.definition.specs.Ascii.{bytes};
-ghost use Rattle.definition.specs.Task.{level_of, is_kept, kept_tasks, parent_of, is_elapsed, is_fractional};
+ghost use Rattle.definition.specs.Task.{level_of, most_tasks, is_kept, kept_tasks, parent_of, is_elapsed, is_fractional};
 ghost use Rattle.tree.specs.Place.{later, Past};
 ghost use Rattle.tree.specs.Root.{root_at};
-ghost use Rattle.rows.specs.Walks.{Gives, kept_by, place_in, KeptFrom, kept_left, KeptOf};
+ghost use Rattle.rows.specs.Walks.{Gives, kept_by, place_in, room, KeptFrom, kept_left, KeptOf};
 
 use tree::{Element, Root};
 
@@ -34,6 +34,7 @@ fn kept_from(start: Option<Element<'_>>, most: u32) -> Option<(Element<'_>, u32)
 pub fn first_kept(root: Root<'_>) -> Option<(Element<'_>, u32)>
     ensures is { kept_tasks (root_at root.entry) ≡ kept_by result }
     ensures there { Past root.entry.tree.now 0 (place_in result) }
+    ensures few { room result ≤ most_tasks }
 {
     kept_from(root.part(root.tasks).child(b"Task"), 100000)
 }
@@ -42,6 +43,7 @@ pub fn first_kept(root: Root<'_>) -> Option<(Element<'_>, u32)>
 pub fn next_kept(task: Element<'_>, left: u32) -> Option<(Element<'_>, u32)>
     ensures is { keep is_kept (take left (later (bytes "Task") task.entry)) ≡ kept_by result }
     ensures there { Past task.entry.tree.now 0 (place_in result) }
+    ensures few { room result ≤ left }
 {
     kept_from(task.next(b"Task"), left)
 }

@@ -79,14 +79,14 @@ fn which_from<'a, T: Test>(start: Option<Element<'a>>, name: &[u8]) -> Option<El
 
 // The first child of the name that passes.
 pub(crate) fn first_which<'a, T: Test>(e: Element<'a>, name: &[u8]) -> Option<Element<'a>>
-    ensures { Picks e.entry.tree.now name.now T.test (all (meaning e.entry) name.now) result }
+    ensures { Picks e.entry.tree.now name.now T.test (all (meaning e.entry) name.now) (e.entry.at + 1) result }
 {
     which_from::<T>(e.child(name), name)
 }
 
 // The next sibling of the name that passes.
 pub(crate) fn next_which<'a, T: Test>(e: Element<'a>, name: &[u8]) -> Option<Element<'a>>
-    ensures { Picks e.entry.tree.now name.now T.test (later name.now e.entry) result }
+    ensures { Picks e.entry.tree.now name.now T.test (later name.now e.entry) (e.entry.at + 1) result }
 {
     which_from::<T>(e.next(name), name)
 }

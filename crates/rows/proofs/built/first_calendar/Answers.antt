@@ -1,6 +1,7 @@
+use Rattle.std.proofs.Common.{arith, ◌+◌}
 use Rattle.definition.specs.Ascii.{bytes}
 use Rattle.tree.specs.Root.{root_at, in_calendars}
-use Rattle.rows.specs.Turns.{picks_same}
+use Rattle.rows.specs.Turns.{picks_same, past_all}
 use Rattle.rows.proofs.Walking.{order_first}
 use Rattle.rows.proofs.built.first_calendar.Goals as goal
 
@@ -10,4 +11,14 @@ returns-clause-is c =
     order_first (root_at root) (picks_same (in_calendars root (bytes "Calendar")) (rw c.part.ensures at c.first_which.ensures)) c.or_derived.ensures
 
 pub returns-clause-there : goal.returns-clause-there
-returns-clause-there c = c.or_derived.ensures.there (rw c.part.ensures at c.first_which.ensures).there
+returns-clause-there c =
+    let root = c.args.root in
+    let first = rw c.part.ensures at c.first_which.ensures in
+    c.or_derived.ensures.there (past_all root.tree.now (root.calendars + 1) c.first_which.result first.there)
+
+pub returns-clause-few : goal.returns-clause-few
+returns-clause-few c =
+    let root = c.args.root in
+    let first = rw c.part.ensures at c.first_which.ensures in
+    let few = c.or_derived.ensures.few root.tree.now (root.calendars + 1) first.there in
+    omega (arith, few)

@@ -11,4 +11,4 @@ returns-then-is_some c = after_some (root_at c.args.root) c.args.plain (sym c.is
 pub returns : goal.returns
 returns c =
     let root = c.args.root in
-    after_none (root_at root) (none_if _ (sym c.is_some.ensures ∙ c.if-is_some.false)) (picks_same (in_calendars root (bytes "Calendar")) (rw c.part.ensures at c.first_which.ensures))
+    after_none (root_at root) root.calendars (none_if _ (sym c.is_some.ensures ∙ c.if-is_some.false)) (picks_same (in_calendars root (bytes "Calendar")) (rw c.part.ensures at c.first_which.ensures))

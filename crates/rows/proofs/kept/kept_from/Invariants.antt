@@ -1,13 +1,11 @@
-use Rattle.std.proofs.Common.{length, take}
-use Rattle.definition.specs.Base.{keep}
+use Rattle.std.proofs.Common.{length}
 use Rattle.definition.specs.Ascii.{bytes}
-use Rattle.definition.specs.Task.{is_kept}
 use Rattle.tree.specs.Place.{list_of}
 use Rattle.rows.proofs.Walking.{TasksIn}
 use Rattle.rows.proofs.kept.kept_from.Given as goal
 
 abbrev pub invariant-loop-next : goal.invariant-loop-next
-invariant-loop-next l = TasksIn l.initial.next (keep is_kept (take l.most (list_of (bytes "Task") l.initial.next))) l.next l.left
+invariant-loop-next l = TasksIn l.initial.next l.most l.next l.left
 
 abbrev pub decreases-loop-next : goal.decreases-loop-next
 decreases-loop-next l = length (list_of (bytes "Task") l.next)

@@ -6,3 +6,6 @@ returns-clause-is c = kept_after c.next.ensures c.kept_from.ensures
 
 pub returns-clause-there : goal.returns-clause-there
 returns-clause-there c = kept_there c.next.ensures c.kept_from.ensures
+
+pub returns-clause-few : goal.returns-clause-few
+returns-clause-few c = c.kept_from.ensures.few
