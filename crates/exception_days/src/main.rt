@@ -94,14 +94,16 @@ fn put_tree(rt: &impl Print, s: &[u8]) -> io::Result<()> {
     }
 }
 
-// A read or a write that fails ends the program, which says nothing of it.
+// One byte more than a tree may have. A read that fails ends the input; a write that fails ends the program, which says nothing of it.
 fn main(rt: HostRuntime) {
-    let mut room = Cursor::new([0u8; MOST]);
-    let Ok(n) = io::copy(&mut rt.reader(), &mut room) else {
+    let mut room = Cursor::new([0u8; MOST + 1]);
+    // What came before it failed, by a read or as the room was full, stands in the room.
+    let _ = io::copy(&mut rt.reader(), &mut room);
+    let n = room.position() as usize;
+    if MOST < n {
         return;
-    };
-    // It fits, as the room's length bounds it.
-    if let Some(s) = room.get_ref().get(..n as usize) {
+    }
+    if let Some(s) = room.get_ref().get(..n) {
         let _ = put_tree(&rt, s);
     }
 }

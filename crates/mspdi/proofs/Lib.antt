@@ -1,4 +1,2 @@
 pub mod Left
 pub mod Natural
-pub mod OutlineLeft
-pub mod ReadLeft

@@ -28,14 +28,13 @@ fn put_model(rt: &impl Print, tree: &[u8]) -> io::Result<()> {
     rt.write_all(&room[..n])
 }
 
-// One byte more than a tree may have. A read or a write that fails ends the program, which says nothing of it.
+// One byte more than a tree may have. A read that fails ends the input; a write that fails ends the program, which says nothing of it.
 fn main(rt: HostRuntime) {
     let mut room = Cursor::new([0u8; MOST + 1]);
-    let Ok(n) = io::copy(&mut rt.reader(), &mut room) else {
-        return;
-    };
-    // It fits, as the room's length bounds it.
-    if let Some(tree) = room.get_ref().get(..n as usize) {
+    // What came before it failed, by a read or as the room was full, stands in the room.
+    let _ = io::copy(&mut rt.reader(), &mut room);
+    let n = room.position() as usize;
+    if let Some(tree) = room.get_ref().get(..n) {
         let _ = put_model(&rt, tree);
     }
 }

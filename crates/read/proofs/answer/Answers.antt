@@ -1,10 +1,7 @@
 use Rattle.std.proofs.Common.{sym, ap, ◌∙◌}
 use Rattle.definition.specs.Answer.{answer_number}
-use Rattle.read.proofs.Whole.{leaves_refused, leaves_read}
+use Rattle.read.proofs.Whole.{leaves_refused}
 use Rattle.read.proofs.answer.Goals as goal
-
-pub returns-in-Ok : goal.returns-in-Ok
-returns-in-Ok c = let a = c.args in leaves_read a.tree.now a.model.now (sym (ap answer_number c.in-Ok.is) ∙ c.judge.ensures) c.put_model.ensures
 
 pub returns-in-Err : goal.returns-in-Err
 returns-in-Err c =

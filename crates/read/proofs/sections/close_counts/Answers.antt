@@ -1,9 +1,6 @@
 use Rattle.std.proofs.Common.{◌∷◌, [], drop_of_length-le}
-use Rattle.read.proofs.Closing.{closing_none, closing_more, closing_all, left_next}
+use Rattle.read.proofs.Closing.{closing_more, closing_all, left_next}
 use Rattle.read.proofs.sections.close_counts.Goals as goal
-
-pub loop-count-init : goal.loop-count-init
-loop-count-init c = closing_none _ _
 
 pub loop-count-preserved : goal.loop-count-preserved
 loop-count-preserved c =
