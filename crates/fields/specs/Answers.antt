@@ -1,5 +1,6 @@
 -- What the answers mean, and laws of what may be missing. Assumes nothing.
 use Rattle.std.specs.Prelude.{ℕ, ◌≡◌, refl, ℤ, pos, negsuc}
+use Rattle.std.proofs.Common.{sym, ap, ◌∙◌}
 use Rattle.std.specs.Prelude.{Option, Some, None}
 use Rattle.definition.specs.Base.{◌or◌}
 use Rattle.definition.specs.Task.{not_below0}
@@ -15,3 +16,7 @@ unfolding unsigned_or
 unsigned_or_0 d None = refl
 unsigned_or_0 d (Some (pos n)) = refl
 unsigned_or_0 d (Some (negsuc n)) = refl
+
+-- an arm of a match on an answer: the answer is b, so what it means is what b means
+pub arm : {A B M : Type 0} (means : M → Option A) (f : Option A → B) {a b : M} {o : Option A} {r : B} → means a ≡ o → a ≡ b → r ≡ f (means b) → r ≡ f o
+arm means f h e k = k ∙ ap (λ a. f (means a)) (sym e) ∙ ap f h

@@ -1,6 +1,9 @@
 -- How a probe gives what may be absent, or too long. Assumes nothing.
 use Rattle.std.specs.Prelude.{ℕ, ◌≡◌, Bool, true, false, ℤ, pos, Float}
+use Rattle.std.proofs.Common.{sym, ap, ◌∙◌, to_z, of_z, SFits}
 use Rattle.std.specs.Prelude.{Option, Some, None, Ok, Err}
+use Rattle.std.specs.Int.{Width}
+use Rattle.std.proofs.lemmas.Int.{to_z-of_z}
 use Rattle.definition.specs.Number.{Reading, zero_float}
 use Rattle.definition.specs.declared.Duration.{Duration}
 use Rattle.definition.specs.declared.Unread.TheVariants.{Absent, Long}
@@ -52,3 +55,11 @@ pub record Minutes (o : Reading Duration) (r v w : ℕ) : Type 0 where
 pub record Number (o : Reading Float) (r : ℕ) (v : Float) : Type 0 where
   pub said : r ≡ code_read o
   pub held : v ≡ value_read zero_float o
+
+-- the code and the value of an integer, and of none
+module _ (o : Option ℤ) where
+  pub signed_is : (w : Width) {z : ℤ} → o ≡ Some z → SFits w z → Signed o 0 (to_z w (of_z w z))
+  signed_is w {z} e h = record { said = sym (ap code e); held = to_z-of_z w z h ∙ sym (ap (value (pos 0)) e) }
+
+  pub signed_absent : o ≡ None → Signed o 1 (pos 0)
+  signed_absent e = record { said = sym (ap code e); held = sym (ap (value (pos 0)) e) }

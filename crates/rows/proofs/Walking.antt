@@ -83,18 +83,8 @@ kept_after {left = left} i h = ap (λ (l : List Element). keep is_kept (take lef
 pub kept_there : {s n : Text} {l : List Element} {left m : ℕ} {f : Option Place} {r : Option (Place × ℕ)} → Starts s n l m f → KeptFrom f left r → Past s 0 (place_in r)
 kept_there {s} {f = f} i h = h.there s (past_all s _ f i.on)
 
--- a step of the iterator
-module _ {o : Option (Place × ℕ)} {x : Place} {left : ℕ} (e : o ≡ Some (x, left)) where
-  pub kept_step : (r : Option (Place × ℕ)) → keep is_kept (take left (later (bytes "Task") x)) ≡ kept_by r → kept_by o ≡ meaning x ∷ kept_by r
-  unfolding kept_by
-  kept_step r h = rw e (ap (λ (l : List Element). meaning x ∷ l) h)
-
 pub place_at : {o : Option (Place × ℕ)} {x : Place} {left : ℕ} → o ≡ Some (x, left) → place_in o ≡ Some x
 place_at e = rw e
-
-pub kept_stop : {o : Option (Place × ℕ)} → o ≡ None → kept_by o ≡ []
-unfolding kept_by
-kept_stop e = rw e
 
 -- ---- elements that pass a test
 
@@ -205,15 +195,6 @@ module _ (root : Element) where
     pub order_plain : {s u : Text} {m : ℕ} {f r : Option Place} → given (base_of (meaning x)) ≡ false → Picks s (bytes "Calendar") is_plain (later (bytes "Calendar") x) m f → OrdersAfter u root f r → later_in_order root x ≡ order_by root r
     unfolding later_in_order
     order_plain g h a = rw g (a.is (later (bytes "Calendar") x) h.is)
-
-  -- a step of the iterator
-  pub order_step : (r : Option Place) {o : Option Place} {x : Place} → o ≡ Some x → later_in_order root x ≡ order_by root r → order_by root o ≡ meaning x ∷ order_by root r
-  unfolding order_by
-  order_step r {x = x} e h = rw e (ap (λ (l : List Element). meaning x ∷ l) h)
-
-  pub order_stop : {o : Option Place} → o ≡ None → order_by root o ≡ []
-  unfolding order_by
-  order_stop e = rw e
 
 -- there are at most twice as many as the tree has bytes
 pub order_few : (root : Root) → length (in_order (root_at root)) ≤ length root.tree.now + length root.tree.now

@@ -1,5 +1,5 @@
 -- What a loop over a walk learns in each turn: the list that is left is the element and what the next answer stands for, and less is left. Assumes nothing.
-use Rattle.std.specs.Prelude.{if◌then◌else◌, ◌≡◌, ℕ, suc, ◌+◌, ◌<◌, Bool, true, false, not, ◌&&◌, List, [], ◌∷◌, length, ◌≢◌, refl}
+use Rattle.std.specs.Prelude.{if◌then◌else◌, ◌≡◌, ℕ, suc, ◌+◌, ◌-◌, ◌<◌, ◌≤◌, Bool, true, false, not, ◌&&◌, List, [], ◌∷◌, length, take, ◌≢◌, refl}
 use Rattle.std.proofs.Common.{arith, ◌∙◌}
 use Rattle.std.proofs.Math.Path.{sym, ap}
 use Rattle.std.proofs.lemmas.Bool.{false≢true}
@@ -9,11 +9,14 @@ use Rattle.definition.specs.Base.{◌>>=◌, ◌or◌, given, keep, some?}
 use Rattle.definition.specs.Ascii.{bytes}
 use Rattle.definition.specs.Text.{Text, trim}
 use Rattle.definition.specs.Tree.{Element, child, all_in, non_empty}
+use Rattle.definition.specs.Task.{is_kept}
+use Rattle.definition.specs.Calendar.{base_of}
 use Rattle.definition.specs.Resource.{is_resource, is_cost, work_resources, cost_resources}
+use Rattle.laws.specs.Keep.{one_if, keep_more}
 use Rattle.tree.specs.Place.{meaning, later, list_of, Within, Past, Starts}
 use Rattle.tree.specs.Root.{own_text}
 use Rattle.tree.specs.declared.element.Element.{Element as Place}
-use Rattle.rows.specs.Walks.{is_work, is_cost_resource, Picks}
+use Rattle.rows.specs.Walks.{ahead, kept_by, room, is_work, is_cost_resource, picked_by, Picks, later_in_order, order_by, order_room}
 
 -- ---- all elements of a name
 
@@ -31,10 +34,71 @@ list_next {s} {n} {x = x} i h = list_at n i ∙ ap (λ (l : List Element). meani
 pub list_less : {s n : Text} {e : Option Place} {x : Place} → e ≡ Some x → {from : ℕ} {r : Option Place} → Starts s n (later n x) from r → length (list_of n r) < length (list_of n e)
 list_less i h = rw (list_next i h) (omega arith)
 
+pub ahead_less : {e : Option Place} {x : Place} → e ≡ Some x → (r : Option Place) → Past x.tree.now (x.at + 1) r → ahead r < ahead e
+unfolding ahead Past
+ahead_less i None h = rw i (omega arith)
+ahead_less i (Some y) h = rw (i, h.tree) (omega (arith, h.after, h.inside))
+
 -- ---- a step of a walk
 
 pub step_less : {A : Type 0} {x : A} {l k : List A} → l ≡ x ∷ k → length k < length l
 step_less e = rw e (omega arith)
+
+-- ---- the kept tasks
+
+pub kept_end : {task : Option (Place × ℕ)} → task ≡ None → kept_by task ≡ []
+unfolding kept_by
+kept_end e = rw e
+
+pub kept_at : {task : Option (Place × ℕ)} {x : Place} {left : ℕ} → task ≡ Some (x, left) → kept_by task ≡ meaning x ∷ keep is_kept (take left (later (bytes "Task") x))
+unfolding kept_by
+kept_at e = rw e
+
+pub room_at : {task : Option (Place × ℕ)} {x : Place} {left : ℕ} → task ≡ Some (x, left) → room task ≡ suc left
+unfolding room
+room_at e = rw e
+
+module _ {task : Option (Place × ℕ)} {x : Place} {left : ℕ} (e : task ≡ Some (x, left)) (r : Option (Place × ℕ)) where
+  pub kept_next : keep is_kept (take left (later (bytes "Task") x)) ≡ kept_by r → kept_by task ≡ meaning x ∷ kept_by r
+  kept_next h = kept_at e ∙ ap (λ (l : List Element). meaning x ∷ l) h
+
+  pub kept_less : {n : ℕ} → room r ≤ n → n ≤ left → room r < room task
+  kept_less h k = omega (arith, h, room_at e)
+
+-- ---- elements that pass a test
+
+pub picked_end : (n : Text) (w : Element → Bool) {e : Option Place} → e ≡ None → picked_by n w e ≡ []
+unfolding picked_by
+picked_end n w i = rw i
+
+pub picked_next : {s n : Text} {w : Element → Bool} {e : Option Place} {x : Place} → e ≡ Some x → {from : ℕ} {r : Option Place} → Picks s n w (later n x) from r → picked_by n w e ≡ meaning x ∷ picked_by n w r
+unfolding picked_by
+picked_next {n = n} {w} {x = x} i h = ap (picked_by n w) i ∙ ap (λ (l : List Element). meaning x ∷ l) h.is
+
+-- ---- the calendars in the order in which they are built
+
+module _ (root : Element) where
+  pub order_end : {c : Option Place} → c ≡ None → order_by root c ≡ []
+  unfolding order_by
+  order_end i = rw i
+
+  pub order_at : {c : Option Place} {x : Place} → c ≡ Some x → order_by root c ≡ meaning x ∷ later_in_order root x
+  unfolding order_by
+  order_at i = rw i
+
+  pub order_next : {c : Option Place} {x : Place} → c ≡ Some x → (r : Option Place) → later_in_order root x ≡ order_by root r → order_by root c ≡ meaning x ∷ order_by root r
+  order_next {x = x} i r h = order_at i ∙ ap (λ (l : List Element). meaning x ∷ l) h
+
+pub order_some : (s : Text) {c : Option Place} {x : Place} → c ≡ Some x → 0 < order_room s c
+unfolding order_room
+order_some s {x = x} i = rw i (by (given (base_of (meaning x))))
+  where
+    by : (t : Bool) → 0 < (if t then suc (length x.tree.now - x.at) else suc (length s + (length x.tree.now - x.at)))
+    by true = omega arith
+    by false = omega arith
+
+pub order_less : (s : Text) {c : Option Place} {x : Place} → c ≡ Some x → (r : Option Place) → order_room s r < order_room s (Some x) → order_room s r < order_room s c
+order_less s i r h = rw i h
 
 -- ---- where a step leads
 
@@ -108,6 +172,29 @@ module _ {A : Type 0} {p : A → Bool} {t : Bool} {l : List A} (h : AnyIn p t l)
     pub any_on : p x ≡ false → {k' : List A} → k ≡ k' → AnyIn p t k'
     unfolding some?
     any_on j z = record { is = h.is ∙ rw (i, j, z) }
+
+-- ---- how many of a list pass: n before those that are left
+
+pub record ManyIn {A : Type 0} (p : A → Bool) (t n : ℕ) (l : List A) : Type 0 where
+  pub is : t ≡ n + length (keep p l)
+
+pub many_begin : {A : Type 0} (p : A → Bool) (l : List A) → ManyIn p (length (keep p l)) 0 l
+many_begin p l = record { is = omega arith }
+
+module _ {A : Type 0} {p : A → Bool} {t n : ℕ} {l : List A} (h : ManyIn p t n l) where
+  pub many_end : l ≡ [] → n ≡ t
+  unfolding keep
+  many_end i = omega (arith, h.is ∙ ap (λ l. n + length (keep p l)) i)
+
+  module _ {x : A} {k : List A} (i : l ≡ x ∷ k) {m : ℕ} (j : m ≡ one_if (p x)) where
+    many_next : t ≡ n + m + length (keep p k)
+    many_next = omega (arith, h.is ∙ ap (λ l. n + length (keep p l)) i, j, keep_more p x k)
+
+    pub many_room : n + m ≤ t
+    many_room = omega (arith, many_next)
+
+    pub many_on : {k' : List A} → k ≡ k' → ManyIn p t (n + m) k'
+    many_on z = record { is = many_next ∙ ap (λ l. n + m + length (keep p l)) z }
 
 -- ---- a text that may be missing
 

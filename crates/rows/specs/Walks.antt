@@ -18,6 +18,11 @@ use Rattle.rows.specs.declared.built.CalendarsInOrder.{CalendarsInOrder}
 abbrev pub Gives : {S : Type 0} → (S → Text → Type 0) → (S → List Element) → S → Option Place → S → Type 0
 Gives of left s r t = MatchOption r ((left s ≡ []) × (left t ≡ [])) (λ x. (left s ≡ meaning x ∷ left t) × ((u : Text) → of s u → Within u 0 x × of t u))
 
+-- how far it is to the end
+unfoldable pub ahead : Option Place → ℕ
+ahead None = 0
+ahead (Some x) = suc (length x.tree.now - x.at)
+
 -- ---- the kept tasks
 
 -- none, or one and those among so many later ones

@@ -2,3 +2,4 @@ pub mod Parts
 pub mod Cut
 pub mod Signs
 pub mod Whole
+pub mod Ranges
