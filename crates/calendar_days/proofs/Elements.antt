@@ -1,5 +1,5 @@
 -- The exceptions of a calendar, found one by one; whether an element names hours. Assumes nothing.
-use Rattle.std.proofs.Common.{◌||◌, ◌≡◌, ℕ, zero, suc, ◌+◌, ◌≤◌, Bool, true, false, not, eqb, List, [], ◌∷◌, ◌++◌, length, map, take, drop, sym, refl, ap, ◌∙◌, subst, append-nil, arith}
+use Rattle.std.proofs.Common.{◌||◌, ◌≡◌, ℕ, zero, suc, ◌+◌, ◌≤◌, Bool, true, false, not, eqb, List, [], ◌∷◌, ◌++◌, length, map, take, drop, length-drop, sym, refl, ap, ◌∙◌, append-nil, arith}
 use Rattle.recurrence.specs.declared.Range.{Range}
 use Rattle.recurrence.specs.declared.Rule.{Rule}
 use Rattle.calendar.specs.declared.hours.WorkingTime.{WorkingTime}
@@ -19,8 +19,8 @@ use Rattle.definition.specs.Tree.{Element, all, all_in, child}
 use Rattle.definition.specs.Calendar.{week_days, recurring, periods_of, is_empty, day_type}
 use Rattle.tree.specs.declared.element.Children.{Children}
 use Rattle.tree.specs.Place.{left, meaning, later, list_of, Past, Starts}
-use Rattle.tree.specs.Answer.{found_child, none_child, found_on}
-use Rattle.tree.specs.Few.{children_few}
+use Rattle.tree.specs.Answer.{found_child, none_child}
+use Rattle.tree.specs.Few.{later_few}
 use Rattle.tree.specs.declared.element.Element.{Element as Place}
 use Rattle.recurrence.specs.Element.{rule_days, RuleRead, RangeRead}
 use Rattle.calendar_days.specs.declared.exceptions.Exceptions.{Exceptions}
@@ -37,45 +37,27 @@ unfolding Past
 past_all s m (Some p) o = record { tree = o.tree; after = omega arith; inside = o.inside }
 past_all s m None o = tt
 
--- the elements of a name in a section, from the first on
-abbrev In : Text → Option Place → Option Place → Type 0
-In n o r = MatchOption o (r ≡ None) (λ x. Starts x.tree.now n (all (meaning x) n) (x.at + 1) r)
-
-record Found (s n : Text) (l : List Element) (r : Option Place) : Type 0 where
-  is : list_of n r ≡ l
-  there : Past s 0 r
-  few : length (list_of n r) ≤ length s
-
-found_in : (n : Text) (e : Element) {s section : Text} {m : ℕ} {o r : Option Place} → Starts s section (all e section) m o → In n o r → Found s n (all_in (child e section) n) r
+-- a list that starts behind the first byte is not longer than its tree
+list_few : (e : Place) (n : Text) (r : Option Place) → Past e.tree.now (e.at + 1) r → length (list_of n r) ≤ length e.tree.now
 unfolding Past list_of
-found_in n e {o = None} h k = rw (k, none_child e h refl) (record { is = refl; there = tt; few = omega arith })
-found_in n e {s} {o = Some x} {r} h k =
-    let t : x.tree.now ≡ s = (found_on h refl).tree in
-    let f : length (all (meaning x) n) ≤ length s = subst (λ (u : Text). length (all (meaning x) n) ≤ length u) t (children_few x.tree.now x.at n) in
-    rw (found_child e h refl) (record { is = sym k.is; there = rw t at (past_all x.tree.now (x.at + 1) r k.on); few = rw (sym k.is) f })
+list_few e n None o = omega arith
+list_few e n (Some p) o =
+    let l : length (later n p) ≤ length (drop p.at p.tree.now) = later_few (drop p.at p.tree.now) 0 n in
+    let t : length p.tree.now ≡ length e.tree.now = ap length o.tree in
+    omega (arith, l, t, length-drop p.at p.tree.now, o.after, o.inside)
 
-pub in_by : (n : Text) (o r : Option Place) {φ : Place → Type 0} → MatchOption o (r ≡ None) φ → ((x : Place) → φ x → Starts x.tree.now n (all (meaning x) n) (x.at + 1) r) → In n o r
-in_by n None r h k = h
-in_by n (Some x) r h k = k x h
-
-module _ (e : Element) {s : Text} {m k : ℕ} {o p : Option Place} (w x : Option Place) (h : Starts s (bytes "WeekDays") (all e (bytes "WeekDays")) m o) (i : In (bytes "WeekDay") o w)
-    (j : Starts s (bytes "Exceptions") (all e (bytes "Exceptions")) k p) (l : In (bytes "Exception") p x) where
-  both : Found s (bytes "WeekDay") (week_days e) w × Found s (bytes "Exception") (recurring e) x
-  both = (found_in (bytes "WeekDay") e h i, found_in (bytes "Exception") e j l)
-
-  pub items_begun : items_by w x ≡ items_of e
+module _ (e : Place) {w x : Option Place} (h : Starts e.tree.now (bytes "WeekDay") (week_days (meaning e)) (e.at + 1) w) (i : Starts e.tree.now (bytes "Exception") (recurring (meaning e)) (e.at + 1) x) where
+  pub items_begun : items_by w x ≡ items_of (meaning e)
   unfolding items_by items_of
-  items_begun = let (a, b) = both in
-      ap (λ (l : List Element). map (λ w. (true, w)) l ++ map (λ x. (false, x)) (list_of (bytes "Exception") x)) a.is
-      ∙ ap (λ (l : List Element). map (λ w. (true, w)) (week_days e) ++ map (λ x. (false, x)) l) b.is
+  items_begun = rw (h.is, i.is)
 
-  pub items_there : Past s 0 w × Past s 0 x
-  items_there = let (a, b) = both in (a.there, b.there)
+  pub items_there : Past e.tree.now 0 w × Past e.tree.now 0 x
+  items_there = (past_all _ _ w h.on, past_all _ _ x i.on)
 
-  pub items_few : length (items_by w x) ≤ length s + length s
+  pub items_few : length (items_by w x) ≤ length e.tree.now + length e.tree.now
   unfolding items_by
-  items_few = let (a, b) = both in
-      omega (arith, a.few, b.few, length-append {A = Item} (map (λ w. (true, w)) (list_of (bytes "WeekDay") w)) (map (λ x. (false, x)) (list_of (bytes "Exception") x)), length-map {B = Item} (list_of (bytes "WeekDay") w) (λ w. (true, w)), length-map {B = Item} (list_of (bytes "Exception") x) (λ x. (false, x)))
+  items_few =
+      omega (arith, list_few e (bytes "WeekDay") w h.on, list_few e (bytes "Exception") x i.on, length-append {A = Item} (map (λ w. (true, w)) (list_of (bytes "WeekDay") w)) (map (λ x. (false, x)) (list_of (bytes "Exception") x)), length-map {B = Item} (list_of (bytes "WeekDay") w) (λ w. (true, w)), length-map {B = Item} (list_of (bytes "Exception") x) (λ x. (false, x)))
 
 -- a WeekDay more
 module _ {w : Option Place} (x : Option Place) {w' : Option Place} {e : Place} {m : ℕ} (i : w ≡ Some e) (h : Starts e.tree.now (bytes "WeekDay") (later (bytes "WeekDay") e) m w') where

@@ -68,11 +68,9 @@ impl<'a> Exceptions<'a> {
         ensures of { ItemsOf result calendar.entry.tree.now }
         ensures few { length (items_left result) ≤ length calendar.entry.tree.now + length calendar.entry.tree.now }
     {
-        let week_days = calendar.child(b"WeekDays");
-        let all = calendar.child(b"Exceptions");
         Exceptions {
-            week_day: week_days.and_then(|w| w.child(b"WeekDay")),
-            recurring: all.and_then(|x| x.child(b"Exception")),
+            week_day: rows::first_in(calendar, b"WeekDays", b"WeekDay"),
+            recurring: rows::first_in(calendar, b"Exceptions", b"Exception"),
         }
     }
 }
@@ -108,7 +106,7 @@ fn daily(r: Range) -> Rule
     Rule {
         kind: DAILY,
         from,
-        last: Date(2932896),
+        last: Date(2932896), // 31 December 9999
         most: r.count,
         period: 1,
         month: None,
