@@ -1,11 +1,10 @@
 -- Exceptions that give no rule: one of them, and their number as 32 bits hold it. Assumes nothing.
-use Rattle.std.specs.Prelude.{if◌then◌else◌}
 use Rattle.std.proofs.Common.{◌≡◌, ℕ, ◌+◌, ◌%◌, ◌^◌, ◌<◌, Bool, true, false, true≢false, not, List, [], ◌∷◌, ◌++◌, sym, refl, ap, ◌∙◌, zero-add, arith}
 use native.Mathlib.Nat.{zero-mod, mod-add-mod, mod-eq_of_lt}
 use mathlib.Core.List.{flat_map}
 use Rattle.std.specs.Prelude.{Option, Some, None, is_some}
-use Rattle.std.specs.Int.{from_bool}
 use Rattle.std.specs.Option.{MatchOption}
+use Rattle.std.specs.List.{filter}
 use Rattle.definition.specs.Base.{◌>>=◌, given, keep}
 use Rattle.definition.specs.Ascii.{bytes}
 use Rattle.definition.specs.Text.{Text}
@@ -23,11 +22,11 @@ use Rattle.calendar.specs.Skipped.{one_if, without_rule, in_all}
 
 -- ---- one exception: whether it has a rule
 
-pub one_rule : (x : Element) (r : Option Rule) → r ≡ rule_by (rule_of x) → (b : Bool) → is_some r ≡ not b → (n : ℕ) → n ≡ from_bool b → n ≡ one_if x
+pub no_rule : (x : Element) (r : Option Rule) → r ≡ rule_by (rule_of x) → (b : Bool) → is_some r ≡ not b → b ≡ not (given (recurrence_days x))
 unfolding recurrence_days
-one_rule x r e b k n f = f ∙ by (rule_of x) b (sym (ap is_some e) ∙ k)
+no_rule x r e b k = by (rule_of x) b (sym (ap is_some e) ∙ k)
   where
-    by : (o : Option D.Rule) (b : Bool) → is_some (rule_by o) ≡ not b → from_bool b ≡ (if not (given (o >>= λ r. Some (days_of_rule r))) then 1 else 0)
+    by : (o : Option D.Rule) (b : Bool) → is_some (rule_by o) ≡ not b → b ≡ not (given (o >>= λ r. Some (days_of_rule r)))
     by None true e = refl
     by None false e = absurd (true≢false (sym e))
     by (Some r) true e = absurd (true≢false e)
@@ -91,3 +90,9 @@ pub skipped_lem : (e : Element) {s : Text} {m : ℕ} (r : Option Place) → Star
     → MatchOption r (n ≡ 0) (λ x. n ≡ without_rule (all (meaning x) (bytes "Exception")) % 2 ^ 32) → n ≡ without_rule (recurring e) % 2 ^ 32
 skipped_lem e None h k = k ∙ no_sum (2 ^ 32) without_rule without_none (recurring e) (ap (λ (o : Option Element). all_in o (bytes "Exception")) (none_child e h refl))
 skipped_lem e (Some x) h k = k ∙ sym (ap (λ (o : Option Element). without_rule (all_in o (bytes "Exception")) % 2 ^ 32) (found_child e h refl))
+
+-- `filter`, in the definition's word
+pub filtered : {A : Type 0} (p : A → Bool) (l : List A) → filter p l ≡ keep p l
+unfolding keep
+filtered p [] = refl
+filtered p (x ∷ l) = rw (filtered p l)

@@ -7,36 +7,32 @@ ghost use Rattle.definition.specs.Recurrence.{recurrence_days};
 ghost use Rattle.definition.specs.Calendar.{recurring, skipped as skipped_in};
 ghost use Rattle.tree.specs.Place.{later, meaning};
 ghost use Rattle.tree.specs.Root.{root_at};
-ghost use Rattle.calendar.specs.Skipped.{without_rule, in_all, one_if};
+ghost use Rattle.calendar.specs.Skipped.{without_rule, in_all};
 
 use tree::{Element, Root};
 
-// 1 for an Exception that gives no rule.
-fn one_if(e: Element<'_>) -> u32
-    ensures { result ≡ one_if (meaning e.entry) }
+fn has_no_rule(e: Element<'_>) -> bool
+    ensures { result ≡ not (given (recurrence_days (meaning e.entry))) }
 {
-    u32::from(recurrence::rule_of(e).is_none())
+    recurrence::rule_of(e).is_none()
 }
 
-// How many of an element's. By hand, as `sum` does not wrap; here and in `skipped`, as one function of a name and a closure would be no shorter.
-fn skipped_in(e: Element<'_>) -> u32
+// How many of an element's.
+fn without_rule(e: Element<'_>) -> u32
     ensures { result ≡ without_rule (all (meaning e.entry) (bytes "Exception")) % 2 ^ 32 }
 {
-    let mut n: u32 = 0;
-    for x in e.children(b"Exception") {
-        n = n.wrapping_add(one_if(x));
-    }
-    n
+    let n = e.children(b"Exception").filter(|x| has_no_rule(*x)).count();
+    (n % 4294967296) as u32
 }
 
 // How many of a Calendar.
 fn skipped_by(e: Element<'_>) -> u32
     ensures { result ≡ without_rule (recurring (meaning e.entry)) % 2 ^ 32 }
 {
-    e.child(b"Exceptions").map_or(0, skipped_in)
+    e.child(b"Exceptions").map_or(0, without_rule)
 }
 
-// How many exceptions give no rule, as 32 bits hold it.
+// How many exceptions give no rule, as 32 bits hold it. By hand, as `sum` does not wrap.
 pub fn skipped(root: Root<'_>) -> u32
     ensures { result ≡ skipped_in (root_at root.entry) % 2 ^ 32 }
 {

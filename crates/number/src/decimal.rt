@@ -187,9 +187,7 @@ fn unsigned(s: &[u8]) -> Result<f64, Unread>
     if m.count == 0 {
         return Err(Unread::Absent);
     }
-    let Some(power) = power_at(&s[m.end..]) else {
-        return Err(Unread::Absent);
-    };
+    let power = power_at(&s[m.end..]).ok_or(Unread::Absent)?;
     scale(m.value, m.places, power)
 }
 

@@ -7,7 +7,8 @@ ghost use Rattle.text.specs.Whole.{digits_to, size_to, unsigned_most, signed_mos
 
 use crate::parts::byte_at;
 
-// What follows the sign, the whole text where there is none.
+// What follows the sign, the whole text where there is none. Which sign it is, callers ask of the first byte: a pair of both would be taken apart at
+// once in each of the three.
 pub fn without_sign(s: &[u8]) -> &[u8]
     ensures { result.now ≡ unsigned (sign_of s.now) s.now }
 {
@@ -89,7 +90,7 @@ impl Whole for u64 {
     ghost reads = { unsigned_reads 64 };
 
     fn most(minus: bool) -> Option<u64> {
-        if minus { None } else { Some(u64::MAX) }
+        (!minus).then_some(u64::MAX)
     }
 
     fn sized(_minus: bool, size: u64) -> Option<u64> {
@@ -107,11 +108,7 @@ impl Whole for u32 {
     ghost reads = { unsigned_reads 32 };
 
     fn most(minus: bool) -> Option<u64> {
-        if minus {
-            None
-        } else {
-            Some(u64::from(u32::MAX))
-        }
+        (!minus).then_some(u64::from(u32::MAX))
     }
 
     fn sized(_minus: bool, size: u64) -> Option<u32> {
@@ -129,11 +126,7 @@ impl Whole for u16 {
     ghost reads = { unsigned_reads 16 };
 
     fn most(minus: bool) -> Option<u64> {
-        if minus {
-            None
-        } else {
-            Some(u64::from(u16::MAX))
-        }
+        (!minus).then_some(u64::from(u16::MAX))
     }
 
     fn sized(_minus: bool, size: u64) -> Option<u16> {
