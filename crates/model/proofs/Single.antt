@@ -5,6 +5,7 @@ use mathlib.Core.Bool.{Bool, true, false, not, and-false, false≢true}
 use mathlib.Core.List.{List}
 use Rattle.std.specs.Prelude.{Option, Some, None}
 use Rattle.std.specs.Bool.{then_some}
+use Rattle.std.specs.Option.{unwrap_or}
 use Prim.Native.Nat.{ℕ, ◌+◌, ◌-◌, ◌*◌, ◌/◌, ◌%◌, ◌≤◌, ◌<◌}
 use native.Mathlib.Omega.{arith}
 use lib.ListN.{length, take, drop}
@@ -453,11 +454,13 @@ module _ (s : List ℕ) (p : Place) {a b : Field ℕ Place} (ea : a ≡ taken_at
   rows_read : Reads (row ⊗ row) s p (a.value, b.value) b.next
   rows_read = read-⊗ (read_field s p 32 ea) (read_field s a.next 32 eb)
 
-  pub rows_cut : 7 < b.next.bit → ((0, 0), past) ≡ rows_at s p
-  rows_cut h = sym (or_nowhere (0, 0) (refused rows_read (far s b.next h)))
-
-  pub rows_given : b.next.bit ≤ 7 → ((a.value, b.value), b.next) ≡ rows_at s p
-  rows_given h = sym (or_there (0, 0) (take_there s a.next 32 eb h).1 rows_read)
+  pub rows_are : (unwrap_or (then_some (ltb b.next.bit 8) (a.value, b.value)) (0, 0), b.next) ≡ rows_at s p
+  unfolding or_at
+  rows_are = sym (ap (λ (y : Option (ℕ × ℕ) × Place). (y.0 or (0, 0), y.1)) (take_then s a.next 32 eb (row ⊗ row) rows_read) ∙ by_bit (ltb b.next.bit 8))
+    where
+      by_bit : (t : Bool) → ◌≡◌ {A = (ℕ × ℕ) × Place} (then_some t (a.value, b.value) or (0, 0), b.next) (unwrap_or (then_some t (a.value, b.value)) (0, 0), b.next)
+      by_bit true = refl
+      by_bit false = refl
 
 -- ---- the counts
 

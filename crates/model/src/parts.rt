@@ -78,14 +78,9 @@ pub fn take_rows(s: &[u8], p: Place) -> Field<(u32, u32)>
     let a = bits::take_u32(s, p);
     let b = bits::take_u32(s, a.next);
     let next = b.next;
-    if 7 < next.bit {
-        return Field {
-            value: (0, 0),
-            next: PAST,
-        };
-    }
+    let rows = (next.bit < 8).then_some((a.value, b.value));
     Field {
-        value: (a.value, b.value),
+        value: rows.unwrap_or((0, 0)),
         next,
     }
 }
