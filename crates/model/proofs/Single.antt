@@ -1,28 +1,31 @@
 -- Laws for the fields: one for each way out of a function. Assumes nothing.
 use Rattle.std.specs.Prelude.{if◌then◌else◌}
 use mathlib.Core.Path.{◌≡◌, refl, sym, ap, ◌∙◌}
-use mathlib.Core.Bool.{Bool, true, false, ◌&&◌, not, and-false, false≢true}
+use mathlib.Core.Bool.{Bool, true, false, not, and-false, false≢true}
 use mathlib.Core.List.{List}
 use Rattle.std.specs.Prelude.{Option, Some, None}
-use Prim.Native.Nat.{ℕ, suc, ◌+◌, ◌-◌, ◌*◌, ◌/◌, ◌%◌, ◌^◌, ◌≤◌, ◌<◌}
+use Rattle.std.specs.Bool.{then_some}
+use Rattle.std.specs.Option.{unwrap_or}
+use Prim.Native.Nat.{ℕ, ◌+◌, ◌-◌, ◌*◌, ◌/◌, ◌%◌, ◌≤◌, ◌<◌}
 use native.Mathlib.Omega.{arith}
 use lib.ListN.{length, take, drop}
 use lib.Seq.{drop-drop}
 use lib.Dec.{leb, ltb, eqb}
-use lib.IntN.{ℤ, pos, negsuc}
-use lib.Signed.{le_z}
+use lib.IntN.{ℤ}
 use borrow.Author.Tests.{lt-ltb, le-ltb, ltb-true, ltb-false, le-leb, lt-leb, leb-true, leb-false, eqb-true, eq-eqb, ne_eqb}
 use Rattle.definition.specs.Pack.{lag_kind}
-use Rattle.definition.specs.Base.{◌>>=◌, given, when}
-use Rattle.definition.specs.Bits.{Bits, bits_of, bytes_up_to, signed}
-use Rattle.definition.specs.Answer.{day_number_of}
-use Rattle.definition.specs.Date.{Date, epoch, first_date, last_date, in_years, from_days}
+use Rattle.definition.specs.Base.{◌>>=◌, ◌or◌}
+use Rattle.definition.specs.Bits.{Bits, bits_of, bytes_up_to}
+use Rattle.definition.specs.Answer.{date_meaning, day_number_of}
+use Rattle.definition.specs.declared.Date.{Date as DayNumber}
+use Rattle.definition.specs.Date.{Date, from_days}
+use Rattle.date.specs.Scale.{day_count, count_of_number}
 use Rattle.definition.specs.Time.{most_time}
 use Rattle.definition.specs.Text.{Text, is_utf8}
 use Rattle.definition.specs.Format.{Format, ◌⊗◌, field, whole, count, row, flag, code, time, period, date, text, optional, number}
 use Rattle.definition.specs.Pack.{constraint, counts}
 use Rattle.bits.specs.Places.{at, place, past, room, inside, Fits, room_fits, room_short, room_none, room_more, place_at_lem, at_place}
-use Rattle.bits.specs.Reads.{rest, Reads, Refuses, refused, taken_at, flag_at, int32_at, read_int32, refuse_int32, read_none, read_some, refuse_some, read_bit, span_at, span_of, Spans, rest_in, rest_out, rest_past, length_rest, take_cut, take_whole, read_field, read_whole, skip_pad, chain, read_flag, read_code, refuse_code, read_time, refuse_time, read-⊗, read_period, refuse_period, read_date, refuse_date, refuse_value, refuse_first, refuse_second, refuse_test, far}
+use Rattle.bits.specs.Reads.{rest, Reads, Refuses, refused, taken_at, flag_at, int32_at, read_int32, refuse_int32, read_none, read_some, refuse_some, read_bit, span_at, span_of, no_span, spot, Spans, rest_in, rest_out, rest_past, length_rest, take_cut, take_whole, read_field, read_whole, skip_pad, chain, read_flag, read_code, refuse_code, read_time, refuse_time, read-⊗, read_period, refuse_period, refuse_value, refuse_first, refuse_second, refuse_test, far}
 use Rattle.bits.specs.declared.Place.{Place}
 use Rattle.bits.specs.declared.Field.{Field}
 use Rattle.bits.specs.declared.Span.{Span}
@@ -30,7 +33,7 @@ use Rattle.laws.specs.Options.{Some-injective, bind_ext, never}
 use Rattle.laws.specs.Fields.{day_days}
 use Rattle.model.specs.Lax.{behind, left, like_named, like_optional}
 use Rattle.model.specs.Passes.{Passes, Flagged, pass_like, pass_read, pass_refused, pass_some, pass_none, pass_both, pass_alone}
-use Rattle.model.specs.Answers.{read_at, counts_at, row_at, rows_at, date_at, spanned, name_at, read_there, read_nowhere, or_there, or_nowhere}
+use Rattle.model.specs.Answers.{read_at, counts_at, row_at, rows_at, date_at, or_at, spanned, name_at, read_there, read_nowhere, or_there, or_nowhere}
 use Rattle.model.specs.Splits.{stands_is, not_refused}
 use Rattle.model.specs.Sections.{start, counts_by}
 use Rattle.model.specs.Places.{NamePlaced, NameTaken, span_ends, text_in, name_in, name_is}
@@ -179,53 +182,34 @@ module _ (s : List ℕ) (p : Place) {x : Span} (h : Spans s p x) (check : Bool) 
 
 -- ---- dates
 
-pub date_after : (v : ℕ) → v < 2147483648 → from_days (signed 32 v) ≡ in_years (v + epoch)
-unfolding signed from_days
-date_after v h = rw (lt-ltb v 2147483648 h)
+-- a date that was made of document 01's number, on the scale that lists rise by
+module _ {a : Option DayNumber} {o : Option Date} (m : date_meaning a ≡ day_number_of o) where
+  no_day : a ≡ None → o ≡ None
+  unfolding date_meaning day_number_of
+  no_day h = by_date_lem o (ap date_meaning (sym h) ∙ m)
+    where
+      by_date_lem : (o : Option Date) → None ≡ day_number_of o → o ≡ None
+      by_date_lem None e = refl
+      by_date_lem (Some x) e = never e
 
-module _ (v : ℕ) (h : 2147483648 ≤ v) (k : v < 2 ^ 32) where
-  date_negative : from_days (signed 32 v) ≡ (if ltb (4294967296 - suc v) epoch then in_years (epoch - suc (4294967296 - suc v)) else None)
-  unfolding signed from_days
-  date_negative = rw (le-ltb v 2147483648 h)
+  counted : {d : DayNumber} → a ≡ Some d → o ≡ Some (day_count d.0)
+  unfolding date_meaning day_number_of
+  counted {d} h = by_date_lem o (ap date_meaning (sym h) ∙ m)
+    where
+      by_date_lem : (o : Option Date) → Some d.0 ≡ day_number_of o → o ≡ Some (day_count d.0)
+      by_date_lem None e = never (sym e)
+      by_date_lem (Some x) e = ap Some (sym (ap day_count (Some-injective _ _ e) ∙ count_of_number x))
 
-  pub date_early : v + epoch < 4294967296 → from_days (signed 32 v) ≡ None
-  date_early l = date_negative ∙ rw (le-ltb (4294967296 - suc v) epoch (omega arith))
+module _ (s : List ℕ) (p : Place) {x : Field ℤ Place} (e : x ≡ int32_at s p) {a : Option DayNumber} (m : date_meaning a ≡ day_number_of (from_days x.value)) where
+  pub date_refused : a ≡ None → Finds date (DayKey false) s p (record { value = 0; next = past })
+  date_refused h = record { found = λ l. absurd (omega arith); refuses = λ t. refuse_int32 s p e (no_day m h); past = λ t. rest_past s }
 
-  pub date_before : 4294967296 ≤ v + epoch → from_days (signed 32 v) ≡ in_years (v + epoch - 4294967296)
-  date_before l =
-      let e : epoch - suc (4294967296 - suc v) ≡ v + epoch - 4294967296 = omega arith in
-      date_negative ∙ rw (lt-ltb (4294967296 - suc v) epoch (omega arith), e)
-
-years_above : (d : ℕ) {v : ℕ} → in_years d ≡ Some v → 0 < v
-years_above d {v} = by_low (leb first_date d) refl
-  where
-    by_high : first_date ≤ d → (t : Bool) → when t d ≡ Some v → 0 < v
-    by_high l true e = let z : d ≡ v = cc in omega arith
-    by_high l false e = absurd (never e)
-
-    by_low : (t : Bool) → leb first_date d ≡ t → when (t && leb d last_date) d ≡ Some v → 0 < v
-    by_low false h e = absurd (never e)
-    by_low true h e = by_high (leb-true first_date d h) (leb d last_date) e
-
--- a day's number is above 0
-date_above : (z : ℤ) {v : ℕ} → from_days z ≡ Some v → 0 < v
-unfolding from_days
-date_above (pos n) e = years_above (n + epoch) e
-date_above (negsuc n) {v} e = by_year (ltb n epoch) e
-  where
-    by_year : (t : Bool) → (if t then in_years (epoch - suc n) else None) ≡ Some v → 0 < v
-    by_year true h = years_above (epoch - suc n) h
-    by_year false h = absurd (never h)
-
-module _ (s : List ℕ) (p : Place) {x : Field ℕ Place} (e : x ≡ taken_at s p 32) where
-  pub date_refused : from_days (signed 32 x.value) ≡ None → Finds date (DayKey false) s p (record { value = 0; next = past })
-  date_refused z = record { found = λ l. absurd (omega arith); refuses = λ t. refuse_date (read_field s p 32 e) z; past = λ t. rest_past s }
-
-  pub date_found : {d : ℕ} → from_days (signed 32 x.value) ≡ Some d → Finds date (DayKey false) s p (record { value = d; next = x.next })
-  date_found {d} z =
-      let l = date_above (signed 32 x.value) z in
+  pub date_found : {d : DayNumber} → a ≡ Some d → Finds date (DayKey false) s p (record { value = day_count d.0; next = x.next })
+  date_found {d} h =
+      let z = counted m h in
+      let l = (day_days x.value _ z).1.0 in
       record {
-        found = λ l. record { item = d; key = (refl, l); reads = read_date (read_field s p 32 e) z };
+        found = λ k. record { item = day_count d.0; key = (refl, k); reads = read_int32 s p e z };
         refuses = λ t. absurd (omega arith);
         past = λ t. absurd (omega arith);
       }
@@ -324,6 +308,16 @@ module _ (s : List ℕ) (p : Place) (w : ℕ) {x : Field ℕ Place} (e : x ≡ t
       by_room true r = absurd (never (sym h ∙ take_cases.1 r))
       by_room false r = take_cases.0 r
 
+  -- a value that ends with the field: none where the place behind is past every end
+  take_then : {A : Type 0} (f : Format A) {q : Place} {a : A} → Reads f s q a x.next → read_at f s q ≡ (then_some (ltb x.next.bit 8) a, x.next)
+  take_then {A} f {q} {a} r = by_bit (ltb x.next.bit 8) refl
+    where
+      by_bit : (t : Bool) → ltb x.next.bit 8 ≡ t → read_at f s q ≡ (then_some t a, x.next)
+      by_bit true h = let l = ltb-true x.next.bit 8 h in read_there (take_there (omega arith)).1 r
+      by_bit false h =
+          let z = far s x.next (ltb-false x.next.bit 8 h) in
+          read_nowhere (refused r z) ∙ ap (λ (n : Place). (None, n)) (sym (take_past z))
+
   -- a field that is cut is 0
   pub take_above : 0 < x.value → x.next.bit ≤ 7
   take_above h = by_room (room (length s) p w) refl
@@ -331,6 +325,20 @@ module _ (s : List ℕ) (p : Place) (w : ℕ) {x : Field ℕ Place} (e : x ≡ t
       by_room : (t : Bool) → room (length s) p w ≡ t → x.next.bit ≤ 7
       by_room true r = let f = room_fits (length s) p w r in let z = ap (λ (y : Field ℕ Place). y.next.bit) (e ∙ take_whole s p w f) in omega arith
       by_room false r = let z = ap (λ (y : Field ℕ Place). y.value) (e ∙ take_cut s p w r) in absurd (omega arith)
+
+-- the place behind a text: past, or inside
+span_past : (s : List ℕ) (p : Place) {t : Span} → t ≡ span_at s p → 7 < t.next.bit → t.next ≡ past
+unfolding span_at
+span_past s p {t} e = rw e (by_count (rest s p >>= (whole count).get))
+  where
+    by_room : (x : ℕ × Bits) (b : Bool) → 7 < (if b then no_span else record { start = (spot s x.1).byte; len = x.0; next = spot s (drop (8 * x.0) x.1) }).next.bit
+        → (if b then no_span else record { start = (spot s x.1).byte; len = x.0; next = spot s (drop (8 * x.0) x.1) }).next ≡ past
+    by_room x true h = refl
+    by_room x false h = absurd (omega arith)
+
+    by_count : (o : Option (ℕ × Bits)) → 7 < (span_of s o).next.bit → (span_of s o).next ≡ past
+    by_count None h = refl
+    by_count (Some x) h = by_room x (ltb (length x.1) (8 * x.0)) h
 
 -- ---- flags
 
@@ -354,12 +362,13 @@ module _ (s : List ℕ) (p : Place) {x : Field Bool Place} (e : x ≡ flag_at s 
       by_rest None z = ap (λ (q : Place). (None, q)) (flag_past z) ∙ sym (or_nowhere None (refused r z))
       by_rest (Some l) z = sym (or_there None z r)
 
-  module _ {v : Field ℕ Place} (h : x.value ≡ true) (ev : v ≡ taken_at s x.next 32) where
-    pub row_cut : 7 < v.next.bit → (None, past) ≡ row_at s p
-    row_cut b = sym (or_nowhere None (refuse_some (flag_as h) (refused (read_field s x.next 32 ev) (far s v.next b))))
-
-    pub row_given : v.next.bit ≤ 7 → (Some v.value, v.next) ≡ row_at s p
-    row_given b = sym (or_there None (take_there s x.next 32 ev b).1 (read_some (flag_as h) (read_field s x.next 32 ev)))
+  pub row_read : {v : Field ℕ Place} → x.value ≡ true → v ≡ taken_at s x.next 32 → (then_some (ltb v.next.bit 8) v.value, v.next) ≡ row_at s p
+  unfolding or_at
+  row_read {v} h ev = sym (ap (λ (y : Option (Option ℕ) × Place). (y.0 or None, y.1)) (take_then s x.next 32 ev (optional row) (read_some (flag_as h) (read_field s x.next 32 ev))) ∙ by_bit (ltb v.next.bit 8))
+    where
+      by_bit : (t : Bool) → ◌≡◌ {A = Option ℕ × Place} (then_some t (Some v.value) or None, v.next) (then_some t v.value, v.next)
+      by_bit true = refl
+      by_bit false = refl
 
   -- ---- names
 
@@ -389,10 +398,10 @@ module _ (s : List ℕ) (p : Place) {x : Field Bool Place} (e : x ≡ flag_at s 
         by_utf8 true z = refused (k.reads z) (far s t.next b)
         by_utf8 false z = k.refuses z
 
-    pub name_cut : 7 < t.next.bit → NamePlaced s p (record { value = None; next = past })
+    name_cut : 7 < t.next.bit → NamePlaced s p (record { value = None; next = t.next })
     name_cut b =
         record {
-          is = sym (name_by ∙ rw (lt-ltb 7 t.next.bit b));
+          is = ap (λ (q : Place). (None, q)) (span_past s x.next k.is b) ∙ sym (name_by ∙ rw (lt-ltb 7 t.next.bit b));
           within = λ start len z. absurd (no_name z);
           text = λ o z. absurd (not_refused z (refuse_some (flag_as h) (no_text b)));
         }
@@ -400,7 +409,7 @@ module _ (s : List ℕ) (p : Place) {x : Field Bool Place} (e : x ≡ flag_at s 
         no_name : {a b : ℕ} → ◌≡◌ {A = Option (ℕ × ℕ)} None (Some (a, b)) → ⊥
         no_name = never
 
-    pub name_given : t.next.bit ≤ 7 → NamePlaced s p (record { value = Some (t.start, t.len); next = t.next })
+    name_given : t.next.bit ≤ 7 → NamePlaced s p (record { value = Some (t.start, t.len); next = t.next })
     name_given b =
         record {
           is = sym (name_by ∙ rw (le-ltb 7 t.next.bit b));
@@ -412,6 +421,13 @@ module _ (s : List ℕ) (p : Place) {x : Field Bool Place} (e : x ≡ flag_at s 
               omega arith;
           text = λ o z. name_is z (flag_as h) k;
         }
+
+    pub name_read : NamePlaced s p (record { value = then_some (ltb t.next.bit 8) (t.start, t.len); next = t.next })
+    name_read = by_bit (ltb t.next.bit 8) refl
+      where
+        by_bit : (b : Bool) → ltb t.next.bit 8 ≡ b → NamePlaced s p (record { value = then_some b (t.start, t.len); next = t.next })
+        by_bit true z = let l = ltb-true t.next.bit 8 z in name_given (omega arith)
+        by_bit false z = name_cut (ltb-false t.next.bit 8 z)
 
 -- the text, from where it stands
 module _ {s : List ℕ} {p : Place} {r : Field (Option (ℕ × ℕ)) Place} (h : NamePlaced s p r) where
@@ -438,11 +454,13 @@ module _ (s : List ℕ) (p : Place) {a b : Field ℕ Place} (ea : a ≡ taken_at
   rows_read : Reads (row ⊗ row) s p (a.value, b.value) b.next
   rows_read = read-⊗ (read_field s p 32 ea) (read_field s a.next 32 eb)
 
-  pub rows_cut : 7 < b.next.bit → ((0, 0), past) ≡ rows_at s p
-  rows_cut h = sym (or_nowhere (0, 0) (refused rows_read (far s b.next h)))
-
-  pub rows_given : b.next.bit ≤ 7 → ((a.value, b.value), b.next) ≡ rows_at s p
-  rows_given h = sym (or_there (0, 0) (take_there s a.next 32 eb h).1 rows_read)
+  pub rows_are : (unwrap_or (then_some (ltb b.next.bit 8) (a.value, b.value)) (0, 0), b.next) ≡ rows_at s p
+  unfolding or_at
+  rows_are = sym (ap (λ (y : Option (ℕ × ℕ) × Place). (y.0 or (0, 0), y.1)) (take_then s a.next 32 eb (row ⊗ row) rows_read) ∙ by_bit (ltb b.next.bit 8))
+    where
+      by_bit : (t : Bool) → ◌≡◌ {A = (ℕ × ℕ) × Place} (then_some t (a.value, b.value) or (0, 0), b.next) (unwrap_or (then_some t (a.value, b.value)) (0, 0), b.next)
+      by_bit true = refl
+      by_bit false = refl
 
 -- ---- the counts
 
@@ -462,59 +480,24 @@ module _ (s : List ℕ) {a b c d e f : Field ℕ Place} (ea : a ≡ taken_at s s
 
 -- ---- dates
 
-pub date_missing : {s : List ℕ} {p : Place} → Refuses date s p → (None, past) ≡ date_at s p
-unfolding day_number_of
-date_missing h = rw (read_nowhere h)
+module _ (s : List ℕ) (p : Place) {x : Field ℤ Place} (e : x ≡ int32_at s p) {a : Option DayNumber} (m : date_meaning a ≡ day_number_of (from_days x.value)) where
+  pub date_missing : a ≡ None → (date_meaning None, past) ≡ date_at s p
+  unfolding date_meaning day_number_of
+  date_missing h = rw (read_nowhere (refuse_int32 s p e (no_day m h)))
 
-module _ (s : List ℕ) (p : Place) {x : Field ℤ Place} (e : x ≡ int32_at s p) where
-  pub date_cut : 7 < x.next.bit → (None, past) ≡ date_at s p
-  date_cut h = date_missing (by_date_lem (from_days x.value) refl)
+  pub date_read : {d : DayNumber} → a ≡ Some d → (date_meaning (then_some (ltb x.next.bit 8) d), x.next) ≡ date_at s p
+  unfolding date_meaning day_number_of int32_at
+  date_read {d} h = sym (ap (λ (y : Option Date × Place). (day_number_of y.0, y.1)) there ∙ by_bit (ltb x.next.bit 8))
     where
-      by_date_lem : (o : Option Date) → from_days x.value ≡ o → Refuses date s p
-      by_date_lem None z = refuse_int32 s p e z
-      by_date_lem (Some d) z = refused (read_int32 s p e z) (far s x.next h)
+      z : from_days x.value ≡ Some (day_count d.0)
+      z = counted m h
 
-  pub date_outside : given (from_days x.value) ≡ false → (None, past) ≡ date_at s p
-  date_outside h = by_date_lem (from_days x.value) refl h
-    where
-      by_date_lem : (o : Option Date) → from_days x.value ≡ o → given o ≡ false → (None, past) ≡ date_at s p
-      by_date_lem None z k = date_missing (refuse_int32 s p e z)
-      by_date_lem (Some d) z k = absurd (false≢true (sym k))
+      there : read_at date s p ≡ (then_some (ltb x.next.bit 8) (day_count d.0), x.next)
+      there = rw e (take_then s p 32 refl date (rw e at (read_int32 s p e z)))
 
-  pub date_given_lem : x.next.bit ≤ 7 → given (from_days x.value) ≡ true → (Some x.value, x.next) ≡ date_at s p
-  unfolding day_number_of int32_at
-  date_given_lem b h = by_date_lem (from_days x.value) refl h
-    where
-      there : (l : Bits) × (rest s x.next ≡ Some l)
-      there =
-          let z : x.next ≡ (taken_at s p 32).next = ap (λ (y : Field ℤ Place). y.next) e in
-          rw z (take_there s p 32 refl (rw z at b))
-
-      by_date_lem : (o : Option Date) → from_days x.value ≡ o → given o ≡ true → (Some x.value, x.next) ≡ date_at s p
-      by_date_lem None z k = absurd (false≢true k)
-      by_date_lem (Some d) z k =
-          let r : read_at date s p ≡ (Some d, x.next) = read_there there.1 (read_int32 s p e z) in
-          rw (r, (day_days x.value d z).0)
-
--- the years of dates by document 01's numbers
-pub years_by : (z : ℤ) → (le_z (negsuc 4371586) z && le_z z (pos 2932896)) ≡ given (from_days z)
-unfolding from_days
-years_by (pos n) = sym (by_late (leb n 2932896) refl)
-  where
-    by_late : (t : Bool) → leb n 2932896 ≡ t → given (in_years (n + epoch)) ≡ t
-    by_late true h = let l = leb-true n 2932896 h in rw (le-leb first_date (n + epoch) (omega arith), le-leb (n + epoch) last_date (omega arith))
-    by_late false h = let l = leb-false n 2932896 h in rw (le-leb first_date (n + epoch) (omega arith), lt-leb (n + epoch) last_date (omega arith))
-years_by (negsuc n) = by_early (leb n 4371586) refl
-  where
-    early : 4371586 < n → (t : Bool) → ltb n epoch ≡ t → given (if t then in_years (epoch - suc n) else None) ≡ false
-    early l true h = let k = ltb-true n epoch h in rw (lt-leb first_date (epoch - suc n) (omega arith))
-    early l false h = refl
-
-    by_early : (t : Bool) → leb n 4371586 ≡ t → (t && true) ≡ given (if ltb n epoch then in_years (epoch - suc n) else None)
-    by_early true h =
-        let l = leb-true n 4371586 h in
-        rw (lt-ltb n epoch (omega arith), le-leb first_date (epoch - suc n) (omega arith), le-leb (epoch - suc n) last_date (omega arith))
-    by_early false h = sym (early (leb-false n 4371586 h) (ltb n epoch) refl)
+      by_bit : (t : Bool) → ◌≡◌ {A = Option ℤ × Place} (day_number_of (then_some t (day_count d.0)), x.next) (date_meaning (then_some t d), x.next)
+      by_bit true = ap (λ (o : Option ℤ). (o, x.next)) (ap day_number_of (sym z) ∙ sym m ∙ ap date_meaning h)
+      by_bit false = refl
 
 -- ---- periods
 

@@ -1,10 +1,8 @@
-// Fields: how each is passed over, and what is read of it where the next field depends on it. The bytes and the place stay two parameters, here and in
-// the files above: a function gives the place alone, and a Reader that came back would need a promise that its bytes are the same ones. A code is the
-// number that the format has: what it means is for the crates that write it.
-// The same holds of the bytes and the place in model_check, outline and day_sheet.
+// Fields: how each is passed over, and what is read of it where the next field depends on it. The bytes and the place stay two parameters, here, in
+// lists, parts and records, and in model_check, outline and day_sheet: a function gives the place alone, as a Reader that came back would need a promise
+// that its bytes are the same ones, in each contract. Two functions of lib.rt have it, for its walk from section to section. A code is the number that
+// the format has: what it means is for the crates that write it.
 ghost use Rattle.std.specs.Prelude.{◌≡◌, ◌+◌, ◌≤◌, length, false};
-ghost use Rattle.definition.specs.Bits.{signed};
-ghost use Rattle.definition.specs.Date.{in_years, from_days};
 ghost use Rattle.definition.specs.Format.{field, code, optional, date, period};
 ghost use Rattle.definition.specs.Pack.{constraint};
 ghost use Rattle.model.specs.Passes.{Passes};
@@ -75,37 +73,18 @@ pub(crate) fn skip_text<const CHECK: bool>(s: &[u8], p: Place) -> Place
     t.next
 }
 
-// A date, if its year is in range.
-// The crate date has this for its numbers; this crate does not stand on it.
-fn in_years(d: u64) -> Option<u64>
-    ensures { result ≡ in_years d }
-{
-    (366..=7304849).contains(&d).then_some(d)
-}
-
-// The date of a day number of 32 bits, counted from the year -10000, if it lies in the years. By the halves of a u32, as
-// the definition's `signed` has them: a sum in i64 would have a conversion that may fail in their place, and laws for numbers with a sign.
-fn date_of(v: u32) -> Option<u64>
-    ensures { result ≡ from_days (signed 32 v) }
-{
-    let n = u64::from(v) + 4371953;
-    if v < 0x8000_0000 {
-        return in_years(n);
-    }
-    in_years(n.checked_sub(0x1_0000_0000)?)
-}
-
 // A date by its number, counted from the year -10000; 0, and a place past every end, where it is outside the years.
-// `take_date` gives the day number, and tests it by the years' first and last: a date by either function would need the other number proved of it.
 pub fn take_date_key(s: &[u8], p: Place) -> Field<u64>
     ensures { Finds date (DayKey false) s.now p result }
 {
-    let f = bits::take_u32(s, p);
-    let Some(value) = date_of(f.value) else {
+    let Field { value, next } = bits::take_i32(s, p);
+    let Some(d) = date::from_days(value) else {
         return NOTHING;
     };
-    let next = f.next;
-    Field { value, next }
+    Field {
+        value: u64::from(date::count_of(d)),
+        next,
+    }
 }
 
 pub(crate) fn skip_date(s: &[u8], p: Place) -> Place

@@ -90,7 +90,8 @@ pub struct Head {
     pub activities: Place,
 }
 
-// The reader behind the project record, and the reader behind so many records of a kind.
+// The reader behind the project record, and the reader behind so many records of a kind. `moved_by` promises that its bytes are the same ones: two
+// contracts do for the walk, while those of the fields would each need it (head of fields.rt).
 fn past_project<'a>(r: Reader<'a>) -> Reader<'a>
     ensures { moved_by PassesProject r.entry result }
 {

@@ -1,11 +1,13 @@
 // Lists: periods, days, a week's hours. A list ends at the first item that is refused, whatever its count says.
 ghost use Rattle.std.specs.Prelude.{Bool, false, true, ℕ};
-ghost use Rattle.definition.specs.Format.{Format, Period, period, earlier, list_of, periods, times};
+ghost use Rattle.definition.specs.Format.{Format, Period as Minutes, period, earlier, list_of, periods, times};
 ghost use Rattle.model.specs.Passes.{Passes};
 ghost use Rattle.model.specs.Rising.{Finds, Keys, PeriodKey, DayOf, DayKey, day_of, day_before, days_of, by_period, by_day_lem};
 
 pub use crate::fields::{take_date_key, take_period_key};
+use crate::parts::Period;
 use bits::{Field, PAST, Place};
+use definition::Date;
 
 // What a list holds in rising order, each item above the one before by a number of its own.
 trait Item {
@@ -24,14 +26,8 @@ trait Item {
     ghost keys: { Keys before key };
 }
 
-struct Hours; // a period
-
-struct Day; // a date alone
-
-struct WorkingDay; // a date with its periods
-
-impl Item for Hours {
-    ghost Value = { Period };
+impl Item for Period {
+    ghost Value = { Minutes };
 
     ghost format = { period };
 
@@ -46,7 +42,7 @@ impl Item for Hours {
     ghost keys = { by_period };
 }
 
-impl Item for Day {
+impl Item for Date {
     ghost Value = { DayOf false };
 
     ghost format = { day_of false };
@@ -61,6 +57,9 @@ impl Item for Day {
 
     ghost keys = { by_day_lem false };
 }
+
+// A date with its periods: the name alone, as no value holds both.
+struct WorkingDay;
 
 impl Item for WorkingDay {
     ghost Value = { DayOf true };
@@ -105,14 +104,14 @@ fn skip_list<T: Item>(s: &[u8], p: Place) -> Place
 pub fn skip_periods(s: &[u8], p: Place) -> Place
     ensures { Passes periods s.now p result }
 {
-    skip_list::<Hours>(s, p)
+    skip_list::<Period>(s, p)
 }
 
 // Dates alone.
 pub fn skip_dates(s: &[u8], p: Place) -> Place
     ensures { Passes (days_of false) s.now p result }
 {
-    skip_list::<Day>(s, p)
+    skip_list::<Date>(s, p)
 }
 
 // Dates, each with its periods.

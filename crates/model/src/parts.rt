@@ -1,8 +1,6 @@
 // The parts of records: where they stand, and what they are. In a model that was opened no text is tested again; a function with CHECK tests
 // where that says so.
 ghost use Rattle.std.specs.Prelude.{◌≡◌, false};
-ghost use Rattle.definition.specs.Base.{given};
-ghost use Rattle.definition.specs.Date.{from_days};
 ghost use Rattle.definition.specs.Answer.{date_meaning};
 ghost use Rattle.definition.specs.Format.{period};
 ghost use Rattle.bits.specs.Steps.{Puts};
@@ -34,14 +32,8 @@ pub fn take_row(s: &[u8], p: Place) -> Field<Option<u32>>
         };
     }
     let Field { value, next } = bits::take_u32(s, at);
-    if 7 < next.bit {
-        return Field {
-            value: None,
-            next: PAST,
-        };
-    }
     Field {
-        value: Some(value),
+        value: (next.bit < 8).then_some(value),
         next,
     }
 }
@@ -58,16 +50,9 @@ pub fn take_name_place(s: &[u8], p: Place) -> Field<Option<(usize, usize)>>
             next: at,
         };
     }
-    let t = bits::take_text(s, at);
-    let next = t.next;
-    if 7 < next.bit {
-        return Field {
-            value: None,
-            next: PAST,
-        };
-    }
+    let Span { start, len, next } = bits::take_text(s, at);
     Field {
-        value: Some((t.start, t.len)),
+        value: (next.bit < 8).then_some((start, len)),
         next,
     }
 }
@@ -76,13 +61,12 @@ pub fn take_name_place(s: &[u8], p: Place) -> Field<Option<(usize, usize)>>
 pub fn take_name(s: &[u8], p: Place) -> Field<Option<&[u8]>>
     ensures { NameTaken s.now p result }
 {
-    let n = take_name_place(s, p);
-    let next = n.next;
-    let Some((start, len)) = n.value else {
+    let Field { value, next } = take_name_place(s, p);
+    let Some((start, len)) = value else {
         return Field { value: None, next };
     };
     Field {
-        value: Some(text_in(s, Span { start, len, next })),
+        value: Some(&s[start..start + len]),
         next,
     }
 }
@@ -94,41 +78,26 @@ pub fn take_rows(s: &[u8], p: Place) -> Field<(u32, u32)>
     let a = bits::take_u32(s, p);
     let b = bits::take_u32(s, a.next);
     let next = b.next;
-    if 7 < next.bit {
-        return Field {
-            value: (0, 0),
-            next: PAST,
-        };
-    }
+    let rows = (next.bit < 8).then_some((a.value, b.value));
     Field {
-        value: (a.value, b.value),
+        value: rows.unwrap_or((0, 0)),
         next,
     }
 }
 
-// Whether a day lies in the years of dates.
-// fields.rt has the bounds counted from the year -10000, and the crate date, on which this one does not stand, has them for itself.
-fn is_date(n: i32) -> bool
-    ensures { result ≡ given (from_days n) }
-{
-    (-4_371_587..=2_932_896).contains(&n)
-}
-
-// A date.
+// A date. A field that is cut is 0, which is a date's number, so its place is tested.
 pub fn take_date(s: &[u8], p: Place) -> Field<Option<Date>>
     ensures { (date_meaning result.value, result.next) ≡ date_at s.now p }
 {
-    let f = bits::take_i32(s, p);
-    let next = f.next;
-    let day = f.value;
-    if 7 < next.bit || !is_date(day) {
+    let Field { value, next } = bits::take_i32(s, p);
+    let Some(d) = date::from_days(value) else {
         return Field {
             value: None,
             next: PAST,
         };
-    }
+    };
     Field {
-        value: Some(Date(day)),
+        value: (next.bit < 8).then_some(d),
         next,
     }
 }
@@ -195,7 +164,7 @@ pub(crate) fn resource_calendar_place_by<const CHECK: bool>(s: &[u8], p: Place) 
     skip(s, d, 64)
 }
 
-// In a model that was opened.
+// In a model that was opened, where all who call from outside ask: by this name they pass no CHECK.
 pub fn resource_calendar_place(s: &[u8], p: Place) -> Place
     ensures { Passes (resource_head (text_by false)) s.now p result }
 {

@@ -1,9 +1,16 @@
-use mathlib.Core.Path.{sym, ◌∙◌}
+use mir.Syntax.{w32}
+use Rattle.std.proofs.Common.{rules, ℤ, ap, ◌∙◌, to_z-of_z}
+use Rattle.definition.specs.Answer.{day_number_of}
+use Rattle.definition.specs.Date.{from_days}
 use Rattle.model.proofs.Single.{date_refused, date_found}
 use Rattle.model.proofs.fields.take_date_key.Goals as goal
 
 pub returns-in_default : goal.returns-in_default
-returns-in_default c = date_refused c.args.s.now c.args.p c.take_u32-f.ensures (sym c.date_of.ensures ∙ c.in_default.is)
+returns-in_default c =
+    let m = c.from_days.ensures ∙ ap (λ (z : ℤ). day_number_of (from_days z)) (to_z-of_z {w = w32} (record { sfits = search rules })) in
+    date_refused c.args.s.now c.args.p c.take_i32-value.ensures m c.in_default.is
 
 pub returns : goal.returns
-returns c = date_found c.args.s.now c.args.p c.take_u32-f.ensures (sym c.date_of.ensures ∙ c.in-Some.is)
+returns c =
+    let m = c.from_days.ensures ∙ ap (λ (z : ℤ). day_number_of (from_days z)) (to_z-of_z {w = w32} (record { sfits = search rules })) in
+    rw (c.from.ensures, c.count_of.ensures) (date_found c.args.s.now c.args.p c.take_i32-value.ensures m c.in-Some.is)

@@ -1,8 +1,5 @@
-use Rattle.model.proofs.Single.{rows_cut, rows_given}
+use Rattle.model.proofs.Single.{rows_are}
 use Rattle.model.proofs.parts.take_rows.Goals as goal
 
-pub returns-then-next-gt7 : goal.returns-then-next-gt7
-returns-then-next-gt7 c = let a = c.args in rows_cut a.s.now a.p c.take_u32-a.ensures c.take_u32-b.ensures c.if-next-gt7.true
-
 pub returns : goal.returns
-returns c = let a = c.args in rows_given a.s.now a.p c.take_u32-a.ensures c.take_u32-b.ensures c.if-next-gt7.false
+returns c = let a = c.args in rw (c.unwrap_or.ensures, c.then_some-rows.ensures) (rows_are a.s.now a.p c.take_u32-a.ensures c.take_u32-b.ensures)
