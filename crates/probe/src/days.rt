@@ -10,7 +10,7 @@ ghost use Rattle.recurrence.specs.Meaning.{step_of};
 ghost use Rattle.recurrence.specs.Element.{rule_by, range_by};
 ghost use Rattle.probe.specs.Fields.{day_at, month_at, fields_of, run_of, Told, rule, cursor};
 
-use date::{count_of, lowered};
+use date::{at_count, count_of};
 use definition::Date;
 use recurrence::{Cursor, Range, Rule, Step};
 use tree::Element;
@@ -20,7 +20,7 @@ use tree::Element;
 fn day_at(n: u32) -> Date
     ensures { result ≡ day_at n }
 {
-    Date(lowered(n.min(7304850), 4371953))
+    at_count(n.min(7304850))
 }
 
 // ---- a month, 13 for none

@@ -25,7 +25,7 @@ use Rattle.laws.specs.Calendar.{is_day_lem}
 use Rattle.date.specs.Scale.{count_of_number}
 use Rattle.recurrence.specs.Scale.{InDates, scaled_by, day_date}
 use Rattle.recurrence.specs.Meaning.{as_rule, sound, meaning, days_by}
-use Rattle.recurrence.specs.Element.{capped, held_rule, rule_by, rule_days, RuleRead, pick_of, mask_of, last_by, most_by, judged, UpToLast, rule_in, period_of}
+use Rattle.recurrence.specs.Element.{capped, held_rule, rule_by, rule_days, RuleRead, pick_of, mask_of, last_by, most_by, judged}
 use Rattle.recurrence.specs.declared.scale.Scaled.{Scaled}
 use Rattle.laws.specs.Bools.{within_is}
 use Rattle.recurrence.proofs.Months.{month_length_lem, sunday_less}
@@ -310,10 +310,6 @@ module _ (x : Element) (from to : Date) where
         by true e = same e
         by false e = refl
 
-pub or_most : (from : Date) (to : Option Date) → from ≤ last_date → UpToLast to → (to or from) ≤ last_date
-or_most from None h l = h
-or_most from (Some d) h l = l
-
 -- ---- an Exception
 
 pub field_in : (p : Element) (name : String) (d : Date) → date_in p name ≡ Some d → InDates d
@@ -324,42 +320,28 @@ field_in p name d e = by (text_in p name) e
     by None e = let z : ◌≡◌ {A = ℕ} 0 1 = cc in absurd (omega arith)
     by (Some t) e = date_in_lem t d e
 
-said_most : (p : Element) (name : String) (o : Option Date) → date_in p name ≡ o → UpToLast o
-said_most p name None e = tt
-said_most p name (Some d) e = (field_in p name d e).high
+-- ToDate, or FromDate where there is none
+pub to_most : (p : Element) (d : Date) → d ≤ last_date → (date_in p "ToDate" or d) ≤ last_date
+to_most p d h = by (date_in p "ToDate") refl
+  where
+    by : (o : Option Date) → date_in p "ToDate" ≡ o → (o or d) ≤ last_date
+    by None e = h
+    by (Some k) e = (field_in p "ToDate" k e).high
 
 module _ (x : Element) where
-  pub period_most : UpToLast (period_of x).from × UpToLast (period_of x).to
-  unfolding period_of
-  period_most = by (child x (bytes "TimePeriod"))
-    where
-      by : (o : Option Element) → UpToLast (o >>= λ p. date_in p "FromDate") × UpToLast (o >>= λ p. date_in p "ToDate")
-      by None = (tt, tt)
-      by (Some p) = (said_most p "FromDate" (date_in p "FromDate") refl, said_most p "ToDate" (date_in p "ToDate") refl)
-
-  -- the code's dates
-  module _ (p : Element) (c : child x (bytes "TimePeriod") ≡ Some p) where
-    rule_read : (f : Option Date) → date_in p "FromDate" ≡ f → (t : Option Date) → date_in p "ToDate" ≡ t → RuleRead x (rule_in x f t)
-    unfolding rule_in rule_of recurrence_days rule_days
-    rule_read None f t g = record { is = rw (c, f); days = rw (c, f) }
-    rule_read (Some d) f None g =
-        let i = field_in p "FromDate" d f in
-        let r : rule_in x (Some d) None ≡ rule_by (when (is_rule (rule_from x d d)) (rule_from x d d)) = judged_is x d d in
-        record { is = r ∙ rw (c, f, g); days = ap rule_days r ∙ read_days x d d i i.high ∙ rw (c, f, g) }
-    rule_read (Some d) f (Some k) g =
-        let i = field_in p "FromDate" d f in
-        let j = field_in p "ToDate" k g in
-        let r : rule_in x (Some d) (Some k) ≡ rule_by (when (is_rule (rule_from x d k)) (rule_from x d k)) = judged_is x d k in
-        record { is = r ∙ rw (c, f, g); days = ap rule_days r ∙ read_days x d k i j.high ∙ rw (c, f, g) }
-
-  none_read : child x (bytes "TimePeriod") ≡ None → RuleRead x (rule_in x None None)
-  unfolding rule_in rule_of recurrence_days rule_days
+  pub none_read : child x (bytes "TimePeriod") ≡ None → RuleRead x None
+  unfolding rule_of recurrence_days rule_days
   none_read e = record { is = rw e; days = rw e }
 
-  pub rule_is : RuleRead x (rule_in x (period_of x).from (period_of x).to)
-  unfolding period_of
-  rule_is = by (child x (bytes "TimePeriod")) refl
-    where
-      by : (o : Option Element) → child x (bytes "TimePeriod") ≡ o → RuleRead x (rule_in x (o >>= λ p. date_in p "FromDate") (o >>= λ p. date_in p "ToDate"))
-      by None e = none_read e
-      by (Some p) e = rule_read p e (date_in p "FromDate") refl (date_in p "ToDate") refl
+  module _ (p : Element) (c : child x (bytes "TimePeriod") ≡ Some p) where
+    pub none_from : date_in p "FromDate" ≡ None → RuleRead x None
+    unfolding rule_of recurrence_days rule_days
+    none_from f = record { is = rw (c, f); days = rw (c, f) }
+
+    pub rule_read : (d : Date) → date_in p "FromDate" ≡ Some d → RuleRead x (judged (held_rule (rule_from x d (date_in p "ToDate" or d))))
+    unfolding rule_of recurrence_days
+    rule_read d f =
+        let i = field_in p "FromDate" d f in
+        let k = date_in p "ToDate" or d in
+        let r = judged_is x d k in
+        record { is = r ∙ rw (c, f); days = ap rule_days r ∙ read_days x d k i (to_most p d i.high) ∙ rw (c, f) }

@@ -3,9 +3,9 @@ ghost use Rattle.std.specs.Prelude.{◌≡◌};
 ghost use Rattle.recurrence.specs.Meaning.{sound, days_by, to_come, said, start_of, step_of};
 
 use crate::kind::{first_fit, kind_of};
-use crate::scale::{LAST, Scaled, date_at, to_scale};
+use crate::scale::{LAST, Scaled, to_scale};
 use crate::{Cursor, Rule, Step};
-use date::count_of;
+use date::{at_count, count_of};
 
 // Its dates are such, and its Period is held.
 fn is_sound(r: Scaled) -> bool
@@ -46,11 +46,11 @@ pub fn next(r: Rule, c: Cursor) -> Step
     if t.last < x {
         return Step::Done;
     }
-    let day = date_at(x);
+    let day = at_count(x);
     Step::Day(
         day,
         Cursor {
-            at: date_at(x + 1),
+            at: at_count(x + 1),
             left: c.left - 1,
         },
     )

@@ -11,6 +11,7 @@ use Rattle.recurrence.specs.Meaning.{as_rule, sound}
 use Rattle.recurrence.specs.Sequence.{FirstFit, FirstFound}
 use Rattle.recurrence.specs.Kind.{Ready}
 use Rattle.recurrence.specs.declared.Step.TheVariants.{Day}
+use Rattle.recurrence.proofs.Counts.{dated}
 use Rattle.recurrence.proofs.Types.{chosen_kind}
 use Rattle.recurrence.proofs.Going.{Right, is_one, is_one_lem, not_sound, no_kind, ready, no_rule, none_left, past_last, no_more, day_next}
 use borrow.Author.Rules.{rules}
@@ -65,14 +66,14 @@ pub returns-then-t-x : goal.returns-then-t-x
 returns-then-t-x c =
     no_more c.args.r c.args.c c.to_scale-t.result c.to_scale-t.ensures (yes (goal.at.returns-then-t-x c).In-Some) c.max-at.result (at_is (goal.at.returns-then-t-x c).After-max-at) c.in-Some-first_fit.x (found (goal.at.returns-then-t-x c).In-Some-first_fit) c.if-t-x.true
 
-pub date_at-day-requires : goal.date_at-day-requires
-date_at-day-requires c = omega (arith, c.if-t-x.false, (goes (goal.at.date_at-day-requires c).Else-t-at).last)
+pub at_count-day-requires : goal.at_count-day-requires
+at_count-day-requires c = omega (arith, c.if-t-x.false, (goes (goal.at.at_count-day-requires c).Else-t-at).last)
 
 pub overflow_add-x : goal.overflow_add-x
 overflow_add-x c = omega (arith, c.if-t-x.false, (goes (goal.at.overflow_add-x c).Else-t-at).last)
 
-pub date_at-requires : goal.date_at-requires
-date_at-requires c = omega (arith, c.if-t-x.false, (goes (goal.at.date_at-requires c).Else-t-at).last)
+pub at_count-requires : goal.at_count-requires
+at_count-requires c = omega (arith, c.if-t-x.false, (goes (goal.at.at_count-requires c).Else-t-at).last)
 
 pub returns-in_default : goal.returns-in_default
 returns-in_default c =
@@ -82,6 +83,6 @@ pub returns : goal.returns
 returns c =
     let x = c.in-Some-first_fit.x in
     let n = c.args.c.left - 1 in
-    subst⁻¹ (λ (d : Date). Right c.args.r c.args.c (Day d (record { at = c.date_at.result; left = n }))) c.date_at-day.ensures
-    (subst⁻¹ (λ (d : Date). Right c.args.r c.args.c (Day (day_date x) (record { at = d; left = n }))) c.date_at.ensures
+    subst⁻¹ (λ (d : Date). Right c.args.r c.args.c (Day d (record { at = c.at_count.result; left = n }))) (dated _ _ c.at_count-day.ensures)
+    (subst⁻¹ (λ (d : Date). Right c.args.r c.args.c (Day (day_date x) (record { at = d; left = n }))) (dated _ _ c.at_count.ensures)
     (day_next c.args.r c.args.c c.to_scale-t.result c.to_scale-t.ensures (yes (goal.at.returns c).In-Some) c.max-at.result (at_is (goal.at.returns c).After-max-at) x (found (goal.at.returns c).In-Some-first_fit) c.if-t-x.false c.if-c-eq0.false))
