@@ -11,7 +11,7 @@ use Prim.Native.String.{String}
 use lib.Dec.{leb, ltb, eqb}
 use lib.IntN.{ℤ, pos, negsuc}
 use borrow.Author.Tests.{lt-ltb, le-ltb, le-leb, lt-leb, ne_eqb}
-use Rattle.definition.specs.Base.{◌>>=◌, ◌or◌, when, given, within, keep}
+use Rattle.definition.specs.Base.{◌>>=◌, ◌or◌, when, within, keep}
 use Rattle.definition.specs.Ascii.{bytes}
 use Rattle.definition.specs.Bits.{twos}
 use Rattle.definition.specs.Date.{Date, year_of, month_of, day_of, sunday_first, first_date, last_date, date_of}
@@ -24,7 +24,7 @@ use Rattle.definition.specs.declared.Date as Declared
 use Rattle.laws.specs.Calendar.{is_day_lem}
 use Rattle.date.specs.Scale.{count_of_number}
 use Rattle.recurrence.specs.Scale.{InDates, scaled_by, day_date}
-use Rattle.recurrence.specs.Meaning.{as_rule, sound, meaning, days_by}
+use Rattle.recurrence.specs.Meaning.{valid_month, as_rule, sound, meaning, days_by}
 use Rattle.recurrence.specs.Element.{capped, held_rule, rule_by, rule_days, RuleRead, pick_of, mask_of, last_by, most_by, judged}
 use Rattle.recurrence.specs.declared.scale.Scaled.{Scaled}
 use Rattle.laws.specs.Bools.{within_is}
@@ -120,21 +120,13 @@ below_item : (n : ℕ) (d : Date) → item_fits (negsuc n) d ≡ false
 unfolding item_fits
 below_item n d = refl
 
-back : (z : ℤ) → when (within 1 12 (month_from z or 13)) (month_from z or 13) ≡ month_from z
+back : (z : ℤ) → valid_month (month_from z) ≡ month_from z
 back (pos n) = by (dec_lt n 12)
   where
-    by : Dec (n < 12) → when (within 1 12 (when (ltb n 12) (n + 1) or 13)) (when (ltb n 12) (n + 1) or 13) ≡ when (ltb n 12) (n + 1)
+    by : Dec (n < 12) → valid_month (when (ltb n 12) (n + 1)) ≡ when (ltb n 12) (n + 1)
     by (yes l) = rw (lt-ltb n 12 l, le-leb 1 (n + 1) (omega arith), le-leb (n + 1) 12 (omega arith))
     by (no g) = rw (le-ltb n 12 (omega arith))
 back (negsuc n) = refl
-
-given_month : (z : ℤ) → within 1 12 (month_from z or 13) ≡ given (month_from z)
-given_month (pos n) = by (dec_lt n 12)
-  where
-    by : Dec (n < 12) → within 1 12 (when (ltb n 12) (n + 1) or 13) ≡ given (when (ltb n 12) (n + 1))
-    by (yes l) = rw (lt-ltb n 12 l, le-leb 1 (n + 1) (omega arith), le-leb (n + 1) 12 (omega arith))
-    by (no g) = rw (le-ltb n 12 (omega arith))
-given_month (negsuc n) = refl
 
 days : (z : ℤ) (k : ℕ) → k ≤ 31 → is_number (pos (capped 32 z)) k ≡ is_number z k
 days (pos n) k h = by (dec_lt n 32)
@@ -217,37 +209,13 @@ period_held (negsuc n) = omega arith
 
 -- on the scale
 abbrev scaled_of : D.Rule → Scaled
-scaled_of m =
-    record {
-      kind = m.type;
-      from = m.from;
-      last = m.last;
-      most = m.most;
-      period = m.period;
-      month = m.month or 13;
-      day = capped 32 m.day;
-      item = capped 10 m.item;
-      position = capped 5 m.position;
-      weekdays = twos 64 m.weekdays % 128;
-    }
+scaled_of m = record { rule = held_rule m; from = m.from; last = m.last }
 
 abbrev days_at : Scaled → Option (List Date)
 days_at u = when (sound u && is_rule (as_rule u)) (as_rule u) >>= λ m. Some (days_of_rule m)
 
 scaled_is : (m : D.Rule) → scaled_by (held_rule m) ≡ scaled_of m
-scaled_is m = λ i.
-    record {
-      kind = m.type;
-      from = count_of_number m.from i;
-      last = count_of_number m.last i;
-      most = m.most;
-      period = m.period;
-      month = m.month or 13;
-      day = capped 32 m.day;
-      item = capped 10 m.item;
-      position = capped 5 m.position;
-      weekdays = twos 64 m.weekdays % 128;
-    }
+scaled_is m = λ i. record { rule = held_rule m; from = count_of_number m.from i; last = count_of_number m.last i }
 
 module _ (x : Element) (from to : Date) where
   alike : Alike (as_rule (scaled_of (rule_from x from to))) (rule_from x from to)
@@ -270,7 +238,7 @@ module _ (x : Element) (from to : Date) where
 
   pub judged_is : judged (held_rule (rule_from x from to)) ≡ rule_by (when (is_rule (rule_from x from to)) (rule_from x from to))
   unfolding judged rule_from
-  judged_is = rw (given_month (int_in x "Month" or pos 0)) (by (is_rule (rule_from x from to)))
+  judged_is = rw (back (int_in x "Month" or pos 0)) (by (is_rule (rule_from x from to)))
     where
       by : (t : Bool) → (if t then Some (held_rule (rule_from x from to)) else None) ≡ rule_by (when t (rule_from x from to))
       by true = refl

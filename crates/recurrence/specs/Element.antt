@@ -71,7 +71,7 @@ unfoldable pub most_by : Bool → ℕ → ℕ
 most_by by_count occurrences = if by_count then occurrences else most_days
 
 unfoldable pub judged : Rule → Option Rule
-judged r = if rules r.kind (r.month or 13) then Some r else None
+judged r = if rules r.kind r.month then Some r else None
 
 -- ---- a WeekDay of DayType 0
 

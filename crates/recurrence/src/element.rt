@@ -73,11 +73,10 @@ fn rule_at(e: Element<'_>, from: u32, to: u32) -> Rule
     ensures { result ≡ held_rule (rule_from (meaning e.entry) from to) }
 {
     let by_count = fields::yes_in(e, b"EnteredByOccurrences");
-    let first = at_count(from);
     Rule {
         // Past 6 and below 0 the Type becomes 0, which no kind has.
         kind: number_in(e, b"Type", 7, 7, 1) % 7,
-        from: first,
+        from: at_count(from),
         last: at_count(last_by(by_count, from, to)),
         most: most_by(by_count, number_in(e, b"Occurrences", 5000, 0, 1)),
         period: number_in(e, b"Period", 1000, 1, 1).max(1),
@@ -93,7 +92,7 @@ fn rule_at(e: Element<'_>, from: u32, to: u32) -> Rule
 fn judge(r: Rule) -> Option<Rule>
     ensures { result ≡ judged r }
 {
-    kind_of(r.kind, r.month.unwrap_or(13))?;
+    kind_of(r.kind, r.month)?;
     Some(r)
 }
 

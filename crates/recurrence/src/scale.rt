@@ -11,19 +11,12 @@ use definition::Date;
 // The last date, 31 December 9999. Clauses write the number, as their arithmetic reads it.
 pub(crate) const LAST: u32 = 7304849;
 
-// A rule whose days are counted so; not one generic type with Rule, as the month differs too. The month stays a number, since 0 and those past 12 are none either; 13 stands for a missing one.
+// A rule with its days counted so.
 #[derive(Clone, Copy)]
 pub(crate) struct Scaled {
-    pub kind: u32,
+    pub rule: Rule,
     pub from: u32,
     pub last: u32,
-    pub most: u32,
-    pub period: u32,
-    pub month: u32,
-    pub day: u32,
-    pub item: u32,
-    pub position: u32,
-    pub weekdays: u32,
 }
 
 // A month of a year. March of `date` is a year that begins in March, and a day of it.
@@ -45,16 +38,9 @@ pub(crate) fn to_scale(r: Rule) -> Scaled
     ensures { result ≡ scaled_by r }
 {
     Scaled {
-        kind: r.kind,
+        rule: r,
         from: count_of(r.from),
         last: count_of(r.last),
-        most: r.most,
-        period: r.period,
-        month: r.month.unwrap_or(13),
-        day: r.day,
-        item: r.item,
-        position: r.position,
-        weekdays: r.weekdays,
     }
 }
 
