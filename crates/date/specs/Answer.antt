@@ -2,8 +2,7 @@
 use Rattle.std.specs.Prelude.{if◌then◌else◌, ℕ, suc, ◌+◌, ◌-◌, Bool, ◌&&◌, ltb, ℤ, pos, negsuc, ◌-ℤ◌}
 use Rattle.std.specs.Prelude.{Option, Some, None}
 use Rattle.definition.specs.Base.{◌>>=◌, when, within}
-use Rattle.definition.specs.Date.{Date, month_length, weekday, from_days, year_at, ymd_of, from_ymd, dash}
-use Rattle.definition.specs.Text.{Text, before, after, unsigned_of}
+use Rattle.definition.specs.Date.{month_length, weekday, from_days, year_at, ymd_of}
 use Rattle.definition.specs.declared.Ymd.{Ymd}
 
 -- month and day of a year are there
@@ -39,11 +38,3 @@ upward (negsuc n) = 0
 -- b - a, 0 where b lies before a
 unfoldable pub days_between : ℤ → ℤ → ℕ
 days_between a b = upward (b -ℤ a)
-
--- ---- a date text from its day on, and from its month on
-
-unfoldable pub day_part : ℤ → ℕ → Text → Option Date
-day_part y m s = unsigned_of 32 s >>= λ d. from_ymd y m d
-
-unfoldable pub month_part : ℤ → Text → Option Date
-month_part y s = unsigned_of 32 (before dash s) >>= λ m. after dash s >>= λ day. day_part y m day

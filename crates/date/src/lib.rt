@@ -7,7 +7,7 @@ ghost use Rattle.definition.specs.Date.{leap, month_length, new_year, date_at, w
 ghost use Rattle.laws.specs.Calendar.{MarchDay, IsDay};
 ghost use Rattle.definition.specs.Answer.{date_meaning, day_number_of};
 ghost use Rattle.date.specs.Answer.{ymd_at, weekday_at, length_at, days_between};
-ghost use Rattle.date.specs.Answer.{is_day, placed, day_part, month_part};
+ghost use Rattle.date.specs.Answer.{is_day, placed};
 ghost use Rattle.date.specs.Scale.{day_count};
 
 use definition::{Date, Ymd};
@@ -44,7 +44,7 @@ fn new_year(y: u32) -> u32
     365 * y + (y + 3) / 4 + (y + 399) / 400 - (y + 99) / 100
 }
 
-// From March on the months follow in steps of 153 days in five months, and the year before has ended 306 days later.
+// From March on the months follow in steps of 153 days in five months, and 1 March lies 306 days before the next 1 January.
 fn day_at(y: u32, m: u32, d: u32) -> u32
     requires year { y ≤ 20000 }
     requires day { IsDay y m d }
@@ -56,7 +56,8 @@ fn day_at(y: u32, m: u32, d: u32) -> u32
     new_year(y + 1) - 306 + (153 * m - 457) / 5 + (d - 1)
 }
 
-// A year that begins in March, by the January in it, and the day of it, counted from 0. No other pair of a year and a number means that.
+// A year that begins in March, by the January in it, and the day of it, counted from 0. recurrence's Month is a year and a month, so that the two
+// share no type.
 #[derive(Clone, Copy)]
 struct March {
     year: u32,
@@ -152,7 +153,7 @@ pub fn from_ymd(year: i32, month: u32, day: u32) -> Option<Date>
     if !is_day(y, month, day) {
         return None;
     }
-    Some(Date(lowered(day_at(y, month, day), 4371953)))
+    Some(at_count(day_at(y, month, day)))
 }
 
 // The date of a day number, if its year is in range.
@@ -192,6 +193,14 @@ pub fn count_of(d: Date) -> u32
     days_between(Date(-4371953), d)
 }
 
+// The date that lies so many days behind it.
+pub fn at_count(n: u32) -> Date
+    requires { n < 2 ^ 31 }
+    ensures { result.0 ≡ pos n -ℤ pos 4371953 }
+{
+    Date(lowered(n, 4371953))
+}
+
 // ---- date texts
 
 // The first ten bytes, or all where byte 10 goes on with the character before it. A text is bytes, and no `str`.
@@ -204,24 +213,16 @@ fn first_ten(s: &[u8]) -> &[u8]
     &s[..10]
 }
 
-fn day_part(year: i32, month: u32, s: &[u8]) -> Option<Date>
-    ensures { date_meaning result ≡ day_number_of (day_part year month s.now) }
-{
-    from_ymd(year, month, text::whole_of(s)?)
-}
-
-fn month_part(year: i32, s: &[u8]) -> Option<Date>
-    ensures { date_meaning result ≡ day_number_of (month_part year s.now) }
-{
-    let (head, rest) = text::cut_at(s, b'-')?;
-    day_part(year, text::whole_of(head)?, rest)
-}
-
 fn date_parts(s: &[u8]) -> Option<Date>
     ensures { date_meaning result ≡ day_number_of (date_parts s.now) }
 {
-    let (head, rest) = text::cut_at(s, b'-')?;
-    month_part(text::whole_of(head)?, rest)
+    let (year, rest) = text::cut_at(s, b'-')?;
+    let (month, day) = text::cut_at(rest, b'-')?;
+    from_ymd(
+        text::whole_of(year)?,
+        text::whole_of(month)?,
+        text::whole_of(day)?,
+    )
 }
 
 // A date text: year, month and day with `-` between.

@@ -1,7 +1,7 @@
 // Rules and their days. A rule goes out and comes in by its fields; a day goes as its count from 1 January of the
 // year -10000 on, 0 for none, and what lies past 31 December 9999 comes in as the day behind that; a month goes by
-// its number, 13 for none. Fields, Run and what `told` answers are numbers for C. 4371953 is how many days that 1 January is before 1 January 1970, and
-// 7304850 the day behind 31 December 9999, as the definition counts them.
+// its number, 13 for none. Fields, Run and what `told` answers are numbers for C. 7304850 is the day behind 31 December
+// 9999, as the definition counts them.
 ghost use Rattle.std.specs.Prelude.{◌≡◌};
 ghost use Rattle.definition.specs.Base.{◌or◌};
 ghost use Rattle.definition.specs.Recurrence.{rule_of, days_of};
@@ -10,7 +10,7 @@ ghost use Rattle.recurrence.specs.Meaning.{step_of};
 ghost use Rattle.recurrence.specs.Element.{rule_by, range_by};
 ghost use Rattle.probe.specs.Fields.{day_at, month_at, fields_of, run_of, Told, rule, cursor};
 
-use date::{count_of, lowered};
+use date::{at_count, count_of};
 use definition::Date;
 use recurrence::{Cursor, Range, Rule, Step};
 use tree::Element;
@@ -20,7 +20,7 @@ use tree::Element;
 fn day_at(n: u32) -> Date
     ensures { result ≡ day_at n }
 {
-    Date(lowered(n.min(7304850), 4371953))
+    at_count(n.min(7304850))
 }
 
 // ---- a month, 13 for none

@@ -12,7 +12,7 @@ use Rattle.definition.specs.Answer.{date_meaning, day_number_of}
 use Rattle.definition.specs.declared.Ymd.{Ymd}
 use Rattle.date.specs.Answer.{length_at, ymd_at}
 use Rattle.date.specs.Scale.{day_count, count_of_number}
-use Rattle.recurrence.specs.Scale.{InDates, IsYear, IsMonth, count_by, day_in}
+use Rattle.recurrence.specs.Scale.{InDates, IsYear, IsMonth, day_date, count_by, day_in}
 use Rattle.recurrence.proofs.Dates.{days_back}
 
 -- ---- answers
@@ -23,6 +23,11 @@ count_said (Some d) None e = let z : ◌≡◌ {A = ℕ} 0 1 = cc in absurd (ome
 count_said (Some d) (Some n) e = let q : d.0 ≡ day_number n = cc in ap Some (ap day_count q ∙ count_of_number n)
 count_said None None e = refl
 count_said None (Some n) e = let z : ◌≡◌ {A = ℕ} 0 1 = cc in absurd (omega arith)
+
+-- the date of a count
+pub dated : (d : DayNumber) (n : ℕ) → d.0 ≡ pos n -ℤ pos 4371953 → d ≡ day_date n
+unfolding day_number
+dated d n e = λ i. record { 0 = e i }
 
 -- ---- years
 

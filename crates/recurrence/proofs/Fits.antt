@@ -8,18 +8,18 @@ use mathlib.Core.Bool.{Bool, true, false, ◌&&◌, and-false}
 use Rattle.std.specs.Prelude.{Option, Some}
 use lib.Dec.{eqb}
 use borrow.Author.Tests.{eq-eqb, ne_eqb, le-leb, lt-leb}
-use Rattle.definition.specs.Base.{when, within}
 use Rattle.definition.specs.Bits.{twos}
 use Rattle.definition.specs.Date.{Date, year_of, month_of, day_of, sunday_first}
 use Rattle.definition.specs.Recurrence.{most_days, century, every_nth, on_weekday, in_nth_week, month_count, fits}
 use Rattle.laws.specs.Calendar.{IsDay, is_day_lem}
 use Rattle.recurrence.specs.Kind.{UpTo, daily_fits, candidate_of, counts_year, yearly_fits, counts_month, candidate_at, monthly_fits, on_mask, weekly_fits, WeekDay}
-use Rattle.recurrence.specs.Meaning.{as_rule}
+use Rattle.recurrence.specs.Meaning.{as_rule, valid_month}
 use Rattle.recurrence.specs.Scale.{month_at, IsMonth}
 use Rattle.recurrence.specs.Sequence.{FirstFit}
 use Rattle.recurrence.proofs.Every.{on_step, off_step, past_steps, one_up}
 use Rattle.recurrence.proofs.Months.{on, year_rises, month_rises, Lies, candidate_lies, candidate_is}
 use Rattle.recurrence.proofs.Units.{Units, Passed, pass_none, pass_over, fit_unit, no_unit}
+use Rattle.recurrence.proofs.Types.{valid_is}
 use Rattle.recurrence.specs.declared.scale.Scaled.{Scaled}
 
 -- ---- they are the definition's
@@ -29,20 +29,17 @@ turn true l x = refl
 turn false true x = refl
 turn false false x = refl
 
-pub month_is : (m : ℕ) → IsMonth m → when (within 1 12 m) m ≡ Some m
-month_is m h = rw (le-leb 1 m h.0, le-leb m 12 h.1)
-
 module _ (r : Scaled) (d : Date) where
   on_it : Bool → Bool
-  on_it b = on r.day r.item r.position b d
+  on_it b = on r.rule.day r.rule.item r.rule.position b d
 
-  yearly_is : (b : Bool) → IsMonth r.month → ((eqb r.month (month_of d) && counts_year r (year_of d)) && on_it b) ≡ yearly_fits b r d
+  yearly_is : (b : Bool) (m : ℕ) → IsMonth m → ((eqb m (month_of d) && counts_year r (year_of d)) && on_it b) ≡ yearly_fits b r m d
   unfolding on_it
-  yearly_is b h =
-      rw (candidate_is r.day r.item r.position b r.month d h)
-      (turn (eqb r.month (month_of d)) (counts_year r (year_of d)) (on r.day r.item r.position b d))
+  yearly_is b m h =
+      rw (candidate_is r.rule.day r.rule.item r.rule.position b m d h)
+      (turn (eqb m (month_of d)) (counts_year r (year_of d)) (on r.rule.day r.rule.item r.rule.position b d))
 
-  monthly_is : (b : Bool) → (every_nth r.period 2400 (month_count d - month_count r.from) && on_it b) ≡ monthly_fits b r d
+  monthly_is : (b : Bool) → (every_nth r.rule.period 2400 (month_count d - month_count r.from) && on_it b) ≡ monthly_fits b r d
   unfolding on_it
   monthly_is b =
       let i : IsDay (year_of d) (month_of d) (day_of d) = is_day_lem d in
@@ -50,59 +47,60 @@ module _ (r : Scaled) (d : Date) where
       let y : month_at d / 12 ≡ year_of d = omega (arith, i.low, i.high) in
       let m : month_at d % 12 + 1 ≡ month_of d = omega (arith, i.low, i.high) in
       let c : month_count d - month_count r.from ≡ month_at d - month_at r.from = omega (arith, i.low, j.low) in
-      rw (y, m, c, candidate_is r.day r.item r.position b (month_of d) d (i.low, i.high), eq-eqb (month_of d) (month_of d) refl)
+      rw (y, m, c, candidate_is r.rule.day r.rule.item r.rule.position b (month_of d) d (i.low, i.high), eq-eqb (month_of d) (month_of d) refl)
 
-  pub fits_1 : r.kind ≡ 1 → fits (as_rule r) d ≡ daily_fits r d
+  pub fits_1 : r.rule.kind ≡ 1 → fits (as_rule r) d ≡ daily_fits r d
   unfolding fits
   fits_1 e = rw e
 
-  pub fits_2 : r.kind ≡ 2 → IsMonth r.month → fits (as_rule r) d ≡ yearly_fits false r d
-  unfolding fits on on_it
-  fits_2 e h = rw (e, month_is r.month h) (yearly_is false h)
+  module _ (m : ℕ) (v : valid_month r.rule.month ≡ Some m) where
+    pub fits_2 : r.rule.kind ≡ 2 → fits (as_rule r) d ≡ yearly_fits false r m d
+    unfolding fits on on_it
+    fits_2 e = rw (e, v) (yearly_is false m (valid_is r.rule.month m v))
 
-  pub fits_3 : r.kind ≡ 3 → IsMonth r.month → fits (as_rule r) d ≡ yearly_fits true r d
-  unfolding fits on on_it
-  fits_3 e h = rw (e, month_is r.month h) (yearly_is true h)
+    pub fits_3 : r.rule.kind ≡ 3 → fits (as_rule r) d ≡ yearly_fits true r m d
+    unfolding fits on on_it
+    fits_3 e = rw (e, v) (yearly_is true m (valid_is r.rule.month m v))
 
-  pub fits_4 : r.kind ≡ 4 → fits (as_rule r) d ≡ monthly_fits false r d
+  pub fits_4 : r.rule.kind ≡ 4 → fits (as_rule r) d ≡ monthly_fits false r d
   unfolding fits on on_it
   fits_4 e = rw e (monthly_is false)
 
-  pub fits_5 : r.kind ≡ 5 → fits (as_rule r) d ≡ monthly_fits true r d
+  pub fits_5 : r.rule.kind ≡ 5 → fits (as_rule r) d ≡ monthly_fits true r d
   unfolding fits on on_it
   fits_5 e = rw e (monthly_is true)
 
-  pub fits_6 : r.kind ≡ 6 → fits (as_rule r) d ≡ weekly_fits r d
+  pub fits_6 : r.rule.kind ≡ 6 → fits (as_rule r) d ≡ weekly_fits r d
   unfolding fits
   fits_6 e = rw e
 
 -- ---- daily
 
-module _ (r : Scaled) (at q : ℕ) (step : 0 < r.period) (from : r.from ≤ at) (up : UpTo (at - r.from) r.period q) where
-  pub daily_fit : (x : ℕ) → x ≡ r.from + q * r.period → q < 5000 → FirstFit (daily_fits r) r.last at x
+module _ (r : Scaled) (at q : ℕ) (step : 0 < r.rule.period) (from : r.from ≤ at) (up : UpTo (at - r.from) r.rule.period q) where
+  pub daily_fit : (x : ℕ) → x ≡ r.from + q * r.rule.period → q < 5000 → FirstFit (daily_fits r) r.last at x
   daily_fit x e h =
-      let o : x - r.from ≡ q * r.period = omega arith in
+      let o : x - r.from ≡ q * r.rule.period = omega arith in
       record {
         on = λ l. omega (arith, up.reach);
-        before = λ d a l n. off_step (at - r.from) r.period q most_days (d - r.from) up (omega arith) (omega arith);
-        hit = λ l. rw o (on_step q r.period most_days step h);
+        before = λ d a l n. off_step (at - r.from) r.rule.period q most_days (d - r.from) up (omega arith) (omega arith);
+        hit = λ l. rw o (on_step q r.rule.period most_days step h);
       }
 
   pub daily_none : 5000 ≤ q → FirstFit (daily_fits r) r.last at (suc r.last)
-  daily_none h = record { on = λ l. absurd (omega arith); before = λ d a l n. by d a (dec_lt (d - r.from) (q * r.period)); hit = λ l. absurd (omega arith) }
+  daily_none h = record { on = λ l. absurd (omega arith); before = λ d a l n. by d a (dec_lt (d - r.from) (q * r.rule.period)); hit = λ l. absurd (omega arith) }
     where
-      by : (d : ℕ) → at ≤ d → Dec (d - r.from < q * r.period) → daily_fits r d ≡ false
-      by d a (yes l) = off_step (at - r.from) r.period q most_days (d - r.from) up (omega arith) l
-      by d a (no g) = past_steps r.period most_days (d - r.from) step (omega (arith, mul-le-mul_right r.period h))
+      by : (d : ℕ) → at ≤ d → Dec (d - r.from < q * r.rule.period) → daily_fits r d ≡ false
+      by d a (yes l) = off_step (at - r.from) r.rule.period q most_days (d - r.from) up (omega arith) l
+      by d a (no g) = past_steps r.rule.period most_days (d - r.from) step (omega (arith, mul-le-mul_right r.rule.period h))
 
 -- ---- yearly
 
-pub yearly_units : (b : Bool) (r : Scaled) → IsMonth r.month → Units (yearly_fits b r) year_of (counts_year r) (λ y. candidate_of b r y r.month)
-yearly_units b r h = record { rises = year_rises; lies = λ k x e. (candidate_lies r.day r.item r.position b x k r.month h e).year; fitting = λ d. refl }
+pub yearly_units : (b : Bool) (r : Scaled) (m : ℕ) → IsMonth m → Units (yearly_fits b r m) year_of (counts_year r) (λ y. candidate_of b r y m)
+yearly_units b r m h = record { rises = year_rises; lies = λ k x e. (candidate_lies r.rule.day r.rule.item r.rule.position b x k m h e).year; fitting = λ d. refl }
 
-pub yearly_none : (b : Bool) (r : Scaled) (at y end : ℕ) → IsMonth r.month → Passed (yearly_fits b r) year_of at y → end ≡ min (year_of r.last) (year_of r.from + 200) → end < y → FirstFit (yearly_fits b r) r.last at (suc r.last)
-yearly_none b r at y end h p e past =
-    no_unit (yearly_fits b r) year_of (counts_year r) (λ y. candidate_of b r y r.month) (yearly_units b r h) at y r.last p
+pub yearly_none : (b : Bool) (r : Scaled) (m : ℕ) (at y end : ℕ) → IsMonth m → Passed (yearly_fits b r m) year_of at y → end ≡ min (year_of r.last) (year_of r.from + 200) → end < y → FirstFit (yearly_fits b r m) r.last at (suc r.last)
+yearly_none b r m at y end h p e past =
+    no_unit (yearly_fits b r m) year_of (counts_year r) (λ y. candidate_of b r y m) (yearly_units b r m h) at y r.last p
     (λ i low high. lt-leb i (year_of r.from + 200) (omega arith))
 
 -- ---- monthly
@@ -111,7 +109,7 @@ pub monthly_units : (b : Bool) (r : Scaled) → Units (monthly_fits b r) month_a
 monthly_units b r =
     record {
       rises = month_rises;
-      lies = λ k x e. lies k x (candidate_lies r.day r.item r.position b x (k / 12) (k % 12 + 1) (omega arith) e);
+      lies = λ k x e. lies k x (candidate_lies r.rule.day r.rule.item r.rule.position b x (k / 12) (k % 12 + 1) (omega arith) e);
       fitting = λ d. refl;
     }
   where
@@ -120,26 +118,26 @@ monthly_units b r =
 
 -- the month after q steps
 abbrev pub step_month : Scaled → ℕ → ℕ
-step_month r q = month_at r.from + q * r.period
+step_month r q = month_at r.from + q * r.rule.period
 
-module _ (b : Bool) (r : Scaled) (at : ℕ) (step : 0 < r.period) where
-  over : (n q k : ℕ) → UpTo n r.period q → k ≡ month_at r.from + n → Passed (monthly_fits b r) month_at at k → Passed (monthly_fits b r) month_at at (step_month r q)
+module _ (b : Bool) (r : Scaled) (at : ℕ) (step : 0 < r.rule.period) where
+  over : (n q k : ℕ) → UpTo n r.rule.period q → k ≡ month_at r.from + n → Passed (monthly_fits b r) month_at at k → Passed (monthly_fits b r) month_at at (step_month r q)
   over n q k u e p =
       pass_over (monthly_fits b r) month_at (counts_month r) (candidate_at b r) (monthly_units b r) at k (step_month r q) p
-      (λ i low high. off_step n r.period q 2400 (i - month_at r.from) u (omega arith) (omega arith))
+      (λ i low high. off_step n r.rule.period q 2400 (i - month_at r.from) u (omega arith) (omega arith))
 
-  pub monthly_first : (q : ℕ) → r.from ≤ at → UpTo (month_at at - month_at r.from) r.period q → Passed (monthly_fits b r) month_at at (step_month r q)
+  pub monthly_first : (q : ℕ) → r.from ≤ at → UpTo (month_at at - month_at r.from) r.rule.period q → Passed (monthly_fits b r) month_at at (step_month r q)
   monthly_first q h u =
       over (month_at at - month_at r.from) q (month_at at) u (omega (arith, month_rises r.from at h))
       (pass_none (monthly_fits b r) month_at (counts_month r) (candidate_at b r) (monthly_units b r) at)
 
   pub monthly_next : (q : ℕ) → Passed (monthly_fits b r) month_at at (suc (step_month r q)) → Passed (monthly_fits b r) month_at at (step_month r (suc q))
-  monthly_next q = over (suc (q * r.period)) (suc q) (suc (step_month r q)) (one_up q r.period step) (omega arith)
+  monthly_next q = over (suc (q * r.rule.period)) (suc q) (suc (step_month r q)) (one_up q r.rule.period step) (omega arith)
 
   pub monthly_fit : (q x : ℕ) (o : Option ℕ) → o ≡ candidate_at b r (step_month r q) → o ≡ Some x → at ≤ x → q < 2400 → Passed (monthly_fits b r) month_at at (step_month r q) → FirstFit (monthly_fits b r) r.last at x
   monthly_fit q x o e f l h p =
-      let g : step_month r q - month_at r.from ≡ q * r.period = omega arith in
-      fit_unit (monthly_fits b r) month_at (counts_month r) (candidate_at b r) (monthly_units b r) at (step_month r q) o p e x r.last f l (rw g (on_step q r.period 2400 step h))
+      let g : step_month r q - month_at r.from ≡ q * r.rule.period = omega arith in
+      fit_unit (monthly_fits b r) month_at (counts_month r) (candidate_at b r) (monthly_units b r) at (step_month r q) o p e x r.last f l (rw g (on_step q r.rule.period 2400 step h))
 
   none_from : (q : ℕ) → Passed (monthly_fits b r) month_at at (step_month r q) → ((i : ℕ) → step_month r q ≤ i → i ≤ month_at r.last → counts_month r i ≡ false) → FirstFit (monthly_fits b r) r.last at (suc r.last)
   none_from q p h = no_unit (monthly_fits b r) month_at (counts_month r) (candidate_at b r) (monthly_units b r) at (step_month r q) r.last p h
@@ -148,7 +146,7 @@ module _ (b : Bool) (r : Scaled) (at : ℕ) (step : 0 < r.period) where
   monthly_past q h p = none_from q p (λ i low high. absurd (omega arith))
 
   pub monthly_none : (q : ℕ) → 2400 ≤ q → Passed (monthly_fits b r) month_at at (step_month r q) → FirstFit (monthly_fits b r) r.last at (suc r.last)
-  monthly_none q h p = none_from q p (λ i low high. past_steps r.period 2400 (i - month_at r.from) step (omega (arith, mul-le-mul_right r.period h)))
+  monthly_none q h p = none_from q p (λ i low high. past_steps r.rule.period 2400 (i - month_at r.from) step (omega (arith, mul-le-mul_right r.rule.period h)))
 
 -- ---- weekly
 
@@ -177,7 +175,7 @@ PassedDays r at d = (e : ℕ) → at ≤ e → e < d → weekly_fits r e ≡ fal
 abbrev pub sunday_of : Scaled → ℕ
 sunday_of r = r.from - sunday_first r.from
 
-module _ (r : Scaled) (at d g : ℕ) (w : WeekDay (sunday_of r) r.period d g) (p : PassedDays r at d) where
+module _ (r : Scaled) (at d g : ℕ) (w : WeekDay (sunday_of r) r.rule.period d g) (p : PassedDays r at d) where
   pub to_week : PassedDays r at g
   to_week e a l = by (dec_lt e d)
     where
@@ -185,7 +183,7 @@ module _ (r : Scaled) (at d g : ℕ) (w : WeekDay (sunday_of r) r.period d g) (p
       by (yes h) = p e a h
       by (no h) = rw (w.between e (omega arith) l) (and-false (on_weekday (as_rule r) e))
 
-  pub past_day : on_mask r.weekdays g ≡ false → PassedDays r at (g + 1)
+  pub past_day : on_mask r.rule.weekdays g ≡ false → PassedDays r at (g + 1)
   unfolding twos
   past_day off e a l = by (dec_lt e g)
     where
@@ -193,7 +191,7 @@ module _ (r : Scaled) (at d g : ℕ) (w : WeekDay (sunday_of r) r.period d g) (p
       by (yes h) = to_week e a h
       by (no h) = let q : e ≡ g = omega arith in rw (q, off)
 
-  pub weekly_fit : on_mask r.weekdays g ≡ true → g ≤ r.from + century → at ≤ g → FirstFit (weekly_fits r) r.last at g
+  pub weekly_fit : on_mask r.rule.weekdays g ≡ true → g ≤ r.from + century → at ≤ g → FirstFit (weekly_fits r) r.last at g
   unfolding twos
   weekly_fit on h o = record { on = λ l. o; before = λ e a l n. to_week e a l; hit = λ l. rw (on, w.here, le-leb g (r.from + century) h) }
 

@@ -4,11 +4,11 @@ use native.Mathlib.Omega.{arith}
 use native.Mathlib.Numerals.{add-one}
 use mathlib.Core.Path.{◌≡◌, refl, sym, ap, ◌∙◌}
 use mathlib.Core.List.{◌∷◌}
-use Rattle.std.specs.Prelude.{Option, Some, None}
+use Rattle.std.specs.Prelude.{Some, None}
 use lib.ListN.{length}
 use lib.Dec.{leb}
 use borrow.Author.Tests.{le-leb}
-use Rattle.definition.specs.Base.{◌>>=◌, keep, count}
+use Rattle.definition.specs.Base.{keep, count}
 use Rattle.definition.specs.Ascii.{bytes}
 use Rattle.definition.specs.Date.{Date, last_date}
 use Rattle.definition.specs.Tree.{Element, child}
@@ -16,7 +16,7 @@ use Rattle.definition.specs.Field.{date_in}
 use Rattle.definition.specs.Recurrence.{days_of, most_exception_days}
 use Rattle.date.specs.Scale.{count_of_number}
 use Rattle.recurrence.specs.Scale.{day_date}
-use Rattle.recurrence.specs.Element.{range_by, range_days, RangeRead, range_in, period_of}
+use Rattle.recurrence.specs.Element.{range_by, range_days, RangeRead}
 use Rattle.recurrence.proofs.Rules.{field_in}
 
 -- none of them lies past the last date
@@ -43,28 +43,25 @@ unfolding range_days
 run_days a n = rw (count_of_number a, add-one)
 
 module _ (x : Element) where
-  module _ (p : Element) (c : child x (bytes "TimePeriod") ≡ Some p) where
-    range_read : (f : Option Date) → date_in p "FromDate" ≡ f → (t : Option Date) → date_in p "ToDate" ≡ t → RangeRead x (range_in f t)
-    unfolding range_in days_of range_days
-    range_read None f t g = record { is = rw (c, f); days = rw (c, f) }
-    range_read (Some d) f None g =
-        record { is = rw (c, f, g); days = rw (c, f, g) }
-    range_read (Some d) f (Some k) g =
-        let i = field_in p "FromDate" d f in
-        let j = field_in p "ToDate" k g in
-        let n = min (k - d) most_exception_days in
-        let r : range_in (Some d) (Some k) ≡ Some (record { first = day_date d; count = n + 1 }) = refl in
-        let l : days_of x ≡ count d (suc n) = rw (c, f, g) (keep_all (suc n) d (omega (arith, i.high, j.high))) in
-        record { is = r ∙ run_range d n ∙ ap range_by (sym l); days = ap range_days r ∙ run_days d n ∙ sym l }
-
-  none_read : child x (bytes "TimePeriod") ≡ None → RangeRead x (range_in None None)
-  unfolding range_in days_of range_days
+  pub none_read : child x (bytes "TimePeriod") ≡ None → RangeRead x None
+  unfolding days_of range_days
   none_read e = record { is = rw e; days = rw e }
 
-  pub range_is : RangeRead x (range_in (period_of x).from (period_of x).to)
-  unfolding period_of
-  range_is = by (child x (bytes "TimePeriod")) refl
-    where
-      by : (o : Option Element) → child x (bytes "TimePeriod") ≡ o → RangeRead x (range_in (o >>= λ p. date_in p "FromDate") (o >>= λ p. date_in p "ToDate"))
-      by None e = none_read e
-      by (Some p) e = range_read p e (date_in p "FromDate") refl (date_in p "ToDate") refl
+  module _ (p : Element) (c : child x (bytes "TimePeriod") ≡ Some p) where
+    pub none_from : date_in p "FromDate" ≡ None → RangeRead x None
+    unfolding days_of range_days
+    none_from f = record { is = rw (c, f); days = rw (c, f) }
+
+    module _ (d : Date) (f : date_in p "FromDate" ≡ Some d) where
+      pub none_to : date_in p "ToDate" ≡ None → RangeRead x None
+      unfolding days_of range_days
+      none_to g = record { is = rw (c, f, g); days = rw (c, f, g) }
+
+      pub range_read : (k : Date) → date_in p "ToDate" ≡ Some k → RangeRead x (Some (record { first = day_date d; count = min (k - d) most_exception_days + 1 }))
+      unfolding days_of
+      range_read k g =
+          let i = field_in p "FromDate" d f in
+          let j = field_in p "ToDate" k g in
+          let n = min (k - d) most_exception_days in
+          let l : days_of x ≡ count d (suc n) = rw (c, f, g) (keep_all (suc n) d (omega (arith, i.high, j.high))) in
+          record { is = run_range d n ∙ ap range_by (sym l); days = run_days d n ∙ sym l }

@@ -11,7 +11,7 @@ use Prim.Native.String.{String}
 use lib.Dec.{leb, ltb, eqb}
 use lib.IntN.{ℤ, pos, negsuc}
 use borrow.Author.Tests.{lt-ltb, le-ltb, le-leb, lt-leb, ne_eqb}
-use Rattle.definition.specs.Base.{◌>>=◌, ◌or◌, when, given, within, keep}
+use Rattle.definition.specs.Base.{◌>>=◌, ◌or◌, when, within, keep}
 use Rattle.definition.specs.Ascii.{bytes}
 use Rattle.definition.specs.Bits.{twos}
 use Rattle.definition.specs.Date.{Date, year_of, month_of, day_of, sunday_first, first_date, last_date, date_of}
@@ -24,8 +24,8 @@ use Rattle.definition.specs.declared.Date as Declared
 use Rattle.laws.specs.Calendar.{is_day_lem}
 use Rattle.date.specs.Scale.{count_of_number}
 use Rattle.recurrence.specs.Scale.{InDates, scaled_by, day_date}
-use Rattle.recurrence.specs.Meaning.{as_rule, sound, meaning, days_by}
-use Rattle.recurrence.specs.Element.{capped, held_rule, rule_by, rule_days, RuleRead, pick_of, mask_of, last_by, most_by, judged, UpToLast, rule_in, period_of}
+use Rattle.recurrence.specs.Meaning.{valid_month, as_rule, sound, meaning, days_by}
+use Rattle.recurrence.specs.Element.{capped, held_rule, rule_by, rule_days, RuleRead, pick_of, mask_of, last_by, most_by, judged}
 use Rattle.recurrence.specs.declared.scale.Scaled.{Scaled}
 use Rattle.laws.specs.Bools.{within_is}
 use Rattle.recurrence.proofs.Months.{month_length_lem, sunday_less}
@@ -120,21 +120,13 @@ below_item : (n : ℕ) (d : Date) → item_fits (negsuc n) d ≡ false
 unfolding item_fits
 below_item n d = refl
 
-back : (z : ℤ) → when (within 1 12 (month_from z or 13)) (month_from z or 13) ≡ month_from z
+back : (z : ℤ) → valid_month (month_from z) ≡ month_from z
 back (pos n) = by (dec_lt n 12)
   where
-    by : Dec (n < 12) → when (within 1 12 (when (ltb n 12) (n + 1) or 13)) (when (ltb n 12) (n + 1) or 13) ≡ when (ltb n 12) (n + 1)
+    by : Dec (n < 12) → valid_month (when (ltb n 12) (n + 1)) ≡ when (ltb n 12) (n + 1)
     by (yes l) = rw (lt-ltb n 12 l, le-leb 1 (n + 1) (omega arith), le-leb (n + 1) 12 (omega arith))
     by (no g) = rw (le-ltb n 12 (omega arith))
 back (negsuc n) = refl
-
-given_month : (z : ℤ) → within 1 12 (month_from z or 13) ≡ given (month_from z)
-given_month (pos n) = by (dec_lt n 12)
-  where
-    by : Dec (n < 12) → within 1 12 (when (ltb n 12) (n + 1) or 13) ≡ given (when (ltb n 12) (n + 1))
-    by (yes l) = rw (lt-ltb n 12 l, le-leb 1 (n + 1) (omega arith), le-leb (n + 1) 12 (omega arith))
-    by (no g) = rw (le-ltb n 12 (omega arith))
-given_month (negsuc n) = refl
 
 days : (z : ℤ) (k : ℕ) → k ≤ 31 → is_number (pos (capped 32 z)) k ≡ is_number z k
 days (pos n) k h = by (dec_lt n 32)
@@ -217,37 +209,13 @@ period_held (negsuc n) = omega arith
 
 -- on the scale
 abbrev scaled_of : D.Rule → Scaled
-scaled_of m =
-    record {
-      kind = m.type;
-      from = m.from;
-      last = m.last;
-      most = m.most;
-      period = m.period;
-      month = m.month or 13;
-      day = capped 32 m.day;
-      item = capped 10 m.item;
-      position = capped 5 m.position;
-      weekdays = twos 64 m.weekdays % 128;
-    }
+scaled_of m = record { rule = held_rule m; from = m.from; last = m.last }
 
 abbrev days_at : Scaled → Option (List Date)
 days_at u = when (sound u && is_rule (as_rule u)) (as_rule u) >>= λ m. Some (days_of_rule m)
 
 scaled_is : (m : D.Rule) → scaled_by (held_rule m) ≡ scaled_of m
-scaled_is m = λ i.
-    record {
-      kind = m.type;
-      from = count_of_number m.from i;
-      last = count_of_number m.last i;
-      most = m.most;
-      period = m.period;
-      month = m.month or 13;
-      day = capped 32 m.day;
-      item = capped 10 m.item;
-      position = capped 5 m.position;
-      weekdays = twos 64 m.weekdays % 128;
-    }
+scaled_is m = λ i. record { rule = held_rule m; from = count_of_number m.from i; last = count_of_number m.last i }
 
 module _ (x : Element) (from to : Date) where
   alike : Alike (as_rule (scaled_of (rule_from x from to))) (rule_from x from to)
@@ -270,7 +238,7 @@ module _ (x : Element) (from to : Date) where
 
   pub judged_is : judged (held_rule (rule_from x from to)) ≡ rule_by (when (is_rule (rule_from x from to)) (rule_from x from to))
   unfolding judged rule_from
-  judged_is = rw (given_month (int_in x "Month" or pos 0)) (by (is_rule (rule_from x from to)))
+  judged_is = rw (back (int_in x "Month" or pos 0)) (by (is_rule (rule_from x from to)))
     where
       by : (t : Bool) → (if t then Some (held_rule (rule_from x from to)) else None) ≡ rule_by (when t (rule_from x from to))
       by true = refl
@@ -310,10 +278,6 @@ module _ (x : Element) (from to : Date) where
         by true e = same e
         by false e = refl
 
-pub or_most : (from : Date) (to : Option Date) → from ≤ last_date → UpToLast to → (to or from) ≤ last_date
-or_most from None h l = h
-or_most from (Some d) h l = l
-
 -- ---- an Exception
 
 pub field_in : (p : Element) (name : String) (d : Date) → date_in p name ≡ Some d → InDates d
@@ -324,42 +288,28 @@ field_in p name d e = by (text_in p name) e
     by None e = let z : ◌≡◌ {A = ℕ} 0 1 = cc in absurd (omega arith)
     by (Some t) e = date_in_lem t d e
 
-said_most : (p : Element) (name : String) (o : Option Date) → date_in p name ≡ o → UpToLast o
-said_most p name None e = tt
-said_most p name (Some d) e = (field_in p name d e).high
+-- ToDate, or FromDate where there is none
+pub to_most : (p : Element) (d : Date) → d ≤ last_date → (date_in p "ToDate" or d) ≤ last_date
+to_most p d h = by (date_in p "ToDate") refl
+  where
+    by : (o : Option Date) → date_in p "ToDate" ≡ o → (o or d) ≤ last_date
+    by None e = h
+    by (Some k) e = (field_in p "ToDate" k e).high
 
 module _ (x : Element) where
-  pub period_most : UpToLast (period_of x).from × UpToLast (period_of x).to
-  unfolding period_of
-  period_most = by (child x (bytes "TimePeriod"))
-    where
-      by : (o : Option Element) → UpToLast (o >>= λ p. date_in p "FromDate") × UpToLast (o >>= λ p. date_in p "ToDate")
-      by None = (tt, tt)
-      by (Some p) = (said_most p "FromDate" (date_in p "FromDate") refl, said_most p "ToDate" (date_in p "ToDate") refl)
-
-  -- the code's dates
-  module _ (p : Element) (c : child x (bytes "TimePeriod") ≡ Some p) where
-    rule_read : (f : Option Date) → date_in p "FromDate" ≡ f → (t : Option Date) → date_in p "ToDate" ≡ t → RuleRead x (rule_in x f t)
-    unfolding rule_in rule_of recurrence_days rule_days
-    rule_read None f t g = record { is = rw (c, f); days = rw (c, f) }
-    rule_read (Some d) f None g =
-        let i = field_in p "FromDate" d f in
-        let r : rule_in x (Some d) None ≡ rule_by (when (is_rule (rule_from x d d)) (rule_from x d d)) = judged_is x d d in
-        record { is = r ∙ rw (c, f, g); days = ap rule_days r ∙ read_days x d d i i.high ∙ rw (c, f, g) }
-    rule_read (Some d) f (Some k) g =
-        let i = field_in p "FromDate" d f in
-        let j = field_in p "ToDate" k g in
-        let r : rule_in x (Some d) (Some k) ≡ rule_by (when (is_rule (rule_from x d k)) (rule_from x d k)) = judged_is x d k in
-        record { is = r ∙ rw (c, f, g); days = ap rule_days r ∙ read_days x d k i j.high ∙ rw (c, f, g) }
-
-  none_read : child x (bytes "TimePeriod") ≡ None → RuleRead x (rule_in x None None)
-  unfolding rule_in rule_of recurrence_days rule_days
+  pub none_read : child x (bytes "TimePeriod") ≡ None → RuleRead x None
+  unfolding rule_of recurrence_days rule_days
   none_read e = record { is = rw e; days = rw e }
 
-  pub rule_is : RuleRead x (rule_in x (period_of x).from (period_of x).to)
-  unfolding period_of
-  rule_is = by (child x (bytes "TimePeriod")) refl
-    where
-      by : (o : Option Element) → child x (bytes "TimePeriod") ≡ o → RuleRead x (rule_in x (o >>= λ p. date_in p "FromDate") (o >>= λ p. date_in p "ToDate"))
-      by None e = none_read e
-      by (Some p) e = rule_read p e (date_in p "FromDate") refl (date_in p "ToDate") refl
+  module _ (p : Element) (c : child x (bytes "TimePeriod") ≡ Some p) where
+    pub none_from : date_in p "FromDate" ≡ None → RuleRead x None
+    unfolding rule_of recurrence_days rule_days
+    none_from f = record { is = rw (c, f); days = rw (c, f) }
+
+    pub rule_read : (d : Date) → date_in p "FromDate" ≡ Some d → RuleRead x (judged (held_rule (rule_from x d (date_in p "ToDate" or d))))
+    unfolding rule_of recurrence_days
+    rule_read d f =
+        let i = field_in p "FromDate" d f in
+        let k = date_in p "ToDate" or d in
+        let r = judged_is x d k in
+        record { is = r ∙ rw (c, f); days = ap rule_days r ∙ read_days x d k i (to_most p d i.high) ∙ rw (c, f) }

@@ -1,21 +1,18 @@
 -- What an element says, as this crate holds it: the rule of an Exception, the days of a WeekDay of DayType 0. Assumes nothing: these are
 -- definitions.
-use Rattle.std.specs.Prelude.{if◌then◌else◌, ℕ, suc, ◌+◌, ◌-◌, ◌%◌, min, ◌≡◌, ◌≤◌, Bool, List, [], ◌∷◌, length, ℤ, pos, negsuc}
+use Rattle.std.specs.Prelude.{if◌then◌else◌, ℕ, suc, ◌+◌, ◌%◌, min, ◌≡◌, Bool, List, [], ◌∷◌, length, ℤ, pos, negsuc}
 use Rattle.recurrence.specs.declared.Range.{Range}
-use Rattle.std.specs.Prelude.{Option, Some, None, IfSome}
-use Rattle.definition.specs.Base.{◌>>=◌, ◌or◌, count}
-use Rattle.definition.specs.Ascii.{bytes}
+use Rattle.std.specs.Prelude.{Option, Some, None}
+use Rattle.definition.specs.Base.{◌or◌, count}
 use Rattle.definition.specs.Bits.{twos}
-use Rattle.definition.specs.Date.{Date, in_years, last_date}
-use Rattle.definition.specs.Tree.{Element, child}
-use Rattle.definition.specs.Field.{date_in}
+use Rattle.definition.specs.Date.{Date, in_years}
+use Rattle.definition.specs.Tree.{Element}
 use Rattle.definition.specs.Recurrence as D
 use Rattle.definition.specs.Recurrence.{most_days, century, rule_from, rule_of, recurrence_days, days_of, most_exception_days}
 use Rattle.date.specs.Scale.{day_count}
 use Rattle.recurrence.specs.Scale.{day_date}
 use Rattle.recurrence.specs.Meaning.{rules, days_by}
 use Rattle.recurrence.specs.declared.Rule.{Rule}
-use Rattle.recurrence.specs.declared.element.Period.{Period}
 
 -- ---- the rule of an Exception
 
@@ -74,22 +71,7 @@ unfoldable pub most_by : Bool → ℕ → ℕ
 most_by by_count occurrences = if by_count then occurrences else most_days
 
 unfoldable pub judged : Rule → Option Rule
-judged r = if rules r.kind (r.month or 13) then Some r else None
-
--- a date, if there is one, lies in the years
-abbrev pub UpToLast : Option Date → Type 0
-UpToLast d = IfSome d (λ d. d ≤ last_date)
-
--- with its dates
-unfoldable pub rule_in : Element → Option Date → Option Date → Option Rule
-rule_in x from to = from >>= λ d. judged (held_rule (rule_from x d (to or d)))
-
-unfoldable pub period_of : Element → Period
-period_of x =
-    record {
-      from = child x (bytes "TimePeriod") >>= λ p. date_in p "FromDate";
-      to = child x (bytes "TimePeriod") >>= λ p. date_in p "ToDate";
-    }
+judged r = if rules r.kind r.month then Some r else None
 
 -- ---- a WeekDay of DayType 0
 
@@ -105,8 +87,3 @@ range_days None = []
 pub record RangeRead (x : Element) (r : Option Range) : Type 0 where
   pub is : r ≡ range_by (days_of x)
   pub days : range_days r ≡ days_of x
-
-unfoldable pub range_in : Option Date → Option Date → Option Range
-range_in from to =
-    from >>= λ d. to >>= λ e.
-    Some (record { first = day_date d; count = min (e - d) most_exception_days + 1 })

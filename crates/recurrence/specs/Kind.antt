@@ -5,8 +5,8 @@ use Rattle.std.specs.Prelude.{Option}
 use Rattle.definition.specs.Base.{find_last}
 use Rattle.definition.specs.Date.{Date, year_of, sunday_first, first_date, last_date}
 use Rattle.definition.specs.Recurrence.{most_days, century, every_nth, is_date, on_weekday, in_nth_week, nth_in_month}
-use Rattle.recurrence.specs.Scale.{IsMonth, month_at, day_in}
-use Rattle.recurrence.specs.Meaning.{as_rule, rules}
+use Rattle.recurrence.specs.Scale.{month_at, day_in}
+use Rattle.recurrence.specs.Meaning.{as_rule, valid_month, rules}
 use Rattle.recurrence.specs.declared.kind.Kind.{Kind}
 use Rattle.recurrence.specs.declared.scale.Scaled.{Scaled}
 
@@ -30,24 +30,24 @@ pub record Ready (r : Scaled) (at : ℕ) : Type 0 where
   pub from : r.from ≤ at
   pub until : at ≤ r.last
   pub last : r.last ≤ last_date
-  pub step : 1 ≤ r.period
-  pub most : r.period ≤ 1000
+  pub step : 1 ≤ r.rule.period
+  pub most : r.rule.period ≤ 1000
 
 abbrev pub daily_fits : Scaled → Date → Bool
-daily_fits r d = every_nth r.period most_days (d - r.from)
+daily_fits r d = every_nth r.rule.period most_days (d - r.from)
 
 -- a rule's candidate of a month of a year: by the item at its position, or by the day
 abbrev pub candidate_of : Bool → Scaled → ℕ → ℕ → Option Date
-candidate_of b r y m = candidate b r.day r.item r.position y m
+candidate_of b r y m = candidate b r.rule.day r.rule.item r.rule.position y m
 
 abbrev pub counts_year : Scaled → ℕ → Bool
 counts_year r y = leb y (year_of r.from + 200)
 
-abbrev pub yearly_fits : Bool → Scaled → Date → Bool
-yearly_fits b r d = counts_year r (year_of d) && is_date (candidate_of b r (year_of d) r.month) d
+abbrev pub yearly_fits : Bool → Scaled → ℕ → Date → Bool
+yearly_fits b r m d = counts_year r (year_of d) && is_date (candidate_of b r (year_of d) m) d
 
 abbrev pub counts_month : Scaled → ℕ → Bool
-counts_month r k = every_nth r.period 2400 (k - month_at r.from)
+counts_month r k = every_nth r.rule.period 2400 (k - month_at r.from)
 
 abbrev pub candidate_at : Bool → Scaled → ℕ → Option Date
 candidate_at b r k = candidate_of b r (k / 12) (k % 12 + 1)
@@ -68,15 +68,15 @@ pub record WeekDay (w0 step d g : ℕ) : Type 0 where
   pub here : eqb ((g - w0) / 7 % step) 0 ≡ true
 
 -- the Type that a kind is chosen by; the yearly ones have their month
-abbrev pub IsKind : ℕ → ℕ → Kind → Type 0
+abbrev pub IsKind : ℕ → Option ℕ → Kind → Type 0
 IsKind type month Kind.Daily = type ≡ 1
-IsKind type month Kind.YearlyByDay = (type ≡ 2) × IsMonth month
-IsKind type month Kind.YearlyByPosition = (type ≡ 3) × IsMonth month
+IsKind type month (Kind.YearlyByDay m) = (type ≡ 2) × (valid_month month ≡ Some m)
+IsKind type month (Kind.YearlyByPosition m) = (type ≡ 3) × (valid_month month ≡ Some m)
 IsKind type month Kind.MonthlyByDay = type ≡ 4
 IsKind type month Kind.MonthlyByPosition = type ≡ 5
 IsKind type month Kind.Weekly = type ≡ 6
 
 -- what a Type and a Month choose
-abbrev pub Chosen : ℕ → ℕ → Option Kind → Type 0
+abbrev pub Chosen : ℕ → Option ℕ → Option Kind → Type 0
 Chosen type month (Some k) = IsKind type month k
 Chosen type month None = rules type month ≡ false

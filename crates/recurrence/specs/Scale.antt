@@ -1,7 +1,7 @@
 -- Days, years and months as this crate counts them, from 1 January of the year -10000 on. Assumes nothing: these are definitions.
 use Rattle.std.specs.Prelude.{ℕ, ◌+◌, ◌-◌, ◌*◌, ◌≤◌, ◌≡◌, ℤ, pos, ◌-ℤ◌}
 use Rattle.std.specs.Prelude.{Option, Some}
-use Rattle.definition.specs.Base.{◌>>=◌, ◌or◌, when, within}
+use Rattle.definition.specs.Base.{◌>>=◌, when, within}
 use Rattle.definition.specs.Date as D
 use Rattle.definition.specs.Date.{year_of, month_of, date_at, month_length, day_number, first_date, last_date}
 use Rattle.definition.specs.declared.Date.{Date}
@@ -33,21 +33,8 @@ day_date n = record { 0 = day_number n }
 abbrev pub count_by : Option Date → Option D.Date
 count_by a = a >>= λ d. Some (day_count d.0)
 
--- month 13 stands for none
 abbrev pub scaled_by : Rule → Scaled
-scaled_by r =
-    record {
-      kind = r.kind;
-      from = day_count r.from.0;
-      last = day_count r.last.0;
-      most = r.most;
-      period = r.period;
-      month = r.month or 13;
-      day = r.day;
-      item = r.item;
-      position = r.position;
-      weekdays = r.weekdays;
-    }
+scaled_by r = record { rule = r; from = day_count r.from.0; last = day_count r.last.0 }
 
 abbrev pub month_on : D.Date → Month
 month_on d = record { year = year_of d; month = month_of d }

@@ -4,11 +4,12 @@ ghost use Rattle.definition.specs.Base.{◌or◌};
 ghost use Rattle.definition.specs.Recurrence.{month_from, rule_from};
 ghost use Rattle.fields.specs.Said.{whole_said, date_said};
 ghost use Rattle.tree.specs.Place.{meaning};
-ghost use Rattle.recurrence.specs.Element.{pick_of, mask_of, last_by, most_by, held_rule, judged, UpToLast, rule_in, RuleRead, period_of, range_in, RangeRead};
+ghost use Rattle.recurrence.specs.Element.{pick_of, mask_of, last_by, most_by, held_rule, judged, RuleRead, RangeRead};
 
 use crate::kind::kind_of;
-use crate::scale::{LAST, count_by, date_at};
+use crate::scale::{LAST, count_by};
 use crate::{Range, Rule};
+use date::at_count;
 use tree::Element;
 
 // A number held to `most`, with what stands for one below 0 and for a missing one.
@@ -46,13 +47,11 @@ fn day_said(e: Element<'_>, name: &[u8]) -> Option<u32>
 fn last_by(by_count: bool, from: u32, to: u32) -> u32
     ensures { result ≡ last_by by_count from to }
 {
-    if !by_count {
-        return to;
+    if by_count && from <= LAST - 36600 {
+        from + 36600
+    } else {
+        to
     }
-    if from <= LAST - 36600 {
-        return from + 36600;
-    }
-    to
 }
 
 fn most_by(by_count: bool, occurrences: u32) -> u32
@@ -74,11 +73,11 @@ fn rule_at(e: Element<'_>, from: u32, to: u32) -> Rule
     ensures { result ≡ held_rule (rule_from (meaning e.entry) from to) }
 {
     let by_count = fields::yes_in(e, b"EnteredByOccurrences");
-    let first = date_at(from);
     Rule {
+        // Past 6 and below 0 the Type becomes 0, which no kind has.
         kind: number_in(e, b"Type", 7, 7, 1) % 7,
-        from: first,
-        last: date_at(last_by(by_count, from, to)),
+        from: at_count(from),
+        last: at_count(last_by(by_count, from, to)),
         most: most_by(by_count, number_in(e, b"Occurrences", 5000, 0, 1)),
         period: number_in(e, b"Period", 1000, 1, 1).max(1),
         month: month_from(number_in(e, b"Month", 12, 12, 0)),
@@ -93,66 +92,29 @@ fn rule_at(e: Element<'_>, from: u32, to: u32) -> Rule
 fn judge(r: Rule) -> Option<Rule>
     ensures { result ≡ judged r }
 {
-    kind_of(r.kind, r.month.unwrap_or(13))?;
+    kind_of(r.kind, r.month)?;
     Some(r)
-}
-
-fn rule_in(e: Element<'_>, from: Option<u32>, to: Option<u32>) -> Option<Rule>
-    requires from { UpToLast from }
-    requires to { UpToLast to }
-    ensures { result ≡ rule_in (meaning e.entry) from to }
-{
-    let first = from?;
-    judge(rule_at(e, first, to.unwrap_or(first)))
-}
-
-// FromDate and ToDate of a TimePeriod.
-#[derive(Clone, Copy)]
-struct Period {
-    from: Option<u32>,
-    to: Option<u32>,
-}
-
-fn period_of(e: Element<'_>) -> Period
-    ensures { result ≡ period_of (meaning e.entry) }
-{
-    let Some(p) = e.child(b"TimePeriod") else {
-        return Period {
-            from: None,
-            to: None,
-        };
-    };
-    Period {
-        from: day_said(p, b"FromDate"),
-        to: day_said(p, b"ToDate"),
-    }
 }
 
 // The rule of an Exception.
 pub fn rule_of(e: Element<'_>) -> Option<Rule>
     ensures { RuleRead (meaning e.entry) result }
 {
-    let p = period_of(e);
-    rule_in(e, p.from, p.to)
+    let p = e.child(b"TimePeriod")?;
+    let from = day_said(p, b"FromDate")?;
+    let to = day_said(p, b"ToDate").unwrap_or(from);
+    judge(rule_at(e, from, to))
 }
 
-// A reversed range is its first day alone, and 3,661 days are the most.
-fn range_in(from: Option<u32>, to: Option<u32>) -> Option<Range>
-    requires { UpToLast from }
-    ensures { result ≡ range_in from to }
-{
-    let first = from?;
-    let last = to?;
-    Some(Range {
-        first: date_at(first),
-        count: last.saturating_sub(first).min(3660) + 1,
-    })
-}
-
-// The days of a WeekDay of DayType 0.
+// The days of a WeekDay of DayType 0. A reversed range is its first day alone, and 3,661 days are the most.
 pub fn days_of(e: Element<'_>) -> Option<Range>
     ensures { RangeRead (meaning e.entry) result }
 {
-    let p = period_of(e);
-    range_in(p.from, p.to)
+    let p = e.child(b"TimePeriod")?;
+    let first = day_said(p, b"FromDate")?;
+    let last = day_said(p, b"ToDate")?;
+    Some(Range {
+        first: at_count(first),
+        count: last.saturating_sub(first).min(3660) + 1,
+    })
 }

@@ -101,7 +101,7 @@ impl Candidate for ByDay {
     ghost positioned = { false };
 
     fn candidate_in(r: Scaled, y: u32, m: u32) -> Option<u32> {
-        day_in(y, m, r.day)
+        day_in(y, m, r.rule.day)
     }
 }
 
@@ -109,6 +109,6 @@ impl Candidate for ByPosition {
     ghost positioned = { true };
 
     fn candidate_in(r: Scaled, y: u32, m: u32) -> Option<u32> {
-        nth_of(y, m, r.item, r.position)
+        nth_of(y, m, r.rule.item, r.rule.position)
     }
 }

@@ -1,32 +1,25 @@
 // Days and years as the arithmetic of this crate counts them: from 1 January of the year -10000 on, so that nothing is negative.
-ghost use Rattle.std.specs.Prelude.{◌≡◌, ◌≤◌, pos, ◌-ℤ◌};
+ghost use Rattle.std.specs.Prelude.{◌≡◌, pos, ◌-ℤ◌};
 ghost use Rattle.definition.specs.Base.{◌or◌};
 ghost use Rattle.definition.specs.Date.{month_length, year_of};
-ghost use Rattle.recurrence.specs.Scale.{InDates, IsYear, IsMonth, YearNumber, day_date, count_by, scaled_by, month_on, month_at, day_in};
+ghost use Rattle.recurrence.specs.Scale.{InDates, IsYear, IsMonth, YearNumber, count_by, scaled_by, month_on, month_at, day_in};
 
 use crate::Rule;
-use date::{count_of, lowered};
+use date::{at_count, count_of, lowered};
 use definition::Date;
 
 // The last date, 31 December 9999. Clauses write the number, as their arithmetic reads it.
 pub(crate) const LAST: u32 = 7304849;
 
-// A rule whose days are counted so; not one generic type with Rule, as the month differs too. The month stays a number, since 0 and those past 12 are none either; 13 stands for a missing one.
+// A rule with its days counted so.
 #[derive(Clone, Copy)]
 pub(crate) struct Scaled {
-    pub kind: u32,
+    pub rule: Rule,
     pub from: u32,
     pub last: u32,
-    pub most: u32,
-    pub period: u32,
-    pub month: u32,
-    pub day: u32,
-    pub item: u32,
-    pub position: u32,
-    pub weekdays: u32,
 }
 
-// A month of a year. March of `date` has its fields, but its years begin in March.
+// A month of a year. March of `date` is a year that begins in March, and a day of it.
 #[derive(Clone, Copy)]
 pub(crate) struct Month {
     pub year: u32,
@@ -34,13 +27,6 @@ pub(crate) struct Month {
 }
 
 // ---- to and fro: by functions and no From, as a number does not say from which day it counts
-
-pub(crate) fn date_at(n: u32) -> Date
-    requires { n ≤ 7304850 }
-    ensures { result ≡ day_date n }
-{
-    Date(lowered(n, 4371953))
-}
 
 pub(crate) fn count_by(a: Option<Date>) -> Option<u32>
     ensures { result ≡ count_by a }
@@ -52,16 +38,9 @@ pub(crate) fn to_scale(r: Rule) -> Scaled
     ensures { result ≡ scaled_by r }
 {
     Scaled {
-        kind: r.kind,
+        rule: r,
         from: count_of(r.from),
         last: count_of(r.last),
-        most: r.most,
-        period: r.period,
-        month: r.month.unwrap_or(13),
-        day: r.day,
-        item: r.item,
-        position: r.position,
-        weekdays: r.weekdays,
     }
 }
 
@@ -97,7 +76,7 @@ pub(crate) fn month_on(d: u32) -> Month
     requires { InDates d }
     ensures { result ≡ month_on d }
 {
-    let Some(c) = date::ymd(date_at(d)) else {
+    let Some(c) = date::ymd(at_count(d)) else {
         // Never taken: a day in the years has a date.
         return Month { year: 0, month: 0 };
     };

@@ -1,17 +1,31 @@
 // The days of a rule, one after the other.
-ghost use Rattle.std.specs.Prelude.{◌≡◌};
-ghost use Rattle.recurrence.specs.Meaning.{sound, days_by, to_come, said, start_of, step_of};
+ghost use Rattle.std.specs.Prelude.{◌≡◌, [], IsTrue, MatchOption};
+ghost use Rattle.recurrence.specs.Kind.{IsKind};
+ghost use Rattle.recurrence.specs.Meaning.{sound, days_by, coming, Comes, to_come, said, start_of, step_of};
 
-use crate::kind::{first_fit, kind_of};
-use crate::scale::{LAST, Scaled, date_at, to_scale};
+use crate::kind::{Kind, first_fit, kind_of};
+use crate::scale::{LAST, Scaled, to_scale};
 use crate::{Cursor, Rule, Step};
-use date::count_of;
+use date::{at_count, count_of};
 
 // Its dates are such, and its Period is held.
 fn is_sound(r: Scaled) -> bool
     ensures { result ≡ sound r }
 {
-    (366..=LAST).contains(&r.from) & ((r.last <= LAST) & (1..=1000).contains(&r.period))
+    (366..=LAST).contains(&r.from) & ((r.last <= LAST) & (1..=1000).contains(&r.rule.period))
+}
+
+// The first of the days to come.
+fn day_from(kind: Kind, r: Scaled, c: Cursor) -> Option<u32>
+    requires sound { IsTrue (sound r) }
+    requires kind { IsKind r.rule.kind r.rule.month kind }
+    ensures { MatchOption result (coming r c ≡ []) (λ x. Comes r c x) }
+{
+    let at = r.from.max(count_of(c.at));
+    if c.left == 0 || r.last < at {
+        return None;
+    }
+    first_fit(kind, r, at).filter(|x| *x <= r.last)
 }
 
 // The cursor that leaves all days to come.
@@ -30,28 +44,15 @@ pub fn next(r: Rule, c: Cursor) -> Step
     if !is_sound(t) {
         return Step::Skipped;
     }
-    let Some(kind) = kind_of(t.kind, t.month) else {
+    let Some(kind) = kind_of(r.kind, r.month) else {
         return Step::Skipped;
     };
-    if c.left == 0 {
-        return Step::Done;
-    }
-    let at = t.from.max(count_of(c.at));
-    if t.last < at {
-        return Step::Done;
-    }
-    let Some(x) = first_fit(kind, t, at) else {
+    let Some(x) = day_from(kind, t, c) else {
         return Step::Done;
     };
-    if t.last < x {
-        return Step::Done;
-    }
-    let day = date_at(x);
-    Step::Day(
-        day,
-        Cursor {
-            at: date_at(x + 1),
-            left: c.left - 1,
-        },
-    )
+    let behind = Cursor {
+        at: at_count(x + 1),
+        left: c.left - 1,
+    };
+    Step::Day(at_count(x), behind)
 }

@@ -7,7 +7,7 @@ use Rattle.date.specs.Answer.{is_day}
 use Rattle.definition.specs.Answer.{date_meaning, day_number_of}
 use Rattle.laws.specs.Calendar.{IsDay}
 use Rattle.date.proofs.Steps.{tested, date_most}
-use Rattle.date.proofs.Signs.{back, difference_back, year_counted}
+use Rattle.date.proofs.Signs.{back, year_counted}
 use native.Mathlib.Omega.{arith}
 use Rattle.date.proofs.from_ymd.Goals as goal
 use Rattle.date.proofs.from_ymd.Goals.{After-day_at, Else-not-is_day, In_ok-y}
@@ -31,16 +31,14 @@ day_at-requires c =
     let k = year_counted _ c.in_ok-y.y (given (goal.at.day_at-requires c).In_ok-y) in
     record { year = omega (arith, k.high); day = valid (goal.at.day_at-requires c).Else-not-is_day }
 
-pub lowered-requires : goal.lowered-requires
-lowered-requires c =
-    let v = valid (goal.at.lowered-requires c).Else-not-is_day in
-    let k = year_counted _ c.in_ok-y.y (given (goal.at.lowered-requires c).In_ok-y) in
-    record { small = omega (arith, c.day_at.ensures, date_most _ _ _ v, k.high); by_small = omega arith }
+pub at_count-requires : goal.at_count-requires
+at_count-requires c =
+    let v = valid (goal.at.at_count-requires c).Else-not-is_day in
+    let k = year_counted _ c.in_ok-y.y (given (goal.at.at_count-requires c).In_ok-y) in
+    omega (arith, c.day_at.ensures, date_most _ _ _ v, k.high)
 
 pub returns : goal.returns
 unfolding date_meaning day_number_of from_ymd is_day day_number
 returns c =
-    let b = lowered-requires (goal.at.returns c).After-day_at in
-    let n = difference_back c.day_at.result epoch b.small b.by_small c.lowered.result c.lowered.ensures
-    ∙ ap (λ (k : ℕ). pos k -ℤ pos epoch) c.day_at.ensures in
-    rw (given (goal.at.returns c).In_ok-y, ← c.if-not-is_day.ensures) (ap Some n)
+    rw (given (goal.at.returns c).In_ok-y, ← c.if-not-is_day.ensures)
+    (ap Some (c.at_count.ensures ∙ ap (λ (k : ℕ). pos k -ℤ pos epoch) c.day_at.ensures))

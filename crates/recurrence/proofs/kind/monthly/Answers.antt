@@ -33,8 +33,8 @@ pub loop-q-init : goal.loop-q-init
 loop-q-init g c =
     let r = c.args.r in
     let q = c.steps_up-q.result in
-    let u = subst (λ (n : ℕ). UpTo (n - c.month_at-first.result) r.period q) c.month_at.ensures c.steps_up-q.ensures in
-    monthly_first g.C.Candidate.positioned r c.args.at c.requires.step q c.requires.from (subst (λ (n : ℕ). UpTo (month_at c.args.at - n) r.period q) c.month_at-first.ensures u)
+    let u = subst (λ (n : ℕ). UpTo (n - c.month_at-first.result) r.rule.period q) c.month_at.ensures c.steps_up-q.ensures in
+    monthly_first g.C.Candidate.positioned r c.args.at c.requires.step q c.requires.from (subst (λ (n : ℕ). UpTo (month_at c.args.at - n) r.rule.period q) c.month_at-first.ensures u)
 
 pub overflow_mul-k : goal.overflow_mul-k
 overflow_mul-k g c =
@@ -58,14 +58,14 @@ pub returns-then-at-x : goal.returns-then-at-x
 returns-then-at-x g c =
     let q = c.loop-q.q in
     let r = c.args.r in
-    let is = c.candidate_in.ensures ∙ ap (λ (n : ℕ). candidate_at g.C.Candidate.positioned r (n + q * r.period)) c.month_at-first.ensures in
+    let is = c.candidate_in.ensures ∙ ap (λ (n : ℕ). candidate_at g.C.Candidate.positioned r (n + q * r.rule.period)) c.month_at-first.ensures in
     monthly_fit g.C.Candidate.positioned r c.args.at c.requires.step q c.in-Some.x c.candidate_in.result is c.in-Some.is c.if-at-x.true c.loop-q-test.true c.loop-q.invariant
 
 pub loop-q-preserved : goal.loop-q-preserved
 loop-q-preserved g c =
     let q = c.loop-q.q in
     let r = c.args.r in
-    let is = c.candidate_in.ensures ∙ ap (λ (n : ℕ). candidate_at g.C.Candidate.positioned r (n + q * r.period)) c.month_at-first.ensures in
+    let is = c.candidate_in.ensures ∙ ap (λ (n : ℕ). candidate_at g.C.Candidate.positioned r (n + q * r.rule.period)) c.month_at-first.ensures in
     let u = monthly_units g.C.Candidate.positioned r in
     let p : Passed (monthly_fits g.C.Candidate.positioned r) month_at c.args.at (suc (step_month r q)) = elim c.match-candidate_in.branch [
       | in-Some+else-at-x w ↦ pass_unit _ _ _ _ u c.args.at (step_month r q) c.candidate_in.result c.loop-q.invariant is w.in-Some.x w.in-Some.is w.if-at-x.false

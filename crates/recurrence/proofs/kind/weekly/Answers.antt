@@ -7,10 +7,10 @@ use native.Mathlib.Omega.{arith}
 use Rattle.recurrence.proofs.kind.weekly.Goals as goal
 use Rattle.recurrence.proofs.kind.weekly.Goals.{After-week_day_from-g}
 
-weekday_from : (c : After-week_day_from-g) → WeekDay (sunday_of c.args.r) c.args.r.period c.loop-r.d c.week_day_from-g.result
+weekday_from : (c : After-week_day_from-g) → WeekDay (sunday_of c.args.r) c.args.r.rule.period c.loop-r.d c.week_day_from-g.result
 weekday_from c =
     let r = c.args.r in
-    subst (λ (n : ℕ). WeekDay (r.from - n) r.period c.loop-r.d c.week_day_from-g.result) c.sunday_first.ensures c.week_day_from-g.ensures
+    subst (λ (n : ℕ). WeekDay (r.from - n) r.rule.period c.loop-r.d c.week_day_from-g.result) c.sunday_first.ensures c.week_day_from-g.ensures
 
 pub overflow_sub-sunday : goal.overflow_sub-sunday
 overflow_sub-sunday c =

@@ -32,8 +32,8 @@ year_of-y-requires g c =
 
 pub loop-y-init : goal.loop-y-init
 loop-y-init g c =
-    subst⁻¹ (λ (y : ℕ). Passed (yearly_fits g.C.Candidate.positioned c.args.r) year_of c.args.at y × (1 ≤ y)) c.year_of-y.ensures
-    (pass_none _ _ _ _ (yearly_units g.C.Candidate.positioned c.args.r c.requires.month) c.args.at, year_first c.args.at (omega (arith, c.requires.ready.first, c.requires.ready.from)))
+    subst⁻¹ (λ (y : ℕ). Passed (yearly_fits g.C.Candidate.positioned c.args.r c.args.month) year_of c.args.at y × (1 ≤ y)) c.year_of-y.ensures
+    (pass_none _ _ _ _ (yearly_units g.C.Candidate.positioned c.args.r c.args.month c.requires.month) c.args.at, year_first c.args.at (omega (arith, c.requires.ready.first, c.requires.ready.from)))
 
 pub candidate_in-requires : goal.candidate_in-requires
 candidate_in-requires g c =
@@ -42,12 +42,12 @@ candidate_in-requires g c =
 pub returns-then-at-x : goal.returns-then-at-x
 returns-then-at-x g c =
     let low : c.loop-y.y ≤ year_of c.args.r.from + 200 = omega (arith, c.loop-y-test.true, c.min-end.ensures, c.year_of-2.ensures) in
-    fit_unit _ _ _ _ (yearly_units g.C.Candidate.positioned c.args.r c.requires.month) c.args.at c.loop-y.y c.candidate_in.result c.loop-y.invariant.0 c.candidate_in.ensures c.in-Some.x c.args.r.last c.in-Some.is c.if-at-x.true (le-leb _ _ low)
+    fit_unit _ _ _ _ (yearly_units g.C.Candidate.positioned c.args.r c.args.month c.requires.month) c.args.at c.loop-y.y c.candidate_in.result c.loop-y.invariant.0 c.candidate_in.ensures c.in-Some.x c.args.r.last c.in-Some.is c.if-at-x.true (le-leb _ _ low)
 
 pub loop-y-preserved : goal.loop-y-preserved
 loop-y-preserved g c =
-    let u = yearly_units g.C.Candidate.positioned c.args.r c.requires.month in
-    let p : Passed (yearly_fits g.C.Candidate.positioned c.args.r) year_of c.args.at (suc c.loop-y.y) = elim c.match-candidate_in.branch [
+    let u = yearly_units g.C.Candidate.positioned c.args.r c.args.month c.requires.month in
+    let p : Passed (yearly_fits g.C.Candidate.positioned c.args.r c.args.month) year_of c.args.at (suc c.loop-y.y) = elim c.match-candidate_in.branch [
       | in-Some+else-at-x w ↦ pass_unit _ _ _ _ u c.args.at c.loop-y.y c.candidate_in.result c.loop-y.invariant.0 c.candidate_in.ensures w.in-Some.x w.in-Some.is w.if-at-x.false
       | in_default w ↦ pass_none_there _ _ _ _ u c.args.at c.loop-y.y c.candidate_in.result c.loop-y.invariant.0 c.candidate_in.ensures w.in_default.is
     ] in
@@ -56,4 +56,4 @@ loop-y-preserved g c =
 pub returns : goal.returns
 returns g c =
     let end : c.min-end.result ≡ min (year_of c.args.r.last) (year_of c.args.r.from + 200) = c.min-end.ensures ∙ ap (λ (a : ℕ). min a (c.year_of-2.result + 200)) c.year_of.ensures ∙ ap (λ (b : ℕ). min (year_of c.args.r.last) (b + 200)) c.year_of-2.ensures in
-    (yearly_none g.C.Candidate.positioned c.args.r c.args.at c.loop-y.y c.min-end.result c.requires.month c.loop-y.invariant.0 end (omega (arith, c.loop-y-test.false)))
+    (yearly_none g.C.Candidate.positioned c.args.r c.args.month c.args.at c.loop-y.y c.min-end.result c.requires.month c.loop-y.invariant.0 end (omega (arith, c.loop-y-test.false)))

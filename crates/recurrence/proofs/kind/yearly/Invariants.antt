@@ -5,4 +5,4 @@ use Prim.Native.Nat.{◌≤◌}
 use Rattle.recurrence.proofs.kind.yearly.Given as goal
 
 abbrev pub invariant-loop-y : goal.invariant-loop-y
-invariant-loop-y g l = Passed (yearly_fits g.C.Candidate.positioned l.r) year_of l.at l.y × (1 ≤ l.y)
+invariant-loop-y g l = Passed (yearly_fits g.C.Candidate.positioned l.r l.month) year_of l.at l.y × (1 ≤ l.y)
