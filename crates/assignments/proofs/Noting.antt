@@ -6,7 +6,7 @@ use Rattle.std.specs.Prelude.{Option, Some, None}
 use borrow.Author.Tests.{lt-leb, not-false}
 use lib.ListN.{get_or-append}
 use lib.Seq.{split_at, take-append-le, take-append_seam, get_or-append_seam}
-use Rattle.definition.specs.Base.{◌>>=◌, ◌or_else◌, when, given, find, find_last, present, some?, same, numbered}
+use Rattle.definition.specs.Base.{◌>>=◌, ◌or_else◌, when, given, find_last, present, some?, same, numbered}
 use Rattle.definition.specs.Text.{Text}
 use Rattle.definition.specs.Format.{whole}
 use Rattle.definition.specs.Model.{Expense}
@@ -21,9 +21,9 @@ use Rattle.bits.specs.Places.{room_fits, at, inside, place_at_lem}
 use Rattle.bits.specs.Steps.{Puts}
 use Rattle.bits.specs.declared.Place.{Place}
 use Rattle.index.specs.declared.Table.{Table}
-use Rattle.index.specs.Chains.{zeros, added, first_of, next_of, place_of, chain_of}
+use Rattle.index.specs.Chains.{zeros, added, place_of}
 use Rattle.index.specs.Last.{last_below, rows_of}
-use Rattle.index.specs.Law.{Fits, Seeks, seeks_first, seeks_none, seeks_here, seeks_next}
+use Rattle.index.specs.Law.{Fits}
 use Rattle.index.proofs.Law.{indexed_none, indexed_by, indexed_same, find_like}
 use Rattle.index.specs.With.{with, with_here, with_before, one_more}
 use Rattle.index.specs.Below.{SameBelow, below_refl, below_added}
@@ -98,34 +98,6 @@ module _ {start : Place} {xs : List Expense} {d₀ d : List ℕ} {r : Done} (ok 
       let y : name ≡ (get_or xs r no_expense).name = same_eq name (get_or xs r no_expense).name b in
       rw (← x, ← y)))
       ∙ sym (some_last (is_of activity name) no_expense xs)
-
--- ---- the walk over a chain
-
-abbrev pub used_at : List ℕ → List ℕ → Table → ℕ → Text → ℕ → Bool
-used_at d v t activity name r = is_expense_at d (byte_at (place_of v t r)) activity name
-
-abbrev pub used_row : List ℕ → List ℕ → Table → ℕ → Text → Option ℕ
-used_row d v t activity name = find (used_at d v t activity name) (chain_of v t (key_of activity name))
-
-module _ (d : List ℕ) {v : List ℕ} {t : Table} (activity : ℕ) (name : Text) where
-  pub used_first : {key : ℕ} {at : Option ℕ} → key ≡ key_of activity name → at ≡ first_of v t key → Seeks v t (used_at d v t activity name) (used_row d v t activity name) at
-  used_first i e = rw (← i) (seeks_first _ e)
-
-  module _ {at : Option ℕ} (h : Seeks v t (used_at d v t activity name) (used_row d v t activity name) at) where
-    pub used_none : at ≡ None → false ≡ is_used d v t activity name
-    unfolding is_used
-    used_none e = ap given (seeks_none h e)
-
-    module _ {r : ℕ} (e : at ≡ Some r) {p : ℕ} (i : p ≡ place_of v t r) {b : Bool} (j : b ≡ is_expense_at d (byte_at p) activity name) where
-      here : used_at d v t activity name r ≡ b
-      here = sym (j ∙ ap (λ (p : ℕ). is_expense_at d (byte_at p) activity name) i)
-
-      pub used_here : b ≡ true → true ≡ is_used d v t activity name
-      unfolding is_used
-      used_here k = ap given (seeks_here h e (here ∙ k))
-
-      pub used_on : b ≡ false → {on : Option ℕ} → on ≡ next_of v t r → Seeks v t (used_at d v t activity name) (used_row d v t activity name) on
-      used_on k n = seeks_next h e (here ∙ k) n
 
 -- ---- one more
 

@@ -71,20 +71,15 @@ impl<'a> Key<'a> {
         index::hash_of(self.name).wrapping_add(self.activity)
     }
 
-    // Whether one in its chain has it. By `while let`, as `rows::seek`, which says why.
+    // Whether one in its chain has it.
     fn seek(self, out: &[u8], words: &[u32], t: Table) -> bool
         ensures { result ≡ is_used out.now words.now t self.entry.activity self.entry.name.now }
     {
-        let mut row = t.first(words, self.hash());
-        while let Some(r) = row {
+        t.chain(words, self.hash()).any(|r| {
             // `as`: usize has no `From<u32>`.
             let byte = t.place(words, r) as usize;
-            if self.is_at(out, Place { byte, bit: 0 }) {
-                return true;
-            }
-            row = t.next(words, r);
-        }
-        false
+            self.is_at(out, Place { byte, bit: 0 })
+        })
     }
 
     // Whether one that was written has it, where they stand in the buffer; past its end nothing more is written.

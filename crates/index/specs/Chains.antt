@@ -2,6 +2,7 @@
 use Rattle.std.specs.Prelude.{if◌then◌else◌, ℕ, zero, suc, ◌+◌, ◌-◌, ◌*◌, ◌%◌, ◌&&◌, List, [], ◌∷◌, get_or, set, ltb, leb}
 use Rattle.std.specs.Prelude.{Option, Some, None}
 use Rattle.index.specs.declared.Table.{Table}
+use Rattle.index.specs.declared.Chain.{Chain}
 
 -- a table from a place on, where the words are long enough for it
 unfoldable pub table_of : ℕ → ℕ → ℕ → Option Table
@@ -66,3 +67,7 @@ chain w t at = walk w t (up_to at) at
 -- all rows of a hash's bucket, the last first
 abbrev pub chain_of : List ℕ → Table → ℕ → List ℕ
 chain_of w t h = chain w t (first_of w t h)
+
+-- the rows that are left to an iterator over a chain
+abbrev pub rows_left : Chain → List ℕ
+rows_left c = chain c.words.now c.table c.next

@@ -7,9 +7,10 @@
 #![tactic(auto)]
 
 ghost use Rattle.std.specs.Prelude.{◌≡◌, ◌+◌, ◌-◌, ◌*◌, ◌%◌, ◌^◌, ◌≤◌, ◌<◌, min, ◌++◌, length, get_or, set, replicate};
+ghost use Rattle.std.specs.Iterator.{YieldsFirst, item_count};
 ghost use Rattle.index.specs.Hash.{quad_at, mixed, hash_after, hash_of};
 ghost use Rattle.laws.specs.Stars.{starred_by};
-ghost use Rattle.index.specs.Chains.{zeros, added, first_of, next_of, place_of, table_of, row_below, end_in};
+ghost use Rattle.index.specs.Chains.{zeros, added, first_of, next_of, place_of, chain_of, table_of, row_below, end_in, rows_left};
 
 // Where its words begin, and how many rows there may be. A span of marks and a section of a model are numbers of the same kinds and mean other things.
 #[derive(Clone, Copy, Debug, PartialEq, Eq)]
@@ -50,7 +51,8 @@ fn starred_quad(s: &[u8], stars: u32, i: usize) -> u32
     let a = starred(s, stars, i);
     let b = starred(s, stars, i + 1);
     let c = starred(s, stars, i + 2);
-    u32::from_le_bytes([a, b, c, starred(s, stars, i + 3)])
+    let d = starred(s, stars, i + 3);
+    u32::from_le_bytes([a, b, c, d])
 }
 
 // Eight bytes more. Each half of the state is multiplied by a number of 32 bits, so that nothing is lost.
@@ -198,11 +200,44 @@ impl Table {
         row_below(row, w)
     }
 
+    // All rows of a hash's bucket, the last first.
+    pub fn chain<'a>(self, words: &'a [u32], hash: u32) -> Chain<'a>
+        ensures { rows_left result ≡ chain_of words.now self hash }
+    {
+        Chain {
+            table: self,
+            words,
+            next: self.first(words, hash),
+        }
+    }
+
     // The place of a row.
     pub fn place(self, words: &[u32], row: u32) -> u32
         ensures { result ≡ place_of words.now self row }
     {
         word(words, self.at, 2 * (self.rows as usize) + row as usize)
+    }
+}
+
+// The rows of a chain from one on.
+#[derive(Clone, Copy)]
+pub struct Chain<'a> {
+    pub table: Table,
+    pub words: &'a [u32],
+    pub next: Option<u32>,
+}
+
+impl<'a> Iterator for Chain<'a> {
+    type Item = u32;
+
+    ghost next_gives = { YieldsFirst rows_left };
+
+    ghost remaining = { item_count rows_left };
+
+    fn next(&mut self) -> Option<u32> {
+        let r = self.next?;
+        self.next = self.table.next(self.words, r);
+        Some(r)
     }
 }
 

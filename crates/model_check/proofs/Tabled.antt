@@ -3,7 +3,9 @@ use Rattle.std.specs.Prelude.{if◌then◌else◌}
 use mathlib.Core.Path.{◌≡◌, refl, sym, ap, subst, ◌∙◌}
 use mathlib.Core.Bool.{Bool, true, false}
 use mathlib.Core.List.{List, [], ◌∷◌, map}
-use Rattle.std.specs.Prelude.{Option, Some, None}
+use Rattle.std.specs.Prelude.{Option, Some, None, All, MatchBool}
+use Rattle.std.specs.List.{AllWithin, HoldsAt, list_any}
+use Rattle.std.proofs.lemmas.List.Folds.{list_any_at, list_any_none}
 use Prim.Native.Nat.{ℕ, zero, suc, ◌+◌, ◌%◌, ◌^◌, ◌≤◌, ◌<◌}
 use native.Mathlib.Nat.{mod-eq_of_lt}
 use native.Mathlib.Omega.{arith}
@@ -14,8 +16,9 @@ use lib.Seq.{take-length}
 use Rattle.definition.specs.Base.{given, find, some?}
 use Rattle.definition.specs.Format.{whole}
 use Rattle.index.specs.declared.Table.{Table}
-use Rattle.index.specs.Chains.{table_of, zeros, added, first_of, next_of, place_of, up_to, chain}
-use Rattle.index.specs.Law.{Seeks, table_placed, first_less, next_less, seeks_none, seeks_here}
+use Rattle.index.specs.Chains.{table_of, zeros, added, next_at, first_of, next_of, place_of, up_to, chain}
+use Rattle.index.specs.Last.{find_none}
+use Rattle.index.specs.Law.{table_placed, chain_none, below_small, first_less}
 use Rattle.index.proofs.Law.{indexed_none, indexed_by, indexed_same, find_chain, find_next}
 use Rattle.index.specs.Frame.{same_zeros}
 use Rattle.bits.specs.declared.Place.{Place}
@@ -121,21 +124,17 @@ module _ {kind : Kind} {s : List ℕ} {key : Item kind → Key} {xs : List (Item
 
 -- ---- a walk over a chain
 
-module _ {w : List ℕ} {t : Table} {p : ℕ → Bool} {o : Option ℕ} {at : Option ℕ} (s : Seeks w t p o at) where
-  pub walk_ends : at ≡ None → false ≡ given o
-  walk_ends e = ap given (seeks_none s e)
-
-  pub walk_hits : {r : ℕ} → at ≡ Some r → p r ≡ true → true ≡ given o
-  walk_hits e h = ap given (seeks_here s e h)
-
-pub row_in : {at : Option ℕ} {r n : ℕ} → at ≡ Some r → up_to at ≤ n → r < n
-row_in e h = let z = ap up_to e in omega arith
+-- `any`, where the test is known of the rows below n alone
+pub any_below : (p : ℕ → Bool) (n : ℕ) (l : List ℕ) → All (λ r. r < n) l → (b : Bool)
+    → MatchBool b ((k : ℕ) × (k < length l) × HoldsAt (λ r. r < n → true ≡ p r) l k) (AllWithin (λ r. r < n → false ≡ p r) l 0 (length l)) → b ≡ list_any p l
+any_below p n l f true h = sym (list_any_at p l h.0 0 h.1 (sym (h.2 0 (f h.0 0 h.1))))
+any_below p n l f false h = sym (list_any_none p l (λ k d i. sym (h k d (omega arith) i (f k d i))))
 
 -- ---- what a full table tells
 
 module _ {lead : ℕ} {s : List ℕ} {ks : List Key} {t : Table} {w : List ℕ} (x : KeyTable lead s ks t w) where
-  pub key_there : {r b : ℕ} → r < length ks → b ≡ place_of w t r → KeyAt lead s (byte_at b) (get_or ks r no_key)
-  key_there {r} h e = rw (e ∙ x.indexed.places r h) (x.stands r h)
+  pub key_there : (r b : ℕ) → r < length ks → b ≡ place_of w t r → KeyAt lead s (byte_at b) (get_or ks r no_key)
+  key_there r b h e = rw (e ∙ x.indexed.places r h) (x.stands r h)
 
   alike : (k : Key) (r : ℕ) → same_key k (get_or ks r no_key) ≡ true → hash_key (get_or ks r no_key) ≡ hash_key k
   alike k r h = ap hash_key (sym (key_is k (get_or ks r no_key) h))
@@ -144,7 +143,7 @@ module _ {lead : ℕ} {s : List ℕ} {ks : List Key} {t : Table} {w : List ℕ} 
   first_in h e = rw e (omega (arith, first_less w t h, x.full))
 
   pub next_in : {i : ℕ} {at : Option ℕ} → i < length ks → at ≡ next_of w t i → up_to at ≤ length ks
-  next_in {i} h e = let z = next_less w t {at = Some i} refl e in omega arith
+  next_in {i} h e = let z : up_to (next_of w t i) ≤ i = below_small i (get_or w (next_at t i) 0) in rw e (omega arith)
 
   -- some key of the chain, and of all
   pub some_key : (k : Key) {at : Option ℕ} {h : ℕ} → at ≡ first_of w t h → h ≡ hash_key k
@@ -164,4 +163,4 @@ module _ {lead : ℕ} {s : List ℕ} {ks : List Key} {t : Table} {w : List ℕ} 
   pub lone : (i : ℕ) {at : Option ℕ} → i < length ks → at ≡ next_of w t i → at ≡ None → false ≡ some? (same_key (get_or ks i no_key)) (take i ks)
   lone i {at} h e f =
       let p : ℕ → Bool = λ r. same_key (get_or ks i no_key) (get_or ks r no_key) in
-      walk_ends {p = p} (record { finds = refl }) f ∙ some_twin i h e
+      ap given (sym (find_none p) ∙ ap (find p) (sym (chain_none w t) ∙ ap (chain w t) (sym f))) ∙ some_twin i h e

@@ -3,52 +3,32 @@ use Rattle.std.specs.Prelude.{if◌then◌else◌}
 use mathlib.Core.Path.{◌≡◌, refl, sym, ap, ◌∙◌}
 use mathlib.Core.Bool.{Bool, true, false, ◌&&◌}
 use mathlib.Core.List.{List}
-use Rattle.std.specs.Prelude.{Option, Some, None}
+use Rattle.std.specs.Prelude.{Option, Some, None, MatchOption}
 use Prim.Native.Nat.{ℕ, ◌+◌, ◌*◌, ◌≤◌, ◌<◌, min}
 use native.Mathlib.Numerals.{add-one}
 use native.Mathlib.Omega.{arith}
 use lib.Dec.{leb, eqb}
 use lib.ListN.{length}
 use borrow.Author.Tests.{lt-ltb, le-ltb, le-leb, lt-leb, eq-eqb, ne_eqb}
-use Rattle.definition.specs.Base.{◌>>=◌, ◌or◌, given, same}
+use Rattle.definition.specs.Base.{◌>>=◌, ◌or◌}
 use Rattle.definition.specs.Calendar.{free}
 use Rattle.definition.specs.Text.{Text}
 use Rattle.index.specs.Hash.{hash_of}
 use Rattle.bits.specs.Places.{inside}
 use Rattle.bits.specs.declared.Place.{Place}
 use Rattle.index.specs.Chains.{added, place_of, end_in}
-use Rattle.index.specs.Law.{Seeks, seeks_none, seeks_here}
-use Rattle.index.specs.declared.Table.{Table}
 use Rattle.pack.specs.Value.{starred_by}
 use Rattle.model.specs.declared.records.Kind.{Kind}
 use Rattle.names.specs.Texts.{place_of_row, texts_at}
 use Rattle.names.specs.Ids.{ids_of, behind, noted, no_ids, free_in, ids_for, begun, end_ids, starred_in, place_in, noted_by}
 use Rattle.names.specs.declared.ids.Ids.{Ids}
-use Rattle.names.proofs.Starred.{seen_text}
 
 -- ---- what was found
 
-module _ {w : List ℕ} {t : Table} {p : ℕ → Bool} {o : Option ℕ} {at : Option ℕ} (s : Seeks w t p o at) where
-  pub not_given : at ≡ None → false ≡ given o
-  not_given e = ap given (seeks_none s e)
-
-  pub is_given_lem : {r : ℕ} → at ≡ Some r → p r ≡ true → true ≡ given o
-  is_given_lem e h = ap given (seeks_here s e h)
-
-  -- a number of the row
-  pub no_number : (f : ℕ → ℕ) → at ≡ None → 0 ≡ ((o >>= λ r. Some (f r)) or 0)
-  no_number f e = ap (λ (o : Option ℕ). (o >>= λ r. Some (f r)) or 0) (seeks_none s e)
-
-  pub its_number : (f : ℕ → ℕ) {r : ℕ} → at ≡ Some r → p r ≡ true → f r ≡ ((o >>= λ r. Some (f r)) or 0)
-  its_number f e h = ap (λ (o : Option ℕ). (o >>= λ r. Some (f r)) or 0) (seeks_here s e h)
-
--- a text was compared with an id, which has no `*` more
-pub seen_id : (t : Text) {x y : Text} {r b : Bool} → r ≡ same t (starred_by x 0) → x ≡ y → r ≡ b → same t y ≡ b
-seen_id t e h k = seen_text t e h refl k
-
--- with the row's own `*`
-pub seen_own : (t : Text) {x y : Text} {m n : ℕ} {r b : Bool} → m ≡ n → r ≡ same (starred_by t m) (starred_by x 0) → x ≡ y → r ≡ b → same (starred_by t n) y ≡ b
-seen_own t {y = y} z e h k = ap (λ (n : ℕ). same (starred_by t n) y) (sym z) ∙ seen_id _ e h k
+-- a number of the row
+pub its_number : (f : ℕ → ℕ) (o : Option ℕ) (n : ℕ) {P : ℕ → Type 0} → MatchOption o (n ≡ 0) P → ((r : ℕ) → P r → n ≡ f r) → n ≡ ((o >>= λ r. Some (f r)) or 0)
+its_number f None n h k = h
+its_number f (Some r) n h k = k r h
 
 -- ---- one more
 

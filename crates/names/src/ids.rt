@@ -68,33 +68,26 @@ impl Ids {
         raw_text(out, Place { byte, bit: 0 })
     }
 
-    // Whether a text with so many `*` is the id of a row. By `while let`, here and below, as in `rows::seek`.
+    // Whether a text with so many `*` is the id of a row.
     fn is_taken(self, out: &[u8], words: &[u32], wanted: &[u8], stars: u32) -> bool
         ensures { result ≡ taken_in out.now words.now self wanted.now stars }
     {
-        let mut at = self.ids.first(words, index::hash_starred(wanted, stars));
-        while let Some(r) = at {
-            if same_starred(wanted, stars, self.id_of(out, words, r), 0) {
-                return true;
-            }
-            at = self.ids.next(words, r);
-        }
-        false
+        self.ids
+            .chain(words, index::hash_starred(wanted, stars))
+            .any(|r| same_starred(wanted, stars, self.id_of(out, words, r), 0))
     }
 
     // The stars behind those of the last row that wanted a text, none where no row did.
     fn stars_from(self, out: &[u8], words: &[u32], count: u32, wanted: &[u8]) -> u32
         ensures { result ≡ stars_from out.now words.now self count wanted.now }
     {
-        let mut at = self.wanted.first(words, index::hash_of(wanted));
-        while let Some(r) = at {
-            let stars = self.wanted.place(words, r);
-            if same_starred(wanted, stars, self.id_of(out, words, r), 0) {
-                return behind(stars, count);
-            }
-            at = self.wanted.next(words, r);
-        }
-        0
+        self.wanted
+            .chain(words, index::hash_of(wanted))
+            .find(|r| {
+                let stars = self.wanted.place(words, *r);
+                same_starred(wanted, stars, self.id_of(out, words, *r), 0)
+            })
+            .map_or(0, |r| behind(self.wanted.place(words, r), count))
     }
 
     // How many `*` a text needs so that it is the id of none of so many rows.

@@ -1,6 +1,7 @@
 -- The table of a list while it is filled: the rows so far are in their chains, each with the place of its element. Assumes nothing.
 use Rattle.std.proofs.Common.{◌≡◌, ℕ, suc, ◌+◌, ◌^◌, ◌<◌, ◌≤◌, max, List, [], ◌∷◌, length, get_or, drop, sym, refl, ap, ◌∙◌, add-one, arith, length-drop, drop-cons, le-ltb, lt-ltb}
 use Rattle.std.proofs.Math.Nat.{max_comm}
+use Rattle.std.proofs.lemmas.List.{drop_all}
 use Rattle.std.specs.Prelude.{None, Option, Some}
 use Rattle.definition.specs.Text.{Text}
 use Rattle.definition.specs.Tree.{Element}
@@ -71,6 +72,10 @@ module _ {s : Text} {root : Element} {l : Listed} {t : Table} {w : List ℕ} (ri
           length_same = f.length_same ∙ ap length o ∙ length_zeros w t.at t.rows;
           outside = λ j k. f.outside j k ∙ ap (λ (v : List ℕ). get_or v j 0) o ∙ zeros_outside w t j k;
         }
+
+    -- every row of the table has its element
+    pub fill_full : t.rows ≤ row → rest ≡ []
+    fill_full h = sym f.left ∙ drop_all row (listed l root) (omega (arith, ripe.rows))
 
     module _ (x : Place) {k : List Element} (i : rest ≡ meaning x ∷ k) where
       pub fill_in : row < length (listed l root)

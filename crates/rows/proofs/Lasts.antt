@@ -1,14 +1,20 @@
 -- The last of a list that passes a test, and its row, found from the front on. Assumes nothing.
-use Rattle.std.proofs.Common.{◌≡◌, ℕ, suc, ◌+◌, ◌-◌, ◌%◌, Bool, true, false, ltb, List, [], ◌∷◌, map, take, sym, refl, ap, ◌∙◌, arith}
+use Rattle.std.proofs.Common.{◌≡◌, ℕ, suc, ◌+◌, ◌-◌, ◌%◌, Bool, true, false, ltb, List, [], ◌∷◌, map, take, sym, refl, ap, subst, ◌∙◌, add-one, arith}
 use native.Mathlib.Nat.{zero-mod, mod-add-mod}
 use Rattle.std.specs.Prelude.{Option, Some, None, IfSome}
-use Rattle.definition.specs.Base.{◌>>=◌, ◌or_else◌, when, first, keep, find, find_last, numbered}
+use Rattle.std.specs.Iterator.{YieldsThen}
+use Rattle.std.specs.Iterator.Adapters.{enumerate_steps}
+use Rattle.std.specs.List.{enumerate_from}
+use Rattle.std.specs.Option.{option_map}
+use Rattle.std.specs.declared.iter.Enumerate.{Enumerate}
+use Rattle.definition.specs.Base.{◌>>=◌, ◌or_else◌, when, find_last, numbered}
 use Rattle.definition.specs.Text.{Text}
 use Rattle.definition.specs.Tree.{Element}
 use Rattle.definition.specs.Task.{level_of, row_of, parent_of}
 use Rattle.tree.specs.Place.{meaning}
 use Rattle.tree.specs.declared.element.Element.{Element as Place}
-use Rattle.rows.specs.Rows.{has_uid, found_meaning}
+use Rattle.rows.specs.Rows.{has_uid, found_meaning, calendar_meaning}
+use Rattle.rows.specs.Walks.{Gives}
 
 -- ---- the row of the last that passes, counted from a row on
 
@@ -133,24 +139,22 @@ found_there s false x e found h w j = rw (j, w) h
 
 -- ---- the first that passes, with its row
 
-pub record FirstIn {A : Type 0} (p : A → Bool) (t : Option (ℕ × A)) (n : ℕ) (l : List A) : Type 0 where
-  pub is : t ≡ find (λ (x : ℕ × A). p x.1) (numbered n l)
+pub numbered_is : {A : Type 0} (n : ℕ) (l : List A) → enumerate_from n l ≡ numbered n l
+unfolding numbered
+numbered_is n [] = refl
+numbered_is n (x ∷ l) = ap (λ k. (n, x) ∷ k) (numbered_is (n + 1) l ∙ ap (λ (k : ℕ). numbered k l) (add-one n))
 
-pub find_begin : {A : Type 0} (p : A → Bool) {es l : List A} → es ≡ l → FirstIn p (find (λ (x : ℕ × A). p x.1) (numbered 0 es)) 0 l
-find_begin {A} p e = record { is = ap (λ (l : List A). find (λ (x : ℕ × A). p x.1) (numbered 0 l)) e }
+pub row_meaning : (o : Option (ℕ × Place)) → calendar_meaning o ≡ option_map (λ x. (x.0, meaning x.1)) o
+unfolding calendar_meaning
+row_meaning None = refl
+row_meaning (Some x) = refl
 
-module _ {A : Type 0} {p : A → Bool} {t : Option (ℕ × A)} {n : ℕ} {l : List A} (h : FirstIn p t n l) where
-  pub find_end : l ≡ [] → None ≡ t
-  unfolding numbered keep first
-  find_end i = sym (h.is ∙ rw i)
-
-  module _ {x : A} {k : List A} (i : l ≡ x ∷ k) where
-    pub find_here : p x ≡ true → Some (n, x) ≡ t
-    unfolding numbered keep first
-    find_here j = sym (h.is ∙ rw (i, j))
-
-    pub find_on : p x ≡ false → FirstIn p t (n + 1) k
-    unfolding numbered keep first
-    find_on j =
-        let z : suc n ≡ n + 1 = omega arith in
-        record { is = h.is ∙ rw (i, j, z) }
+-- what an iterator of a tree gives is of the tree
+module _ {S : Type 0} (of : S → Text → Type 0) (left : S → List Element) (t : Text) (u : Enumerate S) (r : Option (ℕ × Place)) where
+  pub numbered_there : (xs : List (ℕ × Place)) (s : Enumerate S) → of s.iter t → YieldsThen (enumerate_steps (Gives of left)) s xs r u → IfSome r (λ x. x.1.tree.now ≡ t)
+  numbered_there [] s h y = by r (y.2)
+    where
+      by : (r : Option (ℕ × Place)) → enumerate_steps (Gives of left) y.0 r u → IfSome r (λ x. x.1.tree.now ≡ t)
+      by None k = tt
+      by (Some x) k = (k.0.1 t (subst (λ (s : Enumerate S). of s.iter t) y.1 h)).0.tree
+  numbered_there (x ∷ xs) s h y = numbered_there xs y.1.0 (y.1.1.0.1 t h).1 (y.0, y.1.2, y.2)

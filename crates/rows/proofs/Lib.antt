@@ -2,4 +2,3 @@ pub mod Lasts
 pub mod Walking
 pub mod Listing
 pub mod Filling
-pub mod Seeking

@@ -1,6 +1,7 @@
 -- The walks: each turn of the search for the next element that counts. Assumes nothing.
 use Rattle.std.proofs.Common.{◌≡◌, ℕ, zero, suc, ◌+◌, ◌-◌, ◌<◌, ◌≤◌, Bool, true, false, not, List, [], ◌∷◌, length, take, length-append, sym, refl, ap, ◌∙◌, arith}
 use Rattle.std.specs.Prelude.{if◌then◌else◌, Option, Some, None, is_some, IfSome}
+use Rattle.std.specs.Option.{option_or}
 use Rattle.std.proofs.lemmas.Bool.{false≢true}
 use lib.Seq.{take-nil}
 use borrow.Author.Tests.{not-true}
@@ -216,12 +217,12 @@ unfolding Past
 row_there s None h = tt
 row_there s (Some x) h = h.tree
 
-pub named_first : (c : Option (ℕ × Place)) (o : Option (ℕ × Element)) → is_some c ≡ true → calendar_meaning c ≡ (calendar_meaning c or_else o)
+-- that of CalendarUID, else the first
+pub or_first_row : (c r : Option (ℕ × Place)) → calendar_meaning (option_or c r) ≡ (calendar_meaning c or_else calendar_meaning r)
 unfolding calendar_meaning
-named_first None o h = absurd (false≢true h)
-named_first (Some (row, x)) o h = refl
+or_first_row None r = refl
+or_first_row (Some (row, x)) r = refl
 
-pub or_first_row : (c r : Option (ℕ × Place)) (o : Option (ℕ × Element)) → is_some c ≡ false → calendar_meaning r ≡ o → calendar_meaning r ≡ (calendar_meaning c or_else o)
-unfolding calendar_meaning
-or_first_row None r o h i = i
-or_first_row (Some (row, x)) r o h i = absurd (false≢true (sym h))
+pub or_there : (s : Text) (c r : Option (ℕ × Place)) → IfSome c (λ x. x.1.tree.now ≡ s) → IfSome r (λ x. x.1.tree.now ≡ s) → IfSome (option_or c r) (λ x. x.1.tree.now ≡ s)
+or_there s None r h k = k
+or_there s (Some x) r h k = h

@@ -82,12 +82,9 @@ pub fn calendar_with<'a>(root: Root<'a>, uid: &[u8]) -> Option<(usize, Element<'
     ensures is { calendar_meaning result ≡ with_uid_in (root_at root.entry) uid.now }
     ensures there { IfSome result (λ x. x.1.tree.now ≡ root.entry.tree.now) }
 {
-    for (row, e) in calendars(root).enumerate() {
-        if fields::text_is(e, b"UID", uid) {
-            return Some((row, e));
-        }
-    }
-    None
+    calendars(root)
+        .enumerate()
+        .find(|x| fields::text_is(x.1, b"UID", uid))
 }
 
 // The calendar of CalendarUID.
@@ -115,10 +112,6 @@ pub fn main_calendar(root: Root<'_>) -> Option<(usize, Element<'_>)>
     ensures is { calendar_meaning result ≡ main_in (root_at root.entry) }
     ensures there { IfSome result (λ x. x.1.tree.now ≡ root.entry.tree.now) }
 {
-    // no `or_else`, as above
-    let named = named_calendar(root);
-    if named.is_some() {
-        return named;
-    }
-    first_row(root)
+    // By `or`: `or_else` would state the clauses of `first_row` once more, on its closure.
+    named_calendar(root).or(first_row(root))
 }

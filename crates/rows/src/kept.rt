@@ -93,7 +93,7 @@ pub fn parent_row(root: Root<'_>, row: u32, level: u64) -> Option<u32>
 pub fn any_elapsed(root: Root<'_>) -> bool
     ensures { result ≡ some? is_elapsed (kept_tasks (root_at root.entry)) }
 {
-    // A function of another crate has no contract as a value, so that it stands in a closure.
+    // A function of a module of another crate has no contract as a value, so that it stands in a closure.
     kept_tasks(root).any(|task| tasks::is_elapsed(task))
 }
 

@@ -99,13 +99,10 @@ fn fill(root: Root<'_>, list: Listed, words: &mut [u32], t: Table)
     ensures { Tabled root.entry.tree.now (root_at root.entry) list t words.old words.new }
 {
     t.clear(words);
-    // Counted by hand, here and in `scan`: `enumerate` counts in usize.
-    let mut row: u32 = 0;
-    for e in elements(root, list) {
+    for (row, e) in (0..t.rows).zip(elements(root, list)) {
         let hash = index::hash_of(e.text_of(b"UID"));
         // `u32::try_from` would have an error that cannot occur: 32 bits hold each position.
         t.put(words, row, hash, e.at as u32);
-        row += 1;
     }
 }
 
@@ -113,10 +110,7 @@ fn fill(root: Root<'_>, list: Listed, words: &mut [u32], t: Table)
 pub fn index_rows(root: Root<'_>, list: Listed, words: &mut [u32], at: usize) -> Option<Table>
     ensures { Makes root.entry.tree.now (root_at root.entry) list at words.old words.new result }
 {
-    // By its bound, as in `names`: `u32::try_from` would make a number that is thrown away.
-    if 4294967295 < root.tree.len() {
-        return None;
-    }
+    u32::try_from(root.tree.len()).ok()?;
     let n = count_listed(root, list);
     // A table of no rows would be none.
     let t = index::table_at(words.len(), at, n.max(1))?;
@@ -126,20 +120,14 @@ pub fn index_rows(root: Root<'_>, list: Listed, words: &mut [u32], at: usize) ->
 
 // ---- the last with a UID
 
-// The first row of a chain whose element has the UID. By `while let`, as in `names` and `assignments`: a chain is walked in four places, each a few
-// lines, and an iterator would need a law of its own.
+// The first row of a chain whose element has the UID.
 pub fn seek(tree: &[u8], words: &[u32], t: Table, uid: &[u8]) -> Option<u32>
     ensures { result ≡ sought_in tree.now words.now t uid.now }
 {
-    let mut row = t.first(words, index::hash_of(uid));
-    while let Some(r) = row {
-        let at = t.place(words, r) as usize;
-        if fields::text_is(Element { tree, at }, b"UID", uid) {
-            return Some(r);
-        }
-        row = t.next(words, r);
-    }
-    None
+    t.chain(words, index::hash_of(uid)).find(|r| {
+        let at = t.place(words, *r) as usize;
+        fields::text_is(Element { tree, at }, b"UID", uid)
+    })
 }
 
 // The row of the last of a list with a UID, as 32 bits hold it, by a look at all of them.
@@ -147,6 +135,7 @@ fn scan(root: Root<'_>, list: Listed, uid: &[u8]) -> Option<u32>
     ensures { result ≡ row_in32 list (root_at root.entry) uid.now }
 {
     let mut found = None;
+    // Counted by hand: `enumerate` counts in usize.
     let mut row: u32 = 0;
     for e in elements(root, list) {
         let named = fields::text_is(e, b"UID", uid).then_some(row);

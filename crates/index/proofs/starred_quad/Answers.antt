@@ -13,4 +13,4 @@ returns-then-i-s c =
 pub returns : goal.returns
 returns c =
     let a = c.args in
-    quad_by (starred_by a.s.now a.stars) a.i (omega (arith, c.from_le_bytes.ensures)) c.starred-a.ensures c.starred-b.ensures c.starred-c.ensures c.starred.ensures
+    quad_by (starred_by a.s.now a.stars) a.i (omega (arith, c.from_le_bytes.ensures)) c.starred-a.ensures c.starred-b.ensures c.starred-c.ensures c.starred-d.ensures

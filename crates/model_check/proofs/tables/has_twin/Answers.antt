@@ -17,5 +17,5 @@ pub returns : goal.returns
 returns g c =
     let a = c.args in
     λ ks x h.
-    let t = key_there x h c.place-byte.ensures in
+    let t = key_there x _ _ h c.place-byte.ensures in
     c.chain_has_key.ensures ks x (next_in x h c.next-from.ensures) ∙ ap (λ (k : Key). given (find (λ (r : ℕ). same_key k (get_or ks r no_key)) (chain a.index.words.now a.index.table c.next-from.result))) (c.key_at-key.ensures _ t) ∙ some_twin x _ h c.next-from.ensures

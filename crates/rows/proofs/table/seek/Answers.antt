@@ -1,22 +1,15 @@
-use Rattle.index.specs.Law.{next_less}
-use Rattle.rows.proofs.Seeking.{sought_first, sought_none, sought_here, sought_on}
+use Rattle.std.proofs.Common.{ℕ, rules, tests, ap, ◌∙◌}
+use Rattle.std.proofs.lemmas.Iterator.Search.{find_from_yields_List}
+use Rattle.definition.specs.Base.{find, same}
+use Rattle.index.specs.Chains.{chain_of, place_of}
+use Rattle.index.specs.Lists.{chain_list, found_is}
+use Rattle.tree.specs.Place.{element_at}
+use Rattle.rows.specs.Tables.{uid_of}
 use Rattle.rows.proofs.table.seek.Goals as goal
 
-pub loop-row-init : goal.loop-row-init
-loop-row-init c = sought_first _ _ c.hash_of.ensures c.first-row.ensures
-
 pub returns : goal.returns
-returns c = sought_none _ _ c.loop-row.invariant c.in_default.is
-
-pub returns-then-text_is : goal.returns-then-text_is
-returns-then-text_is c =
-    sought_here _ _ c.loop-row.invariant c.in-Some.is c.place-at.ensures c.text_is.ensures c.if-text_is.true
-
-pub loop-row-smaller : goal.loop-row-smaller
-loop-row-smaller c =
+returns c =
     let a = c.args in
-    next_less a.words.now a.t c.in-Some.is c.next-row.ensures
-
-pub loop-row-preserved : goal.loop-row-preserved
-loop-row-preserved c =
-    sought_on _ _ c.loop-row.invariant c.in-Some.is c.place-at.ensures c.text_is.ensures c.if-text_is.false c.next-row.ensures
+    let has = λ (r : ℕ). same (uid_of (element_at a.tree.now (place_of a.words.now a.t r))) a.uid.now in
+    found_is has _ c.find.result (find_from_yields_List has c.find.new.self _ c.find.result c.find.ensures.ran (chain_list c.chain.result) (λ x b q k. search (rules, tests)))
+    ∙ ap (find has) (c.chain.ensures ∙ ap (chain_of a.words.now a.t) c.hash_of.ensures)

@@ -1,20 +1,17 @@
-use Rattle.index.specs.Law.{next_less}
-use Rattle.assignments.proofs.Noting.{used_first, used_none, used_here, used_on}
+use Rattle.std.proofs.Common.{ℕ, rules, tests, ap, ◌∙◌}
+use Rattle.std.proofs.lemmas.Iterator.Search.{any_from_yields_List}
+use Rattle.definition.specs.Base.{find, given}
+use Rattle.index.specs.Chains.{chain_of, place_of}
+use Rattle.index.specs.Lists.{chain_list, any_is}
+use Rattle.assignments.specs.Records.{is_expense_at}
+use Rattle.assignments.specs.InUse.{is_used}
 use Rattle.assignments.proofs.expense.Key.seek.Goals as goal
 
-pub loop-row-init : goal.loop-row-init
-loop-row-init c = used_first _ _ _ c.hash.ensures c.first-row.ensures
-
 pub returns : goal.returns
-returns c = used_none _ _ _ c.loop-row.invariant c.in_default.is
-
-pub returns-then-is_at : goal.returns-then-is_at
-returns-then-is_at c = used_here _ _ _ c.loop-row.invariant c.in-Some.is c.place-byte.ensures c.is_at.ensures c.if-is_at.true
-
-pub loop-row-smaller : goal.loop-row-smaller
-loop-row-smaller c =
+unfolding is_used
+returns c =
     let a = c.args in
-    next_less a.words.now a.t c.in-Some.is c.next-row.ensures
-
-pub loop-row-preserved : goal.loop-row-preserved
-loop-row-preserved c = used_on _ _ _ c.loop-row.invariant c.in-Some.is c.place-byte.ensures c.is_at.ensures c.if-is_at.false c.next-row.ensures
+    let has = λ (r : ℕ). is_expense_at a.out.now (record { byte = place_of a.words.now a.t r; bit = 0 }) a.self.activity a.self.name.now in
+    any_from_yields_List has c.any.new.self _ c.any.result c.any.ensures.ran (chain_list c.chain.result) (λ x b q k. search (rules, tests))
+    ∙ any_is has _
+    ∙ ap (λ l. given (find has l)) (c.chain.ensures ∙ ap (chain_of a.words.now a.t) c.hash.ensures)

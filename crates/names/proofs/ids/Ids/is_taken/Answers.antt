@@ -1,34 +1,16 @@
-use mathlib.Core.Path.{ap, ◌∙◌}
-use Prim.Native.Nat.{ℕ}
-use Rattle.index.specs.Hash.{hash_of}
-use Rattle.index.specs.Chains.{first_of}
-use Rattle.index.specs.Law.{seeks_first, seeks_next, next_less}
-use Rattle.pack.specs.Value.{starred_by}
-use Rattle.names.specs.Ids.{taken_in}
-use Rattle.names.proofs.Chained.{not_given, is_given_lem, seen_id}
+use Rattle.std.proofs.Common.{rules, tests, ap, ◌∙◌}
+use Rattle.std.proofs.lemmas.Iterator.Search.{any_from_yields_List}
+use Rattle.definition.specs.Base.{find, given}
+use Rattle.index.specs.Chains.{chain_of}
+use Rattle.index.specs.Lists.{chain_list, any_is}
+use Rattle.names.specs.Ids.{is_id, taken_in}
 use Rattle.names.proofs.ids.Ids.is_taken.Goals as goal
-
-pub loop-at-init : goal.loop-at-init
-loop-at-init c =
-    let a = c.args in
-    seeks_first (hash_of (starred_by a.wanted.now a.stars)) (c.first-at.ensures ∙ ap (λ (h : ℕ). first_of a.words.now a.self.ids h) c.hash_starred.ensures)
 
 pub returns : goal.returns
 unfolding taken_in
-returns c = not_given c.loop-at.invariant c.in_default.is
-
-pub returns-then-same_starred : goal.returns-then-same_starred
-unfolding taken_in
-returns-then-same_starred c =
+returns c =
     let a = c.args in
-    is_given_lem c.loop-at.invariant c.in-Some.is (seen_id (starred_by a.wanted.now a.stars) c.same_starred.ensures c.id_of.ensures c.if-same_starred.true)
-
-pub loop-at-smaller : goal.loop-at-smaller
-loop-at-smaller c =
-    let a = c.args in
-    next_less a.words.now a.self.ids c.in-Some.is c.next-at.ensures
-
-pub loop-at-preserved : goal.loop-at-preserved
-loop-at-preserved c =
-    let a = c.args in
-    seeks_next c.loop-at.invariant c.in-Some.is (seen_id (starred_by a.wanted.now a.stars) c.same_starred.ensures c.id_of.ensures c.if-same_starred.false) c.next-at.ensures
+    let has = is_id a.out.now a.words.now a.self a.wanted.now a.stars in
+    any_from_yields_List has c.any.new.self _ c.any.result c.any.ensures.ran (chain_list c.chain.result) (λ x b q k. search (rules, tests))
+    ∙ any_is has _
+    ∙ ap (λ l. given (find has l)) (c.chain.ensures ∙ ap (chain_of a.words.now a.self.ids) c.hash_starred.ensures)

@@ -1,37 +1,20 @@
-use mathlib.Core.Path.{ap, ◌∙◌}
-use Prim.Native.Nat.{ℕ}
-use Rattle.index.specs.Hash.{hash_of}
-use Rattle.index.specs.Chains.{first_of, place_of}
-use Rattle.index.specs.Law.{seeks_first, seeks_next, next_less}
-use Rattle.names.specs.Ids.{behind, stars_from}
-use Rattle.names.proofs.Chained.{no_number, its_number, seen_own}
+use Rattle.std.proofs.Common.{ℕ, rules, tests, ap, ◌∙◌}
+use Rattle.std.proofs.lemmas.Iterator.Search.{find_from_yields_List}
+use Rattle.std.specs.Prelude.{Some}
+use Rattle.definition.specs.Base.{◌>>=◌, ◌or◌, find}
+use Rattle.index.specs.Chains.{chain_of, place_of}
+use Rattle.index.specs.Lists.{chain_list, found_is}
+use Rattle.names.specs.Ids.{wants, behind, stars_from}
+use Rattle.names.proofs.Chained.{its_number}
 use Rattle.names.proofs.ids.Ids.stars_from.Goals as goal
-
-pub loop-at-init : goal.loop-at-init
-loop-at-init c =
-    let a = c.args in
-    seeks_first (hash_of a.wanted.now) (c.first-at.ensures ∙ ap (λ (h : ℕ). first_of a.words.now a.self.wanted h) c.hash_of.ensures)
 
 pub returns : goal.returns
 unfolding stars_from
 returns c =
     let a = c.args in
-    no_number c.loop-at.invariant (λ r. behind (place_of a.words.now a.self.wanted r) a.count) c.in_default.is
-
-pub returns-then-same_starred : goal.returns-then-same_starred
-unfolding stars_from
-returns-then-same_starred c =
-    let a = c.args in
-    c.behind.ensures ∙ ap (λ (s : ℕ). behind s a.count) c.place-stars.ensures
-    ∙ its_number c.loop-at.invariant (λ r. behind (place_of a.words.now a.self.wanted r) a.count) c.in-Some.is
-    (seen_own a.wanted.now c.place-stars.ensures c.same_starred.ensures c.id_of.ensures c.if-same_starred.true)
-
-pub loop-at-smaller : goal.loop-at-smaller
-loop-at-smaller c =
-    let a = c.args in
-    next_less a.words.now a.self.wanted c.in-Some.is c.next-at.ensures
-
-pub loop-at-preserved : goal.loop-at-preserved
-loop-at-preserved c =
-    let a = c.args in
-    seeks_next c.loop-at.invariant c.in-Some.is (seen_own a.wanted.now c.place-stars.ensures c.same_starred.ensures c.id_of.ensures c.if-same_starred.false) c.next-at.ensures
+    let own = wants a.out.now a.words.now a.self a.wanted.now in
+    let stars = λ (r : ℕ). behind (place_of a.words.now a.self.wanted r) a.count in
+    its_number stars c.find.result c.map_or.result c.map_or.ensures (λ r h. search rules)
+    ∙ ap (λ o. (o >>= λ r. Some (stars r)) or 0)
+    (found_is own _ c.find.result (find_from_yields_List own c.find.new.self _ c.find.result c.find.ensures.ran (chain_list c.chain.result) (λ x b q k. search (rules, tests)))
+    ∙ ap (find own) (c.chain.ensures ∙ ap (chain_of a.words.now a.self.wanted) c.hash_of.ensures))
