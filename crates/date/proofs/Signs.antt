@@ -1,6 +1,6 @@
 -- Numbers with a sign, as the machine holds them and as they are counted from a first one. Assumes nothing.
 use Rattle.std.specs.Prelude.{if◌then◌else◌}
-use Prim.Native.Nat.{ℕ, zero, suc, ◌+◌, ◌-◌, ◌^◌, ◌≤◌, ◌<◌}
+use Prim.Native.Nat.{ℕ, zero, suc, ◌+◌, ◌-◌, ◌%◌, ◌^◌, ◌≤◌, ◌<◌}
 use native.Mathlib.Omega.{arith}
 use native.Mathlib.Nat.{add_comm}
 use mathlib.Core.Path.{◌≡◌, refl, sym, ap, ◌∙◌, subst}
@@ -9,8 +9,7 @@ use Rattle.std.specs.Prelude.{Option, Some, None, Result, Ok, Err}
 use Rattle.std.specs.Option.{MatchOption, IsSomeAnd}
 use Rattle.std.specs.Bool.{then_some}
 use Rattle.std.specs.Int.{FitsUnsignedBits}
-use Rattle.std.specs.Result.{OkIff, result_unwrap_or, result_ok}
-use Rattle.std.proofs.lemmas.Int.{ints}
+use Rattle.std.specs.Result.{OkIff, result_unwrap_or}
 use lib.Dec.{leb, ltb}
 use lib.IntN.{ℤ, pos, negsuc, nat_abs, ◌+ℤ◌, ◌-ℤ◌}
 use lib.Signed.{mag}
@@ -118,41 +117,16 @@ beyond first last p h = by (leb first p)
     by true = rw (lt-leb p last h)
     by false = refl
 
--- a place by the sum
+-- a place by the sum in 32 bits
 module _ (from first last : ℕ) where
-  pub sum_placed : (z : ℤ) (k : ℕ) → z +ℤ pos from ≡ pos k → placed from first last z ≡ when (within first last k) k
+  pub wrapped : (z : ℤ) → SFits w32 z → from < 2 ^ 31 → last < 2 ^ 31 → (v k : ℕ) → v ≡ of_z w32 z → k ≡ (v + from) % 4294967296 → when (within first last k) k ≡ placed from first last z
   unfolding placed
-  sum_placed (pos n) k e = let g : n + from ≡ k = omega (arith, ints) in rw g
-  sum_placed (negsuc n) k e = by (ltb n from) refl
+  wrapped (pos n) h f l v k e g = let i : k ≡ n + from = omega (arith, h.sfits) in rw i
+  wrapped (negsuc n) h f l v k e g = by (ltb n from) refl
     where
-      by : (t : Bool) → ltb n from ≡ t → (if t then when (within first last (from - suc n)) (from - suc n) else None) ≡ when (within first last k) k
-      by true h = let g : from - suc n ≡ k = omega (arith, ints, ltb-true n from h) in rw g
-      by false h = absurd (omega (arith, ints, ltb-false n from h))
-
-  pub sum_unplaced : (z : ℤ) → last < 2 ^ 32 → ((k : ℕ) → z +ℤ pos from ≡ pos k → k < 2 ^ 32 → ⊥) → placed from first last z ≡ None
-  unfolding placed
-  sum_unplaced (pos n) l h = let g = h (n + from) refl in beyond first last (n + from) (omega arith)
-  sum_unplaced (negsuc n) l h = by (ltb n from) refl
-    where
-      by : (t : Bool) → ltb n from ≡ t → (if t then when (within first last (from - suc n)) (from - suc n) else None) ≡ None
-      by true e =
-          let q : n < from = ltb-true n from e in
-          let g = h (from - suc n) (omega (arith, ints)) in
-          beyond first last (from - suc n) (omega arith)
-      by false e = refl
-
-  -- by what `try_from` says of the sum z
-  pub tried_placed : {E : Type 0} (r : Result ℕ E) (n z : ℤ) (k : ℕ) → z ≡ n +ℤ pos from → OkIff r (FitsUnsignedBits 32 z) (nat_abs z) → Some k ≡ result_ok r
-      → placed from first last n ≡ when (within first last k) k
-  tried_placed (Ok x) n (pos m) k e h g = sum_placed n k (sym e ∙ ap pos (cc (h.1)))
-  tried_placed (Ok x) n (negsuc m) k e h g = absurd h.0
-  tried_placed (Err x) n z k e h g = absurd (cc)
-
-  pub tried_unplaced : {E : Type 0} (r : Result ℕ E) (n z : ℤ) → last < 2 ^ 32 → z ≡ n +ℤ pos from → OkIff r (FitsUnsignedBits 32 z) (nat_abs z) → None ≡ result_ok r
-      → placed from first last n ≡ None
-  tried_unplaced (Ok x) n z l e h g = absurd (cc)
-  tried_unplaced (Err x) n z l e h g =
-      sum_unplaced n l (λ k f b. h (subst (λ (y : ℤ). FitsUnsignedBits 32 y) (sym (e ∙ f)) b))
+      by : (t : Bool) → ltb n from ≡ t → when (within first last k) k ≡ (if t then when (within first last (from - suc n)) (from - suc n) else None)
+      by true u = let i : k ≡ from - suc n = omega (arith, h.sfits, ltb-true n from u) in rw i
+      by false u = beyond first last k (omega (arith, h.sfits, ltb-false n from u))
 
 pub days_placed : (z : ℤ) → from_days z ≡ placed epoch first_date last_date z
 unfolding from_days placed

@@ -109,11 +109,12 @@ fn civil_of(d: u32) -> Ymd
 // ---- dates as they are written
 // Functions, and no From or FromStr: `Date` and `Ymd` belong to the crate definition, and the texts are bytes.
 
-// A number counted from `from` below 0 on, where that lies between the first and the last.
+// A number counted from `from` below 0 on, where that lies between the first and the last. One that lies before wraps, to a number above the last.
 fn place(n: i32, from: u32, first: u32, last: u32) -> Option<u32>
+    requires { (from < 2 ^ 31) × (last < 2 ^ 31) }
     ensures { result ≡ placed from first last n }
 {
-    let k = u32::try_from(i64::from(n) + i64::from(from)).ok()?;
+    let k = n.cast_unsigned().wrapping_add(from);
     (first..=last).contains(&k).then_some(k)
 }
 
