@@ -10,7 +10,7 @@ ghost use Rattle.model.specs.Parts.{raw};
 ghost use Rattle.tree.specs.Place.{later, meaning};
 ghost use Rattle.tree.specs.Root.{root_at};
 ghost use Rattle.pack.specs.Value.{starred_by, name_meaning};
-ghost use Rattle.names.specs.Context.{main_row, section_row, wanted_by, stars_by, stars_in, context_at, calendars_before};
+ghost use Rattle.names.specs.Context.{main_row, section_row, wanted_by, wanted_name, stars_by, stars_in, context_at, calendars_before};
 
 use crate::records::{place_of_row, raw_text};
 use crate::stars::same_starred;
@@ -58,7 +58,7 @@ pub fn calendars_before(out: &[u8], c: Place, root: Root<'_>, p: Place) -> bool
 
 // ---- names
 
-// The name that a calendar is to have; `unnamed` for one that says none, `Calendar` by the definition.
+// The name that a calendar is to have; `unnamed` for one that says none.
 pub fn wanted_name<'a>(e: Element<'a>, unnamed: &'a [u8]) -> &'a [u8]
     ensures { result.now ≡ wanted_by unnamed.now (meaning e.entry) }
 {
@@ -66,15 +66,18 @@ pub fn wanted_name<'a>(e: Element<'a>, unnamed: &'a [u8]) -> &'a [u8]
     if n.is_empty() { unnamed } else { n }
 }
 
+// The same, by the definition: `Calendar` for one that says none.
+pub fn calendar_text(e: Element<'_>) -> &[u8]
+    ensures { result.now ≡ wanted_name (meaning e.entry) }
+{
+    wanted_name(e, b"Calendar")
+}
+
 // The row of the main calendar among those in the order in which they are built; 0 where there is none, as the definition has it.
 fn main_row(root: Root<'_>) -> usize
     ensures { result ≡ main_row (root_at root.entry) }
 {
-    // `map_or` was tried: of a closure over an element the proof learns nothing.
-    let Some((row, _)) = rows::main_calendar(root) else {
-        return 0;
-    };
-    row
+    rows::main_calendar(root).map_or(0, |x| x.0)
 }
 
 fn section_row(main: usize, row: usize) -> usize
@@ -93,7 +96,7 @@ pub(crate) fn stars_at(out: &[u8], p: Place, e: Element<'_>) -> u32
     ensures { result ≡ stars_by ((read_at raw out.now p).0 or []) (meaning e.entry) }
 {
     let long = raw_text(out, p).len();
-    let short = wanted_name(e, b"Calendar").len();
+    let short = calendar_text(e).len();
     long.saturating_sub(short) as u32
 }
 
@@ -111,11 +114,11 @@ pub(crate) fn stars_of(out: &[u8], c: Place, root: Root<'_>, row: usize, e: Elem
 fn is_main(out: &[u8], c: Place, root: Root<'_>, text: &[u8], stars: u32) -> bool
     ensures { result ≡ same (starred_by text.now stars) (context_at out.now c (root_at root.entry)).main.name }
 {
-    // A `match`: of a closure over an element the proof learns nothing, as in `main_row`.
+    // A `match`: `map_or_else` would have two long closures.
     match rows::main_calendar(root) {
         Some((row, e)) => {
             let m = stars_of(out, c, root, row, e);
-            same_starred(text, stars, wanted_name(e, b"Calendar"), m)
+            same_starred(text, stars, calendar_text(e), m)
         }
         None => same_starred(text, stars, b"Standard", 0),
     }

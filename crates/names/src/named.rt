@@ -10,9 +10,9 @@ ghost use Rattle.names.specs.Context.{context_at};
 ghost use Rattle.names.specs.Named.{name_word, name_by, name_of_row, named_by, named_in, elapsed_in, main_text, NotesName, NamesNoted, Calendars, Makes};
 ghost use Rattle.names.specs.Uids.{names_end, Stays, Uids};
 
-use crate::calendars::{elapsed_named, stars_at, stars_of, unless_main, wanted_name};
+use crate::calendars::{calendar_text, elapsed_named, stars_at, stars_of, unless_main};
 use crate::stars::same_starred;
-use crate::uids::{CalendarTable, index_uids};
+use crate::uids::{CalendarTable, index_uids, name_at};
 use bits::Place;
 use index::Table;
 use model::records::{Kind, skip_record};
@@ -66,8 +66,8 @@ fn note_name(
     let e = Element { tree, at };
     let first = row as usize == main.row;
     let stars = stars_at(out, either(first, c, q), e);
-    let word = word_of(wanted_name(e, b"Calendar"), stars, main);
-    index::set_word(words, t.at, 3 * (t.rows as usize) + r as usize, word);
+    let word = word_of(calendar_text(e), stars, main);
+    index::set_word(words, t.at, name_at(t, r), word);
     if first {
         return q;
     }
@@ -90,17 +90,17 @@ fn note_all(out: &[u8], c: Place, root: Root<'_>, words: &mut [u32], t: Table)
     ensures { Calendars out.now c root.entry.tree.now (root_at root.entry) t words.new × Stays (end_of t) (names_end t) words.old words.new }
 {
     let Some((row, e)) = rows::main_calendar(root) else {
-        index::set_word(words, t.at, 4 * (t.rows as usize), 1);
+        index::set_word(words, t.at, name_at(t, t.rows), 1);
         return;
     };
     let main = Main {
         row,
-        name: wanted_name(e, b"Calendar"),
+        name: calendar_text(e),
         stars: stars_of(out, c, root, row, e),
     };
     note_names(out, c, root.tree, words, t, main);
     let elapsed = word_of(b"Elapsed (24 hours)", 0, main);
-    index::set_word(words, t.at, 4 * (t.rows as usize), elapsed);
+    index::set_word(words, t.at, name_at(t, t.rows), elapsed);
 }
 
 // A table of the calendars, which stand at c, in the words from a place on, where there is room for it.
@@ -134,15 +134,15 @@ fn name_of<'a>(root: Root<'a>, words: &[u32], t: Table, row: Option<u32>) -> Opt
 {
     let r = row?;
     let e = root.part(t.place(words, r) as usize);
-    let word = index::word(words, t.at, 3 * (t.rows as usize) + r as usize);
-    Starred::named(wanted_name(e, b"Calendar"), by_word(word))
+    let word = index::word(words, t.at, name_at(t, r));
+    Starred::named(calendar_text(e), by_word(word))
 }
 
 fn scan<'a>(out: &[u8], c: Place, root: Root<'a>, uid: &[u8]) -> Option<Starred<'a>>
     ensures { given_by starred result ≡ named_by (context_at out.now c (root_at root.entry)) uid.now }
 {
     let (row, e) = rows::calendar_with(root, uid)?;
-    let text = wanted_name(e, b"Calendar");
+    let text = calendar_text(e);
     let stars = stars_of(out, c, root, row, e);
     Starred::named(text, unless_main(out, c, root, text, stars))
 }
@@ -177,7 +177,7 @@ pub fn elapsed_in(
 {
     // as in `calendar_in`
     match table {
-        Some(t) => by_word(index::word(words, t.at, 4 * (t.rows as usize))),
+        Some(t) => by_word(index::word(words, t.at, name_at(t, t.rows))),
         None => elapsed_named(out, c, root),
     }
 }

@@ -14,7 +14,7 @@ returns-in-Some c =
     let a = c.args in
     let x = c.main_calendar in
     let t = starred_by a.text.now a.stars in
-    c.same_starred.ensures ∙ main_same a.out.now a.c (root_at a.root) _ _ c.wanted_name.ensures t c.stars_of-m.ensures ∙ ap (same t) (sym (main_there a.out.now a.c (root_at a.root) _ (is_there x.result x.ensures.is c.in-Some.is)))
+    c.same_starred.ensures ∙ main_same a.out.now a.c (root_at a.root) _ _ c.calendar_text.ensures t c.stars_of-m.ensures ∙ ap (same t) (sym (main_there a.out.now a.c (root_at a.root) _ (is_there x.result x.ensures.is c.in-Some.is)))
 
 pub returns-in-None : goal.returns-in-None
 returns-in-None c =
