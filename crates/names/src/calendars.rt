@@ -100,24 +100,30 @@ pub(crate) fn stars_at(out: &[u8], p: Place, e: Element<'_>) -> u32
     long.saturating_sub(short) as u32
 }
 
-// That of the calendar of a row. The buffer, where the calendars stand in it, and the root go together and are no struct: records are put into the
-// buffer between the calls, so that one that borrows it would be made anew for each.
-pub(crate) fn stars_of(out: &[u8], c: Place, root: Root<'_>, row: usize, e: Element<'_>) -> u32
-    ensures { result ≡ stars_in out.now c (root_at root.entry) row (meaning e.entry) }
+// The calendars of a project, and where they stand in the buffer. The buffer is no part of it: records are put into it between the calls.
+#[derive(Clone, Copy)]
+pub(crate) struct CalendarNames<'a> {
+    pub root: Root<'a>,
+    pub start: Place,
+}
+
+// That of the calendar of a row.
+pub(crate) fn stars_of(out: &[u8], n: CalendarNames<'_>, row: usize, e: Element<'_>) -> u32
+    ensures { result ≡ stars_in out.now n.entry.start (root_at n.entry.root) row (meaning e.entry) }
 {
-    let k = section_row(main_row(root), row);
-    let p = place_of_row(out, c, Kind::Calendars, k);
+    let k = section_row(main_row(n.root), row);
+    let p = place_of_row(out, n.start, Kind::Calendars, k);
     stars_at(out, p, e)
 }
 
 // Whether a text with so many `*` is the main calendar's name.
-fn is_main(out: &[u8], c: Place, root: Root<'_>, text: &[u8], stars: u32) -> bool
-    ensures { result ≡ same (starred_by text.now stars) (context_at out.now c (root_at root.entry)).main.name }
+fn is_main(out: &[u8], n: CalendarNames<'_>, text: &[u8], stars: u32) -> bool
+    ensures { result ≡ same (starred_by text.now stars) (context_at out.now n.entry.start (root_at n.entry.root)).main.name }
 {
     // A `match`: `map_or_else` would have two long closures.
-    match rows::main_calendar(root) {
+    match rows::main_calendar(n.root) {
         Some((row, e)) => {
-            let m = stars_of(out, c, root, row, e);
+            let m = stars_of(out, n, row, e);
             same_starred(text, stars, calendar_text(e), m)
         }
         None => same_starred(text, stars, b"Standard", 0),
@@ -125,22 +131,16 @@ fn is_main(out: &[u8], c: Place, root: Root<'_>, text: &[u8], stars: u32) -> boo
 }
 
 // A text with so many `*`, unless it is the main calendar's name.
-pub(crate) fn unless_main(
-    out: &[u8],
-    c: Place,
-    root: Root<'_>,
-    text: &[u8],
-    stars: u32,
-) -> Option<u32>
-    ensures { name_meaning text.now result ≡ unless_main (context_at out.now c (root_at root.entry)) (starred_by text.now stars) }
+pub(crate) fn unless_main(out: &[u8], n: CalendarNames<'_>, text: &[u8], stars: u32) -> Option<u32>
+    ensures { name_meaning text.now result ≡ unless_main (context_at out.now n.entry.start (root_at n.entry.root)) (starred_by text.now stars) }
 {
-    (!is_main(out, c, root, text, stars)).then_some(stars)
+    (!is_main(out, n, text, stars)).then_some(stars)
 }
 
 // The elapsed calendar's name, unless it is the main one's. Its letters stand here, in named.rt, in activities and in calendars: clauses have the
 // definition's elapsed_name, and a const would be one more name to unfold in each.
-pub(crate) fn elapsed_named(out: &[u8], c: Place, root: Root<'_>) -> Option<u32>
-    ensures { name_meaning elapsed_name result ≡ unless_main (context_at out.now c (root_at root.entry)) elapsed_name }
+pub(crate) fn elapsed_named(out: &[u8], n: CalendarNames<'_>) -> Option<u32>
+    ensures { name_meaning elapsed_name result ≡ unless_main (context_at out.now n.entry.start (root_at n.entry.root)) elapsed_name }
 {
-    unless_main(out, c, root, b"Elapsed (24 hours)", 0)
+    unless_main(out, n, b"Elapsed (24 hours)", 0)
 }
