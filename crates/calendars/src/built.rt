@@ -80,7 +80,7 @@ impl Section<'_> {
     {
         let count = done.count;
         let p = done.next;
-        let name = names::wanted_name(e, b"Calendar");
+        let name = names::calendar_text(e);
         let stars = names::stars_for(
             out,
             Kind::Calendars,

@@ -128,7 +128,7 @@ impl Entry<'_> {
     {
         let e = self.calendar;
         let name = Starred {
-            text: names::wanted_name(e, b"Calendar"),
+            text: names::calendar_text(e),
             stars: self.stars,
         };
         let a = name.put(out, p);

@@ -1,5 +1,5 @@
 -- What the words of a table of the calendars answer. Assumes nothing.
-use Prim.Native.Nat.{ℕ, zero, suc, ◌+◌, ◌-◌, ◌*◌, ◌≤◌}
+use Prim.Native.Nat.{ℕ, zero, suc, ◌-◌, ◌≤◌}
 use native.Mathlib.Omega.{arith}
 use mathlib.Core.Path.{◌≡◌, refl, sym, ap, ◌∙◌}
 use mathlib.Core.List.{List}
@@ -67,12 +67,11 @@ module _ (x : Context) (s : Text) (w : List ℕ) {m : Option Table} where
   named_none u e i = rw e i
 
 module _ (x : Context) (w : List ℕ) {m : Option Table} where
-  pub elapsed_ready : {t : Table} → m ≡ Some t → {word : ℕ} → word ≡ get_or w (t.at + 4 * t.rows) 0 → (a : Option ℕ) → ((text : Text) → name_meaning text a ≡ name_by text word)
+  pub elapsed_ready : {t : Table} → m ≡ Some t → {word : ℕ} → word ≡ get_or w (name_at t t.rows) 0 → (a : Option ℕ) → ((text : Text) → name_meaning text a ≡ name_by text word)
       → name_meaning elapsed_name a ≡ elapsed_in x w m
   unfolding elapsed_in
   elapsed_ready {t} e {word} i a h =
-      let z : t.at + 4 * t.rows ≡ name_at t t.rows = omega arith in
-      rw e (h elapsed_name ∙ ap (name_by elapsed_name) (i ∙ ap (λ (k : ℕ). get_or w k 0) z))
+      rw e (h elapsed_name ∙ ap (name_by elapsed_name) i)
 
   pub elapsed_none : m ≡ None → {n : Option Text} → n ≡ unless_main x elapsed_name → n ≡ elapsed_in x w m
   unfolding elapsed_in

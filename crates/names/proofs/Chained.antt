@@ -4,7 +4,7 @@ use mathlib.Core.Path.{◌≡◌, refl, sym, ap, ◌∙◌}
 use mathlib.Core.Bool.{Bool, true, false, ◌&&◌}
 use mathlib.Core.List.{List}
 use Rattle.std.specs.Prelude.{Option, Some, None, MatchOption}
-use Prim.Native.Nat.{ℕ, ◌+◌, ◌*◌, ◌≤◌, ◌<◌, min}
+use Prim.Native.Nat.{ℕ, ◌+◌, ◌*◌, ◌≤◌, ◌<◌}
 use native.Mathlib.Numerals.{add-one}
 use native.Mathlib.Omega.{arith}
 use lib.Dec.{leb, eqb}
@@ -16,11 +16,11 @@ use Rattle.definition.specs.Text.{Text}
 use Rattle.index.specs.Hash.{hash_of}
 use Rattle.bits.specs.Places.{inside}
 use Rattle.bits.specs.declared.Place.{Place}
-use Rattle.index.specs.Chains.{added, place_of, end_in}
+use Rattle.index.specs.Chains.{added, place_of}
 use Rattle.pack.specs.Value.{starred_by}
 use Rattle.model.specs.declared.records.Kind.{Kind}
 use Rattle.names.specs.Texts.{place_of_row, texts_at}
-use Rattle.names.specs.Ids.{ids_of, behind, noted, no_ids, free_in, ids_for, begun, end_ids, starred_in, place_in, noted_by}
+use Rattle.names.specs.Ids.{ids_of, behind, noted, no_ids, free_in, ids_for, begun, starred_in, place_in, noted_by}
 use Rattle.names.specs.declared.ids.Ids.{Ids}
 
 -- ---- what was found
@@ -129,6 +129,3 @@ module _ (kind : Kind) (d : List ℕ) (start : Place) (w : List ℕ) (m : Option
 
 pub noted_by_made : (w : List ℕ) (m : Option Ids) (row : ℕ) (u : Text) (stars byte : ℕ) {i : Ids} → m ≡ Some i → {w' : List ℕ} → w' ≡ noted w i row u stars byte → w' ≡ noted_by w m row u stars byte
 noted_by_made w m row u stars byte z h = rw z h
-
-pub ends_ready : {m : Option Ids} {i : Ids} → m ≡ Some i → {r : ℕ} (at len : ℕ) → r ≡ min (end_in (Some i.wanted)) len → r ≡ end_ids m at len
-ends_ready z at len h = rw z h

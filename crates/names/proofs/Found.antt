@@ -4,6 +4,7 @@ use mathlib.Core.Bool.{Bool, true, false, not, ◌&&◌}
 use Rattle.std.specs.Bool.{then_some}
 use mathlib.Core.List.{List, [], ◌∷◌}
 use Rattle.std.specs.Prelude.{Option, Some, None}
+use Rattle.std.specs.Option.{MatchOption}
 use Prim.Native.Nat.{ℕ, ◌*◌, ◌-◌, ◌/◌, ◌^◌, ◌≤◌, ◌<◌}
 use native.Mathlib.Omega.{arith}
 use lib.Dec.{leb, ltb}
@@ -19,7 +20,7 @@ use Rattle.bits.specs.Places.{at, up_to}
 use Rattle.bits.specs.declared.Place.{Place}
 use Rattle.model.specs.declared.records.Kind.TheVariants.{Calendars}
 use Rattle.pack.specs.Value.{starred_by, name_meaning}
-use Rattle.rows.specs.Rows.{calendar_meaning}
+use Rattle.rows.specs.Rows.{calendar_meaning, main_in}
 use Rattle.tree.specs.Place.{meaning}
 use Rattle.tree.specs.declared.element.Element.{Element as Standing}
 use Rattle.model.specs.Answers.{read_at}
@@ -39,6 +40,11 @@ module _ (r : Option (ℕ × Standing)) {o : Option (ℕ × Element)} (h : calen
   pub is_absent : r ≡ None → o ≡ None
   unfolding calendar_meaning
   is_absent e = sym h ∙ rw e
+
+pub row_is : (root : Element) (r : Option (ℕ × Standing)) → calendar_meaning r ≡ main_in root → {n : ℕ} → MatchOption r (n ≡ 0) (λ x. n ≡ x.0) → n ≡ main_row root
+unfolding calendar_meaning
+row_is root None h k = k ∙ ap (λ (o : Option (ℕ × Element)). (o >>= λ x. Some x.0) or 0) h
+row_is root (Some (row, x)) h k = k ∙ ap (λ (o : Option (ℕ × Element)). (o >>= λ x. Some x.0) or 0) h
 
 -- ---- the names
 

@@ -1,6 +1,6 @@
 -- The words of the calendars' names while they are noted, and the whole table. Assumes nothing.
 use Rattle.std.specs.Prelude.{if◌then◌else◌}
-use Prim.Native.Nat.{ℕ, suc, ◌+◌, ◌-◌, ◌*◌, ◌^◌, ◌≤◌, ◌<◌, max}
+use Prim.Native.Nat.{ℕ, suc, ◌+◌, ◌-◌, ◌^◌, ◌≤◌, ◌<◌, max}
 use native.Mathlib.Omega.{arith}
 use mathlib.Core.Path.{◌≡◌, refl, sym, ap, ◌∙◌}
 use mathlib.Core.Bool.{Bool, true, false}
@@ -129,7 +129,7 @@ next_row_lem main row false e = go (ltb main row) refl
 -- one row
 module _ (d : List ℕ) (c q : Place) (s : Text) (t : Table) (row : ℕ) (m : Main) (w : List ℕ) (few : row < t.rows) where
   pub note_word : {at : ℕ} → at ≡ place_of w t (t.rows - 1 - row) → {p : Place} → p ≡ (if eqb row m.row then c else q) → {text : Text} → text ≡ wanted_name (element_at s at) → {stars : ℕ}
-      → stars ≡ stars_by ((read_at raw d p).0 or []) (element_at s at) → {word : ℕ} → word ≡ name_word (main_text m) text stars → {w' : List ℕ} → w' ≡ set w (t.at + (3 * t.rows + (t.rows - 1 - row))) word
+      → stars ≡ stars_by ((read_at raw d p).0 or []) (element_at s at) → {word : ℕ} → word ≡ name_word (main_text m) text stars → {w' : List ℕ} → w' ≡ set w (name_at t (t.rows - 1 - row)) word
       → w' ≡ set w (name_at t (t.rows - suc row)) (word_by m ((read_at raw d (if eqb row m.row then c else q)).0 or []) (nth_in s t w row))
   note_word {at} i {p} j {text} k {stars} l {word} n o =
       let z : t.rows - 1 - row ≡ t.rows - suc row = omega arith in
@@ -212,27 +212,25 @@ module _ {s : Text} {root : Element} {t : Table} {w : List ℕ} (uids : Uids s r
 
 module _ {d : List ℕ} {c : Place} {s : Text} {root : Element} {t : Table} {w : List ℕ} (uids : Uids s root t w) where
   -- no calendar: the default one is no elapsed one
-  pub filled_none : main_in root ≡ None → {w' : List ℕ} → w' ≡ set w (t.at + 4 * t.rows) 1 → Calendars d c s root t w' × Stays (end_of t) (names_end t) w w'
+  pub filled_none : main_in root ≡ None → {w' : List ℕ} → w' ≡ set w (name_at t t.rows) 1 → Calendars d c s root t w' × Stays (end_of t) (names_end t) w w'
   unfolding name_word same
   filled_none e {w'} i =
-      let x : Stays (end_of t) (names_end t) w w' = rw i (stays_set w (t.at + 4 * t.rows) 1 (omega arith) (omega arith)) in
-      let z : name_at t t.rows ≡ t.at + 4 * t.rows = omega arith in (
+      let x : Stays (end_of t) (names_end t) w w' = rw i (stays_set w (name_at t t.rows) 1 (omega arith) (omega arith)) in (
         record {
           uids = uids_stay uids x;
           names = λ r h. absurd (omega (arith, main_none root e));
           elapsed =
               ap (λ (l : List ℕ). get_or l (name_at t t.rows) 0) i
-              ∙ ap (λ (k : ℕ). get_or (set w (t.at + 4 * t.rows) 1) k 0) z
-              ∙ get_or-set_same w (t.at + 4 * t.rows) 1 0 (omega (arith, uids.room))
+              ∙ get_or-set_same w (name_at t t.rows) 1 0 (omega (arith, uids.room))
               ∙ ap (λ (name : Text). name_word name elapsed_name 0) (sym (main_absent d c root e));
         },
         x,
       )
 
   module _ {w₁ w₂ : List ℕ} {m : Main} {word : ℕ} (main : MainOf d c root m)
-      (n : NamesNoted d c s t m t.rows w w₁) (e : word ≡ name_word (main_text m) elapsed_name 0) (i : w₂ ≡ set w₁ (t.at + 4 * t.rows) word) where
+      (n : NamesNoted d c s t m t.rows w w₁) (e : word ≡ name_word (main_text m) elapsed_name 0) (i : w₂ ≡ set w₁ (name_at t t.rows) word) where
     names_set : Stays (end_of t) (names_end t) w w₂
-    names_set = stays_then n.stays (rw i (stays_set w₁ (t.at + 4 * t.rows) word (omega arith) (omega arith)))
+    names_set = stays_then n.stays (rw i (stays_set w₁ (name_at t t.rows) word (omega arith) (omega arith)))
 
     rows_are : t.rows ≡ how_many root
     rows_are = omega (arith, uids.rows, main_some root main.there)
@@ -242,7 +240,7 @@ module _ {d : List ℕ} {c : Place} {s : Text} {root : Element} {t : Table} {w :
         let z : r ≡ t.rows - suc (t.rows - suc r) = omega (arith, rows_are) in
         let x : t.rows - suc r ≡ how_many root - suc r = omega (arith, rows_are) in
         ap (λ (l : List ℕ). get_or l (name_at t r) 0) i
-        ∙ get_or-set_other w₁ (t.at + 4 * t.rows) (name_at t r) word 0 (λ q. omega (arith, rows_are))
+        ∙ get_or-set_other w₁ (name_at t t.rows) (name_at t r) word 0 (λ q. omega (arith, rows_are))
         ∙ ap (λ (k : ℕ). get_or w₁ (name_at t k) 0) z
         ∙ n.names (t.rows - suc r) (omega (arith, rows_are))
         ∙ ap (λ (k : ℕ). word_by m (text_at kind.Calendars d c (section_row m.row (t.rows - suc r))) (element_at s (place_of w t k))) (sym z)
@@ -257,10 +255,8 @@ module _ {d : List ℕ} {c : Place} {s : Text} {root : Element} {t : Table} {w :
         uids = uids_stay uids names_set;
         names = named;
         elapsed =
-            let z : name_at t t.rows ≡ t.at + 4 * t.rows = omega arith in
             ap (λ (l : List ℕ). get_or l (name_at t t.rows) 0) i
-            ∙ ap (λ (k : ℕ). get_or (set w₁ (t.at + 4 * t.rows) word) k 0) z
-            ∙ get_or-set_same w₁ (t.at + 4 * t.rows) word 0 (omega (arith, n.stays.long, uids.room))
+            ∙ get_or-set_same w₁ (name_at t t.rows) word 0 (omega (arith, n.stays.long, uids.room))
             ∙ e
             ∙ ap (λ (name : Text). name_word name elapsed_name 0) (main_name main);
       },
@@ -315,8 +311,8 @@ module _ {s : Text} {root : Element} {at : ℕ} {w : List ℕ} {m : Option Table
   pub uids_none : m ≡ None → MakesUids s root at w w (record { table = None; end = at })
   uids_none e = record { made = sym e ∙ h; end = refl; words = refl }
 
-  pub uids_ready : {t : Table} {w' : List ℕ} → m ≡ Some t → Uids s root t w' × Stays t.at (names_end t) w w' → MakesUids s root at w w' (record { table = Some t; end = t.at + 4 * t.rows + 1 })
-  uids_ready e x = record { made = sym e ∙ h; end = omega arith; words = x }
+  pub uids_ready : {t : Table} {w' : List ℕ} → m ≡ Some t → Uids s root t w' × Stays t.at (names_end t) w w' → {end : ℕ} → end ≡ names_end t → MakesUids s root at w w' (record { table = Some t; end = end })
+  uids_ready e x i = record { made = sym e ∙ h; end = i; words = x }
 
 pub makes_uids : {s : Text} {root : Element} {at : ℕ} {w w₁ : List ℕ} {r : CalendarTable} → MakesUids s root at w w₁ r → {t : Table} → r.table ≡ Some t → Uids s root t w₁
 makes_uids {s} {root} {w = w} {w₁} h {t} e = let y : Uids s root t w₁ × Stays t.at (names_end t) w w₁ = rw e at h.words in y.0

@@ -10,7 +10,7 @@ ghost use Rattle.model.specs.Parts.{raw};
 ghost use Rattle.tree.specs.Place.{later, meaning};
 ghost use Rattle.tree.specs.Root.{root_at};
 ghost use Rattle.pack.specs.Value.{starred_by, name_meaning};
-ghost use Rattle.names.specs.Context.{main_row, section_row, wanted_by, stars_by, stars_in, context_at, calendars_before};
+ghost use Rattle.names.specs.Context.{main_row, section_row, wanted_by, wanted_name, stars_by, stars_in, context_at, calendars_before};
 
 use crate::records::{place_of_row, raw_text};
 use crate::stars::same_starred;
@@ -58,7 +58,7 @@ pub fn calendars_before(out: &[u8], c: Place, root: Root<'_>, p: Place) -> bool
 
 // ---- names
 
-// The name that a calendar is to have; `unnamed` for one that says none, `Calendar` by the definition.
+// The name that a calendar is to have; `unnamed` for one that says none.
 pub fn wanted_name<'a>(e: Element<'a>, unnamed: &'a [u8]) -> &'a [u8]
     ensures { result.now ≡ wanted_by unnamed.now (meaning e.entry) }
 {
@@ -66,15 +66,18 @@ pub fn wanted_name<'a>(e: Element<'a>, unnamed: &'a [u8]) -> &'a [u8]
     if n.is_empty() { unnamed } else { n }
 }
 
+// The same, by the definition: `Calendar` for one that says none.
+pub fn calendar_text(e: Element<'_>) -> &[u8]
+    ensures { result.now ≡ wanted_name (meaning e.entry) }
+{
+    wanted_name(e, b"Calendar")
+}
+
 // The row of the main calendar among those in the order in which they are built; 0 where there is none, as the definition has it.
 fn main_row(root: Root<'_>) -> usize
     ensures { result ≡ main_row (root_at root.entry) }
 {
-    // `map_or` was tried: of a closure over an element the proof learns nothing.
-    let Some((row, _)) = rows::main_calendar(root) else {
-        return 0;
-    };
-    row
+    rows::main_calendar(root).map_or(0, |x| x.0)
 }
 
 fn section_row(main: usize, row: usize) -> usize
@@ -93,51 +96,51 @@ pub(crate) fn stars_at(out: &[u8], p: Place, e: Element<'_>) -> u32
     ensures { result ≡ stars_by ((read_at raw out.now p).0 or []) (meaning e.entry) }
 {
     let long = raw_text(out, p).len();
-    let short = wanted_name(e, b"Calendar").len();
+    let short = calendar_text(e).len();
     long.saturating_sub(short) as u32
 }
 
-// That of the calendar of a row. The buffer, where the calendars stand in it, and the root go together and are no struct: records are put into the
-// buffer between the calls, so that one that borrows it would be made anew for each.
-pub(crate) fn stars_of(out: &[u8], c: Place, root: Root<'_>, row: usize, e: Element<'_>) -> u32
-    ensures { result ≡ stars_in out.now c (root_at root.entry) row (meaning e.entry) }
+// The calendars of a project, and where they stand in the buffer. The buffer is no part of it: records are put into it between the calls.
+#[derive(Clone, Copy)]
+pub(crate) struct CalendarNames<'a> {
+    pub root: Root<'a>,
+    pub start: Place,
+}
+
+// That of the calendar of a row.
+pub(crate) fn stars_of(out: &[u8], n: CalendarNames<'_>, row: usize, e: Element<'_>) -> u32
+    ensures { result ≡ stars_in out.now n.entry.start (root_at n.entry.root) row (meaning e.entry) }
 {
-    let k = section_row(main_row(root), row);
-    let p = place_of_row(out, c, Kind::Calendars, k);
+    let k = section_row(main_row(n.root), row);
+    let p = place_of_row(out, n.start, Kind::Calendars, k);
     stars_at(out, p, e)
 }
 
 // Whether a text with so many `*` is the main calendar's name.
-fn is_main(out: &[u8], c: Place, root: Root<'_>, text: &[u8], stars: u32) -> bool
-    ensures { result ≡ same (starred_by text.now stars) (context_at out.now c (root_at root.entry)).main.name }
+fn is_main(out: &[u8], n: CalendarNames<'_>, text: &[u8], stars: u32) -> bool
+    ensures { result ≡ same (starred_by text.now stars) (context_at out.now n.entry.start (root_at n.entry.root)).main.name }
 {
-    // A `match`: of a closure over an element the proof learns nothing, as in `main_row`.
-    match rows::main_calendar(root) {
+    // A `match`: `map_or_else` would have two long closures.
+    match rows::main_calendar(n.root) {
         Some((row, e)) => {
-            let m = stars_of(out, c, root, row, e);
-            same_starred(text, stars, wanted_name(e, b"Calendar"), m)
+            let m = stars_of(out, n, row, e);
+            same_starred(text, stars, calendar_text(e), m)
         }
         None => same_starred(text, stars, b"Standard", 0),
     }
 }
 
 // A text with so many `*`, unless it is the main calendar's name.
-pub(crate) fn unless_main(
-    out: &[u8],
-    c: Place,
-    root: Root<'_>,
-    text: &[u8],
-    stars: u32,
-) -> Option<u32>
-    ensures { name_meaning text.now result ≡ unless_main (context_at out.now c (root_at root.entry)) (starred_by text.now stars) }
+pub(crate) fn unless_main(out: &[u8], n: CalendarNames<'_>, text: &[u8], stars: u32) -> Option<u32>
+    ensures { name_meaning text.now result ≡ unless_main (context_at out.now n.entry.start (root_at n.entry.root)) (starred_by text.now stars) }
 {
-    (!is_main(out, c, root, text, stars)).then_some(stars)
+    (!is_main(out, n, text, stars)).then_some(stars)
 }
 
 // The elapsed calendar's name, unless it is the main one's. Its letters stand here, in named.rt, in activities and in calendars: clauses have the
 // definition's elapsed_name, and a const would be one more name to unfold in each.
-pub(crate) fn elapsed_named(out: &[u8], c: Place, root: Root<'_>) -> Option<u32>
-    ensures { name_meaning elapsed_name result ≡ unless_main (context_at out.now c (root_at root.entry)) elapsed_name }
+pub(crate) fn elapsed_named(out: &[u8], n: CalendarNames<'_>) -> Option<u32>
+    ensures { name_meaning elapsed_name result ≡ unless_main (context_at out.now n.entry.start (root_at n.entry.root)) elapsed_name }
 {
-    unless_main(out, c, root, b"Elapsed (24 hours)", 0)
+    unless_main(out, n, b"Elapsed (24 hours)", 0)
 }

@@ -108,8 +108,7 @@ impl Ids {
 pub fn ids_for(len: usize, p: Place, words: &mut [u32], at: usize, rows: u32) -> Option<Ids>
     ensures { (result ≡ ids_for len p (length words.old) at rows) × (words.new ≡ begun words.old result) }
 {
-    // By its bound, as in `rows`.
-    if p.bit != 0 || 4294967295 < len {
+    if p.bit != 0 || u32::try_from(len).is_err() {
         return None;
     }
     let ids = ids_at(words.len(), at, rows)?;
@@ -121,11 +120,7 @@ pub fn ids_for(len: usize, p: Place, words: &mut [u32], at: usize, rows: u32) ->
 pub fn end_of_ids(ids: Option<Ids>, at: usize, len: usize) -> usize
     ensures { result ≡ end_ids ids at len }
 {
-    // A `match`: `map_or` with a closure over this one call would be as long.
-    match ids {
-        Some(t) => index::end_of(Some(t.wanted), len),
-        None => at,
-    }
+    ids.map_or(at, |t| index::end_of(Some(t.wanted), len))
 }
 
 // How many `*` an id needs that is wanted for the row at p: by the tables, or by a look at all records where these have no words for so many. The section

@@ -10,9 +10,11 @@ ghost use Rattle.names.specs.Context.{context_at};
 ghost use Rattle.names.specs.Named.{name_word, name_by, name_of_row, named_by, named_in, elapsed_in, main_text, NotesName, NamesNoted, Calendars, Makes};
 ghost use Rattle.names.specs.Uids.{names_end, Stays, Uids};
 
-use crate::calendars::{elapsed_named, stars_at, stars_of, unless_main, wanted_name};
+use crate::calendars::{
+    CalendarNames, calendar_text, elapsed_named, stars_at, stars_of, unless_main,
+};
 use crate::stars::same_starred;
-use crate::uids::{CalendarTable, index_uids};
+use crate::uids::{CalendarTable, index_uids, name_at};
 use bits::Place;
 use index::Table;
 use model::records::{Kind, skip_record};
@@ -66,8 +68,8 @@ fn note_name(
     let e = Element { tree, at };
     let first = row as usize == main.row;
     let stars = stars_at(out, either(first, c, q), e);
-    let word = word_of(wanted_name(e, b"Calendar"), stars, main);
-    index::set_word(words, t.at, 3 * (t.rows as usize) + r as usize, word);
+    let word = word_of(calendar_text(e), stars, main);
+    index::set_word(words, t.at, name_at(t, r), word);
     if first {
         return q;
     }
@@ -85,22 +87,22 @@ fn note_names(out: &[u8], c: Place, tree: &[u8], words: &mut [u32], t: Table, ma
 }
 
 // All of them; where there is no calendar, the main one is the default one.
-fn note_all(out: &[u8], c: Place, root: Root<'_>, words: &mut [u32], t: Table)
-    requires { Uids root.tree.now (root_at root) t words.old }
-    ensures { Calendars out.now c root.entry.tree.now (root_at root.entry) t words.new × Stays (end_of t) (names_end t) words.old words.new }
+fn note_all(out: &[u8], n: CalendarNames<'_>, words: &mut [u32], t: Table)
+    requires { Uids n.root.tree.now (root_at n.root) t words.old }
+    ensures { Calendars out.now n.entry.start n.entry.root.tree.now (root_at n.entry.root) t words.new × Stays (end_of t) (names_end t) words.old words.new }
 {
-    let Some((row, e)) = rows::main_calendar(root) else {
-        index::set_word(words, t.at, 4 * (t.rows as usize), 1);
+    let Some((row, e)) = rows::main_calendar(n.root) else {
+        index::set_word(words, t.at, name_at(t, t.rows), 1);
         return;
     };
     let main = Main {
         row,
-        name: wanted_name(e, b"Calendar"),
-        stars: stars_of(out, c, root, row, e),
+        name: calendar_text(e),
+        stars: stars_of(out, n, row, e),
     };
-    note_names(out, c, root.tree, words, t, main);
+    note_names(out, n.start, n.root.tree, words, t, main);
     let elapsed = word_of(b"Elapsed (24 hours)", 0, main);
-    index::set_word(words, t.at, 4 * (t.rows as usize), elapsed);
+    index::set_word(words, t.at, name_at(t, t.rows), elapsed);
 }
 
 // A table of the calendars, which stand at c, in the words from a place on, where there is room for it.
@@ -115,7 +117,7 @@ pub fn index_calendars(
 {
     let made = index_uids(root, words, at);
     if let Some(t) = made.table {
-        note_all(out, c, root, words, t);
+        note_all(out, CalendarNames { root, start: c }, words, t);
     }
     made
 }
@@ -134,17 +136,17 @@ fn name_of<'a>(root: Root<'a>, words: &[u32], t: Table, row: Option<u32>) -> Opt
 {
     let r = row?;
     let e = root.part(t.place(words, r) as usize);
-    let word = index::word(words, t.at, 3 * (t.rows as usize) + r as usize);
-    Starred::named(wanted_name(e, b"Calendar"), by_word(word))
+    let word = index::word(words, t.at, name_at(t, r));
+    Starred::named(calendar_text(e), by_word(word))
 }
 
-fn scan<'a>(out: &[u8], c: Place, root: Root<'a>, uid: &[u8]) -> Option<Starred<'a>>
-    ensures { given_by starred result ≡ named_by (context_at out.now c (root_at root.entry)) uid.now }
+fn scan<'a>(out: &[u8], n: CalendarNames<'a>, uid: &[u8]) -> Option<Starred<'a>>
+    ensures { given_by starred result ≡ named_by (context_at out.now n.entry.start (root_at n.entry.root)) uid.now }
 {
-    let (row, e) = rows::calendar_with(root, uid)?;
-    let text = wanted_name(e, b"Calendar");
-    let stars = stars_of(out, c, root, row, e);
-    Starred::named(text, unless_main(out, c, root, text, stars))
+    let (row, e) = rows::calendar_with(n.root, uid)?;
+    let text = calendar_text(e);
+    let stars = stars_of(out, n, row, e);
+    Starred::named(text, unless_main(out, n, text, stars))
 }
 
 // The name of the first calendar with a UID, unless it is the main one's, by a table in the words; by a scan where there is none. The calendars stand at c.
@@ -161,7 +163,7 @@ pub fn calendar_in<'a>(
     // One way needs the words, the other the buffer: a trait over both is no plainer.
     match table {
         Some(t) => name_of(root, words, t, rows::seek(root.tree, words, t, uid)),
-        None => scan(out, c, root, uid),
+        None => scan(out, CalendarNames { root, start: c }, uid),
     }
 }
 
@@ -177,7 +179,7 @@ pub fn elapsed_in(
 {
     // as in `calendar_in`
     match table {
-        Some(t) => by_word(index::word(words, t.at, 4 * (t.rows as usize))),
-        None => elapsed_named(out, c, root),
+        Some(t) => by_word(index::word(words, t.at, name_at(t, t.rows))),
+        None => elapsed_named(out, CalendarNames { root, start: c }),
     }
 }

@@ -12,6 +12,7 @@ ghost use Rattle.names.specs.Texts.{place_of_row, texts_at};
 
 use crate::stars::same_starred;
 use bits::{PAST, Place};
+use model::parts::text_in;
 use model::records::{Kind, skip_record};
 
 // The place behind so many records: model's `skip_records`, for a row of usize. Here and below the kind is a value: model's `skip_record` takes it so.
@@ -40,15 +41,12 @@ pub fn place_of_row(out: &[u8], p: Place, kind: Kind, row: usize) -> Place
     PAST
 }
 
-// The text at a place, whatever its bytes are; no text where there is none. By start and length, and not by model's `text_in`, whose condition would be
-// a goal here as the slice's is. `text_at` of model_check is this for texts that are there; neither crate uses the other.
+// The text at a place, whatever its bytes are; no text where there is none. `text_at` of model_check is this for texts that are there; neither crate uses
+// the other.
 pub fn raw_text(out: &[u8], p: Place) -> &[u8]
     ensures { result.now ≡ ((read_at raw out.now p).0 or []) }
 {
-    let t = bits::take_text(out, p);
-    let start = t.start;
-    let end = start + t.len;
-    &out[start..end]
+    text_in(out, bits::take_text(out, p))
 }
 
 // Whether one of so many records at a place has the text with so many `*` at its front.

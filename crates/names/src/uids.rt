@@ -2,16 +2,24 @@
 // that the first one with a UID is found: its UID by its hash, and where its element stands in the tree. Behind the table there is a word for each row, and
 // one more, for what is to be noted of them. A row or a word is made a place by `as usize`, which has no From<u32>. The words and their table go side by
 // side, as in `rows`.
-ghost use Rattle.std.specs.Prelude.{◌≡◌, suc, ◌-◌, ◌≤◌, max, length, IfSome};
+ghost use Rattle.std.specs.Prelude.{◌≡◌, suc, ◌+◌, ◌-◌, ◌≤◌, max, length, IfSome};
 ghost use Rattle.definition.specs.Base.{◌>>=◌ as bind};
 ghost use Rattle.index.specs.Law.{Fits};
 ghost use Rattle.rows.specs.Rows.{calendar_meaning};
 ghost use Rattle.tree.specs.Root.{root_at};
+ghost use Rattle.names.specs.Named.{name_at};
 ghost use Rattle.names.specs.Uids.{how_many, made_in, names_end, Stays, Ripe, Stand, Chained, MakesUids, row_found, calendar_by};
 
 use crate::calendars::count_calendars;
 use index::Table;
 use tree::{Element, Root};
+
+// Where the word of a row stands, from where the table begins; the word more is that of the row past the last.
+pub(crate) fn name_at(t: Table, row: u32) -> usize
+    ensures { t.at + result ≡ name_at t row }
+{
+    3 * (t.rows as usize) + row as usize
+}
 
 // ---- the table is made
 
@@ -19,10 +27,7 @@ use tree::{Element, Root};
 fn room_for(root: Root<'_>, len: usize, at: usize) -> Option<Table>
     ensures { result ≡ made_in root.entry.tree.now (root_at root.entry) len at }
 {
-    // By its bound, as in `rows`.
-    if 4294967295 < root.tree.len() {
-        return None;
-    }
+    u32::try_from(root.tree.len()).ok()?;
     let n = count_calendars(root);
     if 5000000 < n {
         return None;
@@ -90,7 +95,7 @@ pub fn index_uids(root: Root<'_>, words: &mut [u32], at: usize) -> CalendarTable
     chain_rows(root.tree, words, t, count);
     CalendarTable {
         table: Some(t),
-        end: t.at + 4 * (t.rows as usize) + 1,
+        end: t.at + name_at(t, t.rows) + 1,
     }
 }
 

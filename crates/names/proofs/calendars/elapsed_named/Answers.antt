@@ -11,4 +11,4 @@ use Rattle.names.proofs.calendars.elapsed_named.Goals as goal
 pub returns : goal.returns
 returns c =
     let a = c.args in
-    c.unless_main.ensures ∙ ap (λ (t : Text). unless_main (context_at a.out.now a.c (root_at a.root)) t) (star_none elapsed_name)
+    c.unless_main.ensures ∙ ap (λ (t : Text). unless_main (context_at a.out.now a.n.start (root_at a.n.root)) t) (star_none elapsed_name)

@@ -14,11 +14,11 @@ returns-in-Some c =
     let a = c.args in
     let x = c.main_calendar in
     let t = starred_by a.text.now a.stars in
-    c.same_starred.ensures ∙ main_same a.out.now a.c (root_at a.root) _ _ c.wanted_name.ensures t c.stars_of-m.ensures ∙ ap (same t) (sym (main_there a.out.now a.c (root_at a.root) _ (is_there x.result x.ensures.is c.in-Some.is)))
+    c.same_starred.ensures ∙ main_same a.out.now a.n.start (root_at a.n.root) _ _ c.calendar_text.ensures t c.stars_of-m.ensures ∙ ap (same t) (sym (main_there a.out.now a.n.start (root_at a.n.root) _ (is_there x.result x.ensures.is c.in-Some.is)))
 
 pub returns-in-None : goal.returns-in-None
 returns-in-None c =
     let a = c.args in
     let x = c.main_calendar in
     let t = starred_by a.text.now a.stars in
-    c.same_starred-in-None.ensures ∙ ap (same t) (star_none (bytes "Standard") ∙ sym (main_absent a.out.now a.c (root_at a.root) (is_absent x.result x.ensures.is c.in-None.is)))
+    c.same_starred-in-None.ensures ∙ ap (same t) (star_none (bytes "Standard") ∙ sym (main_absent a.out.now a.n.start (root_at a.n.root) (is_absent x.result x.ensures.is c.in-None.is)))

@@ -8,7 +8,7 @@ use Rattle.names.proofs.calendars.stars_at.Goals as goal
 pub overflow_cast-result : goal.overflow_cast-result
 overflow_cast-result c =
     let a = c.args in
-    omega (arith, c.saturating_sub.ensures, stars_fit a.out.now a.p (meaning a.e) c.raw_text-long.ensures c.wanted_name-short.ensures)
+    omega (arith, c.saturating_sub.ensures, stars_fit a.out.now a.p (meaning a.e) c.raw_text-long.ensures c.calendar_text-short.ensures)
 
 pub returns : goal.returns
-returns c = c.saturating_sub.ensures ∙ stars_is c.args.out.now c.args.p (meaning c.args.e) c.raw_text-long.ensures c.wanted_name-short.ensures
+returns c = c.saturating_sub.ensures ∙ stars_is c.args.out.now c.args.p (meaning c.args.e) c.raw_text-long.ensures c.calendar_text-short.ensures

@@ -7,4 +7,4 @@ use Rattle.names.proofs.calendars.stars_of.Goals as goal
 pub returns : goal.returns
 returns c =
     let a = c.args in
-    stars_row a.out.now a.c (root_at a.root) a.row (meaning a.e) c.main_row.ensures c.section_row-k.ensures c.place_of_row-p.ensures c.stars_at.ensures
+    stars_row a.out.now a.n.start (root_at a.n.root) a.row (meaning a.e) c.main_row.ensures c.section_row-k.ensures c.place_of_row-p.ensures c.stars_at.ensures

@@ -10,4 +10,4 @@ use Rattle.names.proofs.calendars.unless_main.Goals as goal
 pub returns : goal.returns
 returns c =
     let a = c.args in
-    ap (λ (o : Option ℕ). name_meaning a.text.now o) c.then_some.ensures ∙ unless_by a.out.now a.c (root_at a.root) a.text.now a.stars c.is_main.ensures
+    ap (λ (o : Option ℕ). name_meaning a.text.now o) c.then_some.ensures ∙ unless_by a.out.now a.n.start (root_at a.n.root) a.text.now a.stars c.is_main.ensures

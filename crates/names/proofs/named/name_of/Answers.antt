@@ -8,4 +8,4 @@ returns-in_err-r c = rw c.from_residual.ensures (row_absent c.args.root.tree.now
 pub returns : goal.returns
 returns c =
     let a = c.args in
-    c.named.ensures ∙ row_there a.root.tree.now a.words.now a.t c.in_ok-r.was c.place.ensures c.word-word.ensures c.by_word.result c.by_word.ensures (rw c.part-e.ensures at c.wanted_name.ensures)
+    c.named.ensures ∙ row_there a.root.tree.now a.words.now a.t c.in_ok-r.was c.place.ensures (rw c.name_at.ensures at c.word-word.ensures) c.by_word.result c.by_word.ensures (rw c.part-e.ensures at c.calendar_text.ensures)

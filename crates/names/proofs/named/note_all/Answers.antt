@@ -2,10 +2,10 @@ use Rattle.names.proofs.Wording.{main_missing, main_given, filled_none, filled}
 use Rattle.names.proofs.named.note_all.Goals as goal
 
 pub returns-in_default : goal.returns-in_default
-returns-in_default c = filled_none c.requires (main_missing _ c.main_calendar.ensures.is c.in_default.is) c.set_word.ensures
+returns-in_default c = filled_none c.requires (main_missing _ c.main_calendar.ensures.is c.in_default.is) (rw c.name_at.ensures at c.set_word.ensures)
 
 pub note_names-requires : goal.note_names-requires
 note_names-requires c = c.requires.room
 
 pub returns : goal.returns
-returns c = filled c.requires (main_given _ c.main_calendar.ensures.is c.in-Some.is c.wanted_name.ensures c.stars_of.ensures) c.note_names.ensures c.word_of-elapsed.ensures c.set_word-2.ensures
+returns c = filled c.requires (main_given _ c.main_calendar.ensures.is c.in-Some.is c.calendar_text.ensures c.stars_of.ensures) c.note_names.ensures c.word_of-elapsed.ensures (rw c.name_at-2.ensures at c.set_word-2.ensures)

@@ -10,9 +10,9 @@ word_of-word-requires c =
 pub returns-then-first : goal.returns-then-first
 returns-then-first c =
     let a = c.args in
-    record { word = note_word a.out.now a.c a.q a.tree.now a.t a.row a.main a.words.now c.requires c.place-at.ensures c.either.ensures c.wanted_name.ensures c.stars_at-stars.ensures c.word_of-word.ensures c.set_word.ensures; next = next_main c.if-first.true-raw }
+    record { word = note_word a.out.now a.c a.q a.tree.now a.t a.row a.main a.words.now c.requires c.place-at.ensures c.either.ensures c.calendar_text.ensures c.stars_at-stars.ensures c.word_of-word.ensures (rw c.name_at.ensures at c.set_word.ensures); next = next_main c.if-first.true-raw }
 
 pub returns : goal.returns
 returns c =
     let a = c.args in
-    record { word = note_word a.out.now a.c a.q a.tree.now a.t a.row a.main a.words.now c.requires c.place-at.ensures c.either.ensures c.wanted_name.ensures c.stars_at-stars.ensures c.word_of-word.ensures c.set_word.ensures; next = next_other c.if-first.false-raw c.skip_record.ensures.0 }
+    record { word = note_word a.out.now a.c a.q a.tree.now a.t a.row a.main a.words.now c.requires c.place-at.ensures c.either.ensures c.calendar_text.ensures c.stars_at-stars.ensures c.word_of-word.ensures (rw c.name_at.ensures at c.set_word.ensures); next = next_other c.if-first.false-raw c.skip_record.ensures.0 }

@@ -9,10 +9,10 @@ pub returns : goal.returns
 returns c =
     let a = c.args in
     let x = c.calendar_with in
-    c.named.ensures ∙ scan_there a.out.now a.c (root_at a.root) a.uid.now _ _ _ (is_there x.result x.ensures.is c.in_ok-row.was) c.wanted_name-text.ensures c.stars_of-stars.ensures c.unless_main.ensures
+    c.named.ensures ∙ scan_there a.out.now a.n.start (root_at a.n.root) a.uid.now _ _ _ (is_there x.result x.ensures.is c.in_ok-row.was) c.calendar_text-text.ensures c.stars_of-stars.ensures c.unless_main.ensures
 
 pub returns-in_err-row : goal.returns-in_err-row
 returns-in_err-row c =
     let a = c.args in
     let x = c.calendar_with in
-    rw c.from_residual.ensures (scan_absent a.out.now a.c (root_at a.root) a.uid.now (is_absent x.result x.ensures.is c.in_err-row.was))
+    rw c.from_residual.ensures (scan_absent a.out.now a.n.start (root_at a.n.root) a.uid.now (is_absent x.result x.ensures.is c.in_err-row.was))

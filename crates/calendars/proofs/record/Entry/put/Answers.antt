@@ -14,6 +14,6 @@ returns c =
     let k = c.args.self in
     let e = meaning k.calendar in
     record {
-      written = calendar_over e k.stars (put_same (ap (λ (t : Text). starred_by t k.stars) c.wanted_name.ensures) c.put-a.ensures) c.base_week.ensures c.week_of-week.ensures c.put_week-b.ensures c.put_hours-c.ensures (over_days k.base (days_over e (flags_in _)) c.days_place.ensures c.put_days-d.ensures.puts) c.pad.ensures;
+      written = calendar_over e k.stars (put_same (ap (λ (t : Text). starred_by t k.stars) c.calendar_text.ensures) c.put-a.ensures) c.base_week.ensures c.week_of-week.ensures c.put_week-b.ensures c.put_hours-c.ensures (over_days k.base (days_over e (flags_in _)) c.days_place.ensures c.put_days-d.ensures.puts) c.pad.ensures;
       kept = c.put_days-d.ensures.kept;
     }
