@@ -5,7 +5,7 @@ use Prim.Native.Nat.{ℕ, ◌+◌, ◌<◌}
 use native.Mathlib.Omega.{arith}
 use mathlib.Core.Path.{◌≡◌, refl, sym, ap, ◌∙◌, subst}
 use mathlib.Core.Bool.{Bool, true, false}
-use mathlib.Core.List.{List, ◌∷◌}
+use mathlib.Core.List.{List, [], ◌∷◌}
 use Rattle.std.specs.Prelude.{Option, Some}
 use lib.Dec.{ltb}
 use lib.ListN.{length}
@@ -13,10 +13,10 @@ use borrow.Author.Tests.{le-ltb, lt-ltb}
 use Rattle.definition.specs.Base.{first, same}
 use Rattle.definition.specs.Text.{Text}
 use Rattle.definition.specs.Tree.{Element, size, child}
-use Rattle.tree.specs.Place.{whole, head_at, records_at, under, element_at, list_of}
+use Rattle.tree.specs.Place.{IsHead, records_at, under, element_at, list_of}
 use Rattle.tree.specs.Root.{note_at, Notes, Parts, Stands}
 use Rattle.tree.specs.declared.root.Root.{Root}
-use Rattle.tree.proofs.Heads.{part, bounds}
+use Rattle.tree.specs.declared.Head.{Head}
 use Rattle.tree.proofs.Rows.{row, row_cut, row_end, row_here, row_miss, row_under, name_whole, all_cut, all_row}
 use Rattle.tree.specs.Answer.{none_child}
 
@@ -77,23 +77,23 @@ module _ (s : Text) (w from : ℕ) where
   left_same : (p q : ℕ) (n : Text) (x : ℕ) → row s n w p ≡ row s n w q → Left s w from p n x → Left s w from q n x
   left_same p q n x e h = h ∙ ap (λ (o : Option Element). if ltb x (length s) then Some (element_at s x) else o) (ap (λ l. first l) e)
 
-  module _ (p : ℕ) {d a b e : ℕ} (g : head_at s p ≡ whole d a b e) (k : d ≡ w) where
-    left_noted : (n : Text) (x : ℕ) → Left s w from p n x → Left s w from e n (note_at s p n x)
-    left_noted n x h = go (ltb x (length s)) (same (element_at s p).name n) refl refl
+  module _ (p : ℕ) {h : Head} (g : IsHead s p h) (k : h.depth ≡ w) where
+    left_noted : (n : Text) (x : ℕ) → Left s w from p n x → Left s w from h.next n (note_at s p n x)
+    left_noted n x l = go (ltb x (length s)) (same (element_at s p).name n) refl refl
       where
         here : ltb p (length s) ≡ true
-        here = lt-ltb p (length s) (omega (arith, bounds s p g))
+        here = lt-ltb p (length s) (omega (arith, g))
 
-        named : {j : Bool} → same (element_at s p).name n ≡ j → same (part s a b) n ≡ j
+        named : {j : Bool} → same (element_at s p).name n ≡ j → same h.name.now n ≡ j
         named z = ap (λ (t : Text). same t n) (name_whole s p g) ∙ z
 
-        at : (y : ℕ) → note_at s p n x ≡ y → Left s w from e n y → Left s w from e n (note_at s p n x)
-        at y i k = subst (Left s w from e n) (sym i) k
+        at : (y : ℕ) → note_at s p n x ≡ y → Left s w from h.next n y → Left s w from h.next n (note_at s p n x)
+        at y i j = subst (Left s w from h.next n) (sym i) j
 
-        go : (i j : Bool) → ltb x (length s) ≡ i → same (element_at s p).name n ≡ j → Left s w from e n (note_at s p n x)
-        go true j y z = at x (rw y) (rw y (rw y at h))
-        go false true y z = at p (rw (y, z)) (rw here ((rw y at h) ∙ first_hit (row_here s n w p g k (named z))))
-        go false false y z = at x (rw (y, z)) (left_same p e n x (row_miss s n w p g k (named z)) h)
+        go : (i j : Bool) → ltb x (length s) ≡ i → same (element_at s p).name n ≡ j → Left s w from h.next n (note_at s p n x)
+        go true j y z = at x (rw y) (rw y (rw y at l))
+        go false true y z = at p (rw (y, z)) (rw here ((rw y at l) ∙ first_hit (row_here s n w p g k (named z))))
+        go false false y z = at x (rw (y, z)) (left_same p h.next n x (row_miss s n w p g k (named z)) l)
 
 -- the parts that are noted, and those that may stand from p on
 pub record Walked (s : Text) (w from p : ℕ) (r : Root) : Type 0 where
@@ -104,32 +104,32 @@ module _ (s : Text) (w from : ℕ) {r : Root} where
   parts_begin h = record { each = parts_all (λ n x. x ≡ length s) (Left s w from from) (left_all s w from) h }
 
 module _ {s : Text} {w from p : ℕ} {r : Root} (g : Walked s w from p r) where
-  pub parts_cut : head_at s p ≡ None → Parts (λ n x. Stands s x (first (row s n w from))) r
+  pub parts_cut : records_at s p ≡ [] → Parts (λ n x. Stands s x (first (row s n w from))) r
   parts_cut h = parts_all (Left s w from p) (λ n x. Stands s x (first (row s n w from))) (λ n x. left_end s w from p n x (row_cut s n w p h)) g.each
 
-  module _ {d a b e : ℕ} (h : head_at s p ≡ whole d a b e) where
-    pub parts_end : d < w → Parts (λ n x. Stands s x (first (row s n w from))) r
-    parts_end k = parts_all (Left s w from p) (λ n x. Stands s x (first (row s n w from))) (λ n x. left_end s w from p n x (row_end s n w p h k)) g.each
+  module _ {h : Head} (i : IsHead s p h) where
+    pub parts_end : h.depth < w → Parts (λ n x. Stands s x (first (row s n w from))) r
+    parts_end k = parts_all (Left s w from p) (λ n x. Stands s x (first (row s n w from))) (λ n x. left_end s w from p n x (row_end s n w p i k)) g.each
 
-    pub parts_next : d ≡ w → {r' : Root} → Notes s p r r' → Walked s w from e r'
-    parts_next k m = record { each = parts_noted (Left s w from p) (Left s w from e) m (left_noted s w from p h k) g.each }
+    pub parts_next : h.depth ≡ w → {r' : Root} → Notes s p r r' → Walked s w from h.next r'
+    parts_next k m = record { each = parts_noted (Left s w from p) (Left s w from h.next) m (left_noted s w from p i k) g.each }
 
-    pub parts_under : w < d → {q : ℕ} → q ≡ e + size (under w (records_at s e)) → Walked s w from q r
-    parts_under k {q} i = record { each = parts_all (Left s w from p) (Left s w from q) (λ n x. left_same s w from p q n x (row_under s n w p h k i)) g.each }
+    pub parts_under : w < h.depth → {q : ℕ} → q ≡ h.next + size (under w (records_at s h.next)) → Walked s w from q r
+    parts_under k {q} j = record { each = parts_all (Left s w from p) (Left s w from q) (λ n x. left_same s w from p q n x (row_under s n w p i k j)) g.each }
 
 -- ---- the parts of an element
 
 module _ (s : Text) (at : ℕ) where
-  stands_cut : head_at s at ≡ None → (n : Text) (x : ℕ) → x ≡ length s → Stands s x (child (element_at s at) n)
+  stands_cut : records_at s at ≡ [] → (n : Text) (x : ℕ) → x ≡ length s → Stands s x (child (element_at s at) n)
   stands_cut h n x e = record { is = none_child (element_at s at) (all_cut s n at h) refl ∙ rw (e, le-ltb (length s) (length s) (omega arith)) }
 
-  pub root_cut : head_at s at ≡ None → {r : Root} → Parts (λ n x. x ≡ length s) r → Parts (λ n x. Stands s x (child (element_at s at) n)) r
+  pub root_cut : records_at s at ≡ [] → {r : Root} → Parts (λ n x. x ≡ length s) r → Parts (λ n x. Stands s x (child (element_at s at) n)) r
   root_cut h = parts_all (λ n x. x ≡ length s) (λ n x. Stands s x (child (element_at s at) n)) (stands_cut h)
 
-  module _ {d a b e : ℕ} (h : head_at s at ≡ whole d a b e) where
-    stands_whole : (n : Text) (x : ℕ) → Stands s x (first (row s n (d + 1) e)) → Stands s x (child (element_at s at) n)
+  module _ {h : Head} (g : IsHead s at h) where
+    stands_whole : (n : Text) (x : ℕ) → Stands s x (first (row s n (h.depth + 1) h.next)) → Stands s x (child (element_at s at) n)
     unfolding child
-    stands_whole n x k = record { is = ap (λ l. first l) (all_row s n at h) ∙ k.is }
+    stands_whole n x k = record { is = ap (λ l. first l) (all_row s n at g) ∙ k.is }
 
-    pub root_whole : {r : Root} → Parts (λ n x. Stands s x (first (row s n (d + 1) e))) r → Parts (λ n x. Stands s x (child (element_at s at) n)) r
-    root_whole = parts_all (λ n x. Stands s x (first (row s n (d + 1) e))) (λ n x. Stands s x (child (element_at s at) n)) stands_whole
+    pub root_whole : {r : Root} → Parts (λ n x. Stands s x (first (row s n (h.depth + 1) h.next))) r → Parts (λ n x. Stands s x (child (element_at s at) n)) r
+    root_whole = parts_all (λ n x. Stands s x (first (row s n (h.depth + 1) h.next))) (λ n x. Stands s x (child (element_at s at) n)) stands_whole

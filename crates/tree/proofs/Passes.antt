@@ -17,9 +17,9 @@ use Rattle.definition.specs.Text.{Text, is_utf8, trim}
 use Rattle.definition.specs.Number.{number_of}
 use Rattle.definition.specs.Tree.{Rec, records, layout, element, deeper, below_root}
 use Rattle.definition.specs.Duration.{duration_of}
-use Rattle.tree.specs.Place.{whole, head_at, verdict, records_at, element_at}
+use Rattle.tree.specs.Place.{IsHead, verdict, records_at, element_at}
 use Rattle.definition.specs.Refusal.{utf8?, project?, long?, number_names, duration_names, long_in, too_long, tree_refusal, most_elements}
-use Rattle.tree.proofs.Heads.{part, bounds, records_cut}
+use Rattle.tree.specs.declared.Head.{Head}
 
 -- ---- UTF-8
 
@@ -28,22 +28,22 @@ abbrev pub utf8_from : Text → ℕ → Bool
 utf8_from s at = every? utf8? (records_at s at)
 
 module _ (s : Text) (at : ℕ) where
-  pub utf8_cut : head_at s at ≡ None → utf8_from s at ≡ true
+  pub utf8_cut : records_at s at ≡ [] → utf8_from s at ≡ true
   unfolding every?
-  utf8_cut h = rw (records_cut s at h)
+  utf8_cut h = rw h
 
-  module _ {d a b e : ℕ} (h : head_at s at ≡ whole d a b e) where
-    pub utf8_name : is_utf8 (part s a b) ≡ false → utf8_from s at ≡ false
+  module _ {h : Head} (g : IsHead s at h) where
+    pub utf8_name : is_utf8 (h.name.now) ≡ false → utf8_from s at ≡ false
     unfolding every? utf8?
-    utf8_name n = rw ((bounds s at h).here, n)
+    utf8_name n = rw (g.here, n)
 
-    pub utf8_text : is_utf8 (part s a b) ≡ true → is_utf8 (part s b e) ≡ false → utf8_from s at ≡ false
+    pub utf8_text : is_utf8 (h.name.now) ≡ true → is_utf8 (h.text.now) ≡ false → utf8_from s at ≡ false
     unfolding every? utf8?
-    utf8_text n t = rw ((bounds s at h).here, n, t)
+    utf8_text n t = rw (g.here, n, t)
 
-    pub utf8_step : is_utf8 (part s a b) ≡ true → is_utf8 (part s b e) ≡ true → utf8_from s at ≡ utf8_from s e
+    pub utf8_step : is_utf8 (h.name.now) ≡ true → is_utf8 (h.text.now) ≡ true → utf8_from s at ≡ utf8_from s h.next
     unfolding every? utf8?
-    utf8_step n t = rw ((bounds s at h).here, n, t)
+    utf8_step n t = rw (g.here, n, t)
 
 -- ---- numbers too long
 
@@ -52,30 +52,30 @@ abbrev pub long_from : Text → ℕ → Bool
 long_from s at = some? too_long (deeper (records_at s at))
 
 module _ (s : Text) (at : ℕ) where
-  pub long_cut : head_at s at ≡ None → long_from s at ≡ false
+  pub long_cut : records_at s at ≡ [] → long_from s at ≡ false
   unfolding some? deeper
-  long_cut h = rw (records_cut s at h)
+  long_cut h = rw h
 
-  pub long_none : head_at s at ≡ None → false ≡ some? too_long (below_root (records_at s at))
+  pub long_none : records_at s at ≡ [] → false ≡ some? too_long (below_root (records_at s at))
   unfolding some? below_root
-  long_none h = rw (records_cut s at h)
+  long_none h = rw h
 
-  module _ {d a b e : ℕ} (h : head_at s at ≡ whole d a b e) where
-    pub long_end : d ≤ 1 → long_from s at ≡ false
+  module _ {h : Head} (g : IsHead s at h) where
+    pub long_end : h.depth ≤ 1 → long_from s at ≡ false
     unfolding some? deeper
-    long_end q = rw (bounds s at h).here (simp (le-leb _ _ q))
+    long_end q = rw g.here (simp (le-leb _ _ q))
 
-    pub long_here : 1 < d → long_in (part s a b) (part s b e) ≡ true → long_from s at ≡ true
+    pub long_here : 1 < h.depth → long_in (h.name.now) (h.text.now) ≡ true → long_from s at ≡ true
     unfolding some? deeper too_long
-    long_here q t = rw (bounds s at h).here (simp (lt-leb _ _ q, t))
+    long_here q t = rw g.here (simp (lt-leb _ _ q, t))
 
-    pub long_step : 1 < d → long_in (part s a b) (part s b e) ≡ false → long_from s at ≡ long_from s e
+    pub long_step : 1 < h.depth → long_in (h.name.now) (h.text.now) ≡ false → long_from s at ≡ long_from s h.next
     unfolding some? deeper too_long
-    long_step q t = rw (bounds s at h).here (simp (lt-leb _ _ q, t))
+    long_step q t = rw g.here (simp (lt-leb _ _ q, t))
 
-    pub long_below : long_from s e ≡ some? too_long (below_root (records_at s at))
+    pub long_below : long_from s h.next ≡ some? too_long (below_root (records_at s at))
     unfolding below_root
-    long_below = rw (bounds s at h).here
+    long_below = rw g.here
 
 -- ---- the refusals
 

@@ -3,9 +3,9 @@
 // They take bytes and a position: an Element is what they find, and a walk ends where none stands.
 #![tactic(auto)]
 
-ghost use Rattle.std.specs.Prelude.{◌≡◌, ◌+◌, ◌<◌, length};
+ghost use Rattle.std.specs.Prelude.{◌≡◌, ◌+◌, ◌<◌, [], length, MatchOption};
 ghost use Rattle.definition.specs.Tree.{right_at, size, level};
-ghost use Rattle.tree.specs.Place.{IsWord, head_at, verdict, records_at, under, named, Starts};
+ghost use Rattle.tree.specs.Place.{IsWord, IsHead, verdict, records_at, under, named, Starts};
 
 mod element; // an element of a tree
 mod refusal;
@@ -18,12 +18,12 @@ pub use root::{Root, root_of};
 // The bytes of a record's head.
 const HEAD: usize = 4;
 
-// The depth of a record, and where its parts begin.
+// A record, and where the next begins.
 #[derive(Clone, Copy)]
-struct Head {
+struct Head<'a> {
     depth: usize,
-    name_at: usize,
-    text_at: usize,
+    name: &'a [u8],
+    text: &'a [u8],
     next: usize,
 }
 
@@ -36,27 +36,25 @@ fn word_at(s: &[u8], i: usize) -> usize
 }
 
 // The head at a position: 7 bits of depth, 9 of the name's length, 16 of the text's.
-fn read_head(s: &[u8], at: usize) -> Option<Head>
-    ensures { result ≡ head_at s.now at }
+fn read_head(s: &[u8], at: usize) -> Option<Head<'_>>
+    ensures { MatchOption result (records_at s.now at ≡ []) (IsHead s.now at) }
 {
     if s.len() < HEAD || s.len() - HEAD < at {
         return None;
     }
     let w = word_at(s, at);
     let t = word_at(s, at + 2);
-    let name_at = at + HEAD;
-    let text_at = name_at + (w & 511);
+    let text_at = at + HEAD + (w & 511);
     let next = text_at + t;
-    if next <= s.len() {
-        Some(Head {
-            depth: w >> 9,
-            name_at,
-            text_at,
-            next,
-        })
-    } else {
-        None
+    if s.len() < next {
+        return None;
     }
+    Some(Head {
+        depth: w >> 9,
+        name: &s[at + HEAD..text_at],
+        text: &s[text_at..next],
+        next,
+    })
 }
 
 // Whether a record of depth d and t bytes of text may follow one of depth p.
@@ -77,7 +75,7 @@ fn layout(s: &[u8]) -> Option<usize>
     let mut prev: usize = 0;
     let mut count: usize = 0;
     while let Some(h) = read_head(s, at) {
-        if !right_at(prev, h.depth, h.next - h.text_at) {
+        if !right_at(prev, h.depth, h.text.len()) {
             return None;
         }
         prev = h.depth;
@@ -115,7 +113,7 @@ fn find<'a>(s: &'a [u8], from: usize, w: usize, name: &[u8]) -> Option<Element<'
             return None;
         }
         if h.depth == w {
-            if text::same(&s[h.name_at..h.text_at], name) {
+            if text::same(h.name, name) {
                 return Some(Element { tree: s, at: p });
             }
             p = h.next;

@@ -15,7 +15,7 @@ fn all_utf8(s: &[u8]) -> bool
 {
     let mut at: usize = 0;
     while let Some(h) = crate::read_head(s, at) {
-        if !text::is_utf8(&s[h.name_at..h.text_at]) || !text::is_utf8(&s[h.text_at..h.next]) {
+        if !text::is_utf8(h.name) || !text::is_utf8(h.text) {
             return false;
         }
         at = h.next;
@@ -81,7 +81,7 @@ fn long_from(s: &[u8], from: usize) -> bool
         if h.depth <= 1 {
             return false;
         }
-        if is_long(&s[h.name_at..h.text_at], &s[h.text_at..h.next]) {
+        if is_long(h.name, h.text) {
             return true;
         }
         at = h.next;
