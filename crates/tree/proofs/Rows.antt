@@ -4,19 +4,18 @@ use denote.Ref.{Bor}
 use Rattle.std.specs.Prelude.{None, Option, Some, MatchOption}
 use mathlib.Core.Logic.{◌⊎◌, inl, inr}
 use mathlib.Core.List.{List, [], ◌∷◌}
-use mathlib.Core.Bool.{true, false}
 use Prim.Native.Nat.{ℕ, ◌+◌, ◌≤◌, ◌<◌}
 use native.Mathlib.Omega.{arith}
 use borrow.Author.Tests.{le-leb, lt-leb, le-ltb, lt-ltb, eq-eqb, ne_eqb}
 use Rattle.definition.specs.Base.{◌or◌, keep, same}
 use Rattle.definition.specs.Text.{Text, trim}
 use Rattle.definition.specs.Tree.{Rec, size, Element, elements, level, element, all, non_empty, text_of}
-use Rattle.tree.specs.Place.{IsHead, records_at, under, after, element_at, named, siblings, later_at, meaning, list_of, Past, Starts}
+use Rattle.tree.specs.Place.{IsHead, records_at, under, after, element_at, siblings, later_at, meaning, list_of, Past, Starts}
 use Rattle.tree.specs.declared.element.Element.{Element as Place}
 use Rattle.tree.specs.Answer.{found_child, none_child}
 use Rattle.tree.specs.Root.{own_text}
 use Rattle.tree.specs.declared.Head.{Head}
-use Rattle.tree.proofs.Heads.{le_or_lt}
+use Rattle.tree.proofs.Records.{le_or_lt}
 use Rattle.tree.proofs.Walk.{records_after}
 
 -- ---- rows
@@ -31,39 +30,36 @@ level_after w d (r ∷ rs) h = go (le_or_lt r.depth d) (level_after w d rs h)
     go (inl p) i = simp (le-leb _ _ p)
     go (inr p) i = simp (lt-leb _ _ p, le-ltb r.depth w (omega arith), ne_eqb r.depth w (λ q. omega arith)) i
 
--- the elements of depth w and of the name n at the front of the records at a position
-abbrev pub row : Text → Text → ℕ → ℕ → List Element
-row s n w at = named n (level w (records_at s at))
+-- the elements of depth w at the front of the records at a position
+abbrev pub row : Text → ℕ → ℕ → List Element
+row s w at = elements (level w (records_at s at))
 
-module _ (s n : Text) (w at : ℕ) where
-  pub row_cut : records_at s at ≡ [] → row s n w at ≡ list_of n None
-  unfolding level elements keep list_of
+module _ (s : Text) (w at : ℕ) where
+  pub row_cut : records_at s at ≡ [] → row s w at ≡ []
+  unfolding level elements
   row_cut h = rw h
 
   module _ {h : Head} (g : IsHead s at h) where
-    pub row_end : h.depth < w → row s n w at ≡ list_of n None
-    unfolding level elements keep list_of
+    pub row_end : h.depth < w → row s w at ≡ []
+    unfolding level elements
     row_end q = rw g.here (simp (lt-ltb _ _ q))
 
-    pub row_here : h.depth ≡ w → same h.name.now n ≡ true → row s n w at ≡ element_at s at ∷ later_at s n at
-    unfolding level elements keep element siblings
-    row_here q i = rw (← q, g.here) (simp (le-ltb h.depth h.depth (omega arith), eq-eqb h.depth h.depth refl, i))
+    pub row_here : h.depth ≡ w → row s w at ≡ element_at s at ∷ row s w h.next
+    unfolding level elements element
+    row_here q = rw (← q, g.here) (simp (le-ltb h.depth h.depth (omega arith), eq-eqb h.depth h.depth refl))
 
-    pub row_hit : (x : Place) → x.tree.now ≡ s → x.at ≡ at → h.depth ≡ w → same h.name.now n ≡ true → row s n w at ≡ list_of n (Some x)
-    unfolding list_of
-    row_hit x t p q i = row_here q i ∙ rw (t, p)
-
-    row_deeper : w < h.depth → row s n w at ≡ row s n w h.next
+    row_deeper : w < h.depth → row s w at ≡ row s w h.next
     unfolding level
     row_deeper q = rw g.here (simp (le-ltb h.depth w (omega arith), ne_eqb h.depth w (λ i. omega arith)))
 
-    pub row_miss : h.depth ≡ w → same h.name.now n ≡ false → row s n w at ≡ row s n w h.next
-    unfolding level elements keep
-    row_miss q i = rw (← q, g.here) (simp (le-ltb h.depth h.depth (omega arith), eq-eqb h.depth h.depth refl, i))
-
     -- what is deeper is skipped
-    pub row_under : w < h.depth → {p : ℕ} → p ≡ h.next + size (under w (records_at s h.next)) → row s n w at ≡ row s n w p
+    pub row_under : w < h.depth → {p : ℕ} → p ≡ h.next + size (under w (records_at s h.next)) → row s w at ≡ row s w p
     row_under q k = row_deeper q ∙ rw (records_after s w h.next k, level_after w w (records_at s h.next) (omega arith))
+
+    -- the later siblings
+    pub row_later : h.depth ≡ w → row s w h.next ≡ elements (siblings (records_at s at))
+    unfolding siblings
+    row_later q = rw (← q, g.here)
 
 -- ---- the element at a position, by its head
 
@@ -76,7 +72,15 @@ module _ (s : Text) (at : ℕ) where
   unfolding element
   text_cut h = rw h
 
+  pub below_cut : records_at s at ≡ [] → elements (element_at s at).below ≡ []
+  unfolding element elements
+  below_cut h = rw h
+
   module _ {h : Head} (g : IsHead s at h) where
+    pub below_whole : elements (element_at s at).below ≡ row s (h.depth + 1) h.next
+    unfolding element
+    below_whole = rw g.here
+
     pub name_whole : h.name.now ≡ (element_at s at).name
     unfolding element
     name_whole = rw g.here
@@ -118,21 +122,21 @@ module _ (s n : Text) (at : ℕ) where
   later_cut h = record { is = rw h; on = tt }
 
   module _ {h : Head} (g : IsHead s at h) where
-    pub all_row : all (element_at s at) n ≡ row s n (h.depth + 1) h.next
-    unfolding all element
-    all_row = rw g.here
+    all_row : all (element_at s at) n ≡ keep (λ (c : Element). same c.name n) (row s (h.depth + 1) h.next)
+    unfolding all
+    all_row = rw (below_whole s at g)
 
-    later_row : later_at s n at ≡ row s n h.depth h.next
+    later_row : later_at s n at ≡ keep (λ (c : Element). same c.name n) (row s h.depth h.next)
     unfolding siblings
     later_row = rw g.here
 
     beyond : at + 1 ≤ h.next
     beyond = omega (arith, g)
 
-    pub all_whole : {r : Option Place} → Starts s n (row s n (h.depth + 1) h.next) h.next r → Starts s n (all (element_at s at) n) (at + 1) r
+    pub all_whole : {r : Option Place} → Starts s n (keep (λ (c : Element). same c.name n) (row s (h.depth + 1) h.next)) h.next r → Starts s n (all (element_at s at) n) (at + 1) r
     all_whole = starts_also all_row beyond
 
-    pub later_whole : {r : Option Place} → Starts s n (row s n h.depth h.next) h.next r → Starts s n (later_at s n at) (at + 1) r
+    pub later_whole : {r : Option Place} → Starts s n (keep (λ (c : Element). same c.name n) (row s h.depth h.next)) h.next r → Starts s n (later_at s n at) (at + 1) r
     later_whole = starts_also later_row beyond
 
 -- ---- the trimmed text of an element, and of a child

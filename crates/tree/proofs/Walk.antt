@@ -16,7 +16,7 @@ use Rattle.definition.specs.Text.{Text}
 use Rattle.definition.specs.Tree.{Rec, head_bytes, right_at, right, size, layout}
 use Rattle.tree.specs.declared.Head.{Head}
 use Rattle.tree.specs.Place.{IsHead, record_by, verdict, records_at, under, after}
-use Rattle.tree.proofs.Heads.{le_or_lt, records_next}
+use Rattle.tree.proofs.Records.{le_or_lt, records_next}
 
 -- a record and those after it end where those after it end
 size_whole : (s : Text) (at : ℕ) {h : Head} → IsHead s at h → (rs : List Rec) → at + size (record_by h ∷ rs) ≡ h.next + size rs

@@ -4,8 +4,10 @@
 #![tactic(auto)]
 
 ghost use Rattle.std.specs.Prelude.{◌≡◌, ◌+◌, ◌<◌, [], length, MatchOption};
+ghost use Rattle.std.specs.Iterator.{YieldsFirstBy, item_count};
 ghost use Rattle.definition.specs.Tree.{right_at, size, level};
-ghost use Rattle.tree.specs.Place.{IsWord, IsHead, verdict, records_at, under, named, Starts};
+ghost use Rattle.tree.specs.Walks.{heads_left, siblings_left, GivesSiblings};
+ghost use Rattle.tree.specs.Place.{IsWord, IsHead, record_by, verdict, records_at, under, named, Starts};
 
 mod element; // an element of a tree
 mod refusal;
@@ -57,6 +59,27 @@ fn read_head(s: &[u8], at: usize) -> Option<Head<'_>>
     })
 }
 
+// The heads from a position on.
+#[derive(Clone, Copy)]
+struct Heads<'a> {
+    tree: &'a [u8],
+    at: usize,
+}
+
+impl<'a> Iterator for Heads<'a> {
+    type Item = Head<'a>;
+
+    ghost next_gives = { YieldsFirstBy record_by heads_left };
+
+    ghost remaining = { item_count heads_left };
+
+    fn next(&mut self) -> Option<Head<'a>> {
+        let h = read_head(self.tree, self.at)?;
+        self.at = h.next;
+        Some(h)
+    }
+}
+
 // Whether a record of depth d and t bytes of text may follow one of depth p.
 fn right_at(p: usize, d: usize, t: usize) -> bool
     ensures { result ≡ right_at p d t }
@@ -103,23 +126,50 @@ fn skip(s: &[u8], from: usize, d: usize) -> usize
     p
 }
 
+// The elements of a depth among the records from a position on, before any of less depth, each with its name, so that whoever asks for that does not
+// read its head again.
+#[derive(Clone, Copy)]
+struct Siblings<'a> {
+    tree: &'a [u8],
+    at: usize,
+    depth: usize,
+}
+
+impl<'a> Iterator for Siblings<'a> {
+    type Item = (Element<'a>, &'a [u8]);
+
+    ghost next_gives = { GivesSiblings };
+
+    ghost remaining = { item_count siblings_left };
+
+    fn next(&mut self) -> Option<(Element<'a>, &'a [u8])> {
+        while let Some(h) = read_head(self.tree, self.at) {
+            if h.depth < self.depth {
+                return None;
+            }
+            if h.depth == self.depth {
+                let e = Element {
+                    tree: self.tree,
+                    at: self.at,
+                };
+                self.at = h.next;
+                return Some((e, h.name));
+            }
+            self.at = skip(self.tree, h.next, self.depth);
+        }
+        None
+    }
+}
+
 // The first record of depth w and of the name from `from` on, before any of less depth.
 fn find<'a>(s: &'a [u8], from: usize, w: usize, name: &[u8]) -> Option<Element<'a>>
     ensures { Starts s.now name.now (named name.now (level w (records_at s.now from))) from result }
 {
-    let mut p = from;
-    while let Some(h) = read_head(s, p) {
-        if h.depth < w {
-            return None;
-        }
-        if h.depth == w {
-            if text::same(h.name, name) {
-                return Some(Element { tree: s, at: p });
-            }
-            p = h.next;
-        } else {
-            p = skip(s, h.next, w);
-        }
+    Siblings {
+        tree: s,
+        at: from,
+        depth: w,
     }
-    None
+    .find(|(_, n)| text::same(n, name))
+    .map(|(e, _)| e)
 }

@@ -1,7 +1,7 @@
 use lib.Bits.{and_le_r}
 use mathlib.Core.Path.{refl}
 use native.Mathlib.Omega.{arith}
-use Rattle.tree.proofs.Heads.{read_past, read_whole, read_cut}
+use Rattle.tree.proofs.Records.{read_past, read_whole, read_cut}
 use Rattle.tree.proofs.read_head.Goals.{then-s-lt-HEAD-via-then-s-lt-HEAD, then-s-lt-HEAD-via-else-s-lt-HEAD+then-s-at}
 use Rattle.tree.proofs.read_head.Goals as goal
 
