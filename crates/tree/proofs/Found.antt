@@ -9,18 +9,14 @@ use denote.Param.Members.{Mut}
 use denote.Ref.{Bor}
 use Rattle.definition.specs.Base.{keep, same}
 use Rattle.definition.specs.Text.{Text}
-use Rattle.definition.specs.Tree.{Element}
 use Rattle.tree.specs.Place.{meaning, list_of, Past, Starts}
 use Rattle.tree.specs.Walks.{siblings_left, GivesSibling, GivesSiblings}
+use Rattle.tree.proofs.Rows.{having}
 use Rattle.tree.specs.declared.Siblings.{Siblings}
 use Rattle.tree.specs.declared.element.Element.{Element as Place}
 
--- those that have the name
-abbrev pub having : Text → List Element → List Element
-having n l = keep (λ (c : Element). same c.name n) l
-
 -- t comes after s, and what lies between has not the name
-record Passed (n : Text) (s t : Siblings) : Type 0 where
+record Between (n : Text) (s t : Siblings) : Type 0 where
   same : having n (siblings_left s) ≡ having n (siblings_left t)
   tree : t.tree.now ≡ s.tree.now
   after : s.at ≤ t.at
@@ -40,7 +36,7 @@ element_in o = option_map (λ x. x.0) o
 
 module _ {F : Type 0} {g : Mut F (Bor (Place × Bor Text) × Unit {0}) Bool} {f : F} {n : Text}
     (k : (x : Place × Bor Text) (b : Bool) (q : F) → CalledAt g f x b q → (q ≡ f) × (b ≡ same x.1.now n)) where
-  passed : (xs : List (Place × Bor Text)) (s t : Siblings) (p j : F) → p ≡ f → Yields GivesSiblings s xs t → FoldsTo (λ p x q. CalledAt g p x false q) p xs j → Passed n s t × (j ≡ f)
+  passed : (xs : List (Place × Bor Text)) (s t : Siblings) (p j : F) → p ≡ f → Yields GivesSiblings s xs t → FoldsTo (λ p x q. CalledAt g p x false q) p xs j → Between n s t × (j ≡ f)
   passed [] s t p j e y c = (record { same = ap (λ (i : Siblings). having n (siblings_left i)) y; tree = ap (λ (i : Siblings). i.tree.now) (sym y); after = omega (arith, ap (λ (i : Siblings). i.at) y) }, sym c ∙ e)
   passed (x ∷ xs) s t p j e y c =
       let w = k x false c.0 (subst (λ q. CalledAt g q x false c.0) e c.1) in
@@ -49,7 +45,7 @@ module _ {F : Type 0} {g : Mut F (Bor (Place × Bor Text) × Unit {0}) Bool} {f 
 
   pub found : (s u : Siblings) (r : Option (Place × Bor Text))
       → (xs : List (Place × Bor Text)) × (j : F) × YieldsThen GivesSiblings s xs r u × FoldsTo (λ p x q. CalledAt g p x false q) f xs j
-        × MatchOption r ⊤ (λ x. (h : F) × CalledAt g j x true h)
+      × MatchOption r ⊤ (λ x. (h : F) × CalledAt g j x true h)
       → Starts s.tree.now n (having n (siblings_left s)) s.at (element_in r)
   unfolding Past list_of keep
   found s u None d =

@@ -19,7 +19,7 @@ use Rattle.tree.specs.declared.root.Root.{Root}
 use Rattle.tree.specs.Walks.{siblings_left, GivesSibling}
 use Rattle.tree.specs.declared.Siblings.{Siblings}
 use Rattle.tree.specs.declared.element.Element.{Element as Place}
-use Rattle.tree.proofs.Found.{having}
+use Rattle.tree.proofs.Rows.{having}
 
 -- ---- each part
 

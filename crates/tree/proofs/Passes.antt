@@ -1,21 +1,19 @@
--- The passes over all records, by the head at a position; and the refusals in their order. Assumes nothing.
-use mathlib.Core.Path.{◌≡◌, refl, sym, ◌∙◌}
+-- What the passes over all records tell, in the definition's words; and the refusals in their order. Assumes nothing.
+use mathlib.Core.Path.{◌≡◌, refl, ap, sym, ◌∙◌}
 use Rattle.definition.specs.declared.Duration.{Duration}
 use Rattle.definition.specs.declared.Unread.{Unread}
 use Rattle.definition.specs.declared.Refusal.{Refusal}
 use Rattle.std.specs.Option.{ok_or}
 use Rattle.std.specs.List.{list_all, prefix_len}
+use Rattle.std.specs.Iterator.{YieldsFirstBy}
 use Rattle.std.specs.Prelude.{Err, Float, None, Ok, Option, Result, Some}
+use mathlib.Core.Logic.{◌⊎◌, inl, inr}
 use mathlib.Core.List.{List, [], ◌∷◌}
-use mathlib.Core.Bool.{Bool, true, false}
+use mathlib.Core.Bool.{Bool, true, false, ◌&&◌}
 use Prim.Native.Nat.{ℕ, suc, ◌+◌, ◌≤◌, ◌<◌}
 use native.Mathlib.Omega.{arith}
-use mathlib.Core.Logic.{◌⊎◌, inl, inr}
-use mathlib.Core.Path.{ap}
-use mathlib.Core.Bool.{◌&&◌}
 use lib.ListN.{length, take}
 use lib.Dec.{ltb}
-use Rattle.tree.proofs.Records.{le_or_lt}
 use borrow.Author.Tests.{le-leb, lt-leb, le-ltb, lt-ltb}
 use Rattle.definition.specs.Base.{every?, some?, same}
 use Rattle.definition.specs.Ascii.{bytes}
@@ -23,15 +21,16 @@ use Rattle.definition.specs.Text.{Text, trim}
 use Rattle.definition.specs.Number.{number_of}
 use Rattle.definition.specs.Tree.{Rec, records, layout, element, deeper, below_root}
 use Rattle.definition.specs.Duration.{duration_of}
-use Rattle.std.specs.Iterator.{YieldsFirstBy}
 use Rattle.tree.specs.declared.Head.{Head}
 use Rattle.tree.specs.declared.Heads.{Heads}
 use Rattle.tree.specs.Walks.{heads_left}
 use Rattle.tree.specs.Place.{record_by, verdict, element_at}
 use Rattle.definition.specs.Refusal.{utf8?, project?, long?, number_names, duration_names, long_in, too_long, tree_refusal, most_elements}
+use Rattle.tree.proofs.Records.{le_or_lt}
 
--- ---- what the library's consumers tell, in the definition's words
+-- ---- all records, and those below the root
 
+-- `all`, in the definition's word
 pub all_is : {A : Type 0} (p : A → Bool) (l : List A) → list_all p l ≡ every? p l
 unfolding every?
 all_is p [] = refl
@@ -40,6 +39,7 @@ all_is p (x ∷ l) = ap (λ (b : Bool). p x && b) (all_is p l)
 take_more : {A : Type 0} (k : ℕ) (x : A) (l : List A) → take (1 + k) (x ∷ l) ≡ x ∷ take k l
 take_more k x l = let e : 1 + k ≡ suc k = omega arith in rw e
 
+-- as far as `take_while` goes
 deeper_is : (rs : List Rec) → take (prefix_len (λ (r : Rec). ltb 1 r.depth) rs) rs ≡ deeper rs
 unfolding deeper
 deeper_is [] = refl

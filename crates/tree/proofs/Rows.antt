@@ -34,6 +34,10 @@ level_after w d (r ∷ rs) h = go (le_or_lt r.depth d) (level_after w d rs h)
 abbrev pub row : Text → ℕ → ℕ → List Element
 row s w at = elements (level w (records_at s at))
 
+-- those of the name n
+abbrev pub having : Text → List Element → List Element
+having n l = keep (λ (c : Element). same c.name n) l
+
 module _ (s : Text) (w at : ℕ) where
   pub row_cut : records_at s at ≡ [] → row s w at ≡ []
   unfolding level elements
@@ -64,11 +68,11 @@ module _ (s : Text) (w at : ℕ) where
 -- ---- the element at a position, by its head
 
 module _ (s : Text) (at : ℕ) where
-  pub name_cut : records_at s at ≡ [] → [] ≡ (element_at s at).name
+  name_cut : records_at s at ≡ [] → [] ≡ (element_at s at).name
   unfolding element
   name_cut h = rw h
 
-  pub text_cut : records_at s at ≡ [] → [] ≡ (element_at s at).text
+  text_cut : records_at s at ≡ [] → [] ≡ (element_at s at).text
   unfolding element
   text_cut h = rw h
 
@@ -85,7 +89,7 @@ module _ (s : Text) (at : ℕ) where
     unfolding element
     name_whole = rw g.here
 
-    pub text_whole : h.text.now ≡ (element_at s at).text
+    text_whole : h.text.now ≡ (element_at s at).text
     unfolding element
     text_whole = rw g.here
 
@@ -122,21 +126,21 @@ module _ (s n : Text) (at : ℕ) where
   later_cut h = record { is = rw h; on = tt }
 
   module _ {h : Head} (g : IsHead s at h) where
-    all_row : all (element_at s at) n ≡ keep (λ (c : Element). same c.name n) (row s (h.depth + 1) h.next)
+    all_row : all (element_at s at) n ≡ having n (row s (h.depth + 1) h.next)
     unfolding all
     all_row = rw (below_whole s at g)
 
-    later_row : later_at s n at ≡ keep (λ (c : Element). same c.name n) (row s h.depth h.next)
+    later_row : later_at s n at ≡ having n (row s h.depth h.next)
     unfolding siblings
     later_row = rw g.here
 
     beyond : at + 1 ≤ h.next
     beyond = omega (arith, g)
 
-    pub all_whole : {r : Option Place} → Starts s n (keep (λ (c : Element). same c.name n) (row s (h.depth + 1) h.next)) h.next r → Starts s n (all (element_at s at) n) (at + 1) r
+    pub all_whole : {r : Option Place} → Starts s n (having n (row s (h.depth + 1) h.next)) h.next r → Starts s n (all (element_at s at) n) (at + 1) r
     all_whole = starts_also all_row beyond
 
-    pub later_whole : {r : Option Place} → Starts s n (keep (λ (c : Element). same c.name n) (row s h.depth h.next)) h.next r → Starts s n (later_at s n at) (at + 1) r
+    pub later_whole : {r : Option Place} → Starts s n (having n (row s h.depth h.next)) h.next r → Starts s n (later_at s n at) (at + 1) r
     later_whole = starts_also later_row beyond
 
 -- ---- the trimmed text of an element, and of a child

@@ -104,28 +104,24 @@ pub record Passed (s : Text) (from d p : ℕ) : Type 0 where
   pub same : p + size (under d (records_at s p)) ≡ from + size (under d (records_at s from))
   pub fewer : length (records_at s p) ≤ length (records_at s from)
 
-module _ (s : Text) (from d : ℕ) where
-  pub passed_first : Passed s from d from
-  passed_first = record { same = refl; fewer = omega arith }
+module _ (s : Text) (from d p : ℕ) (g : Passed s from d p) where
+  pub passed_cut : records_at s p ≡ [] → p ≡ from + size (under d (records_at s from))
+  unfolding under size
+  passed_cut h = let z : size (under d (records_at s p)) ≡ 0 = rw h in omega (arith, g.same)
 
-  module _ (p : ℕ) (g : Passed s from d p) where
-    pub passed_cut : records_at s p ≡ [] → p ≡ from + size (under d (records_at s from))
+  module _ {h : Head} (k : IsHead s p h) where
+    pub passed_end : h.depth ≤ d → p ≡ from + size (under d (records_at s from))
     unfolding under size
-    passed_cut h = let z : size (under d (records_at s p)) ≡ 0 = rw h in omega (arith, g.same)
+    passed_end q = let z : size (under d (records_at s p)) ≡ 0 = rw k.here (simp (le-leb _ _ q)) in omega (arith, g.same)
 
-    module _ {h : Head} (k : IsHead s p h) where
-      pub passed_end : h.depth ≤ d → p ≡ from + size (under d (records_at s from))
-      unfolding under size
-      passed_end q = let z : size (under d (records_at s p)) ≡ 0 = rw k.here (simp (le-leb _ _ q)) in omega (arith, g.same)
+    pub one_less : length (records_at s h.next) < length (records_at s p)
+    one_less = rw k.here (omega arith)
 
-      pub one_less : length (records_at s h.next) < length (records_at s p)
-      one_less = rw k.here (omega arith)
-
-      pub passed_next : d < h.depth → Passed s from d h.next
-      unfolding under
-      passed_next q =
-          let z : p + size (under d (records_at s p)) ≡ h.next + size (under d (records_at s h.next)) = rw k.here (simp (lt-leb _ _ q) (size_whole s p k _)) in
-          record { same = omega (arith, g.same); fewer = omega (arith, one_less, g.fewer) }
+    pub passed_next : d < h.depth → Passed s from d h.next
+    unfolding under
+    passed_next q =
+        let z : p + size (under d (records_at s p)) ≡ h.next + size (under d (records_at s h.next)) = rw k.here (simp (lt-leb _ _ q) (size_whole s p k _)) in
+        record { same = omega (arith, g.same); fewer = omega (arith, one_less, g.fewer) }
 
 -- those of the level below are passed over too
 pub passed_below : (s : Text) (from d p : ℕ) {q : ℕ} → Passed s from d p → q ≡ p + size (under (d + 1) (records_at s p)) → Passed s from d q

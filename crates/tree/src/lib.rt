@@ -1,6 +1,5 @@
 // A lent tree: elements in document order, a record each.
-// Walks go from head to head by `while let`: three jump over what is deeper and `layout` asks where it ended, so that an iterator would serve two.
-// They take bytes and a position: an Element is what they find, and a walk ends where none stands.
+// Walks take bytes and a position: an Element is what they find, and a walk ends where none stands.
 #![tactic(auto)]
 
 ghost use Rattle.std.specs.Prelude.{◌≡◌, ◌+◌, ◌<◌, [], length, MatchOption};
@@ -90,7 +89,7 @@ fn right_at(p: usize, d: usize, t: usize) -> bool
     d < 65 || t == 0
 }
 
-// Walks all records once.
+// Walks all records once. By `while let`, as it asks where it ended: a `for` over `&mut heads` was tried, and after it nothing is known of them.
 fn layout(s: &[u8]) -> Option<usize>
     ensures { result ≡ verdict s.now }
 {
@@ -109,7 +108,7 @@ fn layout(s: &[u8]) -> Option<usize>
 }
 
 // The position of the first record from `from` on that is not deeper than d. Children are passed over one after the other, and what stands below a child
-// is skipped by a call for its level.
+// is skipped by a call for its level. `Heads` would stand behind the head that ends it.
 fn skip(s: &[u8], from: usize, d: usize) -> usize
     ensures { result ≡ from + size (under d (records_at s.now from)) }
 {
@@ -126,8 +125,7 @@ fn skip(s: &[u8], from: usize, d: usize) -> usize
     p
 }
 
-// The elements of a depth among the records from a position on, before any of less depth, each with its name, so that whoever asks for that does not
-// read its head again.
+// The elements of a depth among the records from a position on, before any of less depth; each with its name, so that `find` reads no head twice.
 #[derive(Clone, Copy)]
 struct Siblings<'a> {
     tree: &'a [u8],

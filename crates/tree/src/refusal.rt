@@ -1,8 +1,7 @@
 // When a tree is refused.
 ghost use Rattle.std.specs.Prelude.{◌≡◌};
 ghost use Rattle.definition.specs.Base.{every?, some?, same};
-ghost use Rattle.definition.specs.Tree.{records, deeper, below_root};
-ghost use Rattle.tree.specs.Place.{records_at};
+ghost use Rattle.definition.specs.Tree.{records, below_root};
 ghost use Rattle.definition.specs.Answer.{answer_number};
 ghost use Rattle.definition.specs.Refusal.{utf8?, long?, number_names, duration_names, long_in, too_long, tree_refusal};
 

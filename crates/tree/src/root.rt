@@ -1,8 +1,7 @@
 // Where the parts of a project stand, found in one walk over its children.
 ghost use Rattle.std.specs.Prelude.{◌≡◌, length};
-ghost use Rattle.definition.specs.Base.{first};
-ghost use Rattle.definition.specs.Tree.{level, child as child_of};
-ghost use Rattle.tree.specs.Place.{records_at, meaning, named};
+ghost use Rattle.definition.specs.Tree.{child as child_of};
+ghost use Rattle.tree.specs.Place.{meaning};
 ghost use Rattle.tree.specs.Root.{note_at, Notes, Parts, Stands};
 
 use crate::{Element, Siblings};
@@ -101,7 +100,12 @@ pub fn root_of(e: Element<'_>) -> Root<'_>
     let Some(h) = crate::read_head(e.tree, e.at) else {
         return r;
     };
-    for (child, _) in (Siblings { tree: e.tree, at: h.next, depth: h.depth + 1 }) {
+    let children = Siblings {
+        tree: e.tree,
+        at: h.next,
+        depth: h.depth + 1,
+    };
+    for (child, _) in children {
         r = note_all(r, child);
     }
     r
