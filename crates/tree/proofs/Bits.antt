@@ -1,6 +1,6 @@
 -- The numbers of a head of two words: fields of 7, 9 and 16 bits. Assumes nothing.
 use mathlib.Core.Path.{◌≡◌}
-use mathlib.Core.List.{List, [], ◌∷◌, ◌++◌, append_assoc, append-nil}
+use mathlib.Core.List.{[], ◌∷◌, ◌++◌, append_assoc, append-nil}
 use Prim.Native.Nat.{ℕ, ◌+◌, ◌*◌, ◌/◌, ◌%◌, ◌≤◌, ◌<◌}
 use native.Mathlib.Omega.{arith}
 use lib.ListN.{length, take, drop}
@@ -32,11 +32,3 @@ module _ (w t : ℕ) where
 pub four : (a b c d : ℕ) → b < 256 → d < 256 → bits_of (a ∷ b ∷ c ∷ d ∷ []) ≡ enc 16 (a * 256 + b) ++ enc 16 (c * 256 + d)
 unfolding bits_of
 four a b c d hb hd = rw (enc_two a b hb, enc_two c d hd, append-nil, append_assoc)
-
--- a field of 7 bits at the front
-pub front_lt : (l : List ℕ) → dec (take 7 (bits_of l)) < 128
-unfolding bits_of dec
-front_lt [] = omega arith
-front_lt (b ∷ l) =
-    let h : 7 ≤ length (enc 8 b) = omega (arith, length_enc 8 b) in
-    rw (take-append-le 7 (enc 8 b) (bits_of l) h, take_enc 7 1 b, dec_enc 7 (b / 2)) (omega arith)

@@ -1,24 +1,25 @@
 -- The walk over a project's children: what is noted so far, and what is left. Assumes nothing.
 use Rattle.std.specs.Prelude.{if◌then◌else◌}
-use Rattle.std.specs.Prelude.{None}
-use Prim.Native.Nat.{ℕ, ◌+◌, ◌<◌}
+use Prim.Native.Nat.{ℕ}
 use native.Mathlib.Omega.{arith}
 use mathlib.Core.Path.{◌≡◌, refl, sym, ap, ◌∙◌, subst}
 use mathlib.Core.Bool.{Bool, true, false}
-use mathlib.Core.List.{List, ◌∷◌}
-use Rattle.std.specs.Prelude.{Option, Some}
+use mathlib.Core.List.{List, []}
+use Rattle.std.specs.Prelude.{Some}
+use denote.Ref.{Bor}
 use lib.Dec.{ltb}
 use lib.ListN.{length}
 use borrow.Author.Tests.{le-ltb, lt-ltb}
-use Rattle.definition.specs.Base.{first, same}
+use Rattle.definition.specs.Base.{first, keep, same}
 use Rattle.definition.specs.Text.{Text}
-use Rattle.definition.specs.Tree.{Element, size, child}
-use Rattle.tree.specs.Place.{whole, head_at, records_at, under, element_at, list_of}
+use Rattle.definition.specs.Tree.{Element, elements, all, child}
+use Rattle.tree.specs.Place.{element_at, meaning}
 use Rattle.tree.specs.Root.{note_at, Notes, Parts, Stands}
 use Rattle.tree.specs.declared.root.Root.{Root}
-use Rattle.tree.proofs.Heads.{part, bounds}
-use Rattle.tree.proofs.Rows.{row, row_cut, row_end, row_here, row_miss, row_under, name_whole, all_cut, all_row}
-use Rattle.tree.specs.Answer.{none_child}
+use Rattle.tree.specs.Walks.{siblings_left, GivesSibling}
+use Rattle.tree.specs.declared.Siblings.{Siblings}
+use Rattle.tree.specs.declared.element.Element.{Element as Place}
+use Rattle.tree.proofs.Rows.{having}
 
 -- ---- each part
 
@@ -56,80 +57,47 @@ module _ (P Q : Text → ℕ → Type 0) where
       by : {n : Text} {x y : ℕ} → y ≡ note_at s at n x → P n x → Q n y
       by {n} {x} e p = subst (Q n) (sym e) (f n x p)
 
--- ---- a name
+-- ---- the children that are walked over
 
--- the first of a name among the records from `from` on was noted at x, or stands from p on
-abbrev Left : Text → ℕ → ℕ → ℕ → Text → ℕ → Type 0
-Left s w from p n x = first (row s n w from) ≡ (if ltb x (length s) then Some (element_at s x) else first (row s n w p))
+-- the first child of a name was noted at x, or is among the children that are left
+abbrev Left : Place → List Element → Text → ℕ → Type 0
+Left e k n x = child (meaning e) n ≡ (if ltb x (length e.tree.now) then Some (element_at e.tree.now x) else first (having n k))
 
-first_hit : {x : Element} {l k : List Element} → l ≡ x ∷ k → first l ≡ Some x
-unfolding first
-first_hit e = rw e
+module _ (e : Place) where
+  left_all : {k : List Element} → k ≡ elements (meaning e).below → (n : Text) (x : ℕ) → x ≡ length e.tree.now → Left e k n x
+  unfolding child all
+  left_all q n x i = rw (i, le-ltb (length e.tree.now) (length e.tree.now) (omega arith), q)
 
-module _ (s : Text) (w from : ℕ) where
-  left_all : (n : Text) (x : ℕ) → x ≡ length s → Left s w from from n x
-  left_all n x e = rw (e, le-ltb (length s) (length s) (omega arith))
+  left_end : {k : List Element} → k ≡ [] → (n : Text) (x : ℕ) → Left e k n x → Stands e.tree.now x (child (meaning e) n)
+  unfolding first keep
+  left_end q n x h = record { is = h ∙ rw q }
 
-  left_end : (p : ℕ) (n : Text) (x : ℕ) → row s n w p ≡ list_of n None → Left s w from p n x → Stands s x (first (row s n w from))
-  unfolding first list_of
-  left_end p n x e h = record { is = h ∙ ap (λ (o : Option Element). if ltb x (length s) then Some (element_at s x) else o) (ap (λ l. first l) e) }
-
-  left_same : (p q : ℕ) (n : Text) (x : ℕ) → row s n w p ≡ row s n w q → Left s w from p n x → Left s w from q n x
-  left_same p q n x e h = h ∙ ap (λ (o : Option Element). if ltb x (length s) then Some (element_at s x) else o) (ap (λ l. first l) e)
-
-  module _ (p : ℕ) {d a b e : ℕ} (g : head_at s p ≡ whole d a b e) (k : d ≡ w) where
-    left_noted : (n : Text) (x : ℕ) → Left s w from p n x → Left s w from e n (note_at s p n x)
-    left_noted n x h = go (ltb x (length s)) (same (element_at s p).name n) refl refl
+  module _ {s t : Siblings} {c : Place} {m : Bor Text} (g : GivesSibling s c m t) (q : s.tree.now ≡ e.tree.now) where
+    left_noted : (n : Text) (x : ℕ) → Left e (siblings_left s) n x → Left e (siblings_left t) n (note_at c.tree.now c.at n x)
+    unfolding first keep
+    left_noted n x h = go (ltb x (length e.tree.now)) (same (meaning c).name n) refl refl
       where
-        here : ltb p (length s) ≡ true
-        here = lt-ltb p (length s) (omega (arith, bounds s p g))
+        tree : c.tree.now ≡ e.tree.now
+        tree = g.on.tree ∙ q
 
-        named : {j : Bool} → same (element_at s p).name n ≡ j → same (part s a b) n ≡ j
-        named z = ap (λ (t : Text). same t n) (name_whole s p g) ∙ z
+        here : ltb c.at (length e.tree.now) ≡ true
+        here = lt-ltb _ _ (omega (arith, g.on.inside, ap length q))
 
-        at : (y : ℕ) → note_at s p n x ≡ y → Left s w from e n y → Left s w from e n (note_at s p n x)
-        at y i k = subst (Left s w from e n) (sym i) k
+        go : (i j : Bool) → ltb x (length e.tree.now) ≡ i → same (meaning c).name n ≡ j → Left e (siblings_left t) n (note_at c.tree.now c.at n x)
+        go true j y z = rw (tree, y) (h ∙ rw y)
+        go false true y z = let w : ltb x (length c.tree.now) ≡ false = rw tree y in rw (w, z, here) (h ∙ rw (y, g.first, z, tree))
+        go false false y z = let w : ltb x (length c.tree.now) ≡ false = rw tree y in rw (w, z) (rw y (h ∙ rw (y, g.first, z)))
 
-        go : (i j : Bool) → ltb x (length s) ≡ i → same (element_at s p).name n ≡ j → Left s w from e n (note_at s p n x)
-        go true j y z = at x (rw y) (rw y (rw y at h))
-        go false true y z = at p (rw (y, z)) (rw here ((rw y at h) ∙ first_hit (row_here s n w p g k (named z))))
-        go false false y z = at x (rw (y, z)) (left_same p e n x (row_miss s n w p g k (named z)) h)
+-- the parts that are noted, and the children that are left
+pub record Walked (e : Place) (k : List Element) (r : Root) : Type 0 where
+  pub each : Parts (Left e k) r
 
--- the parts that are noted, and those that may stand from p on
-pub record Walked (s : Text) (w from p : ℕ) (r : Root) : Type 0 where
-  pub each : Parts (Left s w from p) r
+module _ (e : Place) {r : Root} where
+  pub parts_begin : {k : List Element} → k ≡ elements (meaning e).below → Parts (λ n x. x ≡ length e.tree.now) r → Walked e k r
+  parts_begin q h = record { each = parts_all (λ n x. x ≡ length e.tree.now) (Left e _) (left_all e q) h }
 
-module _ (s : Text) (w from : ℕ) {r : Root} where
-  pub parts_begin : Parts (λ n x. x ≡ length s) r → Walked s w from from r
-  parts_begin h = record { each = parts_all (λ n x. x ≡ length s) (Left s w from from) (left_all s w from) h }
+  pub parts_end : {k : List Element} → k ≡ [] → Walked e k r → Parts (λ n x. Stands e.tree.now x (child (meaning e) n)) r
+  parts_end q h = parts_all (Left e _) (λ n x. Stands e.tree.now x (child (meaning e) n)) (left_end e q) h.each
 
-module _ {s : Text} {w from p : ℕ} {r : Root} (g : Walked s w from p r) where
-  pub parts_cut : head_at s p ≡ None → Parts (λ n x. Stands s x (first (row s n w from))) r
-  parts_cut h = parts_all (Left s w from p) (λ n x. Stands s x (first (row s n w from))) (λ n x. left_end s w from p n x (row_cut s n w p h)) g.each
-
-  module _ {d a b e : ℕ} (h : head_at s p ≡ whole d a b e) where
-    pub parts_end : d < w → Parts (λ n x. Stands s x (first (row s n w from))) r
-    parts_end k = parts_all (Left s w from p) (λ n x. Stands s x (first (row s n w from))) (λ n x. left_end s w from p n x (row_end s n w p h k)) g.each
-
-    pub parts_next : d ≡ w → {r' : Root} → Notes s p r r' → Walked s w from e r'
-    parts_next k m = record { each = parts_noted (Left s w from p) (Left s w from e) m (left_noted s w from p h k) g.each }
-
-    pub parts_under : w < d → {q : ℕ} → q ≡ e + size (under w (records_at s e)) → Walked s w from q r
-    parts_under k {q} i = record { each = parts_all (Left s w from p) (Left s w from q) (λ n x. left_same s w from p q n x (row_under s n w p h k i)) g.each }
-
--- ---- the parts of an element
-
-module _ (s : Text) (at : ℕ) where
-  stands_cut : head_at s at ≡ None → (n : Text) (x : ℕ) → x ≡ length s → Stands s x (child (element_at s at) n)
-  stands_cut h n x e = record { is = none_child (element_at s at) (all_cut s n at h) refl ∙ rw (e, le-ltb (length s) (length s) (omega arith)) }
-
-  pub root_cut : head_at s at ≡ None → {r : Root} → Parts (λ n x. x ≡ length s) r → Parts (λ n x. Stands s x (child (element_at s at) n)) r
-  root_cut h = parts_all (λ n x. x ≡ length s) (λ n x. Stands s x (child (element_at s at) n)) (stands_cut h)
-
-  module _ {d a b e : ℕ} (h : head_at s at ≡ whole d a b e) where
-    stands_whole : (n : Text) (x : ℕ) → Stands s x (first (row s n (d + 1) e)) → Stands s x (child (element_at s at) n)
-    unfolding child
-    stands_whole n x k = record { is = ap (λ l. first l) (all_row s n at h) ∙ k.is }
-
-    pub root_whole : {r : Root} → Parts (λ n x. Stands s x (first (row s n (d + 1) e))) r → Parts (λ n x. Stands s x (child (element_at s at) n)) r
-    root_whole = parts_all (λ n x. Stands s x (first (row s n (d + 1) e))) (λ n x. Stands s x (child (element_at s at) n)) stands_whole
+  pub parts_next : {s t : Siblings} {c : Place} {m : Bor Text} → GivesSibling s c m t → s.tree.now ≡ e.tree.now → {r' : Root} → Notes c.tree.now c.at r r' → Walked e (siblings_left s) r → Walked e (siblings_left t) r'
+  parts_next g q m h = record { each = parts_noted (Left e _) (Left e _) m (left_noted e g q) h.each }

@@ -1,81 +1,60 @@
--- The passes over all records, by the head at a position; and the refusals in their order. Assumes nothing.
-use mathlib.Core.Path.{◌≡◌, refl, sym, ◌∙◌}
+-- What the passes over all records tell, in the definition's words; and the refusals in their order. Assumes nothing.
+use mathlib.Core.Path.{◌≡◌, refl, ap, sym, ◌∙◌}
 use Rattle.definition.specs.declared.Duration.{Duration}
 use Rattle.definition.specs.declared.Unread.{Unread}
 use Rattle.definition.specs.declared.Refusal.{Refusal}
 use Rattle.std.specs.Option.{ok_or}
+use Rattle.std.specs.List.{list_all, prefix_len}
+use Rattle.std.specs.Iterator.{YieldsFirstBy}
 use Rattle.std.specs.Prelude.{Err, Float, None, Ok, Option, Result, Some}
+use mathlib.Core.Logic.{◌⊎◌, inl, inr}
 use mathlib.Core.List.{List, [], ◌∷◌}
-use mathlib.Core.Bool.{Bool, true, false}
-use Prim.Native.Nat.{ℕ, ◌≤◌, ◌<◌}
+use mathlib.Core.Bool.{Bool, true, false, ◌&&◌}
+use Prim.Native.Nat.{ℕ, suc, ◌+◌, ◌≤◌, ◌<◌}
 use native.Mathlib.Omega.{arith}
-use lib.ListN.{length}
+use lib.ListN.{length, take}
+use lib.Dec.{ltb}
 use borrow.Author.Tests.{le-leb, lt-leb, le-ltb, lt-ltb}
 use Rattle.definition.specs.Base.{every?, some?, same}
 use Rattle.definition.specs.Ascii.{bytes}
-use Rattle.definition.specs.Text.{Text, is_utf8, trim}
+use Rattle.definition.specs.Text.{Text, trim}
 use Rattle.definition.specs.Number.{number_of}
 use Rattle.definition.specs.Tree.{Rec, records, layout, element, deeper, below_root}
 use Rattle.definition.specs.Duration.{duration_of}
-use Rattle.tree.specs.Place.{whole, head_at, verdict, records_at, element_at}
+use Rattle.tree.specs.declared.Head.{Head}
+use Rattle.tree.specs.declared.Heads.{Heads}
+use Rattle.tree.specs.Walks.{heads_left}
+use Rattle.tree.specs.Place.{record_by, verdict, element_at}
 use Rattle.definition.specs.Refusal.{utf8?, project?, long?, number_names, duration_names, long_in, too_long, tree_refusal, most_elements}
-use Rattle.tree.proofs.Heads.{part, bounds, records_cut}
+use Rattle.tree.proofs.Records.{le_or_lt}
 
--- ---- UTF-8
+-- ---- all records, and those below the root
 
--- whether all records from a position on are UTF-8
-abbrev pub utf8_from : Text → ℕ → Bool
-utf8_from s at = every? utf8? (records_at s at)
+-- `all`, in the definition's word
+pub all_is : {A : Type 0} (p : A → Bool) (l : List A) → list_all p l ≡ every? p l
+unfolding every?
+all_is p [] = refl
+all_is p (x ∷ l) = ap (λ (b : Bool). p x && b) (all_is p l)
 
-module _ (s : Text) (at : ℕ) where
-  pub utf8_cut : head_at s at ≡ None → utf8_from s at ≡ true
-  unfolding every?
-  utf8_cut h = rw (records_cut s at h)
+take_more : {A : Type 0} (k : ℕ) (x : A) (l : List A) → take (1 + k) (x ∷ l) ≡ x ∷ take k l
+take_more k x l = let e : 1 + k ≡ suc k = omega arith in rw e
 
-  module _ {d a b e : ℕ} (h : head_at s at ≡ whole d a b e) where
-    pub utf8_name : is_utf8 (part s a b) ≡ false → utf8_from s at ≡ false
-    unfolding every? utf8?
-    utf8_name n = rw ((bounds s at h).here, n)
+-- as far as `take_while` goes
+deeper_is : (rs : List Rec) → take (prefix_len (λ (r : Rec). ltb 1 r.depth) rs) rs ≡ deeper rs
+unfolding deeper
+deeper_is [] = refl
+deeper_is (r ∷ rs) = go (le_or_lt r.depth 1) (deeper_is rs)
+  where
+    go : (r.depth ≤ 1) ⊎ (1 < r.depth) → take (prefix_len (λ (r : Rec). ltb 1 r.depth) rs) rs ≡ deeper rs → take (prefix_len (λ (r : Rec). ltb 1 r.depth) (r ∷ rs)) (r ∷ rs) ≡ deeper (r ∷ rs)
+    go (inl p) i = simp (le-leb _ _ p, le-ltb 1 r.depth p)
+    go (inr p) i = simp (lt-leb _ _ p, lt-ltb 1 r.depth p, take_more) (ap (λ (l : List Rec). r ∷ l) i)
 
-    pub utf8_text : is_utf8 (part s a b) ≡ true → is_utf8 (part s b e) ≡ false → utf8_from s at ≡ false
-    unfolding every? utf8?
-    utf8_text n t = rw ((bounds s at h).here, n, t)
-
-    pub utf8_step : is_utf8 (part s a b) ≡ true → is_utf8 (part s b e) ≡ true → utf8_from s at ≡ utf8_from s e
-    unfolding every? utf8?
-    utf8_step n t = rw ((bounds s at h).here, n, t)
-
--- ---- numbers too long
-
--- whether a record from a position on, before the next of depth 1, has a number too long
-abbrev pub long_from : Text → ℕ → Bool
-long_from s at = some? too_long (deeper (records_at s at))
-
-module _ (s : Text) (at : ℕ) where
-  pub long_cut : head_at s at ≡ None → long_from s at ≡ false
-  unfolding some? deeper
-  long_cut h = rw (records_cut s at h)
-
-  pub long_none : head_at s at ≡ None → false ≡ some? too_long (below_root (records_at s at))
-  unfolding some? below_root
-  long_none h = rw (records_cut s at h)
-
-  module _ {d a b e : ℕ} (h : head_at s at ≡ whole d a b e) where
-    pub long_end : d ≤ 1 → long_from s at ≡ false
-    unfolding some? deeper
-    long_end q = rw (bounds s at h).here (simp (le-leb _ _ q))
-
-    pub long_here : 1 < d → long_in (part s a b) (part s b e) ≡ true → long_from s at ≡ true
-    unfolding some? deeper too_long
-    long_here q t = rw (bounds s at h).here (simp (lt-leb _ _ q, t))
-
-    pub long_step : 1 < d → long_in (part s a b) (part s b e) ≡ false → long_from s at ≡ long_from s e
-    unfolding some? deeper too_long
-    long_step q t = rw (bounds s at h).here (simp (lt-leb _ _ q, t))
-
-    pub long_below : long_from s e ≡ some? too_long (below_root (records_at s at))
-    unfolding below_root
-    long_below = rw (bounds s at h).here
+-- those behind the root, which `next` gave
+pub below_is : (s t : Heads) (o : Option Head) → YieldsFirstBy record_by heads_left s o t
+    → take (prefix_len (λ (r : Rec). ltb 1 r.depth) (heads_left t)) (heads_left t) ≡ below_root (heads_left s)
+unfolding below_root
+below_is s t None h = rw (h.0, h.1)
+below_is s t (Some r) h = rw h (deeper_is (heads_left t))
 
 -- ---- the refusals
 
@@ -122,11 +101,11 @@ module _ (s : Text) where
   refused_1 v = rw (broken_is s v)
 
   module _ {n : ℕ} (v : verdict s ≡ Some n) where
-    pub refused_2 : utf8_from s 0 ≡ false → 2 ≡ tree_refusal s
+    pub refused_2 : every? utf8? (records s) ≡ false → 2 ≡ tree_refusal s
     unfolding tree_refusal
     refused_2 u = rw ((fine_is s v).0, u)
 
-    module _ (u : utf8_from s 0 ≡ true) where
+    module _ (u : every? utf8? (records s) ≡ true) where
       pub refused_3 : most_elements < n → 3 ≡ tree_refusal s
       unfolding tree_refusal
       refused_3 q = rw ((fine_is s v).0, u, (fine_is s v).1, lt-ltb _ _ q)

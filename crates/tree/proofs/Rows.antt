@@ -1,22 +1,21 @@
 -- The elements of a name in a row, by the head at a position. Assumes nothing.
-use mathlib.Core.Path.{◌≡◌, refl, ◌∙◌}
-use Rattle.std.specs.Prelude.{None, Option, Some}
+use mathlib.Core.Path.{◌≡◌, refl, ap, ◌∙◌}
+use denote.Ref.{Bor}
+use Rattle.std.specs.Prelude.{None, Option, Some, MatchOption}
 use mathlib.Core.Logic.{◌⊎◌, inl, inr}
 use mathlib.Core.List.{List, [], ◌∷◌}
-use mathlib.Core.Bool.{Bool, true, false}
-use Prim.Native.Nat.{ℕ, suc, ◌+◌, ◌≤◌, ◌<◌}
+use Prim.Native.Nat.{ℕ, ◌+◌, ◌≤◌, ◌<◌}
 use native.Mathlib.Omega.{arith}
-use lib.ListN.{length}
-use lib.Dec.{eqb}
 use borrow.Author.Tests.{le-leb, lt-leb, le-ltb, lt-ltb, eq-eqb, ne_eqb}
 use Rattle.definition.specs.Base.{◌or◌, keep, same}
 use Rattle.definition.specs.Text.{Text, trim}
 use Rattle.definition.specs.Tree.{Rec, size, Element, elements, level, element, all, non_empty, text_of}
-use Rattle.tree.specs.Place.{whole, head_at, records_at, under, after, element_at, named, siblings, later_at, meaning, list_of, Past, Starts}
+use Rattle.tree.specs.Place.{IsHead, records_at, under, after, element_at, siblings, later_at, meaning, list_of, Past, Starts}
 use Rattle.tree.specs.declared.element.Element.{Element as Place}
 use Rattle.tree.specs.Answer.{found_child, none_child}
 use Rattle.tree.specs.Root.{own_text}
-use Rattle.tree.proofs.Heads.{le_or_lt, part, bounds, records_cut}
+use Rattle.tree.specs.declared.Head.{Head}
+use Rattle.tree.proofs.Records.{le_or_lt}
 use Rattle.tree.proofs.Walk.{records_after}
 
 -- ---- rows
@@ -31,64 +30,82 @@ level_after w d (r ∷ rs) h = go (le_or_lt r.depth d) (level_after w d rs h)
     go (inl p) i = simp (le-leb _ _ p)
     go (inr p) i = simp (lt-leb _ _ p, le-ltb r.depth w (omega arith), ne_eqb r.depth w (λ q. omega arith)) i
 
--- the elements of depth w and of the name n at the front of the records at a position
-abbrev pub row : Text → Text → ℕ → ℕ → List Element
-row s n w at = named n (level w (records_at s at))
+-- the elements of depth w at the front of the records at a position
+abbrev pub row : Text → ℕ → ℕ → List Element
+row s w at = elements (level w (records_at s at))
 
-module _ (s n : Text) (w at : ℕ) where
-  pub row_cut : head_at s at ≡ None → row s n w at ≡ list_of n None
-  unfolding level elements keep list_of
-  row_cut h = rw (records_cut s at h)
+-- those of the name n
+abbrev pub having : Text → List Element → List Element
+having n l = keep (λ (c : Element). same c.name n) l
 
-  module _ {d a b e : ℕ} (h : head_at s at ≡ whole d a b e) where
-    pub row_end : d < w → row s n w at ≡ list_of n None
-    unfolding level elements keep list_of
-    row_end q = rw (bounds s at h).here (simp (lt-ltb _ _ q))
+module _ (s : Text) (w at : ℕ) where
+  pub row_cut : records_at s at ≡ [] → row s w at ≡ []
+  unfolding level elements
+  row_cut h = rw h
 
-    pub row_here : d ≡ w → same (part s a b) n ≡ true → row s n w at ≡ element_at s at ∷ later_at s n at
-    unfolding level elements keep element siblings
-    row_here q i = rw (← q, (bounds s at h).here) (simp (le-ltb d d (omega arith), eq-eqb d d refl, i))
+  module _ {h : Head} (g : IsHead s at h) where
+    pub row_end : h.depth < w → row s w at ≡ []
+    unfolding level elements
+    row_end q = rw g.here (simp (lt-ltb _ _ q))
 
-    pub row_hit : (x : Place) → x.tree.now ≡ s → x.at ≡ at → d ≡ w → same (part s a b) n ≡ true → row s n w at ≡ list_of n (Some x)
-    unfolding list_of
-    row_hit x t p q i = row_here q i ∙ rw (t, p)
+    pub row_here : h.depth ≡ w → row s w at ≡ element_at s at ∷ row s w h.next
+    unfolding level elements element
+    row_here q = rw (← q, g.here) (simp (le-ltb h.depth h.depth (omega arith), eq-eqb h.depth h.depth refl))
 
-    row_deeper : w < d → row s n w at ≡ row s n w e
+    row_deeper : w < h.depth → row s w at ≡ row s w h.next
     unfolding level
-    row_deeper q = rw (bounds s at h).here (simp (le-ltb d w (omega arith), ne_eqb d w (λ i. omega arith)))
-
-    pub row_miss : d ≡ w → same (part s a b) n ≡ false → row s n w at ≡ row s n w e
-    unfolding level elements keep
-    row_miss q i = rw (← q, (bounds s at h).here) (simp (le-ltb d d (omega arith), eq-eqb d d refl, i))
+    row_deeper q = rw g.here (simp (le-ltb h.depth w (omega arith), ne_eqb h.depth w (λ i. omega arith)))
 
     -- what is deeper is skipped
-    pub row_under : w < d → {p : ℕ} → p ≡ e + size (under w (records_at s e)) → row s n w at ≡ row s n w p
-    row_under q k = row_deeper q ∙ rw (records_after s w e k, level_after w w (records_at s e) (omega arith))
+    pub row_under : w < h.depth → {p : ℕ} → p ≡ h.next + size (under w (records_at s h.next)) → row s w at ≡ row s w p
+    row_under q k = row_deeper q ∙ rw (records_after s w h.next k, level_after w w (records_at s h.next) (omega arith))
+
+    -- the later siblings
+    pub row_later : h.depth ≡ w → row s w h.next ≡ elements (siblings (records_at s at))
+    unfolding siblings
+    row_later q = rw (← q, g.here)
 
 -- ---- the element at a position, by its head
 
 module _ (s : Text) (at : ℕ) where
-  pub name_cut : head_at s at ≡ None → [] ≡ (element_at s at).name
+  name_cut : records_at s at ≡ [] → [] ≡ (element_at s at).name
   unfolding element
-  name_cut h = rw (records_cut s at h)
+  name_cut h = rw h
 
-  pub text_cut : head_at s at ≡ None → [] ≡ (element_at s at).text
+  text_cut : records_at s at ≡ [] → [] ≡ (element_at s at).text
   unfolding element
-  text_cut h = rw (records_cut s at h)
+  text_cut h = rw h
 
-  module _ {d a b e : ℕ} (h : head_at s at ≡ whole d a b e) where
-    pub name_whole : part s a b ≡ (element_at s at).name
+  pub below_cut : records_at s at ≡ [] → elements (element_at s at).below ≡ []
+  unfolding element elements
+  below_cut h = rw h
+
+  module _ {h : Head} (g : IsHead s at h) where
+    pub below_whole : elements (element_at s at).below ≡ row s (h.depth + 1) h.next
     unfolding element
-    name_whole = rw (bounds s at h).here
+    below_whole = rw g.here
 
-    pub text_whole : part s b e ≡ (element_at s at).text
+    pub name_whole : h.name.now ≡ (element_at s at).name
     unfolding element
-    text_whole = rw (bounds s at h).here
+    name_whole = rw g.here
 
-pub empty_is : (s n : Text) (at : ℕ) → head_at s at ≡ None → eqb (length n) 0 ≡ same (element_at s at).name n
-unfolding same
-empty_is s [] at h = rw (← name_cut s at h)
-empty_is s (x ∷ n) at h = rw (← name_cut s at h) (ne_eqb (suc (length n)) 0 (λ q. omega arith))
+    text_whole : h.text.now ≡ (element_at s at).text
+    unfolding element
+    text_whole = rw g.here
+
+-- what is read of the head of an element, where one stands
+abbrev HeadOf : Place → Option Head → Type 0
+HeadOf e o = MatchOption o (records_at e.tree.now e.at ≡ []) (IsHead e.tree.now e.at)
+
+pub name_by : (e : Place) (o : Option Head) (x d : Bor Text) {φ : Head → Type 0} → d.now ≡ [] → HeadOf e o → MatchOption o (x ≡ d) φ
+    → ((h : Head) → φ h → x.now ≡ h.name.now) → x.now ≡ (meaning e).name
+name_by e None x d n p q f = ap (λ (b : Bor Text). b.now) q ∙ n ∙ name_cut e.tree.now e.at p
+name_by e (Some h) x d n p q f = f h q ∙ name_whole e.tree.now e.at p
+
+pub text_by : (e : Place) (o : Option Head) (x d : Bor Text) {φ : Head → Type 0} → d.now ≡ [] → HeadOf e o → MatchOption o (x ≡ d) φ
+    → ((h : Head) → φ h → x.now ≡ h.text.now) → x.now ≡ (meaning e).text
+text_by e None x d n p q f = ap (λ (b : Bor Text). b.now) q ∙ n ∙ text_cut e.tree.now e.at p
+text_by e (Some h) x d n p q f = f h q ∙ text_whole e.tree.now e.at p
 
 past_more : (s : Text) {from m : ℕ} (r : Option Place) → m ≤ from → Past s from r → Past s m r
 unfolding Past
@@ -100,34 +117,31 @@ starts_also : {s n : Text} {l k : List Element} {from m : ℕ} {r : Option Place
 starts_also e q h = record { is = e ∙ h.is; on = past_more _ _ q h.on }
 
 module _ (s n : Text) (at : ℕ) where
-  pub all_cut : head_at s at ≡ None → Starts s n (all (element_at s at) n) (at + 1) None
+  pub all_cut : records_at s at ≡ [] → Starts s n (all (element_at s at) n) (at + 1) None
   unfolding all element elements keep list_of Past
-  all_cut h = record { is = rw (records_cut s at h); on = tt }
+  all_cut h = record { is = rw h; on = tt }
 
-  pub later_cut : head_at s at ≡ None → Starts s n (later_at s n at) (at + 1) None
+  pub later_cut : records_at s at ≡ [] → Starts s n (later_at s n at) (at + 1) None
   unfolding siblings elements keep list_of Past
-  later_cut h = record { is = rw (records_cut s at h); on = tt }
+  later_cut h = record { is = rw h; on = tt }
 
-  module _ {d a b e : ℕ} (h : head_at s at ≡ whole d a b e) where
-    pub all_row : all (element_at s at) n ≡ row s n (d + 1) e
-    unfolding all element
-    all_row = rw (bounds s at h).here
+  module _ {h : Head} (g : IsHead s at h) where
+    all_row : all (element_at s at) n ≡ having n (row s (h.depth + 1) h.next)
+    unfolding all
+    all_row = rw (below_whole s at g)
 
-    later_row : later_at s n at ≡ row s n d e
+    later_row : later_at s n at ≡ having n (row s h.depth h.next)
     unfolding siblings
-    later_row = rw (bounds s at h).here
+    later_row = rw g.here
 
-    beyond : at + 1 ≤ e
-    beyond = omega (arith, bounds s at h)
+    beyond : at + 1 ≤ h.next
+    beyond = omega (arith, g)
 
-    pub all_whole : {r : Option Place} → Starts s n (row s n (d + 1) e) e r → Starts s n (all (element_at s at) n) (at + 1) r
+    pub all_whole : {r : Option Place} → Starts s n (having n (row s (h.depth + 1) h.next)) h.next r → Starts s n (all (element_at s at) n) (at + 1) r
     all_whole = starts_also all_row beyond
 
-    pub later_whole : {r : Option Place} → Starts s n (row s n d e) e r → Starts s n (later_at s n at) (at + 1) r
+    pub later_whole : {r : Option Place} → Starts s n (having n (row s h.depth h.next)) h.next r → Starts s n (later_at s n at) (at + 1) r
     later_whole = starts_also later_row beyond
-
-pub name_is : (s n : Text) (at : ℕ) {d a b e : ℕ} {r : Bool} → head_at s at ≡ whole d a b e → r ≡ same (part s a b) n → r ≡ same (element_at s at).name n
-name_is s n at h q = rw (← name_whole s at h) q
 
 -- ---- the trimmed text of an element, and of a child
 

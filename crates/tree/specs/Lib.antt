@@ -1,4 +1,5 @@
 pub mod Place
+pub mod Walks
 pub mod Answer
 pub mod Root
 pub mod Few

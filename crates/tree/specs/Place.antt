@@ -3,7 +3,7 @@ use Rattle.std.specs.Prelude.{if◌then◌else◌, ℕ, ◌≤◌, ◌<◌, ◌+
 use Rattle.std.specs.Prelude.{Option, Some, None}
 use Rattle.definition.specs.Base.{keep, same}
 use Rattle.definition.specs.Text.{Text}
-use Rattle.definition.specs.Tree.{Rec, head_bytes, record_of, records, layout, Forest, nothing, elements, level, element}
+use Rattle.definition.specs.Tree.{Rec, head_bytes, records, layout, Forest, nothing, elements, level, element}
 use Rattle.definition.specs.Tree as D
 use Rattle.tree.specs.declared.Head.{Head}
 use Rattle.tree.specs.declared.element.Element.{Element}
@@ -17,19 +17,6 @@ pub record IsWord (s : Text) (i r : ℕ) : Type 0 where
   pub first : get_or s i 0 < 256
   pub second : get_or s (i + 1) 0 < 256
 
--- a head by its depth and where the name, the text and the next record begin
-abbrev pub whole : ℕ → ℕ → ℕ → ℕ → Option Head
-whole d a b e = Some (record { depth = d; name_at = a; text_at = b; next = e })
-
--- the head of the record at a position, none where none is whole
-unfoldable pub head_by : ℕ → Option (Rec × Text) → Option Head
-head_by at None = None
-head_by at (Some (r, rest)) =
-    whole r.depth (at + head_bytes) (at + head_bytes + length r.name) (at + head_bytes + length r.name + length r.text)
-
-unfoldable pub head_at : Text → ℕ → Option Head
-head_at s at = head_by at (record_of (drop at s))
-
 -- the layout, and how many records there are
 unfoldable pub verdict : Text → Option ℕ
 verdict s = if layout s then Some (length (records s)) else None
@@ -39,6 +26,17 @@ verdict s = if layout s then Some (length (records s)) else None
 -- the records from a position on
 abbrev pub records_at : Text → ℕ → List Rec
 records_at s at = records (drop at s)
+
+-- the record that a head is of
+abbrev pub record_by : Head → Rec
+record_by h = record { depth = h.depth; name = h.name.now; text = h.text.now }
+
+-- h is of the first of the records from a position on, and tells where the next one begins
+pub record IsHead (s : Text) (at : ℕ) (h : Head) : Type 0 where
+  pub deep : h.depth < 128
+  pub ends : h.next ≡ at + head_bytes + length h.name.now + length h.text.now
+  pub inside : h.next ≤ length s
+  pub here : records_at s at ≡ record_by h ∷ records_at s h.next
 
 -- the records at the front that are deeper than d, and those that follow them
 unfoldable pub under : ℕ → List Rec → List Rec

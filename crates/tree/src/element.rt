@@ -15,14 +15,18 @@ pub struct Element<'a> {
 }
 
 impl<'a> Element<'a> {
+    // Its name.
+    fn name(self) -> &'a [u8]
+        ensures { result.now ≡ (meaning self.entry).name }
+    {
+        crate::read_head(self.tree, self.at).map_or(&[], |h| h.name)
+    }
+
     // Whether it has the name.
     pub fn name_is(self, name: &[u8]) -> bool
         ensures { result ≡ same (meaning self.entry).name name.now }
     {
-        let Some(h) = crate::read_head(self.tree, self.at) else {
-            return name.is_empty();
-        };
-        text::same(&self.tree[h.name_at..h.text_at], name)
+        text::same(self.name(), name)
     }
 
     // The first child of the name.
@@ -45,10 +49,7 @@ impl<'a> Element<'a> {
     fn text(self) -> &'a [u8]
         ensures { result.now ≡ (meaning self.entry).text }
     {
-        let Some(h) = crate::read_head(self.tree, self.at) else {
-            return &[];
-        };
-        &self.tree[h.text_at..h.next]
+        crate::read_head(self.tree, self.at).map_or(&[], |h| h.text)
     }
 
     // Its trimmed text.

@@ -1,11 +1,12 @@
 // A lent tree: elements in document order, a record each.
-// Walks go from head to head by `while let`: three jump over what is deeper and `layout` asks where it ended, so that an iterator would serve two.
-// They take bytes and a position: an Element is what they find, and a walk ends where none stands.
+// Walks take bytes and a position: an Element is what they find, and a walk ends where none stands.
 #![tactic(auto)]
 
-ghost use Rattle.std.specs.Prelude.{◌≡◌, ◌+◌, ◌<◌, length};
+ghost use Rattle.std.specs.Prelude.{◌≡◌, ◌+◌, ◌<◌, [], length, MatchOption};
+ghost use Rattle.std.specs.Iterator.{YieldsFirstBy, item_count};
 ghost use Rattle.definition.specs.Tree.{right_at, size, level};
-ghost use Rattle.tree.specs.Place.{IsWord, head_at, verdict, records_at, under, named, Starts};
+ghost use Rattle.tree.specs.Walks.{heads_left, siblings_left, GivesSiblings};
+ghost use Rattle.tree.specs.Place.{IsWord, IsHead, record_by, verdict, records_at, under, named, Starts};
 
 mod element; // an element of a tree
 mod refusal;
@@ -18,12 +19,12 @@ pub use root::{Root, root_of};
 // The bytes of a record's head.
 const HEAD: usize = 4;
 
-// The depth of a record, and where its parts begin.
+// A record, and where the next begins.
 #[derive(Clone, Copy)]
-struct Head {
+struct Head<'a> {
     depth: usize,
-    name_at: usize,
-    text_at: usize,
+    name: &'a [u8],
+    text: &'a [u8],
     next: usize,
 }
 
@@ -36,26 +37,45 @@ fn word_at(s: &[u8], i: usize) -> usize
 }
 
 // The head at a position: 7 bits of depth, 9 of the name's length, 16 of the text's.
-fn read_head(s: &[u8], at: usize) -> Option<Head>
-    ensures { result ≡ head_at s.now at }
+fn read_head(s: &[u8], at: usize) -> Option<Head<'_>>
+    ensures { MatchOption result (records_at s.now at ≡ []) (IsHead s.now at) }
 {
     if s.len() < HEAD || s.len() - HEAD < at {
         return None;
     }
     let w = word_at(s, at);
     let t = word_at(s, at + 2);
-    let name_at = at + HEAD;
-    let text_at = name_at + (w & 511);
+    let text_at = at + HEAD + (w & 511);
     let next = text_at + t;
-    if next <= s.len() {
-        Some(Head {
-            depth: w >> 9,
-            name_at,
-            text_at,
-            next,
-        })
-    } else {
-        None
+    if s.len() < next {
+        return None;
+    }
+    Some(Head {
+        depth: w >> 9,
+        name: &s[at + HEAD..text_at],
+        text: &s[text_at..next],
+        next,
+    })
+}
+
+// The heads from a position on.
+#[derive(Clone, Copy)]
+struct Heads<'a> {
+    tree: &'a [u8],
+    at: usize,
+}
+
+impl<'a> Iterator for Heads<'a> {
+    type Item = Head<'a>;
+
+    ghost next_gives = { YieldsFirstBy record_by heads_left };
+
+    ghost remaining = { item_count heads_left };
+
+    fn next(&mut self) -> Option<Head<'a>> {
+        let h = read_head(self.tree, self.at)?;
+        self.at = h.next;
+        Some(h)
     }
 }
 
@@ -69,7 +89,7 @@ fn right_at(p: usize, d: usize, t: usize) -> bool
     d < 65 || t == 0
 }
 
-// Walks all records once.
+// Walks all records once. By `while let`, as it asks where it ended: a `for` over `&mut heads` was tried, and after it nothing is known of them.
 fn layout(s: &[u8]) -> Option<usize>
     ensures { result ≡ verdict s.now }
 {
@@ -77,7 +97,7 @@ fn layout(s: &[u8]) -> Option<usize>
     let mut prev: usize = 0;
     let mut count: usize = 0;
     while let Some(h) = read_head(s, at) {
-        if !right_at(prev, h.depth, h.next - h.text_at) {
+        if !right_at(prev, h.depth, h.text.len()) {
             return None;
         }
         prev = h.depth;
@@ -88,7 +108,7 @@ fn layout(s: &[u8]) -> Option<usize>
 }
 
 // The position of the first record from `from` on that is not deeper than d. Children are passed over one after the other, and what stands below a child
-// is skipped by a call for its level.
+// is skipped by a call for its level. `Heads` would stand behind the head that ends it.
 fn skip(s: &[u8], from: usize, d: usize) -> usize
     ensures { result ≡ from + size (under d (records_at s.now from)) }
 {
@@ -105,23 +125,49 @@ fn skip(s: &[u8], from: usize, d: usize) -> usize
     p
 }
 
+// The elements of a depth among the records from a position on, before any of less depth; each with its name, so that `find` reads no head twice.
+#[derive(Clone, Copy)]
+struct Siblings<'a> {
+    tree: &'a [u8],
+    at: usize,
+    depth: usize,
+}
+
+impl<'a> Iterator for Siblings<'a> {
+    type Item = (Element<'a>, &'a [u8]);
+
+    ghost next_gives = { GivesSiblings };
+
+    ghost remaining = { item_count siblings_left };
+
+    fn next(&mut self) -> Option<(Element<'a>, &'a [u8])> {
+        while let Some(h) = read_head(self.tree, self.at) {
+            if h.depth < self.depth {
+                return None;
+            }
+            if h.depth == self.depth {
+                let e = Element {
+                    tree: self.tree,
+                    at: self.at,
+                };
+                self.at = h.next;
+                return Some((e, h.name));
+            }
+            self.at = skip(self.tree, h.next, self.depth);
+        }
+        None
+    }
+}
+
 // The first record of depth w and of the name from `from` on, before any of less depth.
 fn find<'a>(s: &'a [u8], from: usize, w: usize, name: &[u8]) -> Option<Element<'a>>
     ensures { Starts s.now name.now (named name.now (level w (records_at s.now from))) from result }
 {
-    let mut p = from;
-    while let Some(h) = read_head(s, p) {
-        if h.depth < w {
-            return None;
-        }
-        if h.depth == w {
-            if text::same(&s[h.name_at..h.text_at], name) {
-                return Some(Element { tree: s, at: p });
-            }
-            p = h.next;
-        } else {
-            p = skip(s, h.next, w);
-        }
+    Siblings {
+        tree: s,
+        at: from,
+        depth: w,
     }
-    None
+    .find(|(_, n)| text::same(n, name))
+    .map(|(e, _)| e)
 }

@@ -1,26 +1,18 @@
 // When a tree is refused.
 ghost use Rattle.std.specs.Prelude.{◌≡◌};
 ghost use Rattle.definition.specs.Base.{every?, some?, same};
-ghost use Rattle.definition.specs.Tree.{records, deeper, below_root};
-ghost use Rattle.tree.specs.Place.{records_at};
+ghost use Rattle.definition.specs.Tree.{records, below_root};
 ghost use Rattle.definition.specs.Answer.{answer_number};
 ghost use Rattle.definition.specs.Refusal.{utf8?, long?, number_names, duration_names, long_in, too_long, tree_refusal};
 
-use crate::Element;
+use crate::{Element, Heads};
 use definition::{Refusal, Unread};
 
 // Whether all names and texts are UTF-8.
 fn all_utf8(s: &[u8]) -> bool
     ensures { result ≡ every? utf8? (records s.now) }
 {
-    let mut at: usize = 0;
-    while let Some(h) = crate::read_head(s, at) {
-        if !text::is_utf8(&s[h.name_at..h.text_at]) || !text::is_utf8(&s[h.text_at..h.next]) {
-            return false;
-        }
-        at = h.next;
-    }
-    true
+    Heads { tree: s, at: 0 }.all(|h| text::is_utf8(h.name) && text::is_utf8(h.text))
 }
 
 const NUMBERS: [&[u8]; 8] = [
@@ -72,31 +64,16 @@ fn is_long(name: &[u8], t: &[u8]) -> bool
     is_duration(name) && too_long(number::duration_of(t))
 }
 
-// Whether a record from `from` on, before the next of depth 1, has a number too long.
-fn long_from(s: &[u8], from: usize) -> bool
-    ensures { result ≡ some? too_long (deeper (records_at s.now from)) }
-{
-    let mut at = from;
-    while let Some(h) = crate::read_head(s, at) {
-        if h.depth <= 1 {
-            return false;
-        }
-        if is_long(&s[h.name_at..h.text_at], &s[h.text_at..h.next]) {
-            return true;
-        }
-        at = h.next;
-    }
-    false
-}
-
-// Whether a record below the root has a number too long.
+// Whether a record below the root has a number too long. The root is passed by `next`: `skip(1)` asks at each record whether one is still to be
+// passed, 3 % more instructions of `judge`.
 fn any_long(s: &[u8]) -> bool
     ensures { result ≡ some? too_long (below_root (records s.now)) }
 {
-    let Some(h) = crate::read_head(s, 0) else {
-        return false;
-    };
-    long_from(s, h.next)
+    let mut heads = Heads { tree: s, at: 0 };
+    heads.next();
+    heads
+        .take_while(|h| 1 < h.depth)
+        .any(|h| is_long(h.name, h.text))
 }
 
 // The lowest refusal that applies to a tree.

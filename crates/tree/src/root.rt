@@ -1,11 +1,10 @@
 // Where the parts of a project stand, found in one walk over its children.
 ghost use Rattle.std.specs.Prelude.{◌≡◌, length};
-ghost use Rattle.definition.specs.Base.{first};
-ghost use Rattle.definition.specs.Tree.{level, child as child_of};
-ghost use Rattle.tree.specs.Place.{records_at, meaning, named};
+ghost use Rattle.definition.specs.Tree.{child as child_of};
+ghost use Rattle.tree.specs.Place.{meaning};
 ghost use Rattle.tree.specs.Root.{note_at, Notes, Parts, Stands};
 
-use crate::Element;
+use crate::{Element, Siblings};
 
 // The children of a project that are read; a position past the end stands for one that is missing.
 // Option<usize> would be no plainer: past the end stands an element with no name, text or child, so that no reader of a part asks whether it is there.
@@ -92,34 +91,22 @@ fn note_all<'a>(was: Root<'a>, e: Element<'_>) -> Root<'a>
     }
 }
 
-// The parts among the records of depth w from `from` on, before any of less depth. The walk of `find`, which ends at the first; here each is noted.
-fn parts_from(s: &[u8], from: usize, w: usize) -> Root<'_>
-    ensures tree { result.tree.now ≡ s.now }
-    ensures parts { Parts (λ n p. Stands s.now p (first (named n (level w (records_at s.now from))))) result }
-{
-    let mut r = nowhere(s);
-    let mut p = from;
-    while let Some(h) = crate::read_head(s, p) {
-        if h.depth < w {
-            return r;
-        }
-        if h.depth == w {
-            r = note_all(r, Element { tree: s, at: p });
-            p = h.next;
-        } else {
-            p = crate::skip(s, h.next, w);
-        }
-    }
-    r
-}
-
 // The parts of an element.
 pub fn root_of(e: Element<'_>) -> Root<'_>
     ensures tree { result.tree.now ≡ e.entry.tree.now }
     ensures parts { Parts (λ n p. Stands e.entry.tree.now p (child_of (meaning e.entry) n)) result }
 {
+    let mut r = nowhere(e.tree);
     let Some(h) = crate::read_head(e.tree, e.at) else {
-        return nowhere(e.tree);
+        return r;
     };
-    parts_from(e.tree, h.next, h.depth + 1)
+    let children = Siblings {
+        tree: e.tree,
+        at: h.next,
+        depth: h.depth + 1,
+    };
+    for (child, _) in children {
+        r = note_all(r, child);
+    }
+    r
 }

@@ -1,9 +1,8 @@
-use mathlib.Core.Path.{sym, ◌∙◌}
 use Rattle.tree.proofs.Rows.{later_cut, later_whole}
 use Rattle.tree.proofs.element.Element.next.Goals as goal
 
 pub returns-in_err-h : goal.returns-in_err-h
-returns-in_err-h c = rw c.from_residual.ensures (later_cut _ _ _ (sym c.read_head.ensures ∙ c.in_err-h.was))
+returns-in_err-h c = rw c.from_residual.ensures (later_cut _ _ _ c.in_err-h.ensures)
 
 pub returns : goal.returns
-returns c = later_whole _ _ _ (sym c.read_head.ensures ∙ c.in_ok-h.was) c.find.ensures
+returns c = later_whole _ _ _ c.in_ok-h.ensures c.find.ensures

@@ -4,6 +4,7 @@ use mathlib.Core.Logic.{◌⊎◌, inl, inr}
 use mathlib.Core.List.{List, [], ◌∷◌, ◌++◌}
 use mathlib.Core.Bool.{Bool, true, false}
 use Rattle.std.specs.Prelude.{Some, None}
+use denote.Ref.{Bor}
 use Prim.Native.Nat.{ℕ, zero, suc, ◌+◌, ◌-◌, ◌/◌, ◌≤◌, ◌<◌}
 use native.Mathlib.Omega.{arith}
 use lib.ListN.{length, get_or, take, drop, length-take, length-drop}
@@ -14,9 +15,8 @@ use borrow.Author.Tests.{leb-true, leb-false, le-leb, lt-leb, le-ltb, lt-ltb}
 use Rattle.definition.specs.Bits.{enc, dec, bits_of}
 use Rattle.definition.specs.Text.{Text}
 use Rattle.definition.specs.Tree.{Rec, depth_width, name_width, head_bytes, body_of, record_of, and_then, records_up_to, records}
-use Rattle.tree.specs.declared.Head.{Head}
-use Rattle.tree.specs.Place.{IsWord, head_by, whole, head_at}
-use Rattle.tree.proofs.Bits.{front_lt, four, first_field, second_field, third_field}
+use Rattle.tree.specs.Place.{IsWord, IsHead, records_at}
+use Rattle.tree.proofs.Bits.{four, first_field, second_field, third_field}
 
 -- ---- the numbers of the head at the front
 
@@ -86,27 +86,17 @@ module _ (s : Text) (at : ℕ) where
   at_cut : length s < at + head_bytes + name_at + text_at → record_of (drop at s) ≡ None
   at_cut h = record_cut (drop at s) (omega (arith, length-drop at s))
 
-  pub head_whole : at + head_bytes + name_at + text_at ≤ length s
-      → head_at s at ≡ whole depth_at (at + head_bytes) (at + head_bytes + name_at) (at + head_bytes + name_at + text_at)
-  unfolding head_at head_by
-  head_whole h =
-      let n : length (take name_at (drop head_bytes (drop at s))) ≡ name_at = simp (length-take, length-drop) (omega arith) in
-      let k : length (take text_at (drop name_at (drop head_bytes (drop at s)))) ≡ text_at = simp (length-take, length-drop) (omega arith) in
-      rw (at_whole h, n, k)
-
-  pub head_cut : length s < at + head_bytes + name_at + text_at → head_at s at ≡ None
-  unfolding head_at head_by
-  head_cut h = rw (at_cut h)
-
 -- ---- the records at a position
 
 -- the bytes from a up to b
 abbrev pub part : Text → ℕ → ℕ → Text
 part s a b = take (b - a) (drop a s)
 
--- the record that a whole head makes
-abbrev pub rec_of : Text → ℕ → ℕ → ℕ → ℕ → Rec
-rec_of s d a b e = record { depth = d; name = part s a b; text = part s b e }
+cons_first : {r q : Rec} {rs qs : List Rec} → (r ∷ rs) ≡ q ∷ qs → r ≡ q
+cons_first h = cc
+
+cons_rest : {r q : Rec} {rs qs : List Rec} → (r ∷ rs) ≡ q ∷ qs → rs ≡ qs
+cons_rest h = cc
 
 -- what follows the first record is shorter
 then_same : (t : Text) (f g : Text → List Rec) → ((rest : Text) → length rest < length t → f rest ≡ g rest) → and_then (record_of t) f ≡ and_then (record_of t) g
@@ -133,53 +123,34 @@ more t =
     enough (length t) (suc (length t)) t (omega arith) (omega arith)
     ∙ then_same t (records_up_to (length t)) records λ rest h. enough (length t) (length rest) rest (omega arith) (omega arith)
 
--- where the parts of a whole record at `at` lie, and that it is the first of the records there
-pub record Bounds (s : Text) (at d a b e : ℕ) : Type 0 where
-  pub deep : d < 128
-  pub start : a ≡ at + head_bytes
-  pub name : a ≤ b
-  pub text : b ≤ e
-  pub end : e ≤ length s
-  pub here : records (drop at s) ≡ rec_of s d a b e ∷ records (drop e s)
-
-parts : (s : Text) (at d n k a b e : ℕ) → a ≡ at + head_bytes → b ≡ at + head_bytes + n → e ≡ at + head_bytes + n + k
-    → (rec_in (drop at s) d n k ∷ records (drop (n + k) (drop head_bytes (drop at s)))) ≡ rec_of s d a b e ∷ records (drop e s)
-parts s at d n k a b e p q r =
-    let x : b - a ≡ n = omega arith in
-    let y : e - b ≡ k = omega arith in
-    let z : at + head_bytes + (n + k) ≡ e = omega arith in
-    rw (x, y, drop-drop, drop-drop, drop-drop, p, q, z)
-
-some_is : {x y : Head} → Some x ≡ Some y → x ≡ y
-some_is h = cc
-
 module _ (s : Text) (at : ℕ) where
-  pub bounds : {d a b e : ℕ} → head_at s at ≡ whole d a b e → Bounds s at d a b e
-  bounds {d} {a} {b} {e} h = go (le_or_lt (at + head_bytes + name_at s at + text_at s at) (length s))
-    where
-      go : (at + head_bytes + name_at s at + text_at s at ≤ length s) ⊎ (length s < at + head_bytes + name_at s at + text_at s at) → Bounds s at d a b e
-      go (inl p) =
-          let o = some_is (sym h ∙ head_whole s at p) in
-          let hd : d ≡ depth_at s at = ap (λ (k : Head). k.depth) o in
-          let ha : a ≡ at + head_bytes = ap (λ (k : Head). k.name_at) o in
-          let hb : b ≡ at + head_bytes + name_at s at = ap (λ (k : Head). k.text_at) o in
-          let he : e ≡ at + head_bytes + name_at s at + text_at s at = ap (λ (k : Head). k.next) o in
-          record {
-            deep = rw hd (front_lt (take head_bytes (drop at s)));
-            start = ha;
-            name = omega arith;
-            text = omega arith;
-            end = omega arith;
-            here = more (drop at s) ∙ rw (at_whole s at p, hd) (parts s at (depth_at s at) (name_at s at) (text_at s at) a b e ha hb he);
-          }
-      go (inr p) = let o = head_cut s at p in let z : ◌≡◌ {A = ℕ} 0 1 = cc in absurd (omega arith)
+  -- the record at the front, and those after it
+  records_whole : at + head_bytes + name_at s at + text_at s at ≤ length s
+      → records_at s at ≡ rec_in (drop at s) (depth_at s at) (name_at s at) (text_at s at) ∷ records_at s (at + head_bytes + name_at s at + text_at s at)
+  records_whole h =
+      let e : drop (name_at s at + text_at s at) (drop head_bytes (drop at s)) ≡ drop (at + head_bytes + name_at s at + text_at s at) s =
+      rw (drop-drop, drop-drop) (ap (λ (k : ℕ). drop k s) (omega arith)) in
+      more (drop at s) ∙ rw (at_whole s at h, e)
 
-  pub records_cut : head_at s at ≡ None → records (drop at s) ≡ []
-  records_cut h = go (le_or_lt (at + head_bytes + name_at s at + text_at s at) (length s))
+  records_cut : length s < at + head_bytes + name_at s at + text_at s at → records_at s at ≡ []
+  records_cut h = more (drop at s) ∙ rw (at_cut s at h)
+
+  name_length : at + head_bytes + name_at s at ≤ length s → length (take (name_at s at) (drop head_bytes (drop at s))) ≡ name_at s at
+  name_length h = simp (length-take, length-drop) (omega arith)
+
+  text_length : at + head_bytes + name_at s at + text_at s at ≤ length s → length (take (text_at s at) (drop (name_at s at) (drop head_bytes (drop at s)))) ≡ text_at s at
+  text_length h = simp (length-take, length-drop) (omega arith)
+
+  -- those after a record begin where it ends
+  pub records_next : {r : Rec} {rs : List Rec} → records_at s at ≡ r ∷ rs → rs ≡ records_at s (at + head_bytes + length r.name + length r.text)
+  records_next {r} {rs} h = go (le_or_lt (at + head_bytes + name_at s at + text_at s at) (length s))
     where
-      go : (at + head_bytes + name_at s at + text_at s at ≤ length s) ⊎ (length s < at + head_bytes + name_at s at + text_at s at) → records (drop at s) ≡ []
-      go (inl p) = let o = head_whole s at p in let z : ◌≡◌ {A = ℕ} 0 1 = cc in absurd (omega arith)
-      go (inr p) = more (drop at s) ∙ rw (at_cut s at p)
+      go : (at + head_bytes + name_at s at + text_at s at ≤ length s) ⊎ (length s < at + head_bytes + name_at s at + text_at s at)
+          → rs ≡ records_at s (at + head_bytes + length r.name + length r.text)
+      go (inl p) =
+          let i = sym h ∙ records_whole p in
+          rw (cons_first i, cons_rest i, name_length (omega arith), text_length p)
+      go (inr p) = let n : ◌≡◌ {A = ℕ} 0 (suc (length rs)) = ap length (sym (records_cut p) ∙ h) in absurd (omega arith)
 
 -- ---- the head by what the code read
 
@@ -210,13 +181,22 @@ module _ (s : Text) (at w t : ℕ) (h : at + head_bytes ≤ length s) (hw : IsWo
   text_read = rw (bits_at, third_field w t) (omega (arith, ht.is, ht.first, ht.second))
 
   pub read_whole : at + head_bytes + bit_and w 511 + t ≤ length s
-      → whole (w / 512) (at + head_bytes) (at + head_bytes + bit_and w 511) (at + head_bytes + bit_and w 511 + t) ≡ head_at s at
-  read_whole q =
+      → {name text : Bor Text} → name.now ≡ part s (at + head_bytes) (at + head_bytes + bit_and w 511)
+      → text.now ≡ part s (at + head_bytes + bit_and w 511) (at + head_bytes + bit_and w 511 + t)
+      → IsHead s at (record { depth = w / 512; name = name; text = text; next = at + head_bytes + bit_and w 511 + t })
+  read_whole q n k =
       let p : at + head_bytes + name_at s at + text_at s at ≤ length s = rw (name_read, text_read) q in
-      sym (head_whole s at p ∙ rw (depth_read, name_read, text_read))
+      let x : at + head_bytes + bit_and w 511 - (at + head_bytes) ≡ bit_and w 511 = omega arith in
+      let y : at + head_bytes + bit_and w 511 + t - (at + head_bytes + bit_and w 511) ≡ t = omega arith in
+      record {
+        deep = omega (arith, hw.is, hw.first, hw.second);
+        ends = rw (n, k) (simp (length-take, length-drop) (omega arith));
+        inside = q;
+        here = records_whole s at p ∙ rw (n, k, x, y, depth_read, name_read, text_read, drop-drop, drop-drop);
+      }
 
-  pub read_cut : length s < at + head_bytes + bit_and w 511 + t → None ≡ head_at s at
-  read_cut q = let p : length s < at + head_bytes + name_at s at + text_at s at = rw (name_read, text_read) q in sym (head_cut s at p)
+  pub read_cut : length s < at + head_bytes + bit_and w 511 + t → records_at s at ≡ []
+  read_cut q = let p : length s < at + head_bytes + name_at s at + text_at s at = rw (name_read, text_read) q in records_cut s at p
 
-pub read_past : (s : Text) (at : ℕ) → length s < at + head_bytes → None ≡ head_at s at
-read_past s at h = sym (head_cut s at (omega arith))
+pub read_past : (s : Text) (at : ℕ) → length s < at + head_bytes → records_at s at ≡ []
+read_past s at h = records_cut s at (omega arith)

@@ -1,0 +1,6 @@
+use Rattle.std.proofs.Common.{rules, refl}
+use Rattle.tree.proofs.Rows.{name_by}
+use Rattle.tree.proofs.element.Element.name.Goals as goal
+
+pub returns : goal.returns
+returns c = name_by c.args.self _ _ _ refl c.read_head.ensures c.map_or.ensures (λ h q. search rules)
