@@ -26,7 +26,7 @@ pub(crate) struct Month {
     pub month: u32,
 }
 
-// ---- to and fro: by functions and no From, as a number does not say from which day it counts
+// ---- from dates: by functions and no From, as a number does not say from which day it counts
 
 pub(crate) fn count_by(a: Option<Date>) -> Option<u32>
     ensures { result ≡ count_by a }
