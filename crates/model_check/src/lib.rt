@@ -54,9 +54,7 @@ fn answer(s: &[u8], words: &mut [u32]) -> Result<(), Refusal>
 {
     let counts = take_counts(s);
     let walked = walk_model(s, counts, words);
-    let Some(w) = sections_of(s.len(), counts, walked.places) else {
-        return Err(Refusal::NoModel);
-    };
+    let w = sections_of(s.len(), counts, walked.places).ok_or(Refusal::NoModel)?;
     if !keeps_list(s, w, words, walked.tables, walked.right) {
         return Err(Refusal::ListBroken);
     }
