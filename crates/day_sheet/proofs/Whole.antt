@@ -15,7 +15,7 @@ use Rattle.std.specs.Prelude.{slice_get}
 use Rattle.std.specs.Option.{ok_or}
 use Rattle.std.proofs.lemmas.Option.{slice_get_past}
 use Rattle.date.specs.Answer.{weekday_at}
-use lib.ListN.{length, take, drop, get_or, replicate, length-append, length-replicate}
+use lib.ListN.{length, take, drop, get_or, length-append, length-replicate}
 use lib.Seq.{get_or-drop, length-take-le}
 use Rattle.definition.specs.Base.{◌>>=◌}
 use Rattle.definition.specs.Text.{Text}
@@ -30,7 +30,7 @@ use Rattle.definition.specs.Refusal.{refused, in_room, sheet_on, day_sheet_answe
 use Rattle.laws.specs.Bits.{length_bytes, whole_bytes, bits_take, bytes_of_lem}
 use Rattle.laws.specs.Each.{each_take}
 use Rattle.bits.specs.Places.{at, inside, Fits, room_none}
-use Rattle.bits.specs.Clear.{cleared}
+use Rattle.bits.specs.Clear.{cleared, cleared_all}
 use Rattle.bits.specs.Steps.{Puts, Step, said, view, view_in}
 use Rattle.laws.specs.Buf.{◌▷◌, size_of}
 use Rattle.bits.specs.Round.{put_stood, overran}
@@ -108,17 +108,17 @@ module _ {A : Type 0} (f : Format A) (a : A) {d₀ d : List ℕ} {end : Place} (
       omega (arith, length_bytes (length g / 8) g, whole_even f a, w.step.same)
 
   -- zeros alone, and the bytes with zeros behind them
-  pub left_short : {out : Text} → inside (length d) end ≡ false → out ≡ replicate (length d) 0 → leaves (Err NoRoom) out ≡ left_by (length d) (in_room (length d) (bytes_of ((whole f).put 0 a)))
+  pub left_short : inside (length d) end ≡ false → leaves (Err NoRoom) (cleared 0 d) ≡ left_by (length d₀) (in_room (length d₀) (bytes_of ((whole f).put 0 a)))
   unfolding in_room
-  left_short h e = rw (lt-leb _ _ (short h), e)
+  left_short h = rw (← w.step.same, lt-leb _ _ (short h), cleared_all d)
 
-  pub left_written : {out : Text} → inside (length d) end ≡ true → ((i : ℕ) → get_or d i 0 < 256) → out ≡ cleared end.byte d
-      → leaves (Ok end.byte) out ≡ left_by (length d) (in_room (length d) (bytes_of ((whole f).put 0 a)))
+  pub left_written : inside (length d) end ≡ true → ((i : ℕ) → get_or d i 0 < 256)
+      → leaves (Ok end.byte) (cleared end.byte d) ≡ left_by (length d₀) (in_room (length d₀) (bytes_of ((whole f).put 0 a)))
   unfolding in_room
-  left_written h b e =
+  left_written h b =
       let (is, le) = wrote h b in
       let n : length (take end.byte d) ≡ end.byte = length-take-le end.byte d le in
-      rw (is, n, le-leb _ _ le, n, e)
+      rw (← w.step.same, is, n, le-leb _ _ le, n)
 
 -- ---- the answer
 

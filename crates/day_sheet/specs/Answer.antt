@@ -1,6 +1,6 @@
 -- What a call answers: document 01's number, the buffer at the end, and how many bytes of it are the sheet. Assumes nothing.
 use Rattle.definition.specs.Answer.{answer_length, answer_number, refusal_number}
-use Rattle.std.specs.Prelude.{◌≡◌, Bool, List, ℕ, ℤ, length}
+use Rattle.std.specs.Prelude.{◌≡◌, List, ℕ, ℤ}
 use Rattle.definition.specs.declared.Refusal.{Refusal}
 use Rattle.std.specs.Prelude.{Err, Ok, Result}
 use Rattle.definition.specs.Text.{Text}
@@ -8,7 +8,6 @@ use Rattle.definition.specs.Bits.{bytes_of}
 use Rattle.definition.specs.Format.{Period}
 use Rattle.definition.specs.DaySheet.{sheet}
 use Rattle.definition.specs.Refusal.{Answer, result, left, written, refused, in_room, day_sheet_answer}
-use Rattle.bits.specs.Steps.{Puts}
 use Rattle.bits.specs.declared.Place.{Place}
 use Rattle.day_sheet.specs.Days.{Listed, day_value}
 use Rattle.day_sheet.specs.declared.Day.{Day}
@@ -27,9 +26,3 @@ start = record { byte = 0; bit = 0 }
 abbrev pub Found : Text → ℕ → ℤ → Result Day Refusal → Type 0
 Found s row z (Ok r) = (l : List Period) × Listed s r.hours l × ((room : ℕ) → day_sheet_answer s row z room ≡ in_room room (bytes_of (sheet.put 0 (day_value r l))))
 Found s row z (Err e) = (room : ℕ) → day_sheet_answer s row z room ≡ refused (refusal_number e)
-
--- a sheet that was put from the start up to the place end: it is left if it fitted
-abbrev pub Finished : Text → Place → Result ℕ Refusal → Text → Type 0
-Finished d end r out =
-    (d₀ : Text) (x : ℕ × (Bool × (Bool × List Period))) → Puts sheet x d₀ start d end
-    → leaves r out ≡ left_by (length d) (in_room (length d) (bytes_of (sheet.put 0 x)))

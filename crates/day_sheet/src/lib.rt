@@ -10,12 +10,14 @@ ghost use Rattle.definition.specs.Pack.{calendar as calendar_format};
 ghost use Rattle.definition.specs.Calendar.{default_periods, or_hours, hours_on};
 ghost use Rattle.definition.specs.DaySheet.{sheet as sheet_format};
 ghost use Rattle.definition.specs.Refusal.{day_sheet_answer};
+ghost use Rattle.definition.specs.Answer.{answer_length};
+ghost use Rattle.bits.specs.Clear.{cleared};
 ghost use Rattle.bits.specs.Steps.{Puts};
 ghost use Rattle.model.specs.Answers.{period_meaning};
 ghost use Rattle.model.specs.Splits.{Stands};
 ghost use Rattle.model.specs.Lists.{Ahead};
 ghost use Rattle.day_sheet.specs.Days.{exceptions, Listed, ListedAt, DayIs, day_value};
-ghost use Rattle.day_sheet.specs.Answer.{start, Found, Finished, leaves, left_by};
+ghost use Rattle.day_sheet.specs.Answer.{start, Found, leaves, left_by};
 
 use bits::Place;
 use definition::{Date, Refusal};
@@ -173,31 +175,25 @@ fn put_day(s: &[u8], d: Day, out: &mut [u8]) -> Place
     bits::pad(out, e)
 }
 
-// The sheet up to a place, and zeros behind it; zeros alone where it did not fit. number and read end so too, each over another type or with more to clear.
-fn finish(out: &mut [u8], end: Place) -> Result<usize, Refusal>
-    ensures { Finished out.old end result out.new }
+// The sheet of a day in the calendar of a row, from the first byte on, and where it ends. What stands behind it, all where there is none, is left to the
+// caller to clear.
+fn put_sheet(s: &[u8], calendar: u32, date: Date, out: &mut [u8]) -> Result<usize, Refusal>
+    ensures { leaves result (cleared (answer_length result) out.new) ≡ left_by (length out.old) (day_sheet_answer s.now calendar date.0 (length out.old)) }
 {
-    if !bits::inside(out.len(), end) {
-        out.fill(0);
-        return Err(Refusal::NoRoom);
+    let d = find_day(s, calendar, date)?;
+    let end = put_day(s, d, out);
+    if bits::inside(out.len(), end) {
+        Ok(end.byte)
+    } else {
+        Err(Refusal::NoRoom)
     }
-    let n = end.byte;
-    bits::fill_from(out, n, 0);
-    Ok(n)
 }
 
 // The day sheet of a day in the calendar of a row.
 pub fn day_sheet(s: &[u8], calendar: u32, date: Date, sheet: &mut [u8]) -> Result<usize, Refusal>
     ensures { leaves result sheet.new ≡ left_by (length sheet.old) (day_sheet_answer s.now calendar date.0 (length sheet.old)) }
 {
-    match find_day(s, calendar, date) {
-        Ok(d) => {
-            let end = put_day(s, d, sheet);
-            finish(sheet, end)
-        }
-        Err(e) => {
-            sheet.fill(0);
-            Err(e)
-        }
-    }
+    let end = put_sheet(s, calendar, date, sheet);
+    bits::fill_from(sheet, end.unwrap_or(0), 0);
+    end
 }

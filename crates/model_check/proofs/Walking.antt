@@ -5,7 +5,7 @@ use mathlib.Core.Path.{◌≡◌, refl, sym, ap, subst, ◌∙◌}
 use mathlib.Core.Bool.{Bool, true, false, ◌&&◌}
 use mathlib.Core.List.{List, [], map}
 use Rattle.std.specs.Prelude.{None}
-use Prim.Native.Nat.{ℕ, ◌+◌, ◌%◌, ◌≤◌, ◌<◌, min}
+use Prim.Native.Nat.{ℕ, ◌+◌, ◌%◌, ◌^◌, ◌≤◌, ◌<◌, min}
 use native.Mathlib.Numerals.{add-one}
 use native.Mathlib.Omega.{arith}
 use lib.ListN.{length, take, drop, drop_of_length-le}
@@ -18,7 +18,7 @@ use Rattle.definition.specs.Check.{activity_right, keeps_list}
 use Rattle.definition.specs.Refusal.{check_answer}
 use Rattle.laws.specs.Options.{never as no_option}
 use Rattle.index.specs.declared.Table.{Table}
-use Rattle.index.specs.Chains.{added, end_of, end_in}
+use Rattle.index.specs.Chains.{end_of, end_in}
 use Rattle.index.specs.Frame.{same_refl, same_then, same_added, apart_before, indexed_kept}
 use Rattle.bits.specs.Places.{room_short}
 use Rattle.bits.specs.Reads.{Spans, rest, rest_out}
@@ -42,7 +42,7 @@ use Rattle.model_check.specs.declared.walk.Walked.{Walked}
 use Rattle.model_check.specs.Keys.{Key, Keyed}
 use Rattle.model_check.specs.Kinds.{Run, run}
 use Rattle.model_check.specs.Tables.{EmptyAt, TableFor}
-use Rattle.model_check.specs.Walk.{table_in, id_key, ApartFrom, Kept, JudgedAll, Looked, ModelWalked}
+use Rattle.model_check.specs.Walk.{id_key, ApartFrom, Kept, Noted, JudgedAll, Looked, ModelWalked}
 use Rattle.model_check.proofs.Keyed.{calendar_key}
 use Rattle.model_check.proofs.Scan.{Along, starts, goes}
 use Rattle.model_check.proofs.Tabled.{never, no_room}
@@ -78,8 +78,9 @@ kept_none w = record { same = λ n e. same_refl n w }
 pub kept_then : {m : Option Table} {a b c : List ℕ} → Kept m a b → Kept m b c → Kept m a c
 kept_then p q = record { same = λ n e. same_then (p.same n e) (q.same n e) }
 
-pub kept_added : {m : Option Table} (t : Table) (w : List ℕ) (row h place : ℕ) {w₂ : List ℕ} → ApartFrom m t → w₂ ≡ added w t row h place → Kept m w w₂
-kept_added t w row h place a e = record { same = λ n f. rw e (same_added t w row h place (a n f)) }
+pub kept_noted : {m : Option Table} (o : Option Table) (s : List ℕ) (p : Place) (row : ℕ) {w w₂ : List ℕ} → ApartFrom m o → Noted s p row o w w₂ → Kept m w w₂
+kept_noted None s p row {w} a e = rw e (kept_none w)
+kept_noted (Some t) s p row {w} a e = record { same = λ n f. rw e.2 (same_added t w row e.0 (p.byte % 2 ^ 32) (a n t f refl)) }
 
 -- ---- one activity after another
 
@@ -137,28 +138,27 @@ table_fits lead s ks (Some u) w x k g = let z : u ≡ k = cc in subst (λ (t : T
 
 module _ {s : List ℕ} {at n : ℕ} {w w₂ : List ℕ} where
   -- one that is made behind another
-  made_behind : (names ids : Option Table) → EmptyAt s at n w w₂ ids → at ≡ min (end_in names) (length w) → ((k : Table) → names ≡ Some k → end_of k ≤ length w) → ApartFrom names (table_in ids)
-  made_behind names None e f fit k g = λ j a b c d. omega arith
-  made_behind names (Some u) e f fit k g =
-      let z : u.at ≡ at = ap (λ (t : Table). t.at) (e.ready u refl).is in
+  made_behind : (names ids : Option Table) → EmptyAt s at n w w₂ ids → at ≡ min (end_in names) (length w) → ((k : Table) → names ≡ Some k → end_of k ≤ length w) → ApartFrom names ids
+  made_behind names ids e f fit k u g h =
+      let z : u.at ≡ at = ap (λ (t : Table). t.at) (e.ready u h).is in
       let y : end_in names ≡ end_of k = ap end_in g in
       apart_before k u (omega (arith, z, y, f, fit k g))
 
-  made_kept : (names ids : Option Table) → EmptyAt s at n w w₂ ids → ApartFrom names (table_in ids) → Kept names w w₂
+  made_kept : (names ids : Option Table) → EmptyAt s at n w w₂ ids → ApartFrom names ids → Kept names w w₂
   made_kept names None e a = rw (e.none refl) (kept_none w)
-  made_kept names (Some u) e a = record { same = λ k g. (e.ready u refl).stays k (a k g) }
+  made_kept names (Some u) e a = record { same = λ k g. (e.ready u refl).stays k (a k u g refl) }
 
-  ids_in : (ids : Option Table) {p : Place} {x : Section} {names : Option Table} {w₃ : List ℕ} {r : Field Bool Place} → EmptyAt s at n w w₂ ids → JudgedAll s p n x names (table_in ids) w₂ w₃ r → p.bit % 8 ≡ 0
+  ids_in : (ids : Option Table) {p : Place} {x : Section} {names : Option Table} {w₃ : List ℕ} {r : Field Bool Place} → EmptyAt s at n w w₂ ids → JudgedAll s p n x names ids w₂ w₃ r → p.bit % 8 ≡ 0
       → (xs : List Activity) {next : ℕ} → Run Activities s p n xs next → TableFor 0 s (map id_key xs) ids w₃
   ids_in None e j z xs u = tt
-  ids_in (Some t) e j z xs u = let v = e.ready t refl in j.keys v.small z (ap (λ (t : Table). t.rows) v.is) v.empty xs _ u
+  ids_in (Some t) e j z xs u = let v = e.ready t refl in j.keys v.small z t refl (ap (λ (t : Table). t.rows) v.is) v.empty xs _ u
 
 -- ---- the walk
 
 pub walked : {s : List ℕ} {n : Counts} {head : Head} {at : ℕ} {names ids : Option Table} {w w₁ w₂ w₃ : List ℕ} {r : Field Bool Place} {places : Places} → Heads s n head
     → ((key : Calendar → Key) → Keyed Calendars s key → (xs : List Calendar) (end : ℕ) → Holds calendar s (record { count = n.value.calendars; at = head.calendars.byte }) xs end → TableFor 0 s (map key xs) names w₁)
     → at ≡ min (end_in names) (length w₁) → EmptyAt s at n.value.activities w₁ w₂ ids
-    → JudgedAll s head.activities n.value.activities (record { count = n.value.calendars; at = head.calendars.byte }) names (table_in ids) w₂ w₃ r → Behind s n head r.next places
+    → JudgedAll s head.activities n.value.activities (record { count = n.value.calendars; at = head.calendars.byte }) names ids w₂ w₃ r → Behind s n head r.next places
     → ModelWalked s n w w₃ (record { places = places; tables = record { names = names; ids = ids }; right = r.value })
 walked {s} {n} {head} {at} {names} {ids} {w} {w₁} {w₂} {w₃} {r} {places} h i f e j b =
     record { walks = walks h (pass_like (like_times _ strict_activities) j.passes) b; looked = looks }
@@ -171,7 +171,7 @@ walked {s} {n} {head} {at} {names} {ids} {w} {w₁} {w₂} {w₃} {r} {places} h
         let u : Run Activities s head.activities n.value.activities m.activities places.value.links.byte =
         subst (λ (p : Place). Run Activities s p n.value.activities m.activities places.value.links.byte) (sym z ∙ b.activities_at) (run Activities d.activities) in
         let x : TableFor 0 s ks names w₁ = i (λ (c : Calendar). (0, c.name)) calendar_key m.calendars _ c in
-        let a : ApartFrom names (table_in ids) = made_behind names ids e f (table_fits 0 s ks names w₁ x) in
+        let a : ApartFrom names ids = made_behind names ids e f (table_fits 0 s ks names w₁ x) in
         let y : TableFor 0 s ks names w₂ = table_kept 0 s ks names (made_kept names ids e a) x in
         let v : head.activities.bit % 8 ≡ 0 = ap (λ (p : Place). p.bit % 8) (sym b.activities_at ∙ z) in
         record { names = table_kept 0 s ks names (j.kept a) y; ids = ids_in ids e j v m.activities u; right = j.right a m _ c y _ u }

@@ -7,6 +7,7 @@ use Rattle.definition.specs.Model.{Activity, Model}
 use Rattle.definition.specs.Pack.{calendar, activity}
 use Rattle.definition.specs.Check.{activity_right}
 use Rattle.index.specs.declared.Table.{Table}
+use Rattle.index.specs.Chains.{added}
 use Rattle.index.specs.Frame.{SameIn, Apart}
 use Rattle.bits.specs.declared.Place.{Place}
 use Rattle.bits.specs.declared.Field.{Field}
@@ -19,18 +20,14 @@ use Rattle.model.specs.declared.Section.{Section}
 use Rattle.model.specs.declared.records.Kind.TheVariants.{Activities}
 use Rattle.model_check.specs.declared.walk.Walked.{Walked}
 use Rattle.model_check.specs.Kinds.{Run}
-use Rattle.model_check.specs.Keys.{Key}
+use Rattle.model_check.specs.Keys.{Key, hash_key, KeyAt}
 use Rattle.model_check.specs.Tables.{Emptied, KeyTable, TableFor, NamesIn}
 
 -- ---- tables that may be missing
 
-abbrev pub table_in : Option Table → Table
-table_in None = record { at = 0; rows = 0 }
-table_in (Some t) = t
-
--- no word in common with a table
-abbrev pub ApartFrom : Option Table → Table → Type 0
-ApartFrom m t = (n : Table) → m ≡ Some n → Apart n t
+-- no word in common, where there are both
+abbrev pub ApartFrom : Option Table → Option Table → Type 0
+ApartFrom m o = (n t : Table) → m ≡ Some n → o ≡ Some t → Apart n t
 
 -- its words stay
 pub record Kept (m : Option Table) (w w' : List ℕ) : Type 0 where
@@ -47,13 +44,18 @@ pub record JudgedAt (s : List ℕ) (p : Place) (own : ℕ) (x : Section) (names 
   pub next : Passes (record_of true Activities) s p r.next
   pub even : r.next.bit % 8 ≡ 0
 
--- n activities are passed over; where they stand there, whether all are right, and their ids in an empty table of as many rows
-pub record JudgedAll (s : List ℕ) (p : Place) (n : ℕ) (x : Section) (names : Option Table) (t : Table) (w w' : List ℕ) (r : Field Bool Place) : Type 0 where
+-- the id of the activity at a place is put into a table, where there is one
+abbrev pub Noted : List ℕ → Place → ℕ → Option Table → List ℕ → List ℕ → Type 0
+Noted s p row None w w' = w' ≡ w
+Noted s p row (Some t) w w' = (h : ℕ) × ((k : Key) → KeyAt 0 s p k → h ≡ hash_key k) × (w' ≡ added w t row h (p.byte % 2 ^ 32))
+
+-- n activities are passed over; where they stand there, whether all are right, and their ids in a table, if there is an empty one of as many rows
+pub record JudgedAll (s : List ℕ) (p : Place) (n : ℕ) (x : Section) (names ids : Option Table) (w w' : List ℕ) (r : Field Bool Place) : Type 0 where
   pub passes : Passes (times n (record_of true Activities)) s p r.next
-  pub kept : ApartFrom names t → Kept names w w'
-  pub right : ApartFrom names t → (m : Model) (end : ℕ) → Holds calendar s x m.calendars end → NamesIn s m names w
+  pub kept : ApartFrom names ids → Kept names w w'
+  pub right : ApartFrom names ids → (m : Model) (end : ℕ) → Holds calendar s x m.calendars end → NamesIn s m names w
       → (next : ℕ) → Run Activities s p n m.activities next → r.value ≡ every? (activity_right m) (numbered 0 m.activities)
-  pub keys : length s < 2 ^ 32 → p.bit % 8 ≡ 0 → t.rows ≡ n → Emptied t w
+  pub keys : length s < 2 ^ 32 → p.bit % 8 ≡ 0 → (t : Table) → ids ≡ Some t → t.rows ≡ n → Emptied t w
       → (xs : List Activity) (next : ℕ) → Run Activities s p n xs next → KeyTable 0 s (map id_key xs) t w'
 
 -- ---- the walk

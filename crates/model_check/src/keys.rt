@@ -66,7 +66,8 @@ pub(crate) struct KeyBytes<'a> {
     pub(crate) name: &'a [u8],
 }
 
-// The bytes of the text at a place. names::raw_text is this with a promise for bytes that are no text, and stands above.
+// The bytes of the text at a place. names::raw_text has this body and promises more, of bytes that are no text too: a function for both would stand in
+// model, with the laws of names that prove that promise, and this line is shorter.
 pub(crate) fn text_at(s: &[u8], p: Place) -> &[u8]
     ensures { (t : Text) → Stands text s.now p t → result.now ≡ t }
 {

@@ -31,10 +31,10 @@ fn keeps_list(s: &[u8], w: Sections, words: &mut [u32], tables: Tables, activiti
         table: tables.names,
         words,
     };
-    let resources = every_right(s, Kind::Resources, w.resources, w, calendars);
-    let links = every_right(s, Kind::Links, w.links, w, calendars);
-    let assignments = every_right(s, Kind::Assignments, w.assignments, w, calendars);
-    let expenses = every_right(s, Kind::Expenses, w.expenses, w, calendars);
+    let resources = every_right(s, Kind::Resources, w, calendars);
+    let links = every_right(s, Kind::Links, w, calendars);
+    let assignments = every_right(s, Kind::Assignments, w, calendars);
+    let expenses = every_right(s, Kind::Expenses, w, calendars);
     let ids_differ = distinct_in::<Activities>(s, w.activities, words, tables.ids);
     let resource_ids = all_distinct::<Resources>(s, w.resources, words);
     let expenses_differ = all_distinct::<Expenses>(s, w.expenses, words);
@@ -54,9 +54,7 @@ fn answer(s: &[u8], words: &mut [u32]) -> Result<(), Refusal>
 {
     let counts = take_counts(s);
     let walked = walk_model(s, counts, words);
-    let Some(w) = sections_of(s.len(), counts, walked.places) else {
-        return Err(Refusal::NoModel);
-    };
+    let w = sections_of(s.len(), counts, walked.places).ok_or(Refusal::NoModel)?;
     if !keeps_list(s, w, words, walked.tables, walked.right) {
         return Err(Refusal::ListBroken);
     }

@@ -10,7 +10,7 @@ ghost use Rattle.definition.specs.Pack.{calendar};
 ghost use Rattle.definition.specs.Check.{if_given, is_calendar};
 ghost use Rattle.model.specs.Splits.{Stands};
 ghost use Rattle.model.specs.Sections.{Holds, Decoded};
-ghost use Rattle.model_check.specs.Kinds.{Item, format_of};
+ghost use Rattle.model_check.specs.Kinds.{Item, format_of, items_of, section_of};
 ghost use Rattle.model.specs.Answers.{rows_at};
 ghost use Rattle.model_check.specs.Rules.{rows_below, right_of};
 ghost use Rattle.model_check.specs.Tables.{NamesIn};
@@ -116,10 +116,25 @@ fn is_right(s: &[u8], p: Place, kind: Kind, own: u32, w: Sections, names: Names<
     }
 }
 
-// Whether each record of a section keeps its rules.
-pub(crate) fn every_right(s: &[u8], kind: Kind, x: Section, w: Sections, names: Names<'_>) -> bool
-    ensures { (m : Model) → Decoded s.now m w → NamesIn s.now m names.entry.table names.entry.words.now → (xs : List (Item kind)) (end : ℕ) → Holds (format_of kind) s.now x xs end → result ≡ every? (right_of m kind) (numbered 0 xs) }
+// The section of a kind.
+fn section_of(w: Sections, kind: Kind) -> Section
+    ensures { result ≡ section_of w kind }
 {
+    match kind {
+        Kind::Calendars => w.calendars,
+        Kind::Activities => w.activities,
+        Kind::Links => w.links,
+        Kind::Resources => w.resources,
+        Kind::Assignments => w.assignments,
+        Kind::Expenses => w.expenses,
+    }
+}
+
+// Whether each record of a kind keeps its rules.
+pub(crate) fn every_right(s: &[u8], kind: Kind, w: Sections, names: Names<'_>) -> bool
+    ensures { (m : Model) → Decoded s.now m w → NamesIn s.now m names.entry.table names.entry.words.now → result ≡ every? (right_of m kind) (numbered 0 (items_of m kind)) }
+{
+    let x = section_of(w, kind);
     let mut q = Place { byte: x.at, bit: 0 };
     for i in 0..x.count {
         if !is_right(s, q, kind, i, w, names) {

@@ -1,6 +1,6 @@
 // The walk that decodes a model, with the calendars' names in a table, and each activity tested and put into a table as it is passed.
 ghost use Rattle.std.specs.Prelude.{◌≡◌};
-ghost use Rattle.model_check.specs.Walk.{table_in, JudgedAll, ModelWalked};
+ghost use Rattle.model_check.specs.Walk.{Noted, JudgedAll, ModelWalked};
 
 use crate::keys::{Activities, Calendars};
 use crate::rules::{Names, judge_activity};
@@ -9,18 +9,22 @@ use bits::{Field, Place};
 use index::Table;
 use model::{Counts, Places, Section, walk_behind, walk_head};
 
-// A table with no rows where there is none. No Option in the walk: Table::put does nothing in a table of no rows.
-fn table_of(made: Option<Table>) -> Table
-    ensures { result ≡ table_in made }
-{
-    made.unwrap_or(Table { at: 0, rows: 0 })
-}
-
 // The tables of the calendars' names and of the activities' ids, where there are any.
 #[derive(Clone, Copy)]
 pub(crate) struct Tables {
     pub(crate) names: Option<Table>,
     pub(crate) ids: Option<Table>,
+}
+
+// Puts the id of the activity of a row, at a place, into a table, if there is one.
+fn note_id(s: &[u8], p: Place, row: u32, words: &mut [u32], ids: Option<Table>)
+    ensures { Noted s.now p row ids words.old words.new }
+{
+    if let Some(t) = ids {
+        // The place fits: a model of more bytes has no table.
+        let byte = (p.byte % 4294967296) as u32;
+        t.put(words, row, hash_at::<Activities>(s, p), byte);
+    }
 }
 
 // Passes over so many activities, and puts the id of each into a table: whether all are right, and the place behind. It ends at the first that
@@ -33,23 +37,19 @@ fn judge_activities(
     words: &mut [u32],
     tables: Tables,
 ) -> Field<bool>
-    ensures { JudgedAll s.now p count calendars tables.names (table_in tables.ids) words.old words.new result }
+    ensures { JudgedAll s.now p count calendars tables.names tables.ids words.old words.new result }
 {
-    let names = tables.names;
-    let t = table_of(tables.ids);
     let mut q = p;
     let mut right = true;
     for i in 0..count {
-        let hash = hash_at::<Activities>(s, q);
-        // It fits where there is a table: a model of more bytes has none.
-        t.put(words, i, hash, (q.byte % 4294967296) as u32);
+        note_id(s, q, i, words, tables.ids);
         let a = judge_activity(
             s,
             q,
             i,
             calendars,
             Names {
-                table: names,
+                table: tables.names,
                 words,
             },
         );

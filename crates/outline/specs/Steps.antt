@@ -2,7 +2,7 @@
 -- child, 2 the next row with its parent; word 3 of row 0 is the first row at the top. Assumes nothing.
 use Rattle.std.specs.Prelude.{if◌then◌else◌, ℕ, zero, suc, ◌+◌, ◌-◌, ◌*◌, ◌≤◌, ◌<◌, ◌≡◌, Bool, List, [], length, get_or, set, take, eqb, ltb}
 use Rattle.std.specs.Prelude.{Option, Some, None}
-use Rattle.definition.specs.Base.{keep, first, count}
+use Rattle.definition.specs.Base.{◌or_else◌, keep, first, count}
 use Rattle.definition.specs.Outline.{parent_in, is_top, is_under, parent_at, outline_of}
 use Rattle.definition.specs.Refusal.{Answer, refused, gives, row_words}
 use Rattle.outline.specs.declared.Visit.{Visit}
@@ -64,27 +64,20 @@ pub record Linked (n : ℕ) (w w' : List ℕ) : Type 0 where
   pub long : length w' ≡ length w
   pub links : (ps : List (Option ℕ)) → n ≡ length ps → Links ps n w → Links ps 0 w'
 
--- ---- the walk: the row that stands next, and how many rows it is below
+-- ---- the walk: the row that stands next, if any, and how many rows it is below
+
+-- the row that a word names, at a depth
+abbrev pub visit_of : ℕ → ℕ → Option Visit
+visit_of x d = if eqb x no_row then None else Some (record { row = x; depth = d })
 
 -- the next with its parent, or with its parent's parent, and so on up
-unfoldable pub climb_of : List ℕ → ℕ → ℕ → Visit
-climb_of w zero r = record { row = get_or w (4 * r + 2) 0; depth = 0 }
-climb_of w (suc d) r =
-    if eqb (get_or w (4 * r + 2) 0) no_row then climb_of w d (get_or w (4 * r + 0) 0) else record { row = get_or w (4 * r + 2) 0; depth = suc d }
+unfoldable pub climb_of : List ℕ → ℕ → ℕ → Option Visit
+climb_of w zero r = visit_of (get_or w (4 * r + 2) 0) 0
+climb_of w (suc d) r = visit_of (get_or w (4 * r + 2) 0) (suc d) or_else climb_of w d (get_or w (4 * r + 0) 0)
 
 -- its first child, if that is not too deep for n rows
-unfoldable pub step_of : ℕ → List ℕ → ℕ → ℕ → Visit
-step_of n w r d =
-    if eqb (get_or w (4 * r + 1) 0) no_row then climb_of w d r else
-    if ltb (d + 1) n then record { row = get_or w (4 * r + 1) 0; depth = d + 1 } else climb_of w d r
-
-pub record Stepped (n : ℕ) (w : List ℕ) (r d : ℕ) (at : Visit) : Type 0 where
-  pub place : at ≡ step_of n w r d
-  pub deep : at.depth ≤ d + 1
-
-pub record Climbed (w : List ℕ) (r d : ℕ) (at : Visit) : Type 0 where
-  pub place : at ≡ climb_of w d r
-  pub deep : at.depth ≤ d
+unfoldable pub step_of : ℕ → List ℕ → ℕ → ℕ → Option Visit
+step_of n w r d = if ltb (d + 1) n then visit_of (get_or w (4 * r + 1) 0) (d + 1) or_else climb_of w d r else climb_of w d r
 
 -- rows in front of the slice, where the work has the lists of some parents
 pub record Walked (n : ℕ) (rows work rows' : List ℕ) (r : ℕ) : Type 0 where

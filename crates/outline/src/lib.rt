@@ -7,25 +7,25 @@ mod parents; // the parents of a model's activities
 ghost use Rattle.std.specs.Prelude.{◌≡◌, ◌+◌, ◌*◌, ◌<◌, ◌≤◌, length, get_or, set, ◌||◌, ltb};
 ghost use Rattle.outline.specs.Answers.{Gives};
 ghost use Rattle.outline.specs.Words.{Outlined};
-ghost use Rattle.outline.specs.Steps.{Empty, Linked, Stepped, Climbed, Walked, Wrote, pushed, link_of};
+ghost use Rattle.outline.specs.Steps.{Empty, Linked, Walked, Wrote, pushed, link_of, visit_of, climb_of, step_of};
 
 use crate::parents::walk_model;
 use bits::fill_from;
 use definition::Refusal;
 use model::{sections_of, take_counts};
 
-// A word that names no row, as the lent words hold it: a word has no room for an Option, so `climb`, `step` and `walk` test for it.
+// A word that names no row, as the lent words hold it.
 const NONE: u32 = 0xFFFF_FFFF;
 
 // The words of a row in the lent slice, as offsets that are added to its place. Rows name each other by number there: no heap holds nodes. A row becomes
 // an index by `as`, as there is no From from u32 to usize.
-const PARENT: u32 = 0;
+const PARENT: usize = 0;
 
-const CHILD: u32 = 1;
+const CHILD: usize = 1;
 
-const NEXT: u32 = 2;
+const NEXT: usize = 2;
 
-const TOP: u32 = 3;
+const TOP: usize = 3;
 
 // A row that is visited, and how many rows it is below.
 #[derive(Clone, Copy)]
@@ -34,23 +34,16 @@ struct Visit {
     depth: u32,
 }
 
-// index has this and the next for words from a place on; the outline does not stand on that crate.
-fn field(work: &[u32], row: u32, word: u32) -> u32
+fn field(work: &[u32], row: u32, word: usize) -> u32
     ensures { result ≡ get_or work.now (4 * row + word) 0 }
 {
-    work.get(4 * (row as usize) + word as usize)
-        .copied()
-        .unwrap_or(0)
+    index::word(work, 4 * (row as usize), word)
 }
 
-// By index: what is written through a slice's `get_mut` is not known to the proof.
-fn set_field(work: &mut [u32], row: u32, word: u32, value: u32)
+fn set_field(work: &mut [u32], row: u32, word: usize, value: u32)
     ensures { work.new ≡ set work.old (4 * row + word) value }
 {
-    let i = 4 * (row as usize) + word as usize;
-    if i < work.len() {
-        work[i] = value;
-    }
+    index::set_word(work, 4 * (row as usize), word, value);
 }
 
 // Empties the lists of n rows. Here and below the number goes beside the words: a struct over both would hold the words lent.
@@ -65,7 +58,7 @@ fn empty_lists(n: u32, work: &mut [u32])
 }
 
 // Puts row i in front of the list that begins at a word of row p.
-fn push(work: &mut [u32], i: u32, p: u32, word: u32)
+fn push(work: &mut [u32], i: u32, p: u32, word: usize)
     ensures { work.new ≡ pushed work.old i p word }
 {
     set_field(work, i, PARENT, p);
@@ -96,40 +89,37 @@ fn link_rows(n: u32, work: &mut [u32])
     }
 }
 
+// The row that a word of a row names, at a depth, if it names one.
+fn named(work: &[u32], row: u32, word: usize, depth: u32) -> Option<Visit>
+    ensures { result ≡ visit_of (get_or work.now (4 * row + word) 0) depth }
+{
+    let row = field(work, row, word);
+    (row != NONE).then_some(Visit { row, depth })
+}
+
 // The row that follows a row and all below it.
-fn climb(work: &[u32], at: Visit) -> Visit
-    ensures { Climbed work.now at.row at.depth result }
+fn climb(work: &[u32], at: Visit) -> Option<Visit>
+    ensures { result ≡ climb_of work.now at.depth at.row }
 {
     let mut r = at.row;
     for d in (0..at.depth).rev() {
-        let next = field(work, r, NEXT);
-        if next != NONE {
-            return Visit {
-                row: next,
-                depth: d + 1,
-            };
+        if let Some(next) = named(work, r, NEXT, d + 1) {
+            return Some(next);
         }
         r = field(work, r, PARENT);
     }
-    Visit {
-        row: field(work, r, NEXT),
-        depth: 0,
-    }
+    named(work, r, NEXT, 0)
 }
 
 // The row that follows a row.
-fn step(n: u32, work: &[u32], at: Visit) -> Visit
+fn step(n: u32, work: &[u32], at: Visit) -> Option<Visit>
     requires { at.depth < n }
-    ensures { Stepped n work.now at.row at.depth result }
+    ensures { result ≡ step_of n work.now at.row at.depth }
 {
-    let child = field(work, at.row, CHILD);
-    if child != NONE && at.depth + 1 < n {
-        return Visit {
-            row: child,
-            depth: at.depth + 1,
-        };
+    match named(work, at.row, CHILD, at.depth + 1) {
+        Some(child) if child.depth < n => Some(child),
+        _ => climb(work, at),
     }
-    climb(work, at)
 }
 
 // Writes row k: two words, as a C host reads them.
@@ -147,19 +137,13 @@ fn walk(n: u32, rows: &mut [u32], work: &[u32]) -> u32
     requires { 2 * n ≤ length rows.old }
     ensures { Walked n rows.old work.now rows.new result }
 {
-    if n == 0 {
-        return 0;
-    }
-    let mut at = Visit {
-        row: field(work, 0, TOP),
-        depth: 0,
-    };
+    let mut at = named(work, 0, TOP, 0);
     for k in 0..n {
-        if at.row == NONE {
+        let Some(v) = at else {
             return k;
-        }
-        put_row(rows, k, at.row, at.depth + 1);
-        at = step(n, work, at);
+        };
+        put_row(rows, k, v.row, v.depth + 1);
+        at = step(n, work, v);
     }
     n
 }

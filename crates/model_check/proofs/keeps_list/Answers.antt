@@ -25,11 +25,11 @@ returns c =
     (both
     (c.all_distinct-resource_ids.ensures (λ (r : Resource). (0, r.id)) resource_key m.resources _ d.resources ∙ distinct_map same (λ (r : Resource). r.id) m.resources)
     (both
-    (c.every_right-resources.ensures m d n m.resources _ d.resources ∙ every_plain (λ (r : Resource). if_given (is_calendar m) r.calendar) 0 m.resources)
+    (c.every_right-resources.ensures m d n ∙ every_plain (λ (r : Resource). if_given (is_calendar m) r.calendar) 0 m.resources)
     (both
-    (c.every_right-links.ensures m d n m.links _ d.links ∙ every_plain (link_right m) 0 m.links)
+    (c.every_right-links.ensures m d n ∙ every_plain (link_right m) 0 m.links)
     (both
-    (c.every_right-assignments.ensures m d n m.assignments _ d.assignments ∙ every_plain (assignment_right m) 0 m.assignments)
+    (c.every_right-assignments.ensures m d n ∙ every_plain (assignment_right m) 0 m.assignments)
     (both
-    (c.every_right-expenses.ensures m d n m.expenses _ d.expenses ∙ every_plain _ 0 m.expenses)
+    (c.every_right-expenses.ensures m d n ∙ every_plain _ 0 m.expenses)
     (c.all_distinct-expenses_differ.ensures (λ (e : Expense). (e.activity, e.name)) expense_key m.expenses _ d.expenses)))))))

@@ -1,22 +1,21 @@
 -- `outline::step` meets its contract. One case for each of the definition. Assumes nothing.
-use mathlib.Core.Path.{◌≡◌, ◌∙◌}
+use mathlib.Core.Path.{◌≡◌, sym, ◌∙◌}
 use Rattle.outline.specs.Steps.{climb_of, step_of}
-use Rattle.outline.proofs.Turns.{step_none, step_child, step_deep}
-use native.Mathlib.Omega.{arith}
+use Rattle.outline.proofs.Turns.{step_none, step_child, step_low}
 use Rattle.outline.proofs.step.Goals as goal
-use Rattle.outline.proofs.step.Goals.{else-child-via-then-child+else-at-n, else-child-via-else-child}
+use Rattle.outline.proofs.step.Goals.{in_default-via-in-Some+else-child-n, in_default-via-in_default}
 
-pub returns-then-at-n : goal.returns-then-at-n
-returns-then-at-n c =
+pub returns-in-Some : goal.returns-in-Some
+returns-in-Some c =
     let a = c.args in
-    record { place = step_child a.n a.work.now a.at.row a.at.depth c.field-child.ensures c.if-child.true c.if-at-n.true; deep = omega arith }
+    step_child a.n a.work.now a.at.row a.at.depth (sym c.in-Some.is ∙ c.named.ensures) c.if-child-n.true
 
-pub returns : goal.returns
-returns c =
+pub returns-in_default : goal.returns-in_default
+returns-in_default c =
     let a = c.args in
     let e : climb_of a.work.now a.at.depth a.at.row ≡ step_of a.n a.work.now a.at.row a.at.depth =
-    elim c.else-child.branch [
-      | else-child-via-then-child+else-at-n w ↦ step_deep a.n a.work.now a.at.row a.at.depth c.field-child.ensures w.if-child.true w.if-at-n.false
-      | else-child-via-else-child w ↦ step_none a.n a.work.now a.at.row a.at.depth c.field-child.ensures w.if-child.false
+    elim c.in_default.branch [
+      | in_default-via-in-Some+else-child-n w ↦ step_low a.n a.work.now a.at.row a.at.depth (sym w.in-Some.is ∙ c.named.ensures) w.if-child-n.false
+      | in_default-via-in_default w ↦ step_none a.n a.work.now a.at.row a.at.depth (sym c.named.ensures ∙ w.in_default.is)
     ] in
-    record { place = c.climb.ensures.place ∙ e; deep = omega (arith, c.climb.ensures.deep) }
+    c.climb.ensures ∙ e

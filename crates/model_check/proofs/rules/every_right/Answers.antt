@@ -1,6 +1,6 @@
 use mathlib.Core.Path.{sym, ap, ◌∙◌}
 use mathlib.Core.Bool.{not}
-use Rattle.model_check.specs.Kinds.{run}
+use Rattle.model_check.specs.Kinds.{items_of, run_of}
 use Rattle.model_check.specs.Rules.{right_of}
 use Rattle.model_check.proofs.Scan.{starts, here, on, stops, goes, ended, every_scan}
 use native.Mathlib.Omega.{arith}
@@ -13,10 +13,11 @@ pub returns-then-not-is_right : goal.returns-then-not-is_right
 returns-then-not-is_right c =
     let a = c.args in
     let l = c.loop-i in
-    λ m d n xs end h.
-    let w = l.invariant m d n xs end (run _ h) in
+    λ m d n.
+    let r = run_of a.kind d c.section_of-x.ensures in
+    let w = l.invariant m d n (items_of m a.kind) r.0 r.1 in
     let t = here _ _ w (omega arith) in
-    stops _ _ w t.is (ap not (sym (c.is_right.ensures m d n t.item t.stands) ∙ c.if-not-is_right.true)) ∙ every_scan (right_of m a.kind) 0 xs
+    stops _ _ w t.is (ap not (sym (c.is_right.ensures m d n t.item t.stands) ∙ c.if-not-is_right.true)) ∙ every_scan (right_of m a.kind) 0 (items_of m a.kind)
 
 pub loop-i-preserved : goal.loop-i-preserved
 loop-i-preserved c =
@@ -28,4 +29,7 @@ loop-i-preserved c =
 
 pub returns : goal.returns
 returns c =
-    λ m d n xs end h. ended _ _ (c.loop-i.invariant m d n xs end (run _ h)) (omega arith) ∙ every_scan (right_of m c.args.kind) 0 xs
+    let a = c.args in
+    λ m d n.
+    let r = run_of a.kind d c.section_of-x.ensures in
+    ended _ _ (c.loop-i.invariant m d n (items_of m a.kind) r.0 r.1) (omega arith) ∙ every_scan (right_of m a.kind) 0 (items_of m a.kind)

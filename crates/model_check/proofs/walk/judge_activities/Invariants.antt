@@ -5,6 +5,8 @@ use mathlib.Core.Bool.{true}
 use mathlib.Core.List.{List}
 use Prim.Native.Nat.{ℕ, ◌%◌, ◌^◌, ◌≤◌, ◌<◌}
 use lib.ListN.{length}
+use Rattle.std.specs.Prelude.{Some}
+use Rattle.index.specs.declared.Table.{Table}
 use Rattle.definition.specs.Format.{times}
 use Rattle.definition.specs.Model.{Activity, Model}
 use Rattle.definition.specs.Pack.{calendar}
@@ -22,6 +24,6 @@ use Rattle.model_check.proofs.walk.judge_activities.Given as goal
 abbrev pub invariant-loop-i : goal.invariant-loop-i
 invariant-loop-i l =
     (l.i ≤ l.count) × (length l.words ≡ length l.initial.words) × Passes (times l.i (record_of true Activities)) l.s l.initial.q l.q × (l.initial.q.bit % 8 ≡ 0 → l.q.bit % 8 ≡ 0)
-    × (ApartFrom l.names l.t → Kept l.names l.initial.words l.words)
-    × (ApartFrom l.names l.t → (m : Model) (end : ℕ) → Holds calendar l.s l.calendars m.calendars end → NamesIn l.s m l.names l.initial.words → (next : ℕ) → Run Activities l.s l.initial.q l.count m.activities next → Judging l.s l.count m next l.right l.i l.q)
-    × (length l.s < 2 ^ 32 → l.initial.q.bit % 8 ≡ 0 → l.t.rows ≡ l.count → Emptied l.t l.initial.words → (xs : List Activity) (next : ℕ) → Run Activities l.s l.initial.q l.count xs next → Filling Activities l.s id_key xs next l.t l.words l.q l.i)
+    × (ApartFrom l.tables.names l.tables.ids → Kept l.tables.names l.initial.words l.words)
+    × (ApartFrom l.tables.names l.tables.ids → (m : Model) (end : ℕ) → Holds calendar l.s l.calendars m.calendars end → NamesIn l.s m l.tables.names l.initial.words → (next : ℕ) → Run Activities l.s l.initial.q l.count m.activities next → Judging l.s l.count m next l.right l.i l.q)
+    × (length l.s < 2 ^ 32 → l.initial.q.bit % 8 ≡ 0 → (t : Table) → l.tables.ids ≡ Some t → t.rows ≡ l.count → Emptied t l.initial.words → (xs : List Activity) (next : ℕ) → Run Activities l.s l.initial.q l.count xs next → Filling Activities l.s id_key xs next t l.words l.q l.i)
