@@ -1,6 +1,5 @@
 -- A sheet from its parts: the lists of a calendar that was found, the bytes that were written, the answer. Assumes nothing.
 use mathlib.Core.Path.{◌≡◌, refl, sym, ap, ◌∙◌}
-use Rattle.definition.specs.declared.Refusal.{Refusal}
 use Rattle.definition.specs.declared.Refusal.TheVariants.{NoRoom}
 use Rattle.std.specs.Prelude.{Err, Ok}
 use mathlib.Core.Bool.{true, false}
@@ -12,7 +11,6 @@ use native.Mathlib.Omega.{arith}
 use borrow.Author.Tests.{le-leb, lt-leb}
 use lib.IntN.{ℤ}
 use Rattle.std.specs.Prelude.{slice_get}
-use Rattle.std.specs.Option.{ok_or}
 use Rattle.std.proofs.lemmas.Option.{slice_get_past}
 use Rattle.date.specs.Answer.{weekday_at}
 use lib.ListN.{length, take, drop, get_or, length-append, length-replicate}
@@ -153,15 +151,6 @@ undated z e = by (from_days z) refl e
     by : (o : Option Date) → from_days z ≡ o → (o >>= λ d. Some (weekday d)) ≡ None → from_days z ≡ None
     by None f g = f
     by (Some d) f g = absurd (cc)
-
--- what `ok_or` made of a value that may be missing
-pub was_none : {A : Type 0} {o : Option A} {e f : Refusal} → Err f ≡ ok_or o e → (o ≡ None) × (f ≡ e)
-was_none {o = None} h = (refl, cc)
-was_none {o = Some x} h = absurd (cc)
-
-pub was_some : {A : Type 0} {o : Option A} (e : Refusal) {x : A} → Ok x ≡ ok_or o e → o ≡ Some x
-was_some {o = None} e h = absurd (cc)
-was_some {o = Some y} e h = cc
 
 module _ {s : Text} (row : ℕ) (z : ℤ) (room : ℕ) {o : Option Sections} (h : Opens s o) where
   pub no_model : o ≡ None → day_sheet_answer s row z room ≡ refused 6

@@ -19,13 +19,13 @@ const NONE: u32 = 0xFFFF_FFFF;
 
 // The words of a row in the lent slice, as offsets that are added to its place. Rows name each other by number there: no heap holds nodes. A row becomes
 // an index by `as`, as there is no From from u32 to usize.
-const PARENT: usize = 0;
+const PARENT: u32 = 0;
 
-const CHILD: usize = 1;
+const CHILD: u32 = 1;
 
-const NEXT: usize = 2;
+const NEXT: u32 = 2;
 
-const TOP: usize = 3;
+const TOP: u32 = 3;
 
 // A row that is visited, and how many rows it is below.
 #[derive(Clone, Copy)]
@@ -34,16 +34,21 @@ struct Visit {
     depth: u32,
 }
 
-fn field(work: &[u32], row: u32, word: usize) -> u32
+fn field(work: &[u32], row: u32, word: u32) -> u32
     ensures { result ≡ get_or work.now (4 * row + word) 0 }
 {
-    index::word(work, 4 * (row as usize), word)
+    index::word(work, 4 * (row as usize), word as usize)
 }
 
-fn set_field(work: &mut [u32], row: u32, word: usize, value: u32)
+// Not by index::set_word, which tests twice, as a sum of two usize may be none: with it the rows alone took a third longer. Nor by a slice's `get_mut`:
+// what is written through it is not known to the proof.
+fn set_field(work: &mut [u32], row: u32, word: u32, value: u32)
     ensures { work.new ≡ set work.old (4 * row + word) value }
 {
-    index::set_word(work, 4 * (row as usize), word, value);
+    let i = 4 * (row as usize) + word as usize;
+    if i < work.len() {
+        work[i] = value;
+    }
 }
 
 // Empties the lists of n rows. Here and below the number goes beside the words: a struct over both would hold the words lent.
@@ -58,7 +63,7 @@ fn empty_lists(n: u32, work: &mut [u32])
 }
 
 // Puts row i in front of the list that begins at a word of row p.
-fn push(work: &mut [u32], i: u32, p: u32, word: usize)
+fn push(work: &mut [u32], i: u32, p: u32, word: u32)
     ensures { work.new ≡ pushed work.old i p word }
 {
     set_field(work, i, PARENT, p);
@@ -90,7 +95,7 @@ fn link_rows(n: u32, work: &mut [u32])
 }
 
 // The row that a word of a row names, at a depth, if it names one.
-fn named(work: &[u32], row: u32, word: usize, depth: u32) -> Option<Visit>
+fn named(work: &[u32], row: u32, word: u32, depth: u32) -> Option<Visit>
     ensures { result ≡ visit_of (get_or work.now (4 * row + word) 0) depth }
 {
     let row = field(work, row, word);
