@@ -113,8 +113,11 @@ pub fn word(words: &[u32], from: usize, i: usize) -> u32
 pub fn set_word(words: &mut [u32], from: usize, i: usize, value: u32)
     ensures { words.new ≡ set words.old (from + i) value }
 {
-    if from < words.len() && i < words.len() - from {
-        words[from + i] = value;
+    let Some(k) = from.checked_add(i) else {
+        return;
+    };
+    if k < words.len() {
+        words[k] = value;
     }
 }
 

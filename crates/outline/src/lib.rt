@@ -40,15 +40,10 @@ fn field(work: &[u32], row: u32, word: u32) -> u32
     index::word(work, 4 * (row as usize), word as usize)
 }
 
-// Not by index::set_word, which tests twice, as a sum of two usize may be none: with it the rows alone took a third longer. Nor by a slice's `get_mut`:
-// what is written through it is not known to the proof.
 fn set_field(work: &mut [u32], row: u32, word: u32, value: u32)
     ensures { work.new ≡ set work.old (4 * row + word) value }
 {
-    let i = 4 * (row as usize) + word as usize;
-    if i < work.len() {
-        work[i] = value;
-    }
+    index::set_word(work, 4 * (row as usize), word as usize, value);
 }
 
 // Empties the lists of n rows. Here and below the number goes beside the words: a struct over both would hold the words lent.
