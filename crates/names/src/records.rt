@@ -41,8 +41,7 @@ pub fn place_of_row(out: &[u8], p: Place, kind: Kind, row: usize) -> Place
     PAST
 }
 
-// The text at a place, whatever its bytes are; no text where there is none. `text_at` of model_check is this for texts that are there; neither crate uses
-// the other.
+// The text at a place, whatever its bytes are; no text where there is none. `text_at` of model_check has this body, and says why it stands there.
 pub fn raw_text(out: &[u8], p: Place) -> &[u8]
     ensures { result.now ≡ ((read_at raw out.now p).0 or []) }
 {
