@@ -1,4 +1,3 @@
 pub mod Fates
-pub mod Given
 pub mod More
 pub mod Entered
