@@ -2,17 +2,16 @@
 use Rattle.std.specs.Prelude.{if◌then◌else◌}
 use Rattle.index.specs.declared.Table.{Table}
 use Prim.Native.Nat.{ℕ}
-use mathlib.Core.Path.{◌≡◌, refl, sym, ap, ◌∙◌}
-use mathlib.Core.Bool.{Bool, true, false, true≢false, ◌&&◌, not}
+use mathlib.Core.Path.{◌≡◌, refl, ap, ◌∙◌}
+use mathlib.Core.Bool.{Bool, true, false, not}
 use mathlib.Core.List.{List, []}
 use Rattle.std.specs.Prelude.{Option, Some, None}
-use borrow.Author.Tests.{not-true, not-false}
 use lib.Dec.{eqb}
 use lib.ListN.{length}
 use Rattle.definition.specs.Ascii.{bytes}
 use Rattle.std.specs.Option.{unwrap_or}
-use Rattle.definition.specs.Base.{◌>>=◌, ◌or◌, ◌or_else◌, when, given, same, within}
-use Rattle.definition.specs.Calendar.{elapsed_name, name_of, free}
+use Rattle.definition.specs.Base.{◌>>=◌, ◌or◌, when, same, within}
+use Rattle.definition.specs.Calendar.{name_of, free}
 use Rattle.definition.specs.Date.{Date}
 use Rattle.definition.specs.Field.{text_in}
 use Rattle.definition.specs.Format.{whole}
@@ -23,75 +22,18 @@ use Rattle.definition.specs.Tree.{Element}
 use Rattle.bits.specs.Places.{inside}
 use Rattle.bits.specs.Steps.{Puts, put_same}
 use Rattle.bits.specs.declared.Place.{Place}
-use Rattle.fields.proofs.Empty.{length_given}
 use Rattle.laws.specs.Fields.{InYears}
 use Rattle.laws.specs.Formats.{IfGiven}
-use Rattle.links.specs.Given.{given_none, given_some}
 use Rattle.pack.specs.Record.{activity_by}
-use Rattle.pack.specs.Value.{given_by, starred, starred_by, name_meaning}
+use Rattle.pack.specs.Value.{given_by, starred, starred_by}
 use Rattle.pack.specs.Writes.{put_any}
-use Rattle.names.specs.Named.{named_in, elapsed_in}
+use Rattle.names.specs.Named.{named_in}
 use Rattle.names.specs.Naming.{Finds}
 use Rattle.pack.specs.declared.record.Activity.{Activity}
 use Rattle.pack.specs.declared.record.Plan.{Plan}
-use Rattle.activities.specs.Values.{day_by, names_calendar, calendar_by, calendar_in, PlanOf, DatesOf, ProgressOf, activity_planned}
-
--- ---- the first of three texts that is there
-
-first_text : (a b c : Option Text) → given a ≡ true → (a or []) ≡ ((a or_else b or_else c) or [])
-first_text None b c h = absurd (true≢false (sym h))
-first_text (Some t) b c h = refl
-
-second_text : (a b c : Option Text) → given a ≡ false → given b ≡ true → (b or []) ≡ ((a or_else b or_else c) or [])
-second_text (Some t) b c g h = absurd (true≢false g)
-second_text None None c g h = absurd (true≢false (sym h))
-second_text None (Some t) c g h = refl
-
-third_text : (a b c : Option Text) → given a ≡ false → given b ≡ false → (c or []) ≡ ((a or_else b or_else c) or [])
-third_text (Some t) b c g h = absurd (true≢false g)
-third_text None (Some t) c g h = absurd (true≢false h)
-third_text None None c g h = refl
-
-module _ (e : Element) (wbs : Text) (i : wbs ≡ (text_in e "WBS" or [])) where
-  module _ {a : Bool} (x : a ≡ eqb (length wbs) 0) where
-    pub first_id : not a ≡ true → wbs ≡ wanted_id e
-    first_id h = i ∙ first_text (text_in e "WBS") (text_in e "ID") (text_in e "UID") (given_some e (bytes "WBS") wbs i x (not-true a h))
-
-    module _ (h : not a ≡ false) (id : Text) (j : id ≡ (text_in e "ID" or [])) {b : Bool} (y : b ≡ eqb (length id) 0) where
-      pub second_id : not b ≡ true → id ≡ wanted_id e
-      second_id k = j ∙ second_text (text_in e "WBS") (text_in e "ID") (text_in e "UID") (given_none e (bytes "WBS") wbs i x (not-false a h)) (given_some e (bytes "ID") id j y (not-true b k))
-
-      pub third_id : not b ≡ false → {uid : Text} → uid ≡ (text_in e "UID" or []) → uid ≡ wanted_id e
-      third_id k l = l ∙ third_text (text_in e "WBS") (text_in e "ID") (text_in e "UID") (given_none e (bytes "WBS") wbs i x (not-false a h)) (given_none e (bytes "ID") id j y (not-false b k))
+use Rattle.activities.specs.Values.{day_by, calendar_by, calendar_in, PlanOf, DatesOf, ProgressOf, activity_planned}
 
 -- ---- the calendar's name
-
-no_calendar : (o : Option Text) (f : Text → Option Text) → (given o && not (same (o or []) (bytes "-1"))) ≡ false
-    → (o >>= λ u. when (not (same u (bytes "-1"))) u >>= f) ≡ None
-no_calendar None f h = refl
-no_calendar (Some u) f h = rw h
-
-own_calendar : (o : Option Text) (f : Text → Option Text) → (given o && not (same (o or []) (bytes "-1"))) ≡ true
-    → (o >>= λ u. when (not (same u (bytes "-1"))) u >>= f) ≡ f (o or [])
-own_calendar None f h = absurd (true≢false (sym h))
-own_calendar (Some u) f h = rw h
-
-module _ (x : Context) (s : Text) (w : List ℕ) (k : Option Table) (t : Element) {e : Bool} where
-  pub by_elapsed : e ≡ true → (name : Option ℕ) → name_meaning elapsed_name name ≡ elapsed_in x w k → name_meaning elapsed_name name ≡ calendar_in x s w k e t
-  by_elapsed i name h = rw i h
-
-  module _ (i : e ≡ false) (u : Text) (j : u ≡ (text_in t "CalendarUID" or [])) {b : Bool} (l : b ≡ names_calendar u) where
-    names_is : b ≡ (given (text_in t "CalendarUID") && not (same (text_in t "CalendarUID" or []) (bytes "-1")))
-    names_is =
-        l
-        ∙ ap (λ (u : Text). names_calendar u) j
-        ∙ ap (λ (b : Bool). b && not (same (text_in t "CalendarUID" or []) (bytes "-1"))) (length_given t (bytes "CalendarUID"))
-
-    pub by_none : not b ≡ true → None ≡ calendar_in x s w k e t
-    by_none h = rw (i, no_calendar (text_in t "CalendarUID") (named_in x s w k) (sym names_is ∙ not-true b h))
-
-    pub by_own : not b ≡ false → {r : Option Text} → r ≡ named_in x s w k u → r ≡ calendar_in x s w k e t
-    by_own h m = rw (i, own_calendar (text_in t "CalendarUID") (named_in x s w k) (sym names_is ∙ not-false b h)) (m ∙ ap (named_in x s w k) j)
 
 -- words that say the names give the calendar's
 pub calendar_found : {x : Context} {s : Text} {k : Option Table} {w : List ℕ} → Finds x s k w → (e : Bool) (t : Element) → calendar_in x s w k e t ≡ calendar_by x e t

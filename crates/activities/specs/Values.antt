@@ -1,5 +1,5 @@
 -- What an activity's values are to be, each from the task. Assumes nothing: these are definitions.
-use Rattle.std.specs.Prelude.{if◌then◌else◌, ℕ, ◌≡◌, Bool, ◌&&◌, not, List, [], eqb, length}
+use Rattle.std.specs.Prelude.{if◌then◌else◌, ℕ, ◌≡◌, Bool, not, List, []}
 use Rattle.index.specs.declared.Table.{Table}
 use Rattle.std.specs.Prelude.{Option, Some}
 use Rattle.definition.specs.Ascii.{bytes}
@@ -42,10 +42,6 @@ pub record ProgressOf (t : Element) (r : Progress) : Type 0 where
   pub remaining_is : r.remaining ≡ remaining_of t
 
 -- ---- its calendar
-
--- its CalendarUID, no text where there is none, names one
-abbrev pub names_calendar : Text → Bool
-names_calendar u = not (eqb (length u) 0) && not (same u (bytes "-1"))
 
 -- the calendar's name, unless it is the main one's
 abbrev pub calendar_by : Context → Bool → Element → Option Text

@@ -32,17 +32,12 @@ fn put_tasks(out: &mut [u8], words: &mut [u32], section: Section<'_>) -> Records
     requires { (calendars_before out.old section.calendars (root_at section.root) section.start ≡ true) × SectionRoom section out.old words.old }
     ensures { Writes (whole activity) (activities_of (context_at out.old section.entry.calendars (root_at section.entry.root)) (entered (links_by (task_in section.entry.root words.old section.entry.tasks) (context_of (root_at section.entry.root))))) out.old section.entry.start out.new result × SameBelow (end_in section.entry.tasks) words.old words.new }
 {
-    let mut q = section.start;
-    // Counted by hand: `enumerate` counts in usize.
-    let mut row: u32 = 0;
+    let mut done = Records::none(section.start);
+    // The row of a task is how many stand before it.
     for task in rows::kept_tasks(section.root) {
-        q = put_row(out, q, words, section, task, row);
-        row += 1;
+        done = done.more(put_row(out, done.next, words, section, task, done.count));
     }
-    Records {
-        count: row,
-        next: q,
-    }
+    done
 }
 
 // The calendars stand at c in the same buffer, before p; their names are read there. Where they do not, nothing is written. The words behind the
@@ -60,11 +55,7 @@ pub fn put_activities(
     let end = index::end_of(tasks, words.len());
     if !names::calendars_before(out, c, root, p) {
         bits::fill_from(words, end, 0);
-        // PAST and no Option: what is put there does not fit, so that the callers need no branch.
-        return Records {
-            count: 0,
-            next: PAST,
-        };
+        return Records::none(PAST);
     }
     let section = Section {
         root,

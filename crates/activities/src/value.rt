@@ -7,7 +7,7 @@ ghost use Rattle.pack.specs.Record.{activity_kind_code};
 ghost use Rattle.pack.specs.Value.{given_by, starred};
 ghost use Rattle.tree.specs.Place.{meaning};
 ghost use Rattle.tree.specs.Root.{root_at};
-ghost use Rattle.activities.specs.Values.{kind_by, day_by, names_calendar, calendar_in, PlanOf, DatesOf, ProgressOf};
+ghost use Rattle.activities.specs.Values.{kind_by, day_by, calendar_in, PlanOf, DatesOf, ProgressOf};
 
 use crate::own::Section;
 use links::TaskFinder;
@@ -18,22 +18,14 @@ use tree::Element;
 pub(crate) fn wanted_id(task: Element<'_>) -> &[u8]
     ensures { result.now ≡ wanted_id (meaning task.entry) }
 {
-    let wbs = task.text_of(b"WBS");
-    if !wbs.is_empty() {
+    // By `if let`: `or_else` and `unwrap_or_else` were tried, and of a closure that gives a slice the proof learns nothing.
+    if let Some(wbs) = fields::text_in(task, b"WBS") {
         return wbs;
     }
-    let id = task.text_of(b"ID");
-    if !id.is_empty() {
+    if let Some(id) = fields::text_in(task, b"ID") {
         return id;
     }
     task.text_of(b"UID")
-}
-
-// Whether a task with a CalendarUID names a calendar.
-fn names_calendar(uid: &[u8]) -> bool
-    ensures { result ≡ names_calendar uid.now }
-{
-    !uid.is_empty() & !text::same(uid, b"-1")
 }
 
 // The name of the calendar that the task wants, where it has a name. Whether it is elapsed is asked once for a task: the minutes of its day need it too.
@@ -53,10 +45,7 @@ pub(crate) fn calendar_for<'a>(
         let name = names::elapsed_in(out, c, root, words, table);
         return Starred::named(b"Elapsed (24 hours)", name);
     }
-    let uid = task.text_of(b"CalendarUID");
-    if !names_calendar(uid) {
-        return None;
-    }
+    let uid = fields::text_in(task, b"CalendarUID").filter(|u| !text::same(u, b"-1"))?;
     names::calendar_in(out, c, root, words, table, uid)
 }
 

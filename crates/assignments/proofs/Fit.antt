@@ -101,5 +101,5 @@ fine_on {rows} x b {e} fs h xs f =
     record { fit = each_append f.fit (next (fit_resource slim_texts x ids h b m) empty); few = omega (arith, f.few); most = f.most }
 
 pub fine_few : (k : Section) {w : List ℕ} {rows : ℕ} {d : List ℕ} (e : Element) (fs : List Element) → calendars_before d k.calendars (root_at k.root) k.start ≡ true
-    → Finds (context_at d k.calendars (root_at k.root)) k.root.tree.now k.names w → (xs : List Resource) → FineResources rows (e ∷ fs) xs → FewResources k w rows 1 d xs
+    → Finds (context_at d k.calendars (root_at k.root)) k.root.tree.now k.calendar_names w → (xs : List Resource) → FineResources rows (e ∷ fs) xs → FewResources k w rows 1 d xs
 fine_few k e fs b h xs f = record { stand = b; finds = h; fit = f.fit; room = omega (arith, f.few); few = omega (arith, f.most) }

@@ -1,11 +1,12 @@
 -- The work resources: how many there are, and one by one. Assumes nothing.
 use Rattle.index.specs.declared.Table.{Table}
 use Rattle.names.specs.declared.ids.Ids.{Ids}
-use Rattle.std.proofs.Common.{◌≡◌, ℕ, ◌+◌, ◌%◌, ◌^◌, ◌<◌, ◌≤◌, min, Bool, true, false, ◌&&◌, leb, List, [], ◌∷◌, ◌++◌, map, length, ℤ, sym, refl, ap, ◌∙◌, subst, mod-eq_of_lt, arith, length-append, le-leb}
+use Rattle.std.proofs.Common.{◌≡◌, ℕ, ◌+◌, ◌%◌, ◌^◌, ◌<◌, ◌≤◌, Bool, true, false, ◌&&◌, leb, List, [], ◌∷◌, ◌++◌, map, length, ℤ, sym, refl, ap, ◌∙◌, subst, mod-eq_of_lt, arith, length-append, le-leb}
 use Rattle.std.specs.Prelude.{Option, Some, None}
 use Rattle.definition.specs.Base.{◌>>=◌, ◌or◌}
 use Rattle.definition.specs.Text.{Text}
-use Rattle.definition.specs.Tree.{Element}
+use Rattle.definition.specs.Ascii.{bytes}
+use Rattle.definition.specs.Tree.{Element, all_in, child}
 use Rattle.definition.specs.Field.{text_in}
 use Rattle.definition.specs.Format.{whole}
 use Rattle.definition.specs.Model.{Resource}
@@ -17,15 +18,18 @@ use Rattle.definition.specs.Resource.{work_resources, resource_kind, max_units, 
 use Rattle.laws.specs.Each.{Each}
 use Rattle.laws.specs.Formats.{fills_whole}
 use Rattle.laws.specs.FitRecords.{Short, FitsResourceBy}
-use Rattle.laws.specs.FitTrees.{Small}
+use Rattle.laws.specs.FitTrees.{Small, keep_most}
 use Rattle.bits.specs.Clear.{cleared}
 use Rattle.bits.specs.Places.{inside}
 use Rattle.bits.specs.Steps.{Puts, put_same}
 use Rattle.index.specs.Below.{SameBelow}
 use Rattle.bits.specs.declared.Place.{Place}
 use Rattle.model.specs.declared.records.Kind.TheVariants.{Resources}
-use Rattle.tree.specs.Root.{root_at}
+use Rattle.tree.specs.Few.{children_few}
+use Rattle.tree.specs.Root.{root_at, in_resources}
 use Rattle.tree.specs.declared.root.Root.{Root}
+use Rattle.rows.specs.Turns.{work_picked}
+use Rattle.rows.specs.Walks.{is_work}
 use Rattle.pack.specs.Value.{starred_by}
 use Rattle.pack.specs.Writes.{WritesIf, put_any, writes_if}
 use Rattle.pack.specs.declared.record.Records.{Records}
@@ -130,7 +134,7 @@ module _ (k : Section) {d : List ℕ} {r : Done} {d' : List ℕ} {q : Place} {r'
         by_end true i =
             let x = context_at d₀ k.calendars (root_at k.root) in
             let y : name ≡ (text_in a "CalendarUID" >>= name_of x.built >>= unless_main x) =
-            named ∙ ap (λ (x : Context). text_in a "CalendarUID" >>= named_in x k.root.tree.now w k.names) (context_carried wrote.puts.step k.calendars (root_at k.root) ok.stand) ∙ name_found_lem x ok.finds (text_in a "CalendarUID") in
+            named ∙ ap (λ (x : Context). text_in a "CalendarUID" >>= named_in x k.root.tree.now w k.calendar_names) (context_carried wrote.puts.step k.calendars (root_at k.root) ok.stand) ∙ name_found_lem x ok.finds (text_in a "CalendarUID") in
             put_same (resource_free x (names_of xs) a y (stars_are i ∙ ap (λ (ids : List Text). free ids (wanted_id a)) (texts_are i))) puts
 
     wrote_made : Wrote (whole resource) true (xs ++ (made ∷ [])) d₀ k.start d' r'
@@ -181,7 +185,7 @@ GoingOn rows x es fs = Going (whole resource) true (resources_after x) (FineReso
 -- in a buffer in which the calendars stand, with words that say their names before those of the ids
 pub record Going-in (k : Section) (es fs : List Element) (d w d' w' : List ℕ) (r : Done) : Type 0 where
   pub going : calendars_before d k.calendars (root_at k.root) k.start ≡ true → length es ≤ most_elements → HeldIn k.ids k.start d w (record { count = 0; next = k.start })
-      → Finds (context_at d k.calendars (root_at k.root)) k.root.tree.now k.names w → Behind (end_names k.names) k.ids
+      → Finds (context_at d k.calendars (root_at k.root)) k.root.tree.now k.calendar_names w → Behind (end_names k.calendar_names) k.ids
       → GoingOn (length es) (context_at d k.calendars (root_at k.root)) es fs d k.start d' r × HeldIn k.ids k.start d' w' r
   pub keeps : (from : ℕ) → Behind from k.ids → cleared from w' ≡ cleared from w
   pub small : Each Small fs
@@ -195,8 +199,8 @@ module _ (k : Section) {es : List Element} {d w : List ℕ} where
     g = subst (λ (l : List Element). Going-in k es l d w d1 w1 r1) z g'
 
     -- the words still say the names
-    finds_now : Finds (context_at d k.calendars (root_at k.root)) k.root.tree.now k.names w → Behind (end_names k.names) k.ids → Finds (context_at d k.calendars (root_at k.root)) k.root.tree.now k.names w1
-    finds_now f b = finds_kept (below_cleared (g.keeps (end_names k.names) b)) f
+    finds_now : Finds (context_at d k.calendars (root_at k.root)) k.root.tree.now k.calendar_names w → Behind (end_names k.calendar_names) k.ids → Finds (context_at d k.calendars (root_at k.root)) k.root.tree.now k.calendar_names w1
+    finds_now f b = finds_kept (below_cleared (g.keeps (end_names k.calendar_names) b)) f
 
     pub go_more : Small (root_at k.root) → Going-in k es fs d w d2 w2 r2
     unfolding context_at
@@ -229,13 +233,19 @@ behind_less k h i e = let (a, b) = h i e in (omega arith, omega arith)
 
 -- ---- all
 
-module _ (d : List ℕ) (c : Place) (root : Root) (p : Place) {n : ℕ} {u : Bool} (count : n ≡ min (length (work_resources (root_at root))) 4294967295) (eu : u ≡ calendars_before d c (root_at root) p) where
+pub work_few : (root : Root) → length (work_resources (root_at root)) ≤ length root.tree.now
+work_few root =
+    let es = all_in (child (root_at root) (bytes "Resources")) (bytes "Resource") in
+    let f : length es ≤ length root.tree.now = rw (in_resources root (bytes "Resource")) (children_few root.tree.now root.resources (bytes "Resource")) in
+    rw (← work_picked (root_at root)) (omega (arith, f, keep_most is_work es))
+
+module _ (d : List ℕ) (c : Place) (root : Root) (p : Place) {n : ℕ} {u : Bool} (count : n ≡ length (work_resources (root_at root))) (eu : u ≡ calendars_before d c (root_at root) p) where
   abbrev e : Element
   e = root_at root
 
   pub resources_all : n ≤ most_elements → u ≡ true → {from : ℕ} {t : CalendarTable} {m : Option Ids} {w w₁ w₂ w₃ d' : List ℕ} {r : Done} {a : Records}
       → Makes d c root.tree.now e from w w₁ t → (m ≡ ids_for (length d) p (length w₁) t.end n) × (w₂ ≡ begun w₁ m)
-      → PutsResources (record { root = root; calendars = c; start = p; names = t.table; ids = m }) d w₂ d' w₃ r → (a.count ≡ r.count % 2 ^ 32) × (a.next ≡ r.next)
+      → PutsResources (record { root = root; calendars = c; start = p; calendar_names = t.table; ids = m }) d w₂ d' w₃ r → (a.count ≡ r.count % 2 ^ 32) × (a.next ≡ r.next)
       → WritesIf (leb (length (work_resources e)) most_elements && calendars_before d c e p) (whole resource) (resources (context_at d c e) e) d p d' a × (cleared from w₃ ≡ cleared from w)
   resources_all few eb {from} {t} {m} {w} {w₁} {w₂} i (j, v) g o =
       let most : length (work_resources e) ≤ most_elements = omega arith in

@@ -53,12 +53,12 @@ pub record HeldIn (m : Option Ids) (p : Place) (d w : List ℕ) (r : Done) : Typ
 
 -- by the tables of a section, unless it is the main calendar's
 abbrev pub section_names : Section → List ℕ → List ℕ → Text → Option Text
-section_names k d w = named_in (context_at d k.calendars (root_at k.root)) k.root.tree.now w k.names
+section_names k d w = named_in (context_at d k.calendars (root_at k.root)) k.root.tree.now w k.calendar_names
 
 -- the calendars stand before the resources, the words say their names, and those so far with so many more are no more than the rows
 pub record FewResources (k : Section) (w : List ℕ) (rows more : ℕ) (d₀ : List ℕ) (xs : List Resource) : Type 0 where
   pub stand : calendars_before d₀ k.calendars (root_at k.root) k.start ≡ true
-  pub finds : Finds (context_at d₀ k.calendars (root_at k.root)) k.root.tree.now k.names w
+  pub finds : Finds (context_at d₀ k.calendars (root_at k.root)) k.root.tree.now k.calendar_names w
   pub fit : Each (FitsResourceBy Short) xs
   pub room : length xs + more ≤ rows
   pub few : rows < 2 ^ 32
@@ -76,6 +76,6 @@ pub record Adds (k : Section) (a : Element) (d w : List ℕ) (r : Done) (d' w' :
 -- all are
 pub record PutsResources (k : Section) (d w d' w' : List ℕ) (r : Done) : Type 0 where
   pub puts : calendars_before d k.calendars (root_at k.root) k.start ≡ true → length (work_resources (root_at k.root)) ≤ most_elements → HeldIn k.ids k.start d w (record { count = 0; next = k.start })
-      → Finds (context_at d k.calendars (root_at k.root)) k.root.tree.now k.names w → Behind (end_names k.names) k.ids
+      → Finds (context_at d k.calendars (root_at k.root)) k.root.tree.now k.calendar_names w → Behind (end_names k.calendar_names) k.ids
       → Wrote (whole resource) true (resources (context_at d k.calendars (root_at k.root)) (root_at k.root)) d k.start d' r
   pub keeps : (from : ℕ) → Behind from k.ids → cleared from w' ≡ cleared from w

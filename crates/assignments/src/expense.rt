@@ -49,7 +49,8 @@ impl<'a> Key<'a> {
             && text::same(self.name, names::raw_text(out, row.next))
     }
 
-    // Whether one of so many from a place on has it, where they stand there. A walk as names' `taken`, with another test and another kind.
+    // Whether one of so many from a place on has it, where they stand there. No walk for this and names' `taken`: the test would be a closure that reads the
+    // buffer at a place, and its clause and the two promises, there of any bytes and here of records that stand, would be longer than the loop.
     fn is_there(self, out: &[u8], p: Place, count: usize) -> bool
         ensures { Tells out.now p count self.entry.activity self.entry.name.now result }
     {
@@ -123,15 +124,12 @@ fn table_behind(words: &mut [u32], end: usize, rows: u32) -> Option<Table>
     Some(t)
 }
 
-// How many Assignments there are, as 32 bits hold it. By hand: `count` gives a usize, and 32 bits are wanted.
+// How many Assignments there are, as 32 bits hold it.
 fn count_assignments(section: Element<'_>) -> u32
     ensures { result ≡ length (all (meaning section.entry) (bytes "Assignment")) % 2 ^ 32 }
 {
-    let mut n: u32 = 0;
-    for _ in section.children(b"Assignment") {
-        n = n.wrapping_add(1);
-    }
-    n
+    // `u32::try_from` would refuse what 32 bits hold in part.
+    (section.children(b"Assignment").count() % 4294967296) as u32
 }
 
 // ---- one after another

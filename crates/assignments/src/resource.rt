@@ -1,5 +1,5 @@
 // The work resources. What is right is said in the crate definition, specs/Resource.antt.
-ghost use Rattle.std.specs.Prelude.{◌≡◌, min, ◌&&◌, ◌∷◌, [], length, nat_le};
+ghost use Rattle.std.specs.Prelude.{◌≡◌, ◌&&◌, ◌∷◌, [], length, nat_le};
 ghost use Rattle.definition.specs.Base.{◌>>=◌ as bind};
 ghost use Rattle.definition.specs.Field.{text_in};
 ghost use Rattle.definition.specs.Format.{whole};
@@ -16,7 +16,7 @@ ghost use Rattle.names.specs.Context.{context_at, calendars_before};
 ghost use Rattle.names.specs.Named.{named_in};
 ghost use Rattle.assignments.specs.Resources.{wanted_id, resource_with, section_names, Adds, PutsResources};
 
-use crate::section::{Done, said};
+use crate::section::Done;
 use bits::{PAST, Place};
 use index::Table;
 use model::records::Kind;
@@ -25,25 +25,17 @@ use pack::{Records, Resource, Starred};
 use rows::Listed;
 use tree::{Element, Root};
 
-// How many there are, as far as 32 bits go. By hand: `count` gives a usize, and 32 bits are wanted.
-fn count_work(root: Root<'_>) -> u32
-    ensures { result ≡ min (length (work_resources (root_at root.entry))) 4294967295 }
-{
-    let mut n: u32 = 0;
-    for _ in rows::elements(root, Listed::Work) {
-        n = n.saturating_add(1);
-    }
-    n
-}
-
 // ---- what a Resource says
 
 // Its ID, else its UID. names::wanted_name falls back on a text, not on a child: one function for both would take a closure for two lines.
 fn wanted_id(e: Element<'_>) -> &[u8]
     ensures { result.now ≡ wanted_id (meaning e.entry) }
 {
-    let id = e.text_of(b"ID");
-    if id.is_empty() { e.text_of(b"UID") } else { id }
+    // A `match`: `unwrap_or_else` was tried, and of a closure that gives a slice the proof learns nothing.
+    match fields::text_in(e, b"ID") {
+        Some(id) => id,
+        None => e.text_of(b"UID"),
+    }
 }
 
 // All of it, with so many `*` behind its id, and its calendar's name.
@@ -72,7 +64,7 @@ struct Section<'a> {
     root: Root<'a>,
     calendars: Place,
     start: Place,
-    names: Option<Table>,
+    calendar_names: Option<Table>,
     ids: Option<Ids>,
 }
 
@@ -81,8 +73,15 @@ impl<'a> Section<'a> {
     fn calendar_of(self, out: &[u8], words: &[u32], e: Element<'_>) -> Option<Starred<'a>>
         ensures { given_by starred result ≡ bind (text_in (meaning e.entry) "CalendarUID") (section_names self.entry out.now words.now) }
     {
-        let uid = said(e, b"CalendarUID")?;
-        names::calendar_in(out, self.calendars, self.root, words, self.names, uid)
+        let uid = fields::text_in(e, b"CalendarUID")?;
+        names::calendar_in(
+            out,
+            self.calendars,
+            self.root,
+            words,
+            self.calendar_names,
+            uid,
+        )
     }
 
     // One more.
@@ -133,21 +132,18 @@ fn put_all(
 ) -> Records
     ensures { WritesIf (nat_le (length (work_resources (root_at root.entry))) most_elements && calendars_before out.old c (root_at root.entry) p) (whole resource) (resources_of (context_at out.old c (root_at root.entry)) (root_at root.entry)) out.old p out.new result × (cleared at words.new ≡ cleared at words.old) }
 {
-    let count = count_work(root);
-    if 5000000 < count || !names::calendars_before(out, c, root, p) {
-        // PAST and no Option: nothing fits behind it either, so `read` tests the end once.
-        return Records {
-            count: 0,
-            next: PAST,
-        };
+    let n = rows::elements(root, Listed::Work).count();
+    if 5_000_000 < n || !names::calendars_before(out, c, root, p) {
+        return Records::none(PAST);
     }
     let calendars = names::index_calendars(out, c, root, words, at);
     let section = Section {
         root,
         calendars: c,
         start: p,
-        names: calendars.table,
-        ids: names::ids_for(out.len(), p, words, calendars.end, count),
+        calendar_names: calendars.table,
+        // `u32::try_from` would have an error that cannot occur.
+        ids: names::ids_for(out.len(), p, words, calendars.end, n as u32),
     };
     Records::from(section.put(out, words))
 }

@@ -1,7 +1,5 @@
 // What the sections share: what an Assignment names, found by tables, and how many records were written.
 ghost use Rattle.std.specs.Prelude.{◌≡◌, ◌+◌, ◌%◌, ◌^◌, min};
-ghost use Rattle.std.specs.Option.{option_map};
-ghost use Rattle.definition.specs.Tree.{text_of as text_in};
 ghost use Rattle.tree.specs.Place.{meaning};
 ghost use Rattle.rows.specs.Rows.{found_meaning};
 ghost use Rattle.assignments.specs.Finders.{task_by, work_by, cost_by};
@@ -14,14 +12,6 @@ use rows::Listed;
 use tree::{Element, Root};
 
 // ---- what an Assignment names
-
-// The text of a child, where it gives one.
-pub(crate) fn said<'a>(e: Element<'a>, name: &[u8]) -> Option<&'a [u8]>
-    ensures { option_map (λ t. t.now) result ≡ text_in (meaning e.entry) name.now }
-{
-    let text = e.text_of(name);
-    (!text.is_empty()).then_some(text)
-}
 
 // A project, and the tables of its tasks, of its work resources and of its cost resources, in lent words.
 #[derive(Clone, Copy)]
@@ -38,7 +28,7 @@ impl<'a> Tables<'a> {
     pub(crate) fn task_of(self, words: &[u32], e: Element<'_>) -> Option<u32>
         ensures { result ≡ task_by (finders_at words.now self.entry) (meaning e.entry) }
     {
-        let uid = said(e, b"TaskUID")?;
+        let uid = fields::text_in(e, b"TaskUID")?;
         rows::row_with(self.root, Listed::Tasks, words, self.tasks, uid)
     }
 
@@ -46,7 +36,7 @@ impl<'a> Tables<'a> {
     pub(crate) fn work_of(self, words: &[u32], e: Element<'_>) -> Option<u32>
         ensures { result ≡ work_by (finders_at words.now self.entry) (meaning e.entry) }
     {
-        let uid = said(e, b"ResourceUID")?;
+        let uid = fields::text_in(e, b"ResourceUID")?;
         rows::row_with(self.root, Listed::Work, words, self.work, uid)
     }
 
@@ -54,7 +44,7 @@ impl<'a> Tables<'a> {
     pub(crate) fn cost_of(self, words: &[u32], e: Element<'_>) -> Option<Element<'a>>
         ensures { found_meaning result ≡ cost_by (finders_at words.now self.entry) (meaning e.entry) }
     {
-        let uid = said(e, b"ResourceUID")?;
+        let uid = fields::text_in(e, b"ResourceUID")?;
         rows::cost_with(self.root, words, self.cost, uid)
     }
 

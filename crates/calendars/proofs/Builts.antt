@@ -130,7 +130,7 @@ module _ (s : Text) (root e : Element) (t : Section) (start : Place) (count : �
   base_none h = record { finds = λ d₀ done todo q z f noted fit st i. ap (λ (o : Option Text). (o >>= λ u. with_uid u (build [] done)) or default_calendar) (no_base e h) }
 
 pub base_found : (s : Text) {root e : Element} {t : Section} {start : Place} {count : ℕ} {d w : List ℕ} {b : Option CalendarPlaces} → given (base_of e) ≡ true → (found : Option (ℕ × Of)) {u : Text} → u ≡ (text_in e "BaseCalendarUID" or [])
-    → calendar_meaning found ≡ calendar_by s root w t.uids u → BaseFound found t.names start count d w b → BaseIn s root e t start count d w b
+    → calendar_meaning found ≡ calendar_by s root w t.uids u → BaseFound found t.ids start count d w b → BaseIn s root e t start count d w b
 base_found s {root} {e} {t} {start} {count} {d} {w} {b} g found {u} j m h = record {
   finds = λ d₀ done todo q z f noted fit st i.
       let v = text_in e "BaseCalendarUID" or [] in
@@ -158,7 +158,7 @@ record Turn (s : Text) (root e : Element) (t : Section) (start : Place) (d w : L
   stand : Stand (built_of done) d₀ start d r
 
 module _ {s : Text} {root e : Element} {t : Section} {start : Place} {d w : List ℕ} {r : Records} (stars : ℕ) {b : Option CalendarPlaces} {d' : List ℕ} {q : Place}
-    (st : starred_by (wanted_name e) stars ≡ starred_in Calendars d start r.next w t.names r.count (wanted_name e)) (base : BaseIn s root e t start r.count d w b) (put : PutsCalendar e stars b d r.next d' q) where
+    (st : starred_by (wanted_name e) stars ≡ starred_in Calendars d start r.next w t.ids r.count (wanted_name e)) (base : BaseIn s root e t start r.count d w b) (put : PutsCalendar e stars b d r.next d' q) where
   module _ {d₀ : List ℕ} {done todo : List Element} (x : Turn s root e t start d w r d₀ done todo) where
     fits_now : Each (FitsCalendarBy Short) (built_of done)
     fits_now = fits_done root done ((e ∷ []) ++ todo) x.small x.few x.order
@@ -170,7 +170,7 @@ module _ {s : Text} {root e : Element} {t : Section} {start : Place} {d w : List
       names_are_now : texts_at Calendars d start (length (built_of done)) ≡ names_in (build [] done)
       names_are_now = texts_calendars (length (built_of done)) x.stand.puts i fits_now ∙ names_are (build [] done)
 
-      noted_now : NotedIn Calendars t.names d start w (length (built_of done))
+      noted_now : NotedIn Calendars t.ids d start w (length (built_of done))
       noted_now = rw x.stand.counts at (x.held.noted i)
 
       free_now : starred_by (wanted_name e) stars ≡ free (texts_at Calendars d start (length (built_of done))) (wanted_name e)
@@ -197,7 +197,7 @@ module _ {s : Text} {root e : Element} {t : Section} {start : Place} {d w : List
     name_made = refl
 
     -- the words after it
-    module _ (w₁ : List ℕ) {w₂ : List ℕ} {r' : Records} (free_words : cleared t.from w₁ ≡ cleared t.from w) (notes : w₂ ≡ noted_by w₁ t.names r.count (wanted_name e) stars (r.next.byte % 2 ^ 32)) (n : r'.count ≡ (r.count + 1) % 2 ^ 32)
+    module _ (w₁ : List ℕ) {w₂ : List ℕ} {r' : Records} (free_words : cleared t.from w₁ ≡ cleared t.from w) (notes : w₂ ≡ noted_by w₁ t.ids r.count (wanted_name e) stars (r.next.byte % 2 ^ 32)) (n : r'.count ≡ (r.count + 1) % 2 ^ 32)
         (z : r'.next ≡ q) where
       count_next : r'.count ≡ length (built_of done) + 1
       count_next = n ∙ omega (arith, x.stand.counts, of_length done, few_done)
@@ -210,7 +210,7 @@ module _ {s : Text} {root e : Element} {t : Section} {start : Place} {d w : List
 
       held_next : Held s root t start d' w₂ r'
       held_next = record {
-        found = uids_kept (below_then (below_less x.laid.uids below_first) (rw notes (notes_below w₁ t.names r.count (wanted_name e) stars (r.next.byte % 2 ^ 32) x.laid.behind))) x.held.found;
+        found = uids_kept (below_then (below_less x.laid.uids below_first) (rw notes (notes_below w₁ t.ids r.count (wanted_name e) stars (r.next.byte % 2 ^ 32) x.laid.behind))) x.held.found;
         opened = rw next_put.step.same x.held.opened;
         noted = λ there.
             rw count_next
@@ -218,23 +218,23 @@ module _ {s : Text} {root e : Element} {t : Section} {start : Place} {d w : List
             (length (built_of done)) x.stand.puts next_put (wanted_name e) stars (λ i. (free_now i, name_made ∙ name_now i)) (rw x.stand.counts at notes) (rw z at there));
       }
 
-  pub adds_one : (w₁ : List ℕ) {w₂ : List ℕ} {r' : Records} → cleared t.from w₁ ≡ cleared t.from w → w₂ ≡ noted_by w₁ t.names r.count (wanted_name e) stars (r.next.byte % 2 ^ 32) → r'.count ≡ (r.count + 1) % 2 ^ 32
+  pub adds_one : (w₁ : List ℕ) {w₂ : List ℕ} {r' : Records} → cleared t.from w₁ ≡ cleared t.from w → w₂ ≡ noted_by w₁ t.ids r.count (wanted_name e) stars (r.next.byte % 2 ^ 32) → r'.count ≡ (r.count + 1) % 2 ^ 32
       → r'.next ≡ q → Adds s root (e ∷ []) t start d w r d' w₂ r'
   adds_one w₁ c notes n z = record {
     adds = λ small few laid d₀ done todo o held stand.
         let x : Turn s root e t start d w r d₀ done todo = record { small = small; few = few; laid = laid; order = o; held = held; stand = stand } in
         (stand_next x w₁ c notes n z, held_next x w₁ c notes n z);
-    keeps = λ at (a, b). ap (cleared at) notes ∙ cleared_below (notes_below w₁ t.names r.count (wanted_name e) stars (r.next.byte % 2 ^ 32) b) ∙ cleared_below (below_less a (below_cleared c));
+    keeps = λ at (a, b). ap (cleared at) notes ∙ cleared_below (notes_below w₁ t.ids r.count (wanted_name e) stars (r.next.byte % 2 ^ 32) b) ∙ cleared_below (below_less a (below_cleared c));
   }
 
 -- as the callees say it, about the text that was asked for
 pub adds_said : {s : Text} {root e : Element} {t : Section} {start : Place} {d w : List ℕ} {r : Records} (stars : ℕ) {b : Option CalendarPlaces} {d' : List ℕ} {q : Place} {name : Text} → name ≡ wanted_name e
-    → starred_by name stars ≡ starred_in Calendars d start r.next w t.names r.count name → BaseIn s root e t start r.count d w b → PutsCalendar e stars b d r.next d' q
-    → (w₁ : List ℕ) {w₂ : List ℕ} {r' : Records} → cleared t.from w₁ ≡ cleared t.from w → w₂ ≡ noted_by w₁ t.names r.count name stars (r.next.byte % 2 ^ 32) → r'.count ≡ (r.count + 1) % 2 ^ 32 → r'.next ≡ q
+    → starred_by name stars ≡ starred_in Calendars d start r.next w t.ids r.count name → BaseIn s root e t start r.count d w b → PutsCalendar e stars b d r.next d' q
+    → (w₁ : List ℕ) {w₂ : List ℕ} {r' : Records} → cleared t.from w₁ ≡ cleared t.from w → w₂ ≡ noted_by w₁ t.ids r.count name stars (r.next.byte % 2 ^ 32) → r'.count ≡ (r.count + 1) % 2 ^ 32 → r'.next ≡ q
     → Adds s root (e ∷ []) t start d w r d' w₂ r'
 adds_said {t = t} {start} {d} {w} {r} stars i st base put w₁ c notes n z =
-    adds_one stars (subst (λ (u : Text). starred_by u stars ≡ starred_in Calendars d start r.next w t.names r.count u) i st) base put w₁ c
-    (notes ∙ ap (λ (u : Text). noted_by w₁ t.names r.count u stars (r.next.byte % 2 ^ 32)) i) n z
+    adds_one stars (subst (λ (u : Text). starred_by u stars ≡ starred_in Calendars d start r.next w t.ids r.count u) i st) base put w₁ c
+    (notes ∙ ap (λ (u : Text). noted_by w₁ t.ids r.count u stars (r.next.byte % 2 ^ 32)) i) n z
 
 -- ---- one after another
 
@@ -283,16 +283,16 @@ default_not {d} {r} h = record { adds = λ d₀ start cs s. by_list cs s }
     by_list [] s = absurd (h s.counts)
     by_list (c ∷ cs) s = s
 
-pub default_put : {d : List ℕ} {r : Records} {d' : List ℕ} {q : Place} → r.count ≡ 0 → Puts (whole calendar) default_calendar d r.next d' q → AddsDefault d r d' record { count = 1; next = q }
+pub default_put : {d : List ℕ} {r : Records} {d' : List ℕ} {q : Place} → r.count ≡ 0 → Puts (whole calendar) default_calendar d r.next d' q → AddsDefault d r d' record { count = (r.count + 1) % 2 ^ 32; next = q }
 default_put {d} {r} {d'} {q} h x = record { adds = λ d₀ start cs s. by_list cs s }
   where
-    by_list : {d₀ : List ℕ} {start : Place} (cs : List Calendar) → Stand cs d₀ start d r → Stand (or_default cs) d₀ start d' record { count = 1; next = q }
-    by_list [] s = stand_more s x (omega arith)
+    by_list : {d₀ : List ℕ} {start : Place} (cs : List Calendar) → Stand cs d₀ start d r → Stand (or_default cs) d₀ start d' record { count = (r.count + 1) % 2 ^ 32; next = q }
+    by_list [] s = stand_more s x (omega (arith, h))
     by_list (c ∷ cs) s = absurd (omega (arith, s.counts))
 
 -- the tables, before the first one
 pub tables_begin : (root : Root) {d : List ℕ} {start : Place} {at : ℕ} {w w₁ w₂ : List ℕ} {u : CalendarTable} {m : Option Ids} (rows : ℕ) {from : ℕ} → MakesUids root.tree.now (root_at root) at w w₁ u
-    → (m ≡ ids_for (length d) start (length w₁) u.end rows) × (w₂ ≡ begun w₁ m) → from ≡ end_ids m u.end (length w₂) → Begins root.tree.now (root_at root) d start at w w₂ (record { root = root; start = start; uids = u.table; names = m; from = from })
+    → (m ≡ ids_for (length d) start (length w₁) u.end rows) × (w₂ ≡ begun w₁ m) → from ≡ end_ids m u.end (length w₂) → Begins root.tree.now (root_at root) d start at w w₂ (record { root = root; start = start; uids = u.table; ids = m; from = from })
 tables_begin root {d} {start} {w = w} {w₁} {w₂} {u} {m} rows i (j, v) z =
     let (first, end) = uids_behind i in
     let behind = begun_behind (length d) start w₁ u.end rows j in

@@ -9,7 +9,7 @@ use Rattle.definition.specs.Calendar.{by_date, plain_calendar, default_calendar,
 use Rattle.definition.specs.Pack.{calendar}
 use Rattle.definition.specs.Ascii.{bytes}
 use Rattle.laws.specs.Buf.{◌▷◌}
-use Rattle.bits.specs.Steps.{Puts, view, said, field_step, put_same, put_via, put_no, put_more, put_list, put_period}
+use Rattle.bits.specs.Steps.{Puts, view, said, field_step, put_same, put_via, put_no, put_more, put_list}
 use Rattle.bits.specs.declared.Place.{Place}
 use Rattle.calendar.specs.declared.hours.WorkingTime.{WorkingTime}
 use Rattle.calendar.specs.Week.{flags_in}

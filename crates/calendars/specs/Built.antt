@@ -65,7 +65,7 @@ abbrev pub base_in : List Element → Element → Calendar
 base_in done e = (base_of e >>= λ u. with_uid u (build [] done)) or default_calendar
 
 pub record BaseIn (s : Text) (root e : Element) (t : Section) (start : Place) (count : ℕ) (d w : List ℕ) (b : Option CalendarPlaces) : Type 0 where
-  pub finds : (d₀ : List ℕ) (done todo : List Element) (q : Place) → in_order root ≡ done ++ todo → FindsUids s root t.uids w → NotedIn Calendars t.names d start w count
+  pub finds : (d₀ : List ℕ) (done todo : List Element) (q : Place) → in_order root ≡ done ++ todo → FindsUids s root t.uids w → NotedIn Calendars t.ids d start w count
       → Each (FitsCalendarBy Short) (built_of done) → Stand (built_of done) d₀ start d record { count = count; next = q } → inside (length d) q ≡ true → BaseIs b d q (base_in done e)
 
 abbrev pub BaseOf : Section → Element → ℕ → List ℕ → List ℕ → Option CalendarPlaces → Type 0
@@ -76,18 +76,18 @@ BaseOf t e = BaseIn t.root.tree.now (root_at t.root) e t t.start
 -- the tables stand one behind the other, before the words that are free
 pub record Laid (t : Section) : Type 0 where
   pub uids : end_names t.uids ≤ t.from
-  pub behind : Behind (end_names t.uids) t.names
-  pub before : Before t.names t.from
+  pub behind : Behind (end_names t.uids) t.ids
+  pub before : Before t.ids t.from
 
 -- they find each UID, and those so far are noted where they fitted
 pub record Held (s : Text) (root : Element) (t : Section) (start : Place) (d w : List ℕ) (r : Records) : Type 0 where
   pub found : FindsUids s root t.uids w
-  pub opened : OpenIn t.names start (length d)
-  pub noted : inside (length d) r.next ≡ true → NotedIn Calendars t.names d start w r.count
+  pub opened : OpenIn t.ids start (length d)
+  pub noted : inside (length d) r.next ≡ true → NotedIn Calendars t.ids d start w r.count
 
 -- the words from a place on
 abbrev pub From : ℕ → Section → Type 0
-From at t = (at ≤ t.from) × Behind at t.names
+From at t = (at ≤ t.from) × Behind at t.ids
 
 abbrev pub none_yet : Place → Records
 none_yet start = record { count = 0; next = start }

@@ -31,14 +31,14 @@ pub(crate) struct Section<'a> {
     pub root: Root<'a>,
     pub start: Place,
     pub uids: Option<Table>,
-    pub names: Option<Ids>,
+    pub ids: Option<Ids>,
     pub from: usize,
 }
 
 impl Section<'_> {
     // The calendar of a row, if it is one of the first `count`.
     fn base_at(self, out: &[u8], words: &[u32], count: u32, row: usize) -> Option<CalendarPlaces>
-        ensures { AtRow row self.entry.names self.entry.start count out.now words.now result }
+        ensures { AtRow row self.entry.ids self.entry.start count out.now words.now result }
     {
         let row = u32::try_from(row).ok()?;
         if count <= row {
@@ -49,7 +49,7 @@ impl Section<'_> {
             Kind::Calendars,
             self.start,
             words,
-            self.names,
+            self.ids,
             count,
             row,
         );
@@ -87,7 +87,7 @@ impl Section<'_> {
             self.start,
             p,
             words,
-            self.names,
+            self.ids,
             count,
             name,
         );
@@ -97,22 +97,15 @@ impl Section<'_> {
             stars,
         };
         let next = entry.put(out, p, words, self.from);
-        names::note_stars(words, self.names, count, name, stars, p);
-        // The count wraps, here and in `put_elapsed`, since no `requires` bounds it.
-        Records {
-            count: count.wrapping_add(1),
-            next,
-        }
+        names::note_stars(words, self.ids, count, name, stars, p);
+        done.more(next)
     }
 
     // Those without a base, then the others.
     fn put(self, out: &mut [u8], words: &mut [u32]) -> Records
         ensures { AddsEach self.entry out.old words.old out.new words.new result }
     {
-        let mut done = Records {
-            count: 0,
-            next: self.start,
-        };
+        let mut done = Records::none(self.start);
         for e in rows::calendars(self.root) {
             done = self.put_one(out, words, done, e);
         }
@@ -125,10 +118,8 @@ fn or_default(out: &mut [u8], done: Records) -> Records
     ensures { AddsDefault out.old done out.new result }
 {
     if done.count == 0 {
-        return Records {
-            count: 1,
-            next: put_plain_calendar(out, done.next, b"Standard", WORKDAYS, None),
-        };
+        let next = put_plain_calendar(out, done.next, b"Standard", WORKDAYS, None);
+        return done.more(next);
     }
     done
 }
@@ -146,13 +137,13 @@ fn put_built(
     ensures kept { cleared at words.new ≡ cleared at words.old }
 {
     let made = names::index_uids(root, words, at);
-    let names = names::ids_for(out.len(), p, words, made.end, rows);
+    let ids = names::ids_for(out.len(), p, words, made.end, rows);
     let section = Section {
         root,
         start: p,
         uids: made.table,
-        names,
-        from: names::end_of_ids(names, made.end, words.len()),
+        ids,
+        from: names::end_of_ids(ids, made.end, words.len()),
     };
     let done = section.put(out, words);
     or_default(out, done)
@@ -185,16 +176,14 @@ fn put_elapsed(out: &mut [u8], done: Records, root: Root<'_>) -> Records
     ensures { AddsElapsed (root_at root.entry) out.old done out.new result }
 {
     if rows::any_elapsed(root) {
-        return Records {
-            count: done.count.wrapping_add(1),
-            next: put_plain_calendar(
-                out,
-                done.next,
-                b"Elapsed (24 hours)",
-                EVERY_DAY,
-                Some(WHOLE_DAY),
-            ),
-        };
+        let next = put_plain_calendar(
+            out,
+            done.next,
+            b"Elapsed (24 hours)",
+            EVERY_DAY,
+            Some(WHOLE_DAY),
+        );
+        return done.more(next);
     }
     done
 }
@@ -216,11 +205,7 @@ pub fn put_calendars(
     let n = names::count_calendars(root);
     if 5_000_000 < n || p.bit % 8 != 0 {
         bits::fill_from(words, at, 0);
-        // PAST and no Option: nothing fits behind it either, so `read` tests the end once.
-        return Records {
-            count: 0,
-            next: PAST,
-        };
+        return Records::none(PAST);
     }
     // `u32::try_from` would have an error that cannot occur.
     let done = put_built(out, p, root, words, at, n as u32);

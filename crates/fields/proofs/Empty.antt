@@ -3,9 +3,12 @@ use Prim.Native.Nat.{suc}
 use native.Mathlib.Omega.{arith}
 use borrow.Author.Tests.{ne_eqb}
 use mathlib.Core.Path.{◌≡◌, refl, ap, ◌∙◌}
-use mathlib.Core.Bool.{not}
+use mathlib.Core.Bool.{Bool, not}
 use mathlib.Core.List.{[], ◌∷◌}
+use Rattle.std.proofs.Common.{Bor}
 use Rattle.std.specs.Prelude.{Option, Some, None}
+use Rattle.std.specs.Bool.{then_some}
+use Rattle.std.specs.Option.{option_map}
 use lib.Dec.{eqb}
 use lib.Ieee.{Float}
 use lib.ListN.{length}
@@ -68,3 +71,8 @@ length_given e n = by (child e n)
     by : (o : Option Element) → not (eqb (length ((o >>= λ c. non_empty (trim c.text)) or [])) 0) ≡ given (o >>= λ c. non_empty (trim c.text))
     by None = refl
     by (Some c) = filled (trim c.text)
+
+-- the text itself, where it is given
+pub said_if : (o : Option Text) (t : Bor Text) → t.now ≡ (o or []) → {b : Bool} → b ≡ given o → {r : Option (Bor Text)} → r ≡ then_some b t → option_map (λ t. t.now) r ≡ o
+said_if None t i e h = rw (h, e)
+said_if (Some u) t i e h = rw (h, e) (ap Some i)

@@ -1,6 +1,7 @@
 // A value in a child.
 // Each reader has its own answer, and a name that callers read: one generic function would need a trait over the answers, which is no plainer.
 ghost use Rattle.std.specs.Prelude.{◌≡◌, []};
+ghost use Rattle.std.specs.Option.{option_map};
 ghost use Rattle.definition.specs.Base.{◌>>=◌ as bind, same, ◌or◌, given as present};
 ghost use Rattle.definition.specs.Tree.{text_of};
 ghost use Rattle.definition.specs.Date.{date_of};
@@ -17,7 +18,15 @@ use crate::value::{float_of, minutes_of, not_whole, unsigned_or};
 use definition::Date;
 use tree::Element;
 
-// Whether there is a text; an empty one counts as absent.
+// The text; an empty one counts as absent.
+pub fn text_in<'a>(e: Element<'a>, name: &[u8]) -> Option<&'a [u8]>
+    ensures { option_map (λ t. t.now) result ≡ text_of (meaning e.entry) name.now }
+{
+    let text = e.text_of(name);
+    (!text.is_empty()).then_some(text)
+}
+
+// Whether there is a text.
 pub fn given(e: Element<'_>, name: &[u8]) -> bool
     ensures { result ≡ present (text_of (meaning e.entry) name.now) }
 {

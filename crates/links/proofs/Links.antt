@@ -1,7 +1,6 @@
 -- Link elements: what becomes of one, and the kept ones written one after another. Assumes nothing.
-use Rattle.std.proofs.Common.{◌≡◌, ℕ, ◌+◌, ◌%◌, ◌^◌, ◌==◌, Bool, true, false, List, [], ◌∷◌, length, sym, ap, ◌∙◌}
-use Rattle.std.specs.Prelude.{Option}
-use Rattle.definition.specs.Base.{◌>>=◌, ◌or◌}
+use Rattle.std.proofs.Common.{◌≡◌, ℕ, ◌+◌, ◌%◌, ◌^◌, true, false, List, [], ◌∷◌, sym, ap, ◌∙◌, Bor, refl, arith}
+use Rattle.std.specs.Prelude.{Option, Some, None}
 use Rattle.definition.specs.Ascii.{bytes}
 use Rattle.definition.specs.Text.{Text}
 use Rattle.definition.specs.Tree.{Element, all}
@@ -17,33 +16,37 @@ use Rattle.pack.specs.Value.{lag_fields}
 use Rattle.pack.specs.Record.{link_by}
 use Rattle.pack.specs.declared.record.Link.{Link}
 use Rattle.pack.specs.declared.record.Records.{Records}
-use Rattle.rows.specs.Turns.{text_given, text_missing}
 use Rattle.links.specs.Fates.{LinkFate, Finder, fate_for, links_by, day_only, links_for, links_in, links_from}
-use Rattle.links.specs.Given.{given_none, given_some}
 use Rattle.links.specs.Entered.{links_are}
 use Rattle.links.specs.More.{More, more_none, more_one, more_as, Left, left_all, left_next, left_end}
 use Rattle.links.specs.declared.fate.LeftOut.{LeftOut}
 use Rattle.links.specs.declared.fate.LeftOut.TheVariants.{Across, Dangling}
 use Rattle.std.specs.Prelude.{Ok, Err}
-use Rattle.std.specs.Option.{ok_or}
+use Rattle.std.specs.Option.{ok_or, option_map}
 
 -- ---- what becomes of one
+
+left_out : (o : Option (Bor Text)) {why : LeftOut} → ok_or o Dangling ≡ Err why → (o ≡ None) × (why ≡ Dangling)
+left_out (Some t) k = let z : ◌≡◌ {A = ℕ} 0 1 = cc in absurd (omega arith)
+left_out None k = (refl, cc)
+
+there : (o : Option (Bor Text)) {t : Bor Text} → ok_or o Dangling ≡ Ok t → o ≡ Some t
+there (Some t) k = cc
+there None k = let z : ◌≡◌ {A = ℕ} 0 1 = cc in absurd (omega arith)
 
 module _ (find : Finder) (l : Element) where
   pub fate_across : yes_in l "CrossProject" ≡ true → Err Across ≡ fate_for find l
   unfolding fate_for
   fate_across e = rw e
 
-  module _ (e : yes_in l "CrossProject" ≡ false) (t : Text) (j : t ≡ (text_in l "PredecessorUID" or [])) where
-    pub fate_none : {b : Bool} → b ≡ (length t == 0) → b ≡ true → Err Dangling ≡ fate_for find l
+  module _ (e : yes_in l "CrossProject" ≡ false) (o : Option (Bor Text)) (h : option_map (λ t. t.now) o ≡ text_in l "PredecessorUID") where
+    pub fate_none : {why : LeftOut} → ok_or o Dangling ≡ Err why → Err why ≡ fate_for find l
     unfolding fate_for
-    fate_none h k = rw (e, ← text_missing (text_in l "PredecessorUID") find (given_none l (bytes "PredecessorUID") t j h k))
+    fate_none k = let (n, d) = left_out o k in rw (e, ← h, n, d)
 
-    pub fate_row : {b : Bool} → b ≡ (length t == 0) → b ≡ false → {a : Option ℕ} → a ≡ find t → {r : LinkFate} → r ≡ ok_or a Dangling → r ≡ fate_for find l
+    pub fate_row : {t : Bor Text} → ok_or o Dangling ≡ Ok t → {a : Option ℕ} → a ≡ find t.now → {r : LinkFate} → r ≡ ok_or a Dangling → r ≡ fate_for find l
     unfolding fate_for
-    fate_row h g {a} k m =
-        let z : a ≡ (text_in l "PredecessorUID" >>= find) = k ∙ text_given (text_in l "PredecessorUID") find (given_some l (bytes "PredecessorUID") t j h g) j in
-        rw e (m ∙ ap (λ (o : Option ℕ). ok_or o Dangling) z)
+    fate_row k i m = rw (e, ← h, there o k, ← i) m
 
 -- ---- one written
 

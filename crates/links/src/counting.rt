@@ -28,25 +28,25 @@ fn counted(n: Fates, fate: Result<u32, LeftOut>) -> Fates
 }
 
 // With those of a task.
-fn counted_in(task: Element<'_>, tasks: TaskFinder<'_>, n: Fates) -> Fates
-    ensures { result ≡ counted_in (found_by tasks.entry) n (all (meaning task.entry) (bytes "PredecessorLink")) }
+fn counted_in(task: Element<'_>, finder: TaskFinder<'_>, n: Fates) -> Fates
+    ensures { result ≡ counted_in (found_by finder.entry) n (all (meaning task.entry) (bytes "PredecessorLink")) }
 {
     let mut count = n;
     for link in task.children(b"PredecessorLink") {
-        count = counted(count, fate_of(link, tasks));
+        count = counted(count, fate_of(link, finder));
     }
     count
 }
 
-pub fn count_fates(tasks: TaskFinder<'_>) -> Fates
-    ensures { Counted (fates_by (found_by tasks.entry) (context_of (root_at tasks.entry.root))) result }
+pub fn count_fates(finder: TaskFinder<'_>) -> Fates
+    ensures { Counted (fates_by (found_by finder.entry) (context_of (root_at finder.entry.root))) result }
 {
     let mut count = Fates {
         dangling: 0,
         across: 0,
     };
-    for task in rows::kept_tasks(tasks.root) {
-        count = counted_in(task, tasks, count);
+    for task in rows::kept_tasks(finder.root) {
+        count = counted_in(task, finder, count);
     }
     count
 }

@@ -14,23 +14,21 @@ pub(crate) enum LeftOut {
 }
 
 // The row of its predecessor.
-pub(crate) fn fate_of(link: Element<'_>, tasks: TaskFinder<'_>) -> Result<u32, LeftOut>
-    ensures { result ≡ fate_for (found_by tasks.entry) (meaning link.entry) }
+pub(crate) fn fate_of(link: Element<'_>, finder: TaskFinder<'_>) -> Result<u32, LeftOut>
+    ensures { result ≡ fate_for (found_by finder.entry) (meaning link.entry) }
 {
     if tasks::is_across(link) {
         return Err(LeftOut::Across);
     }
-    let uid = link.text_of(b"PredecessorUID");
-    if uid.is_empty() {
-        return Err(LeftOut::Dangling);
-    }
-    tasks.row(uid).ok_or(LeftOut::Dangling)
+    // `and_then` was tried: of a closure over a slice the proof learns nothing.
+    let uid = fields::text_in(link, b"PredecessorUID").ok_or(LeftOut::Dangling)?;
+    finder.row(uid).ok_or(LeftOut::Dangling)
 }
 
 // Whether a kept link enters the task.
-pub fn is_entered(task: Element<'_>, tasks: TaskFinder<'_>) -> bool
-    ensures { result ≡ is_entered (found_by tasks.entry) (meaning task.entry) }
+pub fn is_entered(task: Element<'_>, finder: TaskFinder<'_>) -> bool
+    ensures { result ≡ is_entered (found_by finder.entry) (meaning task.entry) }
 {
     task.children(b"PredecessorLink")
-        .any(|link| fate_of(link, tasks).is_ok())
+        .any(|link| fate_of(link, finder).is_ok())
 }

@@ -34,12 +34,7 @@ fn put_kept(
         kind: u32::from(tasks::link_kind(link)),
         lag: LagFields::from(tasks::link_lag(link, per_day)),
     };
-    let next = record.put(out, done.next);
-    // The count wraps, since no `requires` bounds it.
-    Records {
-        count: done.count.wrapping_add(1),
-        next,
-    }
+    done.more(record.put(out, done.next))
 }
 
 // Those of a task, which has the row.
@@ -47,15 +42,15 @@ fn put_links_in(
     out: &mut [u8],
     done: Records,
     task: Element<'_>,
-    tasks: TaskFinder<'_>,
+    finder: TaskFinder<'_>,
     per_day: u64,
     row: u32,
 ) -> Records
-    ensures { More (whole link_format) (links_in per_day (found_by tasks.entry) row (all (meaning task.entry) (bytes "PredecessorLink"))) out.old done out.new result }
+    ensures { More (whole link_format) (links_in per_day (found_by finder.entry) row (all (meaning task.entry) (bytes "PredecessorLink"))) out.old done out.new result }
 {
     let mut r = done;
     for link in task.children(b"PredecessorLink") {
-        if let Ok(predecessor) = fate_of(link, tasks) {
+        if let Ok(predecessor) = fate_of(link, finder) {
             r = put_kept(out, r, link, per_day, row, predecessor);
         }
     }
@@ -63,15 +58,15 @@ fn put_links_in(
 }
 
 // The kept links, one after another.
-pub fn put_links(out: &mut [u8], p: Place, tasks: TaskFinder<'_>) -> Records
-    ensures { Writes (whole link_format) (links_by (found_by tasks.entry) (context_of (root_at tasks.entry.root))) out.old p out.new result }
+pub fn put_links(out: &mut [u8], p: Place, finder: TaskFinder<'_>) -> Records
+    ensures { Writes (whole link_format) (links_by (found_by finder.entry) (context_of (root_at finder.entry.root))) out.old p out.new result }
 {
-    let per_day = tasks::per_day(tasks.root);
-    let mut r = Records { count: 0, next: p };
-    // Counted by hand: `enumerate` counts in usize.
+    let per_day = tasks::per_day(finder.root);
+    let mut r = Records::none(p);
+    // Counted by hand: `enumerate` counts in usize, and a row has 32 bits.
     let mut row: u32 = 0;
-    for task in rows::kept_tasks(tasks.root) {
-        r = put_links_in(out, r, task, tasks, per_day, row);
+    for task in rows::kept_tasks(finder.root) {
+        r = put_links_in(out, r, task, finder, per_day, row);
         row += 1;
     }
     r

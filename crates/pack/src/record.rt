@@ -1,5 +1,5 @@
 // The records, each from the values in it, with zero bits up to a whole byte.
-ghost use Rattle.std.specs.Prelude.{◌≡◌};
+ghost use Rattle.std.specs.Prelude.{◌≡◌, ◌+◌, ◌%◌, ◌^◌};
 ghost use Rattle.definition.specs.Format.{whole};
 ghost use Rattle.definition.specs.Pack.{project, activity, link, resource, assignment, expense, counts};
 ghost use Rattle.bits.specs.Steps.{Puts};
@@ -42,8 +42,8 @@ impl From<ActivityKind> for u32 {
     }
 }
 
-// The kind is a number, as is the duration type of Progress: see the records below.
-// What an activity is: its kind, its duration in days, with the minutes where they are not whole days, and its parent's row.
+// What an activity is: its kind, its duration in days, with the minutes where they are not whole days, and its parent's row. The kind is a number, as is
+// the duration type of Progress: a writer takes any code that the format holds, and an enum would take fewer.
 #[derive(Clone, Copy, Debug, PartialEq, Eq)]
 pub struct Plan {
     pub kind: u32,
@@ -66,8 +66,7 @@ pub struct Progress {
     pub remaining: Option<i64>,
 }
 
-// How many records of each kind there are. The crate model has structs of the same six names, of places and of sections: a generic one would
-// still be filled and read by the six names.
+// How many records of each kind there are. Not model's PerKind<u32>: this crate stands beside model, and writes records without their reader.
 #[derive(Clone, Copy, Debug, PartialEq, Eq)]
 pub struct Counts {
     pub calendars: u32,
@@ -83,6 +82,25 @@ pub struct Counts {
 pub struct Records {
     pub count: u32,
     pub next: Place,
+}
+
+impl Records {
+    // None, from a place on. A section that is not written has PAST, and no Option: nothing fits behind it either, so that the end is tested once.
+    pub fn none(next: Place) -> Records
+        ensures { result ≡ record { count = 0; next = next } }
+    {
+        Records { count: 0, next }
+    }
+
+    // One more, behind which `next` stands. The count wraps, since no `requires` bounds it.
+    pub fn more(self, next: Place) -> Records
+        ensures { result ≡ record { count = (self.count + 1) % 2 ^ 32; next = next } }
+    {
+        Records {
+            count: self.count.wrapping_add(1),
+            next,
+        }
+    }
 }
 
 // ---- the records. Codes are numbers here: a writer takes any that the format holds, and an enum would ask more of its callers; tasks and resources have

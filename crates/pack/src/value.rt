@@ -31,7 +31,8 @@ pub(crate) fn put_number(out: &mut [u8], p: Place, v: i64) -> Place
     bits::put_i64(out, p, v)
 }
 
-// The number of a day in the years; day 0 of the year -10000 for any other: a Date may hold any number, and a writer cannot fail.
+// The number of a day in the years; for any other that of 1 January of the year -10000, which no model holds: a Date may hold any number, and a
+// writer cannot fail.
 fn day_number(d: Date) -> i32
     ensures { result ≡ day_number (date_by d.0) }
 {

@@ -6,7 +6,7 @@ use Rattle.calendars.proofs.PlainCalendars.{elapsed_is}
 use Rattle.calendars.proofs.built.put_elapsed.Goals as goal
 
 pub returns-then-any_elapsed : goal.returns-then-any_elapsed
-returns-then-any_elapsed c = elapsed_put (root_at c.args.root) (sym c.any_elapsed.ensures ∙ c.if-any_elapsed.true) (put_same elapsed_is c.put_plain_calendar.ensures) refl
+returns-then-any_elapsed c = rw c.more.ensures (elapsed_put (root_at c.args.root) (sym c.any_elapsed.ensures ∙ c.if-any_elapsed.true) (put_same elapsed_is c.put_plain_calendar-next.ensures) refl)
 
 pub returns : goal.returns
 returns c = elapsed_not (root_at c.args.root) (sym c.any_elapsed.ensures ∙ c.if-any_elapsed.false)

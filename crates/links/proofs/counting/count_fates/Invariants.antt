@@ -6,4 +6,4 @@ use Rattle.links.specs.Fates.{found_by, counted_of}
 use Rattle.links.proofs.counting.count_fates.Given as goal
 
 abbrev pub invariant-loop-task : goal.invariant-loop-task
-invariant-loop-task l = counted_of (found_by l.tasks) l.initial.count (kept_tasks (root_at l.tasks.root)) ≡ counted_of (found_by l.tasks) l.count (kept_left l.task-iterator)
+invariant-loop-task l = counted_of (found_by l.finder) l.initial.count (kept_tasks (root_at l.finder.root)) ≡ counted_of (found_by l.finder) l.count (kept_left l.task-iterator)

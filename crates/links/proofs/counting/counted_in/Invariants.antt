@@ -6,4 +6,4 @@ use Rattle.links.specs.Fates.{found_by, counted_in}
 use Rattle.links.proofs.counting.counted_in.Given as goal
 
 abbrev pub invariant-loop-link : goal.invariant-loop-link
-invariant-loop-link l = counted_in (found_by l.tasks) l.initial.count (all (meaning l.task) (bytes "PredecessorLink")) ≡ counted_in (found_by l.tasks) l.count (left l.link-iterator)
+invariant-loop-link l = counted_in (found_by l.finder) l.initial.count (all (meaning l.task) (bytes "PredecessorLink")) ≡ counted_in (found_by l.finder) l.count (left l.link-iterator)

@@ -10,7 +10,7 @@ use Rattle.links.proofs.fate.is_entered.Goals as goal
 pub returns : goal.returns
 unfolding is_entered
 returns c =
-    let kept = is_kept_link (found_by c.args.tasks) in
-    any_from_yields_List kept c.any.new.self _ _ c.any.ensures.ran (children_list c.children.result) (λ x b q k. search (rules, tests, kept_is (found_by c.args.tasks) (meaning x)))
+    let kept = is_kept_link (found_by c.args.finder) in
+    any_from_yields_List kept c.any.new.self _ _ c.any.ensures.ran (children_list c.children.result) (λ x b q k. search (rules, tests, kept_is (found_by c.args.finder) (meaning x)))
     ∙ any_is kept _
     ∙ ap (some? kept) c.children.ensures

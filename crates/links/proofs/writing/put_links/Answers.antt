@@ -10,10 +10,10 @@ use Rattle.links.proofs.writing.put_links.Goals as goal
 pub loop-task-init : goal.loop-task-init
 loop-task-init c =
     let e = ap (λ (k : KeptTasks). kept_left k) c.into_iter-task-iterator.ensures.into_iter_gives ∙ c.kept_tasks-task-items.ensures.is in
-    (refl, from_begin _ _ c.per_day-per_day.ensures (sym e), omega (arith, ap length e, tasks_most (root_at c.args.tasks.root)))
+    (refl, from_begin _ _ c.per_day-per_day.ensures (sym e), omega (arith, ap length e, tasks_most (root_at c.args.finder.root)))
 
 pub returns : goal.returns
-returns c = more_all (from_end _ _ _ c.loop-task.invariant.1 c.in-None.ensures.steps.0)
+returns c = more_all (rw c.none-r.ensures at (from_end _ _ _ c.loop-task.invariant.1 c.in-None.ensures.steps.0))
 
 pub loop-task-preserved : goal.loop-task-preserved
 loop-task-preserved c =

@@ -9,4 +9,4 @@ use Rattle.links.specs.More.{Left}
 use Rattle.links.proofs.writing.put_links.Given as goal
 
 abbrev pub invariant-loop-task : goal.invariant-loop-task
-invariant-loop-task l = (length l.out ≡ length l.initial.out) × Left (whole link_format) (links_by (found_by l.tasks) (context_of (root_at l.tasks.root))) (links_from l.per_day (found_by l.tasks) l.row (kept_left l.task-iterator)) l.initial.out l.initial.r l.out l.r × (l.row + length (kept_left l.task-iterator) ≤ most_tasks)
+invariant-loop-task l = (length l.out ≡ length l.initial.out) × Left (whole link_format) (links_by (found_by l.finder) (context_of (root_at l.finder.root))) (links_from l.per_day (found_by l.finder) l.row (kept_left l.task-iterator)) l.initial.out l.initial.r l.out l.r × (l.row + length (kept_left l.task-iterator) ≤ most_tasks)

@@ -8,9 +8,9 @@ pub returns-in_err-uid : goal.returns-in_err-uid
 unfolding found_meaning
 returns-in_err-uid c =
     let a = c.args in
-    rw c.from_residual.ensures (look_not _ c.said.ensures (cost_in a.self.root.tree.now (root_at a.self.root) a.words.now a.self.cost) c.in_err-uid.was)
+    rw c.from_residual.ensures (look_not _ c.text_in.ensures (cost_in a.self.root.tree.now (root_at a.self.root) a.words.now a.self.cost) c.in_err-uid.was)
 
 pub returns : goal.returns
 returns c =
     let a = c.args in
-    look_up _ c.said.ensures (cost_in a.self.root.tree.now (root_at a.self.root) a.words.now a.self.cost) c.in_ok-uid.was c.cost_with.ensures.is
+    look_up _ c.text_in.ensures (cost_in a.self.root.tree.now (root_at a.self.root) a.words.now a.self.cost) c.in_ok-uid.was c.cost_with.ensures.is

@@ -7,9 +7,9 @@ use Rattle.assignments.proofs.section.Tables.work_of.Goals as goal
 pub returns-in_err-uid : goal.returns-in_err-uid
 returns-in_err-uid c =
     let a = c.args in
-    rw c.from_residual.ensures (look_not _ c.said.ensures (row_in a.self.root.tree.now (root_at a.self.root) Listed.Work a.words.now a.self.work) c.in_err-uid.was)
+    rw c.from_residual.ensures (look_not _ c.text_in.ensures (row_in a.self.root.tree.now (root_at a.self.root) Listed.Work a.words.now a.self.work) c.in_err-uid.was)
 
 pub returns : goal.returns
 returns c =
     let a = c.args in
-    look_up _ c.said.ensures (row_in a.self.root.tree.now (root_at a.self.root) Listed.Work a.words.now a.self.work) c.in_ok-uid.was c.row_with.ensures
+    look_up _ c.text_in.ensures (row_in a.self.root.tree.now (root_at a.self.root) Listed.Work a.words.now a.self.work) c.in_ok-uid.was c.row_with.ensures

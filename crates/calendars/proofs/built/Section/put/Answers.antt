@@ -9,7 +9,7 @@ use Rattle.calendars.proofs.built.Section.put.Goals as goal
 pub loop-e-init : goal.loop-e-init
 loop-e-init c =
     let e : calendars_left c.into_iter-e-iterator.result ≡ in_order (root_at c.args.self.root) = ap (λ (k : CalendarsInOrder). calendars_left k) c.into_iter-e-iterator.ensures.into_iter_gives ∙ c.calendars-e-items.ensures.is in
-    (refl, refl, sofar_none (sym e))
+    rw c.none-done.ensures (refl, refl, sofar_none (sym e))
 
 pub loop-e-preserved : goal.loop-e-preserved
 loop-e-preserved c =

@@ -1,4 +1,4 @@
-use Rattle.bits.specs.Steps.{put-⊗, put_same}
+use Rattle.bits.specs.Steps.{put-⊗}
 use Rattle.pack.proofs.record.Activity.put_schedule.Goals as goal
 
 pub returns : goal.returns

@@ -1,4 +1,4 @@
-use Rattle.bits.specs.Steps.{put-⊗, put_whole, put_same}
+use Rattle.bits.specs.Steps.{put-⊗, put_whole}
 use Rattle.pack.proofs.RecordBits.{put_link}
 use Rattle.pack.proofs.record.Link.put.Goals as goal
 
