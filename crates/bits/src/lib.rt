@@ -31,7 +31,7 @@ pub struct Place {
 
 // The place of what does not fit. Each later field does not fit there either, so that a chain of fields is tested once, at its end: with an Option
 // for a place, each field of a record would be tested.
-// Callers test `7 < p.bit` for it: a method of Place would be no shorter.
+// Callers test `7 < p.bit` for it, which is what their clauses say of a place: a method would be one more name for that.
 pub const PAST: Place = Place { byte: 0, bit: 8 };
 
 // A field that was read, and where the next one is read: from a place, or by a reader.

@@ -31,7 +31,7 @@ fn digit(n: u32) -> u8
     b'0' + (n % 10) as u8
 }
 
-// Byte by byte, as the definition says them: of `{:04}-{:02}-{:02}` the same clause would need the lemmas on printed integers.
+// Byte by byte, so that a clause says all ten: of what `print!` writes by `{:04}-{:02}-{:02}` none would.
 fn iso(y: u32, m: u32, d: u32) -> [u8; 10]
     ensures { result ≡ iso_of y m d }
 {

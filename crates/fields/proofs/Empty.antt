@@ -6,7 +6,8 @@ use mathlib.Core.Path.{◌≡◌, refl, ap, ◌∙◌}
 use mathlib.Core.Bool.{Bool, not}
 use mathlib.Core.List.{[], ◌∷◌}
 use Rattle.std.proofs.Common.{Bor}
-use Rattle.std.specs.Prelude.{Option, Some, None}
+use Rattle.std.specs.Prelude.{Option, Some, None, Ok, Err}
+use Rattle.std.specs.Result.{result_ok}
 use Rattle.std.specs.Bool.{then_some}
 use Rattle.std.specs.Option.{option_map}
 use lib.Dec.{eqb}
@@ -43,6 +44,10 @@ read_or : {A : Type 0} (f : Text → Reading A) → found (f []) ≡ None → (o
 read_or {A} f z o e h =
     ap (λ (a : Reading A). found a) h ∙ ap (λ (t : Text). found (f t)) e ∙ bind_or (λ (t : Text). found (f t)) z o
 
+ok_found : {A : Type 0} (a : Reading A) → result_ok a ≡ found a
+ok_found (Ok x) = refl
+ok_found (Err e) = refl
+
 -- t is what `text_of` or `own_text` gives
 module _ (o : Option Text) (t : Text) (e : t ≡ (o or [])) where
   pub whole_or : signed_of 64 t ≡ (o >>= signed_of 64)
@@ -51,8 +56,8 @@ module _ (o : Option Text) (t : Text) (e : t ≡ (o or [])) where
   pub date_or_lem : date_of t ≡ (o >>= date_of)
   date_or_lem = ap date_of e ∙ bind_or date_of no_date o
 
-  pub number_or : {r : Option Float} {a : Reading Float} → r ≡ found a → a ≡ number_of t → r ≡ (o >>= λ t. found (number_of t))
-  number_or g h = g ∙ read_or number_of no_number o e h
+  pub number_or : {r : Option Float} {a : Reading Float} → r ≡ result_ok a → a ≡ number_of t → r ≡ (o >>= λ t. found (number_of t))
+  number_or {a = a} g h = g ∙ ok_found a ∙ read_or number_of no_number o e h
 
   -- what is asked of a duration
   pub duration_or : {A : Type 0} (f : Option Duration → A) {r : A} {a : Reading Duration} → r ≡ f (found a) → a ≡ duration_of t → r ≡ f (o >>= λ t. found (duration_of t))

@@ -14,7 +14,7 @@ ghost use Rattle.tree.specs.Root.{own_text};
 ghost use Rattle.fields.specs.Answers.{unsigned_or};
 ghost use Rattle.fields.specs.Said.{yes_said, whole_said, date_said, number_said, duration_said, minutes_said};
 
-use crate::value::{float_of, minutes_of, not_whole, unsigned_or};
+use crate::value::{minutes_of, not_whole, unsigned_or};
 use definition::Date;
 use tree::Element;
 
@@ -73,11 +73,11 @@ pub fn date_in(e: Element<'_>, name: &[u8]) -> Option<Date>
     date::date_of(e.text_of(name))
 }
 
-// One that is too long gives none.
+// One that is too long gives none: a tree with it is refused as a whole.
 pub fn number_in(e: Element<'_>, name: &[u8]) -> Option<f64>
     ensures { result ≡ number_said (meaning e.entry) name.now }
 {
-    float_of(number::number_of(e.text_of(name)))
+    number::number_of(e.text_of(name)).ok()
 }
 
 pub fn minutes_in(e: Element<'_>, name: &[u8]) -> Option<u32>
@@ -103,5 +103,5 @@ pub fn date_at(e: Element<'_>) -> Option<Date>
 pub fn number_at(e: Element<'_>) -> Option<f64>
     ensures { result ≡ bind (own_text (meaning e.entry)) (λ t. found (number_of t)) }
 {
-    float_of(number::number_of(e.own_text()))
+    number::number_of(e.own_text()).ok()
 }

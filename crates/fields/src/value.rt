@@ -6,13 +6,6 @@ ghost use Rattle.fields.specs.Answers.{unsigned_or};
 
 use definition::{Duration, Unread};
 
-// A tree with a number that is too long is refused as a whole, so that it is none here.
-pub(crate) fn float_of(a: Result<f64, Unread>) -> Option<f64>
-    ensures { result ≡ found a }
-{
-    a.ok()
-}
-
 pub(crate) fn minutes_of(a: Result<Duration, Unread>) -> Option<u32>
     ensures { result ≡ minutes_alone (found a) }
 {

@@ -29,7 +29,8 @@ fn quad(s: &[u8], i: usize) -> u32
     u32::from_le_bytes([s[i], s[i + 1], s[i + 2], s[i + 3]])
 }
 
-// A byte of a text with so many `*` behind it; past its end 0 and no Option, as the hash takes zeros there.
+// A byte of a text with so many `*` behind it; past its end 0 and no Option, as the hash takes zeros there. Text and number go side by side here and in
+// names: pack's Starred stands above both, and would have to come down to the crate text for three functions here and one there.
 fn starred(s: &[u8], stars: u32, i: usize) -> u8
     ensures { result ≡ get_or (starred_by s.now stars) i 0 }
 {

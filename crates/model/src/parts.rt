@@ -132,7 +132,7 @@ pub fn take_period(s: &[u8], p: Place) -> Field<Option<Period>>
     }
 }
 
-// A period written, by its two minutes: a day sheet holds periods as a model does.
+// A period written, by its two minutes, any two: a day sheet holds periods as a model does.
 pub fn put_period(out: &mut [u8], p: Place, from: u64, to: u64) -> Place
     ensures { Puts period (from, to) out.old p out.new result }
 {

@@ -138,7 +138,7 @@ pub(crate) fn unless_main(out: &[u8], n: CalendarNames<'_>, text: &[u8], stars: 
 }
 
 // The elapsed calendar's name, unless it is the main one's. Its letters stand here, in named.rt, in activities and in calendars: clauses have the
-// definition's elapsed_name, and a const would be one more name to unfold in each.
+// definition's elapsed_name, which says that they are the same.
 pub(crate) fn elapsed_named(out: &[u8], n: CalendarNames<'_>) -> Option<u32>
     ensures { name_meaning elapsed_name result ≡ unless_main (context_at out.now n.entry.start (root_at n.entry.root)) elapsed_name }
 {

@@ -125,8 +125,8 @@ pub fn end_of_ids(ids: Option<Ids>, at: usize, len: usize) -> usize
 
 // How many `*` an id needs that is wanted for the row at p: by the tables, or by a look at all records where these have no words for so many. The section
 // begins at `start`. Once the room is spent nothing is tried.
-// The kind is a value: model's `skip_record` takes it so. Kind, start and tables go side by side, here and in `place_in`: the sections above have start
-// and tables among their own fields, and a struct of the three would be one more in each.
+// The kind is a value: model's `skip_record` takes it so. Kind, start and tables go side by side, here and in `place_in`: the clauses of each section name
+// its kind, and a struct of the three would carry the fact of which kind it is through all of them.
 pub fn stars_for(
     out: &[u8],
     kind: Kind,

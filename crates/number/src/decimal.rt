@@ -97,7 +97,7 @@ fn ten(k: usize) -> f64
     let mut power = 1.0;
     let mut base = 10.0;
     let mut n = k;
-    // A `while`: each turn halves what is left, so there is no range to go over.
+    // A `while`: each turn halves what is left, so there is no range to go over. Four turns at most; a plain product would take 22 multiplications.
     while n > 1 {
         if n % 2 == 1 {
             power = power * base;

@@ -39,7 +39,8 @@ fn put_decimal(out: &mut [u8], at: usize, n: u64) -> Option<usize>
     put(out, next, digit(n))
 }
 
-// What was written up to a place, and zeros behind it; zeros alone where it did not fit.
+// What was written up to a place, and zeros behind it; zeros alone where it did not fit. A number out of range is refused before anything is written, so
+// its callers clear by themselves: a Result in place of the Option would put their two ways together to be taken apart here.
 fn finish(out: &mut [u8], end: Option<usize>) -> Result<usize, Refusal>
     requires { IfSome end (λ n. n ≤ length out.old) }
     ensures { Gives (answer_of (view out.old end)) (length out.old) result out.new }

@@ -84,8 +84,7 @@ pub fn judge(s: &[u8]) -> Result<(), Refusal>
     if !all_utf8(s) {
         return Err(Refusal::Utf8);
     }
-    // The definition's most_elements, by its number: names, assignments and calendars test counts of their own by it, and a const would be one more name to
-    // unfold in each.
+    // The definition's most_elements, by its number, as names, assignments and calendars have it where they test counts of their own.
     if 5000000 < count {
         return Err(Refusal::TooMany);
     }

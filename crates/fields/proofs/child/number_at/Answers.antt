@@ -5,4 +5,4 @@ use Rattle.fields.proofs.child.number_at.Goals as goal
 
 pub returns : goal.returns
 returns c =
-    number_or (own_text (meaning c.args.e)) _ c.own_text.ensures c.float_of.ensures c.number_of.ensures
+    number_or (own_text (meaning c.args.e)) _ c.own_text.ensures c.ok.ensures.value c.number_of.ensures

@@ -5,4 +5,4 @@ use Rattle.fields.proofs.child.number_in.Goals as goal
 
 pub returns : goal.returns
 returns c =
-    number_or (text_of (meaning c.args.e) c.args.name.now) _ c.text_of.ensures c.float_of.ensures c.number_of.ensures
+    number_or (text_of (meaning c.args.e) c.args.name.now) _ c.text_of.ensures c.ok.ensures.value c.number_of.ensures
