@@ -128,7 +128,7 @@ fn table_behind(words: &mut [u32], end: usize, rows: u32) -> Option<Table>
 fn count_assignments(section: Element<'_>) -> u32
     ensures { result ≡ length (all (meaning section.entry) (bytes "Assignment")) % 2 ^ 32 }
 {
-    // `u32::try_from` would refuse what 32 bits hold in part.
+    // `u32::try_from` would refuse what 32 bits hold in part; a cast is proved to lose nothing, so the rest is taken before it.
     (section.children(b"Assignment").count() % 4294967296) as u32
 }
 

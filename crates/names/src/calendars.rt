@@ -50,7 +50,7 @@ pub fn calendars_before(out: &[u8], c: Place, root: Root<'_>, p: Place) -> bool
     ensures { result ≡ calendars_before out.now c (root_at root.entry) p }
 {
     let n = count_calendars(root);
-    if 5000000 < n {
+    if 5_000_000 < n {
         return false;
     }
     up_to(place_of_row(out, c, Kind::Calendars, n), p)
@@ -58,7 +58,7 @@ pub fn calendars_before(out: &[u8], c: Place, root: Root<'_>, p: Place) -> bool
 
 // ---- names
 
-// The name that a calendar is to have; `unnamed` for one that says none.
+// The name that a calendar is to have; `unnamed` for one that says none. Public, as it was: `calendar_text` alone calls it.
 pub fn wanted_name<'a>(e: Element<'a>, unnamed: &'a [u8]) -> &'a [u8]
     ensures { result.now ≡ wanted_by unnamed.now (meaning e.entry) }
 {
@@ -66,7 +66,7 @@ pub fn wanted_name<'a>(e: Element<'a>, unnamed: &'a [u8]) -> &'a [u8]
     if n.is_empty() { unnamed } else { n }
 }
 
-// The same, by the definition: `Calendar` for one that says none.
+// The definition's wanted_name of a calendar: `Calendar` for one that says none.
 pub fn calendar_text(e: Element<'_>) -> &[u8]
     ensures { result.now ≡ wanted_name (meaning e.entry) }
 {

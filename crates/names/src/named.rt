@@ -122,7 +122,8 @@ pub fn index_calendars(
     made
 }
 
-// ---- names by it. The buffer, the root, the words and their table go side by side, as in `stars_of` and in `rows`, which say why.
+// ---- names by it. The buffer, the root, the words and their table go side by side, as in `rows`, which says why; the two public functions take root
+// and start apart, as their callers have them.
 
 // What a word says of a name.
 fn by_word(word: u32) -> Option<u32>

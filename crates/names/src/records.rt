@@ -1,5 +1,6 @@
 // Records by their rows, and the texts at their fronts. No text is tested for UTF-8.
-// The buffer, the kind and the place go side by side, as in `stars_of`.
+// The buffer, the kind and the place go side by side: records are put into the buffer between the calls, so that a struct over it would be made anew
+// for each.
 ghost use Rattle.std.specs.Prelude.{◌≡◌, false, []};
 ghost use Rattle.definition.specs.Base.{◌or◌, some?, same};
 ghost use Rattle.definition.specs.Calendar.{free};

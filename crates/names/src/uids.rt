@@ -14,7 +14,7 @@ use crate::calendars::count_calendars;
 use index::Table;
 use tree::{Element, Root};
 
-// Where the word of a row stands, from where the table begins; the word more is that of the row past the last.
+// Where the word of a row's name stands, from where the table begins. That of the row past the last is the elapsed calendar's.
 pub(crate) fn name_at(t: Table, row: u32) -> usize
     ensures { t.at + result ≡ name_at t row }
 {
@@ -29,7 +29,7 @@ fn room_for(root: Root<'_>, len: usize, at: usize) -> Option<Table>
 {
     u32::try_from(root.tree.len()).ok()?;
     let n = count_calendars(root);
-    if 5000000 < n {
+    if 5_000_000 < n {
         return None;
     }
     // One row at least: a table of no rows would be none. By `as`: 5,000,000 are the most here, so that `try_from` would have an error that cannot occur.

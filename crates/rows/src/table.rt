@@ -135,7 +135,7 @@ fn scan(root: Root<'_>, list: Listed, uid: &[u8]) -> Option<u32>
     ensures { result ≡ row_in32 list (root_at root.entry) uid.now }
 {
     let mut found = None;
-    // Counted by hand: `enumerate` counts in usize.
+    // Counted by hand: `enumerate` counts in usize, and as nothing bounds how many there are, there is no range for `zip` as in `fill`.
     let mut row: u32 = 0;
     for e in elements(root, list) {
         let named = fields::text_is(e, b"UID", uid).then_some(row);
