@@ -17,7 +17,7 @@ fn has_no_rule(e: Element<'_>) -> bool
     recurrence::rule_of(e).is_none()
 }
 
-// How many of an element's.
+// How many Exceptions of an element give no rule, as 32 bits hold it.
 fn without_rule(e: Element<'_>) -> u32
     ensures { result ≡ without_rule (all (meaning e.entry) (bytes "Exception")) % 2 ^ 32 }
 {
@@ -25,7 +25,7 @@ fn without_rule(e: Element<'_>) -> u32
     (n % 4294967296) as u32
 }
 
-// How many of a Calendar.
+// How many of a Calendar, likewise.
 fn skipped_by(e: Element<'_>) -> u32
     ensures { result ≡ without_rule (recurring (meaning e.entry)) % 2 ^ 32 }
 {

@@ -194,7 +194,7 @@ pub fn count_of(d: Date) -> u32
     days_between(Date(-4371953), d)
 }
 
-// The date that lies so many days behind it.
+// The date that lies so many days behind 1 January of the year -10000.
 pub fn at_count(n: u32) -> Date
     requires { n < 2 ^ 31 }
     ensures { result.0 ≡ pos n -ℤ pos 4371953 }

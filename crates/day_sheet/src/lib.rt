@@ -175,8 +175,8 @@ fn put_day(s: &[u8], d: Day, out: &mut [u8]) -> Place
     bits::pad(out, e)
 }
 
-// The sheet of a day in the calendar of a row, from the first byte on, and where it ends. What stands behind it, all where there is none, is left to the
-// caller to clear.
+// The sheet of a day in the calendar of a row, from the first byte on, and where it ends. The caller clears what stands behind it, and
+// all where there is no sheet.
 fn put_sheet(s: &[u8], calendar: u32, date: Date, out: &mut [u8]) -> Result<usize, Refusal>
     ensures { leaves result (cleared (answer_length result) out.new) ≡ left_by (length out.old) (day_sheet_answer s.now calendar date.0 (length out.old)) }
 {

@@ -7,7 +7,7 @@ use Rattle.std.specs.Iterator.{YieldsFirst}
 use Rattle.std.specs.List.{list_any, find as first_that}
 use Rattle.std.specs.Option.{option_map}
 use Rattle.definition.specs.Base.{keep, first, find, given}
-use Rattle.index.specs.Chains.{next_at, next_of, walk, up_to, rows_left}
+use Rattle.index.specs.Chains.{next_at, next_of, walk, up_to, chain, rows_left}
 use Rattle.index.specs.Law.{below_small}
 use Rattle.index.specs.declared.Chain.{Chain}
 use Rattle.index.specs.declared.Table.{Table}
@@ -25,8 +25,8 @@ walk_below w t (suc k) (Some r) h (suc i) d l =
     let z : up_to (next_of w t r) ≤ r = below_small r (get_or w (next_at t r) 0) in
     walk_below w t k (next_of w t r) (omega arith) i d (omega arith)
 
-pub chain_below : (c : Chain) {n : ℕ} → up_to c.next ≤ n → All (λ r. r < n) (rows_left c)
-chain_below c h = walk_below c.words.now c.table (up_to c.next) c.next h
+pub chain_below : (w : List ℕ) (t : Table) (at : Option ℕ) {n : ℕ} → up_to at ≤ n → All (λ r. r < n) (chain w t at)
+chain_below w t at h = walk_below w t (up_to at) at h
 
 -- `find`, in the definition's word
 pub find_is : {A : Type 0} (p : A → Bool) (l : List A) → first_that p l ≡ find p l

@@ -10,7 +10,7 @@ ghost use Rattle.std.specs.Prelude.{◌≡◌, ◌+◌, ◌-◌, ◌*◌, ◌%�
 ghost use Rattle.std.specs.Iterator.{YieldsFirst, item_count};
 ghost use Rattle.index.specs.Hash.{quad_at, mixed, hash_after, hash_of};
 ghost use Rattle.laws.specs.Stars.{starred_by};
-ghost use Rattle.index.specs.Chains.{zeros, added, first_of, next_of, place_of, chain_of, table_of, row_below, end_in, rows_left};
+ghost use Rattle.index.specs.Chains.{zeros, added, first_of, next_of, place_of, chain, chain_of, table_of, row_below, end_in, rows_left};
 
 // Where its words begin, and how many rows there may be. A span of marks and a section of a model are numbers of the same kinds and mean other things.
 #[derive(Clone, Copy, Debug, PartialEq, Eq)]
@@ -208,10 +208,17 @@ impl Table {
     pub fn chain<'a>(self, words: &'a [u32], hash: u32) -> Chain<'a>
         ensures { rows_left result ≡ chain_of words.now self hash }
     {
+        self.chain_from(words, self.first(words, hash))
+    }
+
+    // The rows of a chain from one on; none from none.
+    pub fn chain_from<'a>(self, words: &'a [u32], row: Option<u32>) -> Chain<'a>
+        ensures { rows_left result ≡ chain words.now self row }
+    {
         Chain {
             table: self,
             words,
-            next: self.first(words, hash),
+            next: row,
         }
     }
 
@@ -226,9 +233,9 @@ impl Table {
 // The rows of a chain from one on.
 #[derive(Clone, Copy)]
 pub struct Chain<'a> {
-    pub table: Table,
-    pub words: &'a [u32],
-    pub next: Option<u32>,
+    table: Table,
+    words: &'a [u32],
+    next: Option<u32>,
 }
 
 impl<'a> Iterator for Chain<'a> {

@@ -164,7 +164,7 @@ pub(crate) fn resource_calendar_place_by<const CHECK: bool>(s: &[u8], p: Place) 
     skip(s, d, 64)
 }
 
-// In a model that was opened, where all who call from outside ask: by this name they pass no CHECK.
+// For callers outside, who all ask in a model that was opened; the const parameter stays inside.
 pub fn resource_calendar_place(s: &[u8], p: Place) -> Place
     ensures { Passes (resource_head (text_by false)) s.now p result }
 {

@@ -67,7 +67,7 @@ pub(crate) struct KeyBytes<'a> {
 }
 
 // The bytes of the text at a place. names::raw_text has this body and promises more, of bytes that are no text too: a function for both would stand in
-// model, with the laws of names that prove that promise, and this line is shorter.
+// model, with the laws of names that prove that promise; the body is one line, so it stands twice.
 pub(crate) fn text_at(s: &[u8], p: Place) -> &[u8]
     ensures { (t : Text) → Stands text s.now p t → result.now ≡ t }
 {

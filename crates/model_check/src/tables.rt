@@ -12,7 +12,7 @@ ghost use Rattle.model_check.specs.Tables.{Emptied, EmptyAt, KeyTable, TableFor}
 
 use crate::keys::{KeyBytes, Records, distinct, has_key, key_at, next_record};
 use bits::Place;
-use index::{Chain, Table};
+use index::Table;
 use model::Section;
 
 pub(crate) fn hash_key(key: KeyBytes) -> u32
@@ -78,8 +78,7 @@ fn chain_has_key<K: Records>(
     ensures { (ks : List Key) → KeyTable (lead_of K.KIND) s.now ks index.entry.table index.entry.words.now → up_to from ≤ length ks → result ≡ given (find (λ (r : ℕ). same_key (key_of key.entry) (get_or ks r no_key)) (chain index.entry.words.now index.entry.table from)) }
 {
     let KeyIndex { table, words } = index;
-    let next = from;
-    Chain { table, words, next }.any(|r| {
+    table.chain_from(words, from).any(|r| {
         let byte = table.place(words, r) as usize;
         has_key::<K>(s, Place { byte, bit: 0 }, key)
     })

@@ -43,7 +43,7 @@ impl From<ActivityKind> for u32 {
 }
 
 // What an activity is: its kind, its duration in days, with the minutes where they are not whole days, and its parent's row. The kind is a number, as is
-// the duration type of Progress: a writer takes any code that the format holds, and an enum would take fewer.
+// the duration type of Progress: a writer takes any, and an enum would ask more of its callers.
 #[derive(Clone, Copy, Debug, PartialEq, Eq)]
 pub struct Plan {
     pub kind: u32,
@@ -103,8 +103,7 @@ impl Records {
     }
 }
 
-// ---- the records. Codes are numbers here: a writer takes any that the format holds, and an enum would ask more of its callers; tasks and resources have
-// the enums, which turn into them.
+// ---- the records. Codes are numbers here too, for that reason; the enums which turn into them are ActivityKind above, and those of tasks and resources.
 
 #[derive(Clone, Copy, Debug, PartialEq, Eq)]
 pub struct Link {

@@ -1,7 +1,7 @@
 // Rules and their days. A rule goes out and comes in by its fields; a day goes as its count from 1 January of the
 // year -10000 on, 0 for none, and what lies past 31 December 9999 comes in as the day behind that; a month goes by
 // its number, 13 for none. Fields, Run and what `told` answers are numbers for C. 7304850 is the day behind 31 December
-// 9999, as the definition counts them.
+// 9999.
 ghost use Rattle.std.specs.Prelude.{◌≡◌};
 ghost use Rattle.definition.specs.Base.{◌or◌};
 ghost use Rattle.definition.specs.Recurrence.{rule_of, days_of};

@@ -62,7 +62,7 @@ start_of r = record { at = r.from; left = r.most }
 abbrev pub after : Cursor → Date → Cursor
 after c x = record { at = day_date (x + 1); left = c.left - 1 }
 
--- and of one with its days counted
+-- the days that a cursor leaves to come, of a rule with its days counted
 abbrev pub coming : Scaled → Cursor → List Date
 coming r c = left_by (as_rule r) c
 

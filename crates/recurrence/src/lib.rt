@@ -21,6 +21,7 @@ pub struct Rule {
     pub last: Date,
     pub most: u32,
     pub period: u32,
+    // from 1; 0 and those past 12 are none
     pub month: Option<u32>,
     pub day: u32,
     pub item: u32,

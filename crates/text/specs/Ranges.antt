@@ -1,4 +1,4 @@
--- Whole numbers up to a largest one: what the range of a type of w bits comes to, its width left out. Assumes nothing.
+-- Whole numbers up to a largest one: what the range of a type of w bits comes to, its width left out. For whoever cites it: whole_of goes by Whole.antt. Assumes nothing.
 use Rattle.std.specs.Prelude.{◌≡◌, refl, Bool, true, false, ℕ, zero, suc, ◌+◌, ◌-◌, ◌^◌, ◌≤◌, leb, ltb, ℤ, pos, negsuc, neg_ℤ, drop}
 use Rattle.std.proofs.Common.{sym, ap, ◌∙◌, add-one, arith, leb-true}
 use Rattle.std.proofs.Math.Dec.{leb-suc-suc}

@@ -1,5 +1,5 @@
 // A lent tree: elements in document order, a record each.
-// Walks take bytes and a position: an Element is what they find, and a walk ends where none stands.
+// Functions take bytes and a position, and the two iterators hold them: an Element is what they find, and a walk ends where none stands.
 #![tactic(auto)]
 
 ghost use Rattle.std.specs.Prelude.{◌≡◌, ◌+◌, ◌<◌, [], length, MatchOption};

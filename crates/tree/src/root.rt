@@ -105,6 +105,7 @@ pub fn root_of(e: Element<'_>) -> Root<'_>
         at: h.next,
         depth: h.depth + 1,
     };
+    // Without the name: what `note` leaves is said of an element's own.
     for (child, _) in children {
         r = note_all(r, child);
     }
