@@ -1,5 +1,5 @@
 -- The tables of ids behind the columns. Assumes nothing.
-use Prim.Native.Nat.{ℕ, ◌+◌, ◌-◌, ◌^◌, ◌≤◌, ◌<◌, min}
+use Prim.Native.Nat.{ℕ, ◌+◌, ◌-◌, ◌≤◌, ◌<◌, min}
 use Rattle.index.specs.declared.Table.{Table}
 use Rattle.names.specs.declared.ids.Ids.{Ids}
 use native.Mathlib.Decide.{dec_lt}
@@ -39,13 +39,6 @@ use Rattle.activities.specs.declared.own.Own.{Own}
 use Rattle.activities.specs.declared.parents.Columns.{Columns}
 
 -- ---- all words of the section
-
-pub end_small : {columns : Columns} {len bytes : ℕ} → Room columns len bytes → len < 2 ^ 64 → columns.at < 2 ^ 64 → end_of columns < 2 ^ 64
-end_small {columns} r h k = by (dec_lt 0 columns.rows)
-  where
-    by : Dec (0 < columns.rows) → end_of columns < 2 ^ 64
-    by (yes l) = omega (arith, r.room l)
-    by (no l) = omega arith
 
 -- the calendars behind the table of the tasks, the columns behind them, and the ids
 pub own_begun : {columns : Columns} {ids : Option Ids} {tasks : Option Table} {d : List ℕ} {start : Place} {w w₁ w₂ : List ℕ} {bytes end : ℕ} {c : Place} {s : Text} {root : Element} {t : CalendarTable}

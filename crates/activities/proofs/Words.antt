@@ -1,5 +1,5 @@
 -- The columns of parents: a row of them. Assumes nothing.
-use Prim.Native.Nat.{ℕ, ◌+◌, ◌-◌, ◌*◌, ◌^◌, ◌≤◌, ◌<◌}
+use Prim.Native.Nat.{ℕ, ◌+◌, ◌-◌, ◌*◌, ◌≤◌, ◌<◌}
 use native.Mathlib.Omega.{arith}
 use mathlib.Core.Path.{◌≡◌, refl, sym, ap, ◌∙◌}
 use mathlib.Core.List.{List, map}
@@ -39,9 +39,6 @@ module _ {s : Text} {root : Element} {own : Columns} {row : ℕ} {task : Place} 
   module _ (few : row < own.rows) where
     pub words_there : own.at + 2 * row + 2 ≤ length w
     words_there = let z = r.own_room.room (omega arith) in omega arith
-
-    pub short_at : task.at < 2 ^ 32
-    short_at = let z = r.own_room.short (omega arith) in omega (arith, r.there.inside)
 
     pub ready_climbs : Climbs s own.at row w
     ready_climbs = held_climbs (r.held (omega arith)) (omega (arith, words_there))

@@ -18,14 +18,10 @@ use tree::Element;
 pub(crate) fn wanted_id(task: Element<'_>) -> &[u8]
     ensures { result.now ≡ wanted_id (meaning task.entry) }
 {
-    // By `if let`: `or_else` and `unwrap_or_else` were tried, and of a closure that gives a slice the proof learns nothing.
-    if let Some(wbs) = fields::text_in(task, b"WBS") {
-        return wbs;
-    }
-    if let Some(id) = fields::text_in(task, b"ID") {
-        return id;
-    }
-    task.text_of(b"UID")
+    // Each is looked up in any case: of a closure that gives a slice, for `or_else`, the proof learns nothing.
+    fields::text_in(task, b"WBS")
+        .or(fields::text_in(task, b"ID"))
+        .unwrap_or(task.text_of(b"UID"))
 }
 
 // The name of the calendar that the task wants, where it has a name. Whether it is elapsed is asked once for a task: the minutes of its day need it too.
@@ -43,7 +39,7 @@ pub(crate) fn calendar_for<'a>(
     let table = section.own.calendars;
     if elapsed {
         let name = names::elapsed_in(out, c, root, words, table);
-        return Starred::named(b"Elapsed (24 hours)", name);
+        return Starred::named(names::ELAPSED, name);
     }
     let uid = fields::text_in(task, b"CalendarUID").filter(|u| !text::same(u, b"-1"))?;
     names::calendar_in(out, c, root, words, table, uid)

@@ -1,7 +1,6 @@
 -- Expenses: whether one stands in the buffer, and one after another, the first of equal ones. Assumes nothing.
 use Rattle.std.specs.Prelude.{if◌then◌else◌}
-use Rattle.std.proofs.Common.{◌≡◌, ℕ, ◌+◌, ◌-◌, ◌%◌, ◌^◌, ◌<◌, ◌≤◌, Bool, true, false, ◌&&◌, ◌||◌, eqb, List, [], ◌∷◌, ◌++◌, map, length, drop, sym, refl, ap, ◌∙◌, append-nil, mod-eq_of_lt, arith, eq-eqb, eqb-true, drop_of_length-le}
-use native.Mathlib.Nat.{sub-zero}
+use Rattle.std.proofs.Common.{◌≡◌, ℕ, ◌+◌, ◌-◌, ◌%◌, ◌^◌, ◌<◌, ◌≤◌, Bool, true, false, ◌&&◌, ◌||◌, eqb, List, ◌∷◌, ◌++◌, map, length, drop, sym, refl, ap, ◌∙◌, append-nil, mod-eq_of_lt, arith, eq-eqb, eqb-true, drop_of_length-le, []}
 use Rattle.std.specs.Prelude.{Option, Some, None}
 use Rattle.definition.specs.Base.{◌or◌, present, some?, same}
 use Rattle.definition.specs.Bits.{Bits}
@@ -81,9 +80,6 @@ first_key activity name b {i = i} {ts} e s =
     ap (some? (is_key activity name)) s.is ∙ ap (λ (t : Bool). t || some? (is_key activity name) (drop (i + 1) ts)) (sym (key_at activity name s.stands) ∙ e)
 
 module _ {d : List ℕ} {p : Place} {n activity : ℕ} {name : Text} where
-  pub seeks_all : Seeks d p n activity name p 0
-  seeks_all = record { seeks = λ ts end l e h. (rw (sub-zero n) h, refl) }
-
   module _ {q r : Place} {i : ℕ} (h : Seeks d p n activity name q i) (lt : i < n) (k : Passes (record_of false Expenses) d q r) where
     pub seeks_more : {b : Bool} → b ≡ is_expense_at d q activity name → b ≡ false → Seeks d p n activity name r (i + 1)
     seeks_more is e = record {

@@ -1,9 +1,8 @@
 -- The expenses in use, by a table: what it says of those that were written, and one more. Assumes nothing.
 use Rattle.std.specs.Prelude.{if◌then◌else◌}
-use Rattle.std.proofs.Common.{◌≡◌, ℕ, suc, ◌+◌, ◌*◌, ◌%◌, ◌^◌, ◌<◌, ◌≤◌, Bool, true, false, not, ◌&&◌, ◌||◌, eqb, ltb, leb, List, [], ◌∷◌, ◌++◌, map, length, get_or, take, drop, sym, refl, ap, ◌∙◌, true≢false, mod-eq_of_lt, arith, length-append, ltb-false, ltb-true, le-ltb, lt-ltb, eq-eqb, eqb-true, leb-false}
+use Rattle.std.proofs.Common.{◌≡◌, ℕ, suc, ◌+◌, ◌*◌, ◌%◌, ◌^◌, ◌<◌, ◌≤◌, Bool, true, false, ◌&&◌, ◌||◌, eqb, ltb, List, ◌∷◌, ◌++◌, map, length, get_or, take, drop, sym, refl, ap, ◌∙◌, mod-eq_of_lt, arith, length-append, ltb-true, eqb-true, []}
 use mathlib.Core.List.{map-append}
 use Rattle.std.specs.Prelude.{Option, Some, None}
-use borrow.Author.Tests.{lt-leb, not-false}
 use lib.ListN.{get_or-append}
 use lib.Seq.{split_at, take-append-le, take-append_seam, get_or-append_seam}
 use Rattle.definition.specs.Base.{◌>>=◌, ◌or_else◌, when, given, find_last, present, some?, same, numbered}
@@ -16,7 +15,6 @@ use Rattle.laws.specs.Bools.{both}
 use Rattle.laws.specs.Same.{same_eq}
 use Rattle.laws.specs.Options.{never}
 use Rattle.laws.specs.FitRecords.{Short, ExpenseParts}
-use Rattle.laws.specs.Tests.{neither}
 use Rattle.bits.specs.Places.{room_fits, at, inside, place_at_lem}
 use Rattle.bits.specs.Steps.{Puts}
 use Rattle.bits.specs.declared.Place.{Place}
@@ -156,46 +154,6 @@ module _ (v : List ℕ) (row : ℕ) (p : Place) (key : ℕ) where
       by : (b : Bool) → SameBelow n v (stored b t).1
       by false = below_refl n v
       by true = below_added t v row key p.byte (h.behind t refl)
-
--- a place that 32 bits do not hold, or no row for it
-abbrev no_room_at : Table → ℕ → Place → Bool
-no_room_at t row p = not (eqb p.bit 0) || ltb 4294967295 p.byte || leb t.rows row
-
-pub room_at : (t : Table) (row : ℕ) (p : Place) → no_room_at t row p ≡ false → (p.bit ≡ 0) × ((p.byte < 2 ^ 32) × (row < t.rows))
-room_at t row p e =
-    let (f, c) = neither (not (eqb p.bit 0) || ltb 4294967295 p.byte) (leb t.rows row) e in
-    let (a, b) = neither (not (eqb p.bit 0)) (ltb 4294967295 p.byte) f in
-    let y = ltb-false 4294967295 p.byte b in
-    (eqb-true p.bit 0 (not-false _ a), (omega arith, leb-false t.rows row c))
-
-no_room_not : (t : Table) (row : ℕ) (p : Place) → no_room_at t row p ≡ true → has_room t row p ≡ false
-no_room_not t row p e = by (has_room t row p) refl
-  where
-    by : (b : Bool) → has_room t row p ≡ b → b ≡ false
-    by false h = refl
-    by true h =
-        let (a, c) = both (eqb p.bit 0) (ltb p.byte (2 ^ 32) && ltb row t.rows) h in
-        let (f, g) = both (ltb p.byte (2 ^ 32)) (ltb row t.rows) c in
-        let x : p.byte ≤ 4294967295 = omega (arith, ltb-true p.byte (2 ^ 32) f) in
-        let z : no_room_at t row p ≡ false = rw (a, le-ltb 4294967295 p.byte x, lt-leb t.rows row (ltb-true row t.rows g)) in
-        absurd (true≢false (sym e ∙ z))
-
-module _ (v : List ℕ) (row : ℕ) (p : Place) (key : ℕ) {m : Option Table} where
-  pub note_none : m ≡ None → (None ≡ (noted_by v m row p key).0) × (v ≡ (noted_by v m row p key).1)
-  unfolding noted_by
-  note_none e = (rw e, rw e)
-
-  module _ {t : Table} (e : m ≡ Some t) where
-    pub note_full : no_room_at t row p ≡ true → (None ≡ (noted_by v m row p key).0) × (v ≡ (noted_by v m row p key).1)
-    unfolding noted_by
-    note_full h = let z = no_room_not t row p h in (rw (e, z), rw (e, z))
-
-    pub note_more : no_room_at t row p ≡ false → {v' : List ℕ} → v' ≡ added v t row key p.byte → (Some t ≡ (noted_by v m row p key).0) × (v' ≡ (noted_by v m row p key).1)
-    unfolding noted_by
-    note_more h k =
-        let (a, (b, c)) = room_at t row p h in
-        let z : has_room t row p ≡ true = rw (eq-eqb p.bit 0 a, lt-ltb p.byte (2 ^ 32) b, lt-ltb row t.rows c) in
-        (rw (e, z), k ∙ rw (e, z))
 
 -- ---- whether one is in use
 

@@ -1,5 +1,5 @@
 -- The records of a section, one after another: none, one more, and the turns of a loop over elements. Assumes nothing.
-use Rattle.std.proofs.Common.{◌≡◌, ℕ, ◌+◌, ◌*◌, ◌%◌, ◌^◌, Bool, true, false, ◌||◌, List, [], ◌∷◌, ◌++◌, length, sym, refl, ap, ◌∙◌, subst, true≢false, append_assoc, append-nil, length-append}
+use Rattle.std.proofs.Common.{◌≡◌, ℕ, ◌+◌, ◌*◌, ◌%◌, ◌^◌, Bool, true, false, ◌||◌, List, ◌∷◌, ◌++◌, length, sym, refl, ap, ◌∙◌, subst, true≢false, append_assoc, append-nil, length-append, []}
 use native.Mathlib.Nat.{mod-add-mod}
 use lib.Pow.{mod-mod-pow}
 use Rattle.definition.specs.Tree.{Element}
@@ -59,10 +59,6 @@ module _ {A : Type 0} {f : Format A} {d : List ℕ} {p : Place} where
 
   pub writes_in : {xs : List A} {d' : List ℕ} {r : Done} {w : Records} → Wrote f false xs d p d' r → (w.count ≡ r.count % 2 ^ 32) × (w.next ≡ r.next) → WritesIn f xs d p d' w
   writes_in {xs} {r = r} w (c, n) = record { puts = rw n w.puts; counts = λ h. c ∙ rw (w.counts (rw n at h)) (mod-mod-pow (length xs) 32 32) }
-
--- no elements
-pub writes_none : {A : Type 0} {f : Format A} {xs : List A} {d : List ℕ} {p : Place} → xs ≡ [] → Writes f xs d p d (record { count = 0; next = p })
-writes_none {f = f} {d = d} {p = p} e = rw e (record { puts = put_no 0 f d p; counts = refl })
 
 -- the same records, said otherwise
 pub wrote_as : {A : Type 0} {f : Format A} {sure : Bool} {xs ys : List A} {d : List ℕ} {p : Place} {d' : List ℕ} {r : Done} → xs ≡ ys → Wrote f sure xs d p d' r → Wrote f sure ys d p d' r

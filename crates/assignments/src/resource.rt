@@ -19,7 +19,7 @@ ghost use Rattle.assignments.specs.Resources.{wanted_id, resource_with, section_
 use crate::section::Done;
 use bits::{PAST, Place};
 use index::Table;
-use model::records::Kind;
+use model::records::Resources;
 use names::Ids;
 use pack::{Records, Resource, Starred};
 use rows::Listed;
@@ -27,15 +27,11 @@ use tree::{Element, Root};
 
 // ---- what a Resource says
 
-// Its ID, else its UID. names::wanted_name falls back on a text, not on a child: one function for both would take a closure for two lines.
+// Its ID, else its UID, which is looked up in any case, as in activities.
 fn wanted_id(e: Element<'_>) -> &[u8]
     ensures { result.now ≡ wanted_id (meaning e.entry) }
 {
-    // A `match`: `unwrap_or_else` was tried, and of a closure that gives a slice the proof learns nothing.
-    match fields::text_in(e, b"ID") {
-        Some(id) => id,
-        None => e.text_of(b"UID"),
-    }
+    fields::text_in(e, b"ID").unwrap_or(e.text_of(b"UID"))
 }
 
 // All of it, with so many `*` behind its id, and its calendar's name.
@@ -91,16 +87,7 @@ impl<'a> Section<'a> {
         let id = wanted_id(e);
         let row = done.row();
         let p = done.next;
-        let stars = names::stars_for(
-            out,
-            Kind::Resources,
-            self.start,
-            p,
-            words,
-            self.ids,
-            row,
-            id,
-        );
+        let stars = names::stars_for::<Resources>(out, self.start, p, words, self.ids, row, id);
         let calendar = self.calendar_of(out, words, e);
         let next = resource_of(e, stars, calendar).put(out, p);
         names::note_stars(words, self.ids, row, id, stars, p);

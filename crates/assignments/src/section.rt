@@ -59,7 +59,8 @@ impl<'a> Tables<'a> {
 
 // ---- how many records were written, and the place behind them
 
-// Not pack's Records, which counts in 32 bits: what was written is looked through by its number.
+// Not pack's Records, which counts in 32 bits: the expenses that were written are looked through by their number. Resources and assignments count so too,
+// since one notion of what was written serves the proofs of all three.
 #[derive(Clone, Copy)]
 pub(crate) struct Done {
     pub count: usize,

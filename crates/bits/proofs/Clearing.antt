@@ -1,22 +1,16 @@
 -- One value from an index on, one at a time. Assumes nothing.
 use mathlib.Core.Path.{◌≡◌, sym, ap, ◌∙◌}
-use mathlib.Core.List.{List, [], ◌∷◌, ◌++◌, append_assoc, append-nil}
+use mathlib.Core.List.{List, ◌∷◌, ◌++◌, append_assoc, []}
 use Prim.Native.Nat.{ℕ, suc, ◌+◌, ◌-◌, ◌≤◌, ◌<◌}
 use native.Mathlib.Numerals.{add-one}
 use native.Mathlib.Omega.{arith}
-use lib.ListN.{length, take, drop, get_or, set, replicate, length-append, length-replicate, take-append-drop, drop_of_length-le, replicate-append-replicate}
+use lib.ListN.{length, take, drop, get_or, set, replicate, length-append, length-replicate, replicate-append-replicate}
 use lib.Seq.{drop-cons, set_at, length-take-le}
-use Rattle.bits.specs.Clear.{filled}
 
 module _ {A : Type 0} (n : ℕ) (x : A) (s : List A) where
   -- on the way: up to i
   abbrev pub filling : ℕ → List A
   filling i = take n s ++ (replicate (i - n) x ++ drop i s)
-
-  pub fill_none : s ≡ filling n
-  fill_none =
-      let z : n - n ≡ 0 = omega arith in
-      rw z (sym (take-append-drop n s))
 
   pub fill_more : (i : ℕ) (s' : List A) → n ≤ i → i < length s → s' ≡ filling i → set s' i x ≡ filling (i + 1)
   fill_more i s' h k e =
@@ -27,8 +21,3 @@ module _ {A : Type 0} (n : ℕ) (x : A) (s : List A) where
       let w : s' ≡ p ++ (get_or s i x ∷ drop (suc i) s) = e ∙ rw (drop-cons s i x k) (sym (append_assoc (take n s) (replicate (i - n) x) _)) in
       rw (w, set_at p (get_or s i x) (drop (suc i) s) x i l) (append_assoc (take n s) (replicate (i - n) x) (x ∷ drop (suc i) s)
       ∙ ap (λ (t : List A). take n s ++ t) (sym (append_assoc (replicate (i - n) x) (x ∷ []) (drop (suc i) s)) ∙ rw (one, add-one)))
-
-  pub fill_all : (i : ℕ) (s' : List A) → n ≤ i → length s ≤ i → i - n ≤ length s - n → s' ≡ filling i → s' ≡ filled n x s
-  fill_all i s' h k le e =
-      let j : i - n ≡ length s - n = omega arith in
-      e ∙ rw (drop_of_length-le s k, append-nil, j)

@@ -1,14 +1,14 @@
 -- Bits laid over others in a row, and one turn of the loop that writes. Assumes nothing.
 use Rattle.std.specs.Prelude.{if◌then◌else◌}
 use mathlib.Core.Path.{◌≡◌, refl, sym, ap, ◌∙◌}
-use mathlib.Core.List.{List, [], ◌++◌, append_assoc}
+use mathlib.Core.List.{List, ◌++◌, append_assoc, []}
 use mathlib.Core.Bool.{Bool, true, false}
 use Prim.Native.Nat.{ℕ, ◌+◌, ◌-◌, ◌*◌, ◌/◌, ◌%◌, ◌^◌, ◌≤◌, ◌<◌, min, suc}
 use native.Mathlib.Nat.{mod-lt, add-zero, add_comm}
 use native.Mathlib.Omega.{arith}
 use lib.ListN.{length, take, drop, get_or, set, length-append, take-append-drop}
 use lib.Seq.{drop-drop, length-take-le, set_split}
-use lib.Pow.{pow_pos, pow_mono, shr-shr, shr_lt, high}
+use lib.Pow.{pow_pos, shr-shr, shr_lt, high}
 use Rattle.bits.specs.declared.Place.{Place}
 use Rattle.bits.specs.Over.{over, over_mid, over_before, take_drop}
 use Rattle.bits.specs.Steps.{Laid, Pads, view, padded, laid_step, said, view_in, view_out, length_before}
@@ -112,9 +112,6 @@ module _ (old r k x : ℕ) (e : r + k ≤ 8) (ho : old < 256) (hx : x < 2 ^ k) w
       let e1 : r + (8 - r) ≡ 8 = omega arith in
       let ho' : old < 2 ^ (r + (8 - r)) = rw e1 ho in
       join_lt r k (old / 2 ^ (8 - r)) x (shr_lt r (8 - r) ho') hx
-
-  pub top_fits : old / 2 ^ (8 - r) * 2 ^ k + x < 2 ^ 64
-  top_fits = let l : r + k ≤ 64 = omega arith in omega (arith, top_lt, pow_mono {i = r + k} {j = 64} l)
 
   pub mixed : (old / 2 ^ (8 - r) * 2 ^ k + x) * 2 ^ (8 - r - k) + old % 2 ^ (8 - r - k) < 256
   mixed =

@@ -1,7 +1,7 @@
 -- Bytes that change places, a run of bits that moves up, and rotations in parts. Assumes nothing.
-use mathlib.Core.Path.{◌≡◌, refl, sym, ap, ◌∙◌}
+use mathlib.Core.Path.{◌≡◌, sym, ap, ◌∙◌}
 use mathlib.Core.List.{List, ◌++◌, append_assoc}
-use mathlib.Core.Bool.{true, false}
+use mathlib.Core.Bool.{true}
 use Prim.Native.Nat.{ℕ, ◌+◌, ◌-◌, ◌*◌, ◌≤◌, ◌<◌}
 use native.Mathlib.Omega.{arith}
 use lib.ListN.{length, take, drop, length-append, length-drop, take-append-drop}
@@ -150,9 +150,6 @@ rotates_bytes {a} {m} {e} {d} {d'} h z l r =
     let ee : at e ≡ 8 * e.byte = omega arith in
     let b = bytes_rotated a.byte m.byte e.byte d (omega (arith, o.from)) (omega (arith, o.to)) (omega (arith, o.ends)) in
     rotates h l (rw (ea, em, ee) (ap bits_of r ∙ b))
-
-pub rotates_not : {a m e : Place} {d : List ℕ} → ordered (length d) a m e ≡ false → Rotates a m e d d
-rotates_not h = record { same = refl; bits = rw h }
 
 -- one turn of the loop of `shift_up`
 pub shift_turn : (d0 d d' : List ℕ) (e k : ℕ) (p q : Place) {t r : Place} (n : ℕ) {f : Field ℕ Place} → length d ≡ length d0 → bits_of d ≡ moved (at p) (at p + k) (e - at p) (bits_of d0)

@@ -1,10 +1,11 @@
 -- Exceptions that give no rule: one of them, and their number as 32 bits hold it. Assumes nothing.
 use Rattle.std.proofs.Common.{◌≡◌, ℕ, ◌+◌, ◌%◌, ◌^◌, ◌<◌, Bool, true, false, true≢false, not, List, [], ◌∷◌, ◌++◌, sym, refl, ap, ◌∙◌, zero-add, arith}
-use native.Mathlib.Nat.{zero-mod, mod-add-mod, mod-eq_of_lt}
+use native.Mathlib.Nat.{zero-mod, mod-add-mod, mod-eq_of_lt, mod-mod, mod-lt}
 use mathlib.Core.List.{flat_map}
 use Rattle.std.specs.Prelude.{Option, Some, None, is_some}
 use Rattle.std.specs.Option.{MatchOption}
-use Rattle.std.specs.List.{filter}
+use Rattle.std.specs.List.{filter, fold}
+use lib.Pow.{pow_pos}
 use Rattle.definition.specs.Base.{◌>>=◌, given, keep}
 use Rattle.definition.specs.Ascii.{bytes}
 use Rattle.definition.specs.Text.{Text}
@@ -96,3 +97,14 @@ pub filtered : {A : Type 0} (p : A → Bool) (l : List A) → filter p l ≡ kee
 unfolding keep
 filtered p [] = refl
 filtered p (x ∷ l) = rw (filtered p l)
+
+-- ---- `fold`, from what was counted before
+
+abbrev pub counted_on : ℕ → Element → ℕ
+counted_on n e = (n + without_rule (recurring e) % 2 ^ 32) % 2 ^ 32
+
+pub folded : (n : ℕ) (l : List Element) → n < 2 ^ 32 → fold counted_on n l ≡ (n + in_all l) % 2 ^ 32
+folded n [] k = last_sum (2 ^ 32) (λ l. in_all l) {t = (n + in_all []) % 2 ^ 32} {n = n} {l = []} all_none refl refl k
+folded n (x ∷ l) k =
+    folded (counted_on n x) l (mod-lt _ (pow_pos 32))
+    ∙ sym (next_sum (2 ^ 32) (λ l. in_all l) (λ e. without_rule (recurring e)) all_more n _ refl refl (mod-mod _ (2 ^ 32)) refl)

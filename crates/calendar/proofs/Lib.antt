@@ -2,5 +2,4 @@ pub mod Texts
 pub mod Times
 pub mod Flags
 pub mod Weeks
-pub mod Bases
 pub mod Counts

@@ -1,9 +1,8 @@
--- Working times and places in the week, by the tests that the code makes. Assumes nothing.
+-- Working times by their place, and by the tests that the code makes. Assumes nothing.
 use Rattle.std.specs.Prelude.{if◌then◌else◌}
-use Rattle.std.proofs.Common.{◌≡◌, ℕ, ◌<◌, ◌≤◌, Bool, true, ◌&&◌, eqb, ltb, leb, sym, ap, ◌∙◌, le-ltb, lt-ltb, leb-true}
+use Rattle.std.proofs.Common.{◌≡◌, ℕ, ◌<◌, ◌≤◌, Bool, eqb, ltb, sym, ap, ◌∙◌, le-ltb, lt-ltb}
 use Rattle.std.specs.Prelude.{Some, None}
 use Rattle.definition.specs.Base.{when}
-use Rattle.laws.specs.Bools.{and_right}
 use Rattle.calendar.specs.Hours.{time_by}
 
 module _ (from until to : ℕ) (e : to ≡ (if eqb until 0 then 1440 else until)) where
@@ -15,6 +14,3 @@ module _ (from until to : ℕ) (e : to ≡ (if eqb until 0 then 1440 else until)
 
   pub falls : to ≤ from → None ≡ time_by (Some from) (Some until)
   falls h = sym (ap (λ (b : Bool). when b (from, to)) (le-ltb from to h)) ∙ whole
-
-pub at_most_7 : (t : ℕ) → (leb 1 t && leb t 7) ≡ true → t ≤ 7
-at_most_7 t h = leb-true t 7 (and_right (leb 1 t) (leb t 7) h)

@@ -10,6 +10,5 @@ use tree::Element;
 pub fn has_base(e: Element<'_>) -> bool
     ensures { result ≡ given (base_of (meaning e.entry)) }
 {
-    let is = fields::given(e, b"BaseCalendarUID");
-    is & !fields::text_is(e, b"BaseCalendarUID", b"-1")
+    fields::other_than(e, b"BaseCalendarUID", b"-1")
 }

@@ -22,6 +22,7 @@ fn without_rule(e: Element<'_>) -> u32
     ensures { result ≡ without_rule (all (meaning e.entry) (bytes "Exception")) % 2 ^ 32 }
 {
     let n = e.children(b"Exception").filter(|x| has_no_rule(*x)).count();
+    // Below 2 ^ 32.
     (n % 4294967296) as u32
 }
 
@@ -32,13 +33,11 @@ fn skipped_by(e: Element<'_>) -> u32
     e.child(b"Exceptions").map_or(0, without_rule)
 }
 
-// How many exceptions give no rule, as 32 bits hold it. By hand, as `sum` does not wrap.
+// How many exceptions give no rule, as 32 bits hold it. By `fold`, as `sum` does not wrap.
 pub fn skipped(root: Root<'_>) -> u32
     ensures { result ≡ skipped_in (root_at root.entry) % 2 ^ 32 }
 {
-    let mut n: u32 = 0;
-    for c in root.part(root.calendars).children(b"Calendar") {
-        n = n.wrapping_add(skipped_by(c));
-    }
-    n
+    root.part(root.calendars)
+        .children(b"Calendar")
+        .fold(0u32, |n, c| n.wrapping_add(skipped_by(c)))
 }

@@ -6,7 +6,8 @@ ghost use Rattle.calendar.specs.Hours.{working_meaning, time_said, time_by};
 
 use tree::Element;
 
-// Minutes of a day, from below to. The crate model has a Period of this shape, but what reads a tree does not use model.
+// Minutes of a day, from below to. The crate model has a Period of this shape; this crate, which reads a tree, uses nothing of model, and would come
+// to stand on it for two fields.
 #[derive(Clone, Copy)]
 pub struct WorkingTime {
     pub from: u16,

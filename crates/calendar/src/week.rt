@@ -41,7 +41,7 @@ pub fn day_place(e: Element<'_>) -> Option<u32>
 pub fn is_old_exception(e: Element<'_>) -> bool
     ensures { result ≡ ((day_type (meaning e.entry) or 1) == 0) }
 {
-    day_type(e).unwrap_or(1) == 0
+    day_type(e) == Some(0)
 }
 
 // A name for the child, which callers read.

@@ -119,14 +119,14 @@ module _ {d : List ℕ} {from extra days end : Place} (p : Place) (x : Passes da
     unfolding BaseLists
     base_behind k = let (l, (o, r)) = parts in lists_read p r i ∙ rw k
 
-    pub base_stands : not_behind end p ≡ true → BaseLists (Some record { holidays = from; extra = extra; exceptions = days }) d p (lists_at d from p)
+    pub base_stands : not_behind end p ≡ true → BaseLists (Some record { holidays = from; extra = extra; exceptions = days; end = end }) d p (lists_at d from p)
     unfolding BaseLists
     base_stands k =
         let (l, ((ra, (rb, re)), r)) = parts in
         let w : l ≡ lists_at d from p = sym (lists_read p r i ∙ rw k) in
         let f = room_fits (length d) end 0 i in
-        subst (λ m. ListsIn record { holidays = from; extra = extra; exceptions = days } d p m) w
-        record { holidays = ra; extra = rb; end = end; exceptions = re; inner = i; before = not_behind_lem end p f.bit k }
+        subst (λ m. ListsIn record { holidays = from; extra = extra; exceptions = days; end = end } d p m) w
+        record { holidays = ra; extra = rb; exceptions = re; inner = i; before = not_behind_lem end p f.bit k }
 
 -- each list, where all stand
 module _ (d : List ℕ) (p : Place) where
@@ -147,7 +147,7 @@ module _ (d : List ℕ) (p : Place) where
 
   pub exceptions_there : (b : Option Lists) (l : DayLists) → BaseLists b d p l → BaseExceptions b d p l.1.1
   unfolding BaseLists BaseExceptions
-  exceptions_there (Some r) l i = record { to = i.end; holds = record { reads = i.exceptions; within = i.inner; upto = i.before } }
+  exceptions_there (Some r) l i = record { reads = i.exceptions; within = i.inner; upto = i.before }
   exceptions_there None l i = rw i
 
 -- all of them last
@@ -160,7 +160,6 @@ base_lasts (Some r) = record {
       record {
         holidays = reads_kept good_dates h.holidays i4 (omega (arith, l4, l5, h.before)) k;
         extra = reads_kept good_dates h.extra i5 (omega (arith, l5, h.before)) k;
-        end = h.end;
         exceptions = reads_kept good_exceptions h.exceptions h.inner h.before k;
         inner = rw k.same h.inner;
         before = omega (arith, h.before);

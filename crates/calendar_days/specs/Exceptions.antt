@@ -14,7 +14,6 @@ use Rattle.definition.specs.Recurrence.{recurrence_days, days_of}
 use Rattle.definition.specs.Calendar as C
 use Rattle.definition.specs.Calendar.{Exception, exception_on, day_type, week_days, recurring, working_time, periods_of, is_empty}
 use Rattle.pack.specs.Value.{date_by}
-use Rattle.definition.specs.declared.Date.{Date as DateIs}
 use Rattle.tree.specs.Place.{meaning, list_of, Past}
 use Rattle.tree.specs.declared.element.Element.{Element as Place}
 use Rattle.recurrence.specs.Element.{rule_days}
@@ -23,6 +22,7 @@ use Rattle.recurrence.specs.declared.Cursor.{Cursor}
 use Rattle.recurrence.specs.declared.Rule.{Rule}
 use Rattle.recurrence.specs.declared.Range.{Range}
 use Rattle.calendar_days.specs.declared.exceptions.Days.{Days}
+use Rattle.calendar_days.specs.declared.span.YearDate.{YearDate}
 use Rattle.calendar_days.specs.declared.exceptions.Exceptions.{Exceptions}
 use Rattle.calendar_days.specs.declared.exceptions.Exception.{Exception as Given}
 use Rattle.calendar_days.specs.declared.exceptions.Exception.TheVariants.{WeekDay, Recurring}
@@ -109,8 +109,8 @@ abbrev pub days_left : Days → List Date
 days_left d = coming_by d.left
 
 -- a day by its date
-abbrev pub day_of : DateIs → Date
-day_of d = date_by d.0
+abbrev pub day_of : YearDate → Date
+day_of d = date_by d.date.0
 
 abbrev pub is_time : Element → Bool
 is_time t = given (working_time t)

@@ -55,10 +55,9 @@ pub record ListsFrom (from : Place) (d : List ℕ) (p : Place) (l : DayLists) : 
 pub record ListsIn (r : Lists) (d : List ℕ) (p : Place) (l : DayLists) : Type 0 where
   pub holidays : Reads dates d r.holidays l.0 r.extra
   pub extra : Reads dates d r.extra l.1.0 r.exceptions
-  pub end : Place
-  pub exceptions : Reads exceptions d r.exceptions l.1.1 end
-  pub inner : inside (length d) end ≡ true
-  pub before : at end ≤ at p
+  pub exceptions : Reads exceptions d r.exceptions l.1.1 r.end
+  pub inner : inside (length d) r.end ≡ true
+  pub before : at r.end ≤ at p
 
 unfoldable pub BaseLists : Option Lists → List ℕ → Place → DayLists → Type 0
 BaseLists (Some r) d p l = ListsIn r d p l

@@ -9,6 +9,7 @@ ghost use Rattle.definition.specs.Calendar.{periods_of, is_empty};
 ghost use Rattle.tree.specs.Place.{meaning};
 ghost use Rattle.calendar_days.specs.Exceptions.{placed, item_of, items_of, items_left, ItemsOf, GivesItems, old_days, days_at, days_in, daily as daily_by, days_left, day_of, such_days, is_time};
 
+use crate::span::YearDate;
 use crate::wanted::Wanted;
 use definition::Date;
 use recurrence::{Cursor, Range, Rule, Step};
@@ -134,18 +135,18 @@ impl Days {
 }
 
 impl Iterator for Days {
-    type Item = Date;
+    type Item = YearDate;
 
     ghost next_gives = { YieldsFirstBy day_of days_left };
 
     ghost remaining = { item_count days_left };
 
-    fn next(&mut self) -> Option<Date> {
+    fn next(&mut self) -> Option<YearDate> {
         let (rule, cursor) = self.left?;
         match recurrence::next(rule, cursor) {
             Step::Day(day, after) => {
                 self.left = Some((rule, after));
-                Some(day)
+                Some(YearDate { date: day })
             }
             Step::Done | Step::Skipped => None,
         }

@@ -7,6 +7,7 @@ mod days;
 mod exceptions;
 mod hours;
 mod list;
+mod noted;
 mod notes;
 mod own;
 mod pass;

@@ -5,12 +5,11 @@ ghost use Rattle.definition.specs.Date.{Date as DateOf};
 ghost use Rattle.definition.specs.Calendar.{works};
 ghost use Rattle.tree.specs.Place.{meaning};
 ghost use Rattle.calendar.specs.Week.{flags_in};
-ghost use Rattle.laws.specs.Fields.{InYears};
 ghost use Rattle.pack.specs.Value.{date_by};
 ghost use Rattle.calendar_days.specs.Exceptions.{such_off, such_on, such_hours};
 
 use crate::exceptions::has_periods;
-use definition::Date;
+use crate::span::YearDate;
 use tree::Element;
 
 // What a list wants.
@@ -23,10 +22,9 @@ pub(crate) trait Wanted: Copy {
     fn are_such(e: Element<'_>) -> bool
         ensures { result ≡ such (meaning e.entry) };
 
-    // Whether one of them counts, by its weekday. A premise, here and in dates.rt, notes.rt, own.rt: a Date may hold any number, and definition's type
-    // has no ghost field.
-    fn counts(self, d: Date) -> bool
-        ensures { InYears (date_by d.0) → result ≡ test self (date_by d.0) };
+    // Whether one of them counts, by its weekday.
+    fn counts(self, d: YearDate) -> bool
+        ensures { result ≡ test self (date_by d.date.0) };
 }
 
 // Holidays: days off, on the working weekdays of a week.
@@ -55,8 +53,8 @@ impl Wanted for Holidays {
         !calendar::day_working(e)
     }
 
-    fn counts(self, d: Date) -> bool {
-        calendar::works(self.week, d)
+    fn counts(self, d: YearDate) -> bool {
+        calendar::works(self.week, d.date)
     }
 }
 
@@ -70,8 +68,8 @@ impl Wanted for ExtraDays {
         calendar::day_working(e) && !has_periods(e)
     }
 
-    fn counts(self, d: Date) -> bool {
-        !calendar::works(self.week, d)
+    fn counts(self, d: YearDate) -> bool {
+        !calendar::works(self.week, d.date)
     }
 }
 
@@ -85,7 +83,7 @@ impl Wanted for WithHours {
         calendar::day_working(e) && has_periods(e)
     }
 
-    fn counts(self, _d: Date) -> bool {
+    fn counts(self, _d: YearDate) -> bool {
         true
     }
 }

@@ -1,7 +1,7 @@
 -- Calendars built one after another behind each other; the default one, the main one and the elapsed one. Assumes nothing.
 use Rattle.std.specs.Prelude.{if◌then◌else◌}
 use Rattle.names.specs.declared.ids.Ids.{Ids}
-use Rattle.std.proofs.Common.{◌≡◌, ℕ, suc, ◌+◌, ◌%◌, ◌^◌, ◌<◌, ◌≤◌, Bool, true, false, not, ◌&&◌, eqb, leb, List, [], ◌∷◌, ◌++◌, map, length, take, drop, sym, refl, ap, ◌∙◌, subst, true≢false, append_assoc, append-nil, arith, length-append, le-leb}
+use Rattle.std.proofs.Common.{◌≡◌, ℕ, suc, ◌+◌, ◌%◌, ◌^◌, ◌<◌, ◌≤◌, Bool, true, false, not, ◌&&◌, eqb, leb, List, ◌∷◌, ◌++◌, map, length, take, drop, sym, refl, ap, ◌∙◌, subst, true≢false, append_assoc, append-nil, arith, length-append, le-leb, []}
 use mathlib.Core.List.{map-append}
 use Rattle.std.specs.Prelude.{Option, Some, None}
 use Rattle.std.specs.Prelude.{slice_get}
@@ -276,13 +276,6 @@ module _ {s : Text} {root : Element} {t : Section} {start : Place} {d₀ w₀ : 
 
 -- ---- the default one
 
-pub default_not : {d : List ℕ} {r : Records} → (r.count ≡ 0 → ⊥) → AddsDefault d r d r
-default_not {d} {r} h = record { adds = λ d₀ start cs s. by_list cs s }
-  where
-    by_list : {d₀ : List ℕ} {start : Place} (cs : List Calendar) → Stand cs d₀ start d r → Stand (or_default cs) d₀ start d r
-    by_list [] s = absurd (h s.counts)
-    by_list (c ∷ cs) s = s
-
 pub default_put : {d : List ℕ} {r : Records} {d' : List ℕ} {q : Place} → r.count ≡ 0 → Puts (whole calendar) default_calendar d r.next d' q → AddsDefault d r d' record { count = (r.count + 1) % 2 ^ 32; next = q }
 default_put {d} {r} {d'} {q} h x = record { adds = λ d₀ start cs s. by_list cs s }
   where
@@ -358,9 +351,6 @@ main_first_lem root None m small few {d₀} {start} {d} {r} {d'} b st t =
 -- ---- the elapsed one
 
 module _ (root : Element) {d : List ℕ} {r : Records} where
-  pub elapsed_not : some? is_elapsed (kept_tasks root) ≡ false → AddsElapsed root d r d r
-  elapsed_not h = record { adds = λ d₀ start cs le s. rw (h, append-nil cs) s }
-
   pub elapsed_put : some? is_elapsed (kept_tasks root) ≡ true → {d' : List ℕ} {r' : Records} → Puts (whole calendar) elapsed_calendar d r.next d' r'.next → r'.count ≡ (r.count + 1) % 2 ^ 32 → AddsElapsed root d r d' r'
   elapsed_put h x n = record { adds = λ d₀ start cs le s. rw h (stand_more s x (n ∙ omega (arith, s.counts))) }
 

@@ -1,5 +1,5 @@
 -- The record of a row before those that stand before it: from a whole byte on, a record's bits are the same wherever it stands. Assumes nothing.
-use Rattle.std.proofs.Common.{◌≡◌, ℕ, zero, suc, ◌+◌, ◌*◌, ◌%◌, ◌<◌, ◌≤◌, Bool, true, false, List, [], ◌∷◌, ◌++◌, map, length, take, drop, sym, refl, ap, ◌∙◌, true≢false, append_assoc, append-nil, arith, length-append, take_at}
+use Rattle.std.proofs.Common.{◌≡◌, ℕ, zero, suc, ◌+◌, ◌*◌, ◌%◌, Bool, true, false, List, ◌∷◌, ◌++◌, map, length, take, drop, sym, refl, ap, ◌∙◌, true≢false, append_assoc, append-nil, arith, length-append, take_at, []}
 use mathlib.Core.List.{map-append}
 use Rattle.std.specs.Prelude.{Some}
 use Rattle.std.specs.Prelude.{slice_get}
@@ -59,11 +59,6 @@ split_row : {A : Type 0} (l : List A) (k : ℕ) (x : A) → slice_get l k ≡ So
 split_row [] k x e = let z : ◌≡◌ {A = ℕ} 0 1 = cc in absurd (omega arith)
 split_row {A} (y ∷ l) zero x e = let z : y ≡ x = cc in ap (λ (t : A). t ∷ l) z
 split_row {A} (y ∷ l) (suc k) x e = ap (λ (t : List A). y ∷ t) (split_row l k x e)
-
-row_below : {A : Type 0} (l : List A) (k : ℕ) (x : A) → slice_get l k ≡ Some x → k < length l
-row_below [] k x e = let z : ◌≡◌ {A = ℕ} 0 1 = cc in absurd (omega arith)
-row_below (y ∷ l) zero x e = omega arith
-row_below (y ∷ l) (suc k) x e = let h = row_below l k x e in omega arith
 
 front_length : {A : Type 0} (l : List A) (k : ℕ) (x : A) → slice_get l k ≡ Some x → length (take k l) ≡ k
 front_length [] k x e = let z : ◌≡◌ {A = ℕ} 0 1 = cc in absurd (omega arith)
@@ -221,9 +216,6 @@ module _ (k row : ℕ) {cs : List Calendar} {d₀ : List ℕ} {p : Place} {d : L
               let s = h.step.same in
               let f : Fits (length d₀) p 0 = record { bit = x.first; ends = omega (arith, x.from, x.to, x.ends) } in
               absurd (true≢false (sym (fits_room f) ∙ e))
-
-pub turns_not : (row : ℕ) (start : Place) (d : List ℕ) → 5000000 ≤ row → Turns row start d d
-turns_not row start d le = record { turns = λ b d₀ cs c r few fit g s. absurd (omega (arith, row_below cs row c g)) }
 
 pub turns : (row : ℕ) (start : Place) {d d' : List ℕ} {m e : Place} → m ≡ place_of_row Calendars d start row → e ≡ place_of_row Calendars d start (row + 1) → Rotates start m e d d' → Turns row start d d'
 turns row start {d} {d'} {m} {e} em ee t = record { turns = λ b d₀ cs c r few fit g s. stand b d₀ cs c r fit g s (inside (length d) r.next) refl }

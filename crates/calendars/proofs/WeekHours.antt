@@ -1,6 +1,6 @@
 -- The week and the hours of a calendar over its base's; the record from its parts. Assumes nothing.
 use Rattle.std.specs.Prelude.{if◌then◌else◌}
-use Rattle.std.proofs.Common.{◌≡◌, ℕ, suc, ◌+◌, ◌-◌, ◌<◌, ◌≤◌, Bool, true, false, eqb, List, [], ◌∷◌, ◌++◌, map, length, get_or, take, drop, set, sym, refl, ap, ◌∙◌, arith, length-set, get_or-drop, take_all, get_or-set_other, take-suc, get_or-set_same, take_at, eqb-true}
+use Rattle.std.proofs.Common.{◌≡◌, ℕ, suc, ◌+◌, ◌-◌, ◌<◌, ◌≤◌, Bool, true, false, eqb, List, ◌∷◌, ◌++◌, map, length, get_or, take, drop, set, sym, refl, ap, ◌∙◌, arith, length-set, get_or-drop, take_all, get_or-set_other, take-suc, get_or-set_same, take_at, eqb-true, []}
 use Rattle.std.specs.Prelude.{Option, Some, None}
 use borrow.Author.Tests.{eqb-false}
 use lib.ListN.{length-map, get_or-replicate}
@@ -209,9 +209,6 @@ hours_all ws b {d₀} {p₀} {day = day} le h =
 
 -- those of a WeekDay
 module _ (w : Element) {t : Bool} (e : t ≡ yes_in w "DayWorking") {d : List ℕ} {p : Place} {d' : List ℕ} {q : Place} where
-  pub own_worked : t ≡ true → Puts periods (periods_of w) d p d' q → Puts periods (hours_of w) d p d' q
-  own_worked h x = put_same (sym (ap (λ (b : Bool). if b then periods_of w else []) (sym e ∙ h))) x
-
   pub own_free : t ≡ false → Puts count 0 d p d' q → Puts periods (hours_of w) d p d' q
   own_free h x = put_same (sym (ap (λ (b : Bool). if b then periods_of w else []) (sym e ∙ h))) (begun x)
 

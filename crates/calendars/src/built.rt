@@ -17,7 +17,7 @@ use crate::record::Entry;
 use bits::{PAST, Place};
 use index::Table;
 use model::parts::CalendarPlaces;
-use model::records::Kind;
+use model::records::Calendars;
 use names::Ids;
 use pack::Records;
 use tree::{Element, Root};
@@ -44,15 +44,7 @@ impl Section<'_> {
         if count <= row {
             return None;
         }
-        let p = names::place_in(
-            out,
-            Kind::Calendars,
-            self.start,
-            words,
-            self.ids,
-            count,
-            row,
-        );
+        let p = names::place_in::<Calendars>(out, self.start, words, self.ids, count, row);
         Some(model::parts::calendar_places(out, p))
     }
 
@@ -81,16 +73,7 @@ impl Section<'_> {
         let count = done.count;
         let p = done.next;
         let name = names::calendar_text(e);
-        let stars = names::stars_for(
-            out,
-            Kind::Calendars,
-            self.start,
-            p,
-            words,
-            self.ids,
-            count,
-            name,
-        );
+        let stars = names::stars_for::<Calendars>(out, self.start, p, words, self.ids, count, name);
         let entry = Entry {
             calendar: e,
             base: self.base_of(out, words, count, e),
@@ -159,8 +142,8 @@ fn turn(out: &mut [u8], start: Place, row: usize)
     if 5_000_000 <= row {
         return;
     }
-    let m = names::place_of_row(out, start, Kind::Calendars, row);
-    let e = names::place_of_row(out, start, Kind::Calendars, row + 1);
+    let m = names::place_of_row::<Calendars>(out, start, row);
+    let e = names::place_of_row::<Calendars>(out, start, row + 1);
     bits::rotate(out, start, m, e);
 }
 
@@ -176,13 +159,7 @@ fn put_elapsed(out: &mut [u8], done: Records, root: Root<'_>) -> Records
     ensures { AddsElapsed (root_at root.entry) out.old done out.new result }
 {
     if rows::any_elapsed(root) {
-        let next = put_plain_calendar(
-            out,
-            done.next,
-            b"Elapsed (24 hours)",
-            EVERY_DAY,
-            Some(WHOLE_DAY),
-        );
+        let next = put_plain_calendar(out, done.next, names::ELAPSED, EVERY_DAY, Some(WHOLE_DAY));
         return done.more(next);
     }
     done

@@ -1,21 +1,22 @@
 -- Numbers with a sign, as the machine holds them and as they are counted from a first one. Assumes nothing.
 use Rattle.std.specs.Prelude.{if◌then◌else◌}
-use Prim.Native.Nat.{ℕ, zero, suc, ◌+◌, ◌-◌, ◌%◌, ◌^◌, ◌≤◌, ◌<◌}
+use Prim.Native.Nat.{ℕ, zero, suc, ◌+◌, ◌-◌, ◌^◌, ◌≤◌, ◌<◌}
 use native.Mathlib.Omega.{arith}
 use native.Mathlib.Nat.{add_comm}
-use mathlib.Core.Path.{◌≡◌, refl, sym, ap, ◌∙◌, subst}
+use mathlib.Core.Path.{◌≡◌, refl, sym, ap, ◌∙◌}
 use mathlib.Core.Bool.{Bool, true, false, cond, ◌&&◌, and-true}
 use Rattle.std.specs.Prelude.{Option, Some, None, Result, Ok, Err}
-use Rattle.std.specs.Option.{MatchOption, IsSomeAnd}
+use Rattle.std.specs.Option.{MatchOption, SomeIff, IsSomeAnd}
 use Rattle.std.specs.Bool.{then_some}
-use Rattle.std.specs.Int.{FitsUnsignedBits}
+use Rattle.std.specs.Int.{FitsUnsigned, FitsUnsignedBits}
+use Rattle.std.specs.Prelude.{unsigned_abs}
 use Rattle.std.specs.Result.{OkIff, result_unwrap_or}
-use lib.Dec.{leb, ltb}
-use lib.IntN.{ℤ, pos, negsuc, nat_abs, ◌+ℤ◌, ◌-ℤ◌}
+use lib.Dec.{leb, ltb, lt→ltb, le→leb}
+use lib.IntN.{ℤ, pos, negsuc, nat_abs, ◌-ℤ◌, ◌+ℤ◌}
 use lib.Signed.{mag}
-use mir.Syntax.{w32, w64}
+use mir.Syntax.{w32}
 use mir.Val.{to_z, of_z, SFits}
-use mir.ValLaws.{to_z-of_z, to_z_pos}
+use mir.ValLaws.{to_z-of_z}
 use borrow.Author.Tests.{le-leb, lt-leb, leb-true, leb-false, lt-ltb, le-ltb, ltb-true, ltb-false}
 use Rattle.definition.specs.Base.{◌>>=◌, when, within}
 use Rattle.definition.specs.Date.{from_days, year_at, epoch, first_date, last_date}
@@ -28,32 +29,6 @@ module _ (z : ℤ) (h : SFits w32 z) where
   pub back : to_z w32 (of_z w32 z) ≡ z
   back = to_z-of_z w32 z h
 
-  wide : SFits w64 z
-  wide = record { sfits = omega (arith, h.sfits) }
-
-  abbrev held : ℤ
-  held = to_z w64 (of_z w64 (to_z w32 (of_z w32 z)))
-
-  held_is : held ≡ z
-  held_is = ap (λ (x : ℤ). to_z w64 (of_z w64 x)) back ∙ to_z-of_z w64 z wide
-
-  pub first_cast : SFits w64 (to_z w32 (of_z w32 z))
-  first_cast = subst (λ (x : ℤ). SFits w64 x) (sym back) wide
-
-  -- a sum that is a natural
-  module _ (by n : ℕ) (e : z +ℤ pos by ≡ pos n) (l : n < 2 ^ 63) where
-    sum : held +ℤ pos by ≡ pos n
-    sum = ap (λ (x : ℤ). x +ℤ pos by) held_is ∙ e
-
-    sum_fits : SFits w64 (pos n)
-    sum_fits = record { sfits = omega arith }
-
-    pub sum_cast : SFits w64 (held +ℤ pos by)
-    sum_cast = subst (λ (x : ℤ). SFits w64 x) (sym sum) sum_fits
-
-    pub sum_back : to_z w64 (of_z w64 (held +ℤ pos by)) ≡ pos n
-    sum_back = ap (λ (x : ℤ). to_z w64 (of_z w64 x)) sum ∙ to_z-of_z w64 (pos n) sum_fits
-
 -- ---- differences
 
 sub_mag : (n b k : ℕ) → n < k → b < k → (t : Bool) → mag (cond t (negsuc (suc b - suc n)) (pos (n - suc b))) < k
@@ -65,33 +40,12 @@ minus_mag n zero k h l = omega arith
 minus_mag n (suc b) k h l = sub_mag n b k h (omega arith) (ltb n (suc b))
 
 module _ (n b : ℕ) (h : n < 2 ^ 31) (l : b < 2 ^ 31) where
-  abbrev minus : ℤ
-  minus = to_z w64 n -ℤ to_z w64 b
-
-  minus_is : minus ≡ pos n -ℤ pos b
-  minus_is = rw (to_z_pos w64 n (omega arith), to_z_pos w64 b (omega arith))
-
   near : SFits w32 (pos n -ℤ pos b)
   near = record { sfits = minus_mag n b (2 ^ 31) h l }
 
   -- the difference, passed on
   pub difference_back : (z : ℤ) → z ≡ pos n -ℤ pos b → to_z w32 (of_z w32 z) ≡ pos n -ℤ pos b
   difference_back z e = ap (λ (x : ℤ). to_z w32 (of_z w32 x)) e ∙ to_z-of_z w32 (pos n -ℤ pos b) near
-
-  far : SFits w64 (pos n -ℤ pos b)
-  far = record { sfits = omega (arith, minus_mag n b (2 ^ 31) h l) }
-
-  pub minus_fits : SFits w64 minus
-  minus_fits = subst (λ (x : ℤ). SFits w64 x) (sym minus_is) far
-
-  minus_held : to_z w64 (of_z w64 minus) ≡ pos n -ℤ pos b
-  minus_held = ap (λ (x : ℤ). to_z w64 (of_z w64 x)) minus_is ∙ to_z-of_z w64 (pos n -ℤ pos b) far
-
-  pub minus_cast : SFits w32 (to_z w64 (of_z w64 minus))
-  minus_cast = subst (λ (x : ℤ). SFits w32 x) (sym minus_held) near
-
-  pub minus_back : to_z w32 (of_z w32 (to_z w64 (of_z w64 minus))) ≡ pos n -ℤ pos b
-  minus_back = difference_back (to_z w64 (of_z w64 minus)) minus_held
 
 -- ---- places
 
@@ -117,16 +71,32 @@ beyond first last p h = by (leb first p)
     by true = rw (lt-leb p last h)
     by false = refl
 
--- a place by the sum in 32 bits
-module _ (from first last : ℕ) where
-  pub wrapped : (z : ℤ) → SFits w32 z → from < 2 ^ 31 → last < 2 ^ 31 → (v k : ℕ) → v ≡ of_z w32 z → k ≡ (v + from) % 4294967296 → when (within first last k) k ≡ placed from first last z
-  unfolding placed
-  wrapped (pos n) h f l v k e g = let i : k ≡ n + from = omega (arith, h.sfits) in rw i
-  wrapped (negsuc n) h f l v k e g = by (ltb n from) refl
+-- a place by the sum, where that is a number of 32 bits
+module _ (from first last : ℕ) (l : last < 2 ^ 32) where
+  abbrev inside : Option ℕ → Option ℕ
+  inside o = o >>= λ k. when (within first last k) k
+
+  at_sum : (k : ℕ) (o : Option ℕ) → SomeIff o (FitsUnsigned w32 (pos k)) k → inside o ≡ when (within first last k) k
+  at_sum k (Some x) g = rw g.1 refl
+  at_sum k None g = by (ltb k (2 ^ 32)) refl
     where
-      by : (t : Bool) → ltb n from ≡ t → when (within first last k) k ≡ (if t then when (within first last (from - suc n)) (from - suc n) else None)
-      by true u = let i : k ≡ from - suc n = omega (arith, h.sfits, ltb-true n from u) in rw i
-      by false u = beyond first last k (omega (arith, h.sfits, ltb-false n from u))
+      by : (t : Bool) → ltb k (2 ^ 32) ≡ t → None ≡ when (within first last k) k
+      by true u = absurd (g (record { le = le→leb 0 k (omega arith) }, record { lt = lt→ltb k (2 ^ 32) (ltb-true k (2 ^ 32) u) }))
+      by false u = sym (beyond first last k (omega (arith, ltb-false k (2 ^ 32) u)))
+
+  abbrev difference : ℕ → Bool → ℤ
+  difference n t = cond t (negsuc (suc n - suc from)) (pos (from - suc n))
+
+  below : (n : ℕ) (o : Option ℕ) (t : Bool) → ltb from (suc n) ≡ t → SomeIff o (FitsUnsigned w32 (difference n t)) (nat_abs (difference n t))
+      → inside o ≡ (if ltb n from then when (within first last (from - suc n)) (from - suc n) else None)
+  below n (Some x) true u g = absurd g.0.0.le
+  below n None true u g = rw (le-ltb n from (omega (arith, ltb-true from (suc n) u))) refl
+  below n o false u g = rw (lt-ltb n from (omega (arith, ltb-false from (suc n) u))) (at_sum (from - suc n) o g)
+
+  pub summed : (z : ℤ) (o : Option ℕ) → SomeIff o (FitsUnsigned w32 (pos from +ℤ z)) (unsigned_abs (pos from +ℤ z)) → inside o ≡ placed from first last z
+  unfolding placed
+  summed (pos n) o g = rw (add_comm n from) (at_sum (from + n) o g)
+  summed (negsuc n) o g = below n o (ltb from (suc n)) refl g
 
 pub days_placed : (z : ℤ) → from_days z ≡ placed epoch first_date last_date z
 unfolding from_days placed

@@ -2,7 +2,7 @@
 // 01's day number. Inside, a day is counted from 1 January of the year -10000 and a year from that year, so that nothing is negative.
 #![tactic(auto)]
 
-ghost use Rattle.std.specs.Prelude.{◌≡◌, ◌≤◌, ◌<◌, ◌^◌, pos, ◌-ℤ◌};
+ghost use Rattle.std.specs.Prelude.{◌≡◌, ◌≤◌, ◌<◌, ◌^◌, min, pos, ◌-ℤ◌};
 ghost use Rattle.definition.specs.Date.{leap, month_length, new_year, date_at, weekday, ymd_of, year_at, from_days, from_ymd, first_ten, date_parts, date_of};
 ghost use Rattle.laws.specs.Calendar.{MarchDay, IsDay};
 ghost use Rattle.definition.specs.Answer.{date_meaning, day_number_of};
@@ -80,7 +80,7 @@ fn march_of(d: u32) -> March
 }
 
 // The difference, with its sign.
-pub fn lowered(n: u32, by: u32) -> i32
+fn lowered(n: u32, by: u32) -> i32
     requires small { n < 2 ^ 31 }
     requires by_small { by < 2 ^ 31 }
     ensures { result ≡ pos n -ℤ pos by }
@@ -109,13 +109,12 @@ fn civil_of(d: u32) -> Ymd
 // ---- dates as they are written
 // Functions, and no From or FromStr: `Date` and `Ymd` belong to the crate definition, and the texts are bytes.
 
-// A number counted from `from` below 0 on, where that lies between the first and the last. One that lies before wraps, to a number above the last.
+// A number counted from `from` below 0 on, where that lies between the first and the last.
 fn place(n: i32, from: u32, first: u32, last: u32) -> Option<u32>
-    requires { (from < 2 ^ 31) × (last < 2 ^ 31) }
     ensures { result ≡ placed from first last n }
 {
-    let k = n.cast_unsigned().wrapping_add(from);
-    (first..=last).contains(&k).then_some(k)
+    from.checked_add_signed(n)
+        .filter(|k| (first..=last).contains(k))
 }
 
 fn year_at(year: i32) -> Option<u32>
@@ -194,12 +193,11 @@ pub fn count_of(d: Date) -> u32
     days_between(Date(-4371953), d)
 }
 
-// The date that lies so many days behind 1 January of the year -10000.
+// The date that lies so many days behind 1 January of the year -10000; 2 ^ 31 - 1 days stand for more.
 pub fn at_count(n: u32) -> Date
-    requires { n < 2 ^ 31 }
-    ensures { result.0 ≡ pos n -ℤ pos 4371953 }
+    ensures { result.0 ≡ pos (min n 2147483647) -ℤ pos 4371953 }
 {
-    Date(lowered(n, 4371953))
+    Date(lowered(n.min(2147483647), 4371953))
 }
 
 // ---- date texts

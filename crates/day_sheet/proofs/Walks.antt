@@ -2,7 +2,7 @@
 use Rattle.std.specs.Prelude.{if◌then◌else◌}
 use mathlib.Core.Path.{◌≡◌, refl, sym, ap, ◌∙◌}
 use mathlib.Core.Bool.{Bool, true, false, ◌||◌}
-use mathlib.Core.List.{List, [], ◌∷◌}
+use mathlib.Core.List.{List, ◌∷◌, []}
 use Rattle.std.specs.Prelude.{Option, Some, None}
 use Rattle.std.specs.Option.{option_eq}
 use Rattle.std.proofs.Common.{int_eq, rules, tests}
@@ -13,13 +13,13 @@ use native.Mathlib.Omega.{arith}
 use borrow.Author.Tests.{eq-eqb, ne_eqb, eqb-true, eqb-false, ltb-true, ltb-false}
 use lib.Dec.{eqb, ltb}
 use lib.IntN.{ℤ, pos, negsuc}
-use lib.ListN.{length, drop, drop_of_length-le}
+use lib.ListN.{drop, drop_of_length-le}
 use Rattle.laws.specs.Fields.{day_days}
 use Rattle.definition.specs.Base.{given, some?, keep, first, find}
 use Rattle.definition.specs.Answer.{day_number_of, date_meaning}
 use Rattle.definition.specs.Date.{Date, epoch, day_number, from_days}
 use Rattle.definition.specs.Format.{Format, ◌⊗◌, date, dates, Period, periods, earlier}
-use Rattle.definition.specs.Calendar.{by_date, hours_on, or_hours}
+use Rattle.definition.specs.Calendar.{by_date, hours_on}
 use Rattle.bits.specs.Reads.{taken_at}
 use Rattle.bits.specs.declared.Place.{Place}
 use Rattle.bits.specs.declared.Field.{Field}
@@ -104,9 +104,6 @@ module _ {A : Type 0} (p : A → Bool) where
   unfolding keep first
   find_none = refl
 
-pub unmet : {A : Type 0} (f : Format A) (date_of : A → Date) (s : List ℕ) (z : ℤ) (q : Place) (n : ℕ) → Unmet f date_of s z q n q 0
-unmet f date_of s z q n = record { left = λ d e l a. (a, refl) }
-
 module _ {A : Type 0} {f : Format A} {date_of : A → Date} (dt : Dated f date_of) {s : List ℕ} {z : ℤ} {n i : ℕ} {q₀ q : Place} (u : Unmet f date_of s z q₀ n q i) where
   module _ {x : Option ℤ × Place} (lt : i < n) (e : x ≡ date_at s q) {b : Bool} (t : b ≡ is_on x.0 z) where
     on_day_lem : (d : Date) → from_days z ≡ Some d → {a : A} → Stands f s q a → b ≡ eqb (date_of a) d
@@ -180,20 +177,3 @@ hours_found {s} {r = r} m p = rw m.is (listed s r (stands_pass m.stands p))
 
 pub hours_missing : (d : Date) (l : List (Date × List Period)) → find (λ (x : Date × List Period). eqb x.0 d) l ≡ None → hours_on l d ≡ []
 hours_missing d l e = rw e
-
--- ---- the list that counts
-
-module _ (s : List ℕ) (p q : Place) {x : Field ℕ Place} (e : x ≡ taken_at s p 32) {a : List Period} (b : List Period) (h : Listed s p a) where
-  pub first_empty : x.value ≡ 0 → Listed s q b → Listed s q (or_hours a b)
-  first_empty z k = by_list a h.count
-    where
-      by_list : (a : List Period) → length a ≡ (taken_at s p 32).value → Listed s q (or_hours a b)
-      by_list [] c = k
-      by_list (t ∷ a) c = absurd (omega (arith, ap (λ (y : Field ℕ Place). y.value) e))
-
-  pub first_counts : (x.value ≡ 0 → ⊥) → Listed s p (or_hours a b)
-  first_counts n = by_list a h
-    where
-      by_list : (a : List Period) → Listed s p a → Listed s p (or_hours a b)
-      by_list [] k = absurd (n (ap (λ (y : Field ℕ Place). y.value) e ∙ sym k.count))
-      by_list (t ∷ a) k = k

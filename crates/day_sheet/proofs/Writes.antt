@@ -1,11 +1,10 @@
 -- Periods written one after another. Assumes nothing.
 use mathlib.Core.Path.{◌≡◌, sym, ap, ◌∙◌}
-use mathlib.Core.List.{List, [], ◌∷◌, ◌++◌}
+use mathlib.Core.List.{List, ◌∷◌, ◌++◌, []}
 use Rattle.std.specs.Prelude.{Option}
-use Prim.Native.Nat.{ℕ, ◌+◌, ◌≤◌, ◌<◌}
-use native.Mathlib.Omega.{arith}
-use lib.ListN.{length, take}
-use lib.Seq.{take_all, take-add}
+use Prim.Native.Nat.{ℕ, ◌+◌, ◌<◌}
+use lib.ListN.{take}
+use lib.Seq.{take-add}
 use Rattle.definition.specs.Base.{◌or◌}
 use Rattle.definition.specs.Format.{field, times, Period, period, periods, earlier}
 use Rattle.definition.specs.Calendar.{default_periods, or_hours}
@@ -44,18 +43,7 @@ module _ {s : List ℕ} {q₀ : Place} {n : ℕ} {d : List ℕ} {p q : Place} {i
         (ahead_more b lt (pass_read (next_reads tails_period (0, 0) s q (ap (λ (x : Option Period × Place). x.1) e))), put_same z (put_more n o w));
   }
 
-  pub copied_all : n ≤ i → (l : List Period) → Ahead period s q₀ n 0 l → Puts (times n period) l d p d' p'
-  copied_all le l a = let (b, o) = u.left l a in put_same (take_all i l (omega (arith, b.count))) o
-
 -- ---- a list or the default one
-
-pub default_counts : (s : List ℕ) (q : Place) {x : Field ℕ Place} {l : List Period} {d d' : List ℕ} {p p' : Place} → x ≡ taken_at s q 32 → x.value ≡ 0 → Listed s q l
-    → Puts periods default_periods d p d' p' → Puts periods (or_hours l default_periods) d p d' p'
-default_counts s q {x} {l} {d} {d'} {p} {p'} e z h w = by_list l h.count
-  where
-    by_list : (l : List Period) → length l ≡ (taken_at s q 32).value → Puts periods (or_hours l default_periods) d p d' p'
-    by_list [] c = w
-    by_list (t ∷ l) c = absurd (omega (arith, ap (λ (y : Field ℕ Place). y.value) e))
 
 pub list_counts : (s : List ℕ) (q : Place) {x : Field ℕ Place} {l : List Period} {d d1 d2 : List ℕ} {p p1 p2 : Place} → x ≡ taken_at s q 32 → (x.value ≡ 0 → ⊥) → Listed s q l
     → Puts (field 32) x.value d p d1 p1 → ((l : List Period) → Ahead period s x.next x.value 0 l → Puts (times x.value period) l d1 p1 d2 p2)

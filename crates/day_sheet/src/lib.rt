@@ -113,7 +113,7 @@ fn find_day(s: &[u8], calendar: u32, date: Date) -> Result<Day, Refusal>
         byte: calendars.at,
         bit: 0,
     };
-    let p = skip_records::<false>(s, first, Kind::Calendars, calendar);
+    let p = skip_records::<false>(s, first, Kind::Calendars, calendar as usize);
     Ok(day_of(s, p, date, weekday))
 }
 

@@ -47,15 +47,15 @@ pub struct Date(pub i32);
 // Why a call is refused.
 #[derive(Clone, Copy, Debug, PartialEq, Eq)]
 pub enum Refusal {
-    Layout,
-    Utf8,
-    TooMany,
-    NoProject,
-    TooLong,
-    NoModel,
-    ListBroken,
-    Outside,
-    NoRoom,
+    Layout = 1,
+    Utf8 = 2,
+    TooMany = 3,
+    NoProject = 4,
+    TooLong = 5,
+    NoModel = 6,
+    ListBroken = 7,
+    Outside = 8,
+    NoRoom = 9,
 }
 
 // The numbers that a host sees.
@@ -63,17 +63,7 @@ impl From<Refusal> for u32 {
     ghost from_gives = { λ e n. n ≡ refusal_number e };
 
     fn from(e: Refusal) -> u32 {
-        match e {
-            Refusal::Layout => 1,
-            Refusal::Utf8 => 2,
-            Refusal::TooMany => 3,
-            Refusal::NoProject => 4,
-            Refusal::TooLong => 5,
-            Refusal::NoModel => 6,
-            Refusal::ListBroken => 7,
-            Refusal::Outside => 8,
-            Refusal::NoRoom => 9,
-        }
+        e as u32
     }
 }
 

@@ -6,7 +6,7 @@ ghost use Rattle.std.specs.Prelude.{◌≡◌};
 ghost use Rattle.exception_days.specs.Line.{digit_of, iso_of};
 
 use definition::{Date, Refusal, Ymd};
-use recurrence::{Rule, Step};
+use recurrence::Rule;
 use std::io;
 use std::io::Cursor;
 use tree::Element;
@@ -72,10 +72,8 @@ fn put_day(rt: &impl Print, d: Date) -> io::Result<()> {
 }
 
 fn put_days(rt: &impl Print, r: Rule) -> io::Result<()> {
-    let mut c = recurrence::start(r);
-    while let Step::Day(d, after) = recurrence::next(r, c) {
+    for d in recurrence::days(r) {
         put_day(rt, d)?;
-        c = after;
     }
     Ok(())
 }
@@ -95,11 +93,14 @@ fn put_tree(rt: &impl Print, s: &[u8]) -> io::Result<()> {
 }
 
 // One byte more than a tree may have. A read that fails ends the input; a write that fails ends the program, which says nothing of it.
+// read_model's has the same reading: a program cannot lend it to a program.
 fn main(rt: HostRuntime) {
     let mut room = Cursor::new([0u8; MOST + 1]);
     // What came before it failed, by a read or as the room was full, stands in the room.
     let _ = io::copy(&mut rt.reader(), &mut room);
-    let n = room.position() as usize;
+    let Ok(n) = usize::try_from(room.position()) else {
+        return;
+    };
     if MOST < n {
         return;
     }

@@ -2,8 +2,12 @@
 use Prim.Native.Nat.{suc}
 use native.Mathlib.Omega.{arith}
 use borrow.Author.Tests.{ne_eqb}
-use mathlib.Core.Path.{◌≡◌, refl, ap, ◌∙◌}
-use mathlib.Core.Bool.{Bool, not}
+use mathlib.Core.Path.{◌≡◌, refl, ap, ◌∙◌, sym, subst}
+use lib.Pointwise.{pointwise}
+use Rattle.text.proofs.Equal.{same_is}
+use Rattle.fields.specs.Answers.{other_text}
+use Rattle.std.specs.Option.{MatchOption}
+use mathlib.Core.Bool.{Bool, false, not}
 use mathlib.Core.List.{[], ◌∷◌}
 use Rattle.std.proofs.Common.{Bor}
 use Rattle.std.specs.Prelude.{Option, Some, None, Ok, Err}
@@ -81,3 +85,9 @@ length_given e n = by (child e n)
 pub said_if : (o : Option Text) (t : Bor Text) → t.now ≡ (o or []) → {b : Bool} → b ≡ given o → {r : Option (Bor Text)} → r ≡ then_some b t → option_map (λ t. t.now) r ≡ o
 said_if None t i e h = rw (h, e)
 said_if (Some u) t i e h = rw (h, e) (ap Some i)
+
+-- a text other than v
+pub other_if : (o : Option (Bor Text)) (v : Text) {t : Option Text} {r : Bool} {P : Bor Text → Type 0} → option_map (λ t. t.now) o ≡ t → MatchOption o (r ≡ false) P
+    → ((x : Bor Text) → P x → r ≡ not (pointwise eqb x.now v)) → r ≡ other_text t v
+other_if None v {r = r} e h k = subst (λ (t : Option Text). r ≡ other_text t v) e h
+other_if (Some x) v {r = r} e h k = subst (λ (t : Option Text). r ≡ other_text t v) e (k x h ∙ ap not (sym (same_is x.now v)))

@@ -11,7 +11,7 @@ ghost use Rattle.definition.specs.Task.{own_uid};
 ghost use Rattle.definition.specs.Field.{not_whole};
 ghost use Rattle.tree.specs.Place.{meaning};
 ghost use Rattle.tree.specs.Root.{own_text};
-ghost use Rattle.fields.specs.Answers.{unsigned_or};
+ghost use Rattle.fields.specs.Answers.{other_text, unsigned_or};
 ghost use Rattle.fields.specs.Said.{yes_said, whole_said, date_said, number_said, duration_said, minutes_said};
 
 use crate::value::{minutes_of, not_whole, unsigned_or};
@@ -40,11 +40,18 @@ pub fn text_is(e: Element<'_>, name: &[u8], value: &[u8]) -> bool
     e.text_of(name) == value
 }
 
+// Whether there is a text other than `value`.
+pub fn other_than(e: Element<'_>, name: &[u8], value: &[u8]) -> bool
+    ensures { result ≡ other_text (text_of (meaning e.entry) name.now) value.now }
+{
+    text_in(e, name).is_some_and(|t| t != value)
+}
+
 // A UID other than `0`.
 pub fn own_uid(e: Element<'_>) -> bool
     ensures { result ≡ own_uid (meaning e.entry) }
 {
-    given(e, b"UID") & !text_is(e, b"UID", b"0")
+    other_than(e, b"UID", b"0")
 }
 
 pub fn yes_in(e: Element<'_>, name: &[u8]) -> bool

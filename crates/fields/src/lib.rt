@@ -6,6 +6,6 @@ mod child;
 mod value;
 
 pub use child::{
-    date_at, date_in, fraction_in, given, int_in, minutes_in, number_at, number_in, own_uid,
-    text_in, text_is, unsigned_in, yes_in,
+    date_at, date_in, fraction_in, given, int_in, minutes_in, number_at, number_in, other_than,
+    own_uid, text_in, text_is, unsigned_in, yes_in,
 };

@@ -29,8 +29,9 @@ fn quad(s: &[u8], i: usize) -> u32
     u32::from_le_bytes([s[i], s[i + 1], s[i + 2], s[i + 3]])
 }
 
-// A byte of a text with so many `*` behind it; past its end 0 and no Option, as the hash takes zeros there. Text and number go side by side here and in
-// names: pack's Starred stands above both, and would have to come down to the crate text for three functions here and one there.
+// A byte of a text with so many `*` behind it; past its end 0 and no Option, as the hash takes zeros there. Text and number go side by side in the
+// four functions of the hash: names alone has stars, and has them apart from the text, so that a struct would be made at each call and taken apart in
+// each body.
 fn starred(s: &[u8], stars: u32, i: usize) -> u8
     ensures { result ≡ get_or (starred_by s.now stars) i 0 }
 {
@@ -140,7 +141,7 @@ fn row_below(bound: u32, word: u32) -> Option<u32>
 pub fn table_at(len: usize, at: usize, rows: u32) -> Option<Table>
     ensures { result ≡ table_of len at rows }
 {
-    if rows == 0 || len <= at || len - at < 3 * (rows as usize) {
+    if rows == 0 || len.saturating_sub(at) < 3 * (rows as usize) {
         return None;
     }
     Some(Table { at, rows })

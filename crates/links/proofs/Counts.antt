@@ -81,12 +81,12 @@ one_across x n row l (Err Across) h = refl
 one_across x n row l (Err Dangling) h = sum_none (2 ^ 32) n.across h
 one_across x n row l (Ok p) h = sum_none (2 ^ 32) n.across h
 
-pub tasks_end : (find : Finder) (root : Element) {n : Fates} {ts : List Element} → counted_of find (record { dangling = 0; across = 0 }) (kept_tasks root) ≡ counted_of find n ts → ts ≡ [] → Counted (fates_by find (context_of root)) n
+pub tasks_end : (find : Finder) (root : Element) {o n : Fates} {ts : List Element} → (o.dangling ≡ 0) × (o.across ≡ 0) → counted_of find o (kept_tasks root) ≡ counted_of find n ts → ts ≡ [] → Counted (fates_by find (context_of root)) n
 unfolding counted_of context_of
-tasks_end find root {n} h e =
+tasks_end find root {o} {n} z h e =
     let x = context_of root in
-    let i : counted_of find (record { dangling = 0; across = 0 }) (kept_tasks root) ≡ n = h ∙ ap (counted_of find n) e in
+    let i : counted_of find o (kept_tasks root) ≡ n = h ∙ ap (counted_of find n) e in
     record {
-      dangling_is = ap (λ (m : Fates). m.dangling) (sym i) ∙ counted_all find x (λ m. m.dangling) is_dangling (one_dangling x) (record { dangling = 0; across = 0 }) refl;
-      across_is = ap (λ (m : Fates). m.across) (sym i) ∙ counted_all find x (λ m. m.across) is_across (one_across x) (record { dangling = 0; across = 0 }) refl;
+      dangling_is = ap (λ (m : Fates). m.dangling) (sym i) ∙ counted_all find x (λ m. m.dangling) is_dangling (one_dangling x) o z.0;
+      across_is = ap (λ (m : Fates). m.across) (sym i) ∙ counted_all find x (λ m. m.across) is_across (one_across x) o z.1;
     }

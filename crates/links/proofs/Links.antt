@@ -1,5 +1,5 @@
 -- Link elements: what becomes of one, and the kept ones written one after another. Assumes nothing.
-use Rattle.std.proofs.Common.{◌≡◌, ℕ, ◌+◌, ◌%◌, ◌^◌, true, false, List, [], ◌∷◌, sym, ap, ◌∙◌, Bor, refl, arith}
+use Rattle.std.proofs.Common.{◌≡◌, ℕ, ◌+◌, ◌%◌, ◌^◌, true, false, List, ◌∷◌, sym, ap, ◌∙◌, Bor, refl, arith, []}
 use Rattle.std.specs.Prelude.{Option, Some, None}
 use Rattle.definition.specs.Ascii.{bytes}
 use Rattle.definition.specs.Text.{Text}
@@ -78,9 +78,6 @@ module _ (per_day row : ℕ) (l : Element) {d : List ℕ} {done : Records} where
 -- ---- the loops: what is left to be written
 
 module _ (per_day : ℕ) (find : Finder) where
-  pub in_begin : (row : ℕ) {ls k : List Element} {d : List ℕ} {done : Records} → ls ≡ k → Left (whole link) (links_in per_day find row ls) (links_in per_day find row k) d done d done
-  in_begin row e = left_all (ap (links_in per_day find row) e)
-
   module _ (row : ℕ) {every : List M.Link} {ls : List Element} {d : List ℕ} {done : Records} {d' : List ℕ} {r : Records} (h : Left (whole link) every (links_in per_day find row ls) d done d' r) where
     pub in_next : {l : Element} {k : List Element} → ls ≡ l ∷ k → {f : LinkFate} → f ≡ fate_for find l → {d'' : List ℕ} {r' : Records} → More (whole link) (links_for per_day row l f) d' r d'' r'
         → Left (whole link) every (links_in per_day find row k) d done d'' r'

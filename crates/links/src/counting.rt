@@ -41,10 +41,7 @@ fn counted_in(task: Element<'_>, finder: TaskFinder<'_>, n: Fates) -> Fates
 pub fn count_fates(finder: TaskFinder<'_>) -> Fates
     ensures { Counted (fates_by (found_by finder.entry) (context_of (root_at finder.entry.root))) result }
 {
-    let mut count = Fates {
-        dangling: 0,
-        across: 0,
-    };
+    let mut count = Fates::default();
     for task in rows::kept_tasks(finder.root) {
         count = counted_in(task, finder, count);
     }

@@ -17,7 +17,7 @@ use tree::Root;
 pub use writing::put_links;
 
 // How many link elements dangle, and how many go across.
-#[derive(Clone, Copy, Debug, PartialEq, Eq)]
+#[derive(Clone, Copy, Debug, Default, PartialEq, Eq)]
 pub struct Fates {
     pub dangling: u32,
     pub across: u32,

@@ -63,11 +63,9 @@ pub fn put_links(out: &mut [u8], p: Place, finder: TaskFinder<'_>) -> Records
 {
     let per_day = tasks::per_day(finder.root);
     let mut r = Records::none(p);
-    // Counted by hand: `enumerate` counts in usize, and a row has 32 bits; `zip` would need a range, whose end is known when all are counted.
-    let mut row: u32 = 0;
-    for task in rows::kept_tasks(finder.root) {
+    // No more tasks are kept. `enumerate` counts in usize, and a row has 32 bits.
+    for (row, task) in (0..100_000).zip(rows::kept_tasks(finder.root)) {
         r = put_links_in(out, r, task, finder, per_day, row);
-        row += 1;
     }
     r
 }

@@ -1,11 +1,11 @@
 -- Laws for the fields: one for each way out of a function. Assumes nothing.
 use Rattle.std.specs.Prelude.{if◌then◌else◌}
-use mathlib.Core.Path.{◌≡◌, refl, sym, ap, ◌∙◌}
+use mathlib.Core.Path.{◌≡◌, refl, sym, ap, subst, ◌∙◌}
 use mathlib.Core.Bool.{Bool, true, false, not, and-false, false≢true}
 use mathlib.Core.List.{List}
 use Rattle.std.specs.Prelude.{Option, Some, None}
 use Rattle.std.specs.Bool.{then_some}
-use Rattle.std.specs.Option.{unwrap_or}
+use Rattle.std.specs.Option.{MatchOption, unwrap_or}
 use Prim.Native.Nat.{ℕ, ◌+◌, ◌-◌, ◌*◌, ◌/◌, ◌%◌, ◌≤◌, ◌<◌}
 use native.Mathlib.Omega.{arith}
 use lib.ListN.{length, take, drop}
@@ -15,14 +15,14 @@ use lib.IntN.{ℤ}
 use borrow.Author.Tests.{lt-ltb, le-ltb, ltb-true, ltb-false, le-leb, lt-leb, leb-true, leb-false, eqb-true, eq-eqb, ne_eqb}
 use Rattle.definition.specs.Pack.{lag_kind}
 use Rattle.definition.specs.Base.{◌>>=◌, ◌or◌}
-use Rattle.definition.specs.Bits.{Bits, bits_of, bytes_up_to}
+use Rattle.definition.specs.Bits.{Bits, bits_of, bytes_up_to, signed}
 use Rattle.definition.specs.Answer.{date_meaning, day_number_of}
 use Rattle.definition.specs.declared.Date.{Date as DayNumber}
 use Rattle.definition.specs.Date.{Date, from_days}
 use Rattle.date.specs.Scale.{day_count, count_of_number}
 use Rattle.definition.specs.Time.{most_time}
 use Rattle.definition.specs.Text.{Text, is_utf8}
-use Rattle.definition.specs.Format.{Format, ◌⊗◌, field, whole, count, row, flag, code, time, period, date, text, optional, number}
+use Rattle.definition.specs.Format.{Format, ◌⊗◌, field, whole, count, row, flag, code, time, period, date, text, optional, number, via}
 use Rattle.definition.specs.Pack.{constraint, counts}
 use Rattle.bits.specs.Places.{at, place, past, room, inside, Fits, room_fits, room_short, room_none, room_more, place_at_lem, at_place}
 use Rattle.bits.specs.Reads.{rest, Reads, Refuses, refused, taken_at, flag_at, int32_at, read_int32, refuse_int32, read_none, read_some, refuse_some, read_bit, span_at, span_of, no_span, spot, Spans, rest_in, rest_out, rest_past, length_rest, take_cut, take_whole, read_field, read_whole, skip_pad, chain, read_flag, read_code, refuse_code, read_time, refuse_time, read-⊗, read_period, refuse_period, refuse_value, refuse_first, refuse_second, refuse_test, far}
@@ -30,10 +30,10 @@ use Rattle.bits.specs.declared.Place.{Place}
 use Rattle.bits.specs.declared.Field.{Field}
 use Rattle.bits.specs.declared.Span.{Span}
 use Rattle.laws.specs.Options.{Some-injective, bind_ext, never}
-use Rattle.laws.specs.Fields.{day_days}
+use Rattle.laws.specs.Fields.{day_days, InYears}
 use Rattle.model.specs.Lax.{behind, left, like_named, like_optional}
 use Rattle.model.specs.Passes.{Passes, Flagged, pass_like, pass_read, pass_refused, pass_some, pass_none, pass_both, pass_alone}
-use Rattle.model.specs.Answers.{read_at, counts_at, row_at, rows_at, date_at, or_at, spanned, name_at, read_there, read_nowhere, or_there, or_nowhere}
+use Rattle.model.specs.Answers.{read_at, counts_at, row_at, rows_at, date_at, or_at, spanned, name_at, read_there, read_nowhere, or_there, or_nowhere, seen, next_reads, tails_date}
 use Rattle.model.specs.Splits.{stands_is, not_refused}
 use Rattle.model.specs.Sections.{start, counts_by}
 use Rattle.model.specs.Places.{NamePlaced, NameTaken, span_ends, text_in, name_in, name_is}
@@ -200,19 +200,44 @@ module _ {a : Option DayNumber} {o : Option Date} (m : date_meaning a ≡ day_nu
       by_date_lem None e = never (sym e)
       by_date_lem (Some x) e = ap Some (sym (ap day_count (Some-injective _ _ e) ∙ count_of_number x))
 
-module _ (s : List ℕ) (p : Place) {x : Field ℤ Place} (e : x ≡ int32_at s p) {a : Option DayNumber} (m : date_meaning a ≡ day_number_of (from_days x.value)) where
-  pub date_refused : a ≡ None → Finds date (DayKey false) s p (record { value = 0; next = past })
-  date_refused h = record { found = λ l. absurd (omega arith); refuses = λ t. refuse_int32 s p e (no_day m h); past = λ t. rest_past s }
+date_years : (o : Option Bits) (x : Date × Bits) → (o >>= date.get) ≡ Some x → InYears x.0
+unfolding date via
+date_years None x e = never e
+date_years (Some l) x e = by_field ((field 32).get l) e
+  where
+    by_day : (m : Bits) (v : ℕ) (o : Option Date) → from_days (signed 32 v) ≡ o → ◌≡◌ {A = Option (Date × Bits)} (o >>= λ d. Some (d, m)) (Some x) → InYears x.0
+    by_day m v None u e = never e
+    by_day m v (Some d) u e = subst (λ (y : Date). InYears y) (ap (λ (y : Date × Bits). y.0) (Some-injective _ _ e)) (day_days (signed 32 v) d u).1
 
-  pub date_found : {d : DayNumber} → a ≡ Some d → Finds date (DayKey false) s p (record { value = day_count d.0; next = x.next })
-  date_found {d} h =
-      let z = counted m h in
-      let l = (day_days x.value _ z).1.0 in
+    by_field : (o : Option (ℕ × Bits)) → ◌≡◌ {A = Option (Date × Bits)} (o >>= λ y. from_days (signed 32 y.0) >>= λ d. Some (d, y.1)) (Some x) → InYears x.0
+    by_field None e = never e
+    by_field (Some y) e = by_day y.1 y.0 (from_days (signed 32 y.0)) refl e
+
+-- a date by the number that lists rise by, as it was read
+module _ (s : List ℕ) (p q : Place) (v : ℕ) where
+  date_by_key : (a : Option DayNumber) → (date_meaning a, q) ≡ date_at s p → MatchOption a (v ≡ 0) (λ d. v ≡ day_count d.0)
+      → (o : Option (Date × Bits)) → (rest s p >>= date.get) ≡ o → Finds date (DayKey false) s p (record { value = v; next = q })
+  unfolding read_at
+  date_by_key None e k None h =
+      let g : q ≡ past = ap (λ (y : Option ℤ × Place). y.1) e ∙ ap (λ (o : Option (Date × Bits)). (seen s o).1) h in
+      record { found = λ l. absurd (omega (arith, k)); refuses = λ t. record { gives = h }; past = λ t. rw g (rest_past s) }
+  date_by_key None e k (Some x) h = never (sym (no_day (ap (λ (y : Option ℤ × Place). y.0) e) refl) ∙ ap (λ (o : Option (Date × Bits)). (seen s o).0) h)
+  date_by_key (Some d) e k None h =
+      never (sym (ap (λ (o : Option (Date × Bits)). (seen s o).0) h) ∙ counted (ap (λ (y : Option ℤ × Place). y.0) e) refl)
+  date_by_key (Some d) e k (Some x) h =
+      let c : (read_at date s p).0 ≡ Some (day_count d.0) = counted (ap (λ (y : Option ℤ × Place). y.0) e) refl in
+      let z : x.0 ≡ day_count d.0 = Some-injective _ _ (sym (ap (λ (o : Option (Date × Bits)). (seen s o).0) h) ∙ c) in
+      let l = (date_years (rest s p) x h).0 in
+      let reads : Reads date s p (day_count d.0) q = rw c at (next_reads tails_date 0 s p (ap (λ (y : Option ℤ × Place). y.1) e)) in
       record {
-        found = λ k. record { item = day_count d.0; key = (refl, k); reads = read_int32 s p e z };
-        refuses = λ t. absurd (omega arith);
-        past = λ t. absurd (omega arith);
+        found = λ m. record { item = day_count d.0; key = (sym k, m); reads = reads };
+        refuses = λ t. absurd (omega (arith, l, z, k));
+        past = λ t. absurd (omega (arith, l, z, k));
       }
+
+  pub date_keyed : (a : Option DayNumber) → (date_meaning a, q) ≡ date_at s p → MatchOption a (v ≡ 0) (λ d. v ≡ day_count d.0)
+      → Finds date (DayKey false) s p (record { value = v; next = q })
+  date_keyed a e k = date_by_key a e k (rest s p >>= date.get) refl
 
 -- ---- periods
 

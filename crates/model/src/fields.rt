@@ -2,7 +2,7 @@
 // lists, parts and records, and in model_check, outline and day_sheet: a function gives the place alone, as a Reader that came back would need a promise
 // that its bytes are the same ones, in each contract. Two functions of lib.rt have it, for its walk from section to section. A code is the number that
 // the format has: what it means is for the crates that write it.
-ghost use Rattle.std.specs.Prelude.{◌≡◌, ◌+◌, ◌≤◌, length, false};
+ghost use Rattle.std.specs.Prelude.{◌≡◌, ◌≤◌, false};
 ghost use Rattle.definition.specs.Format.{field, code, optional, date, period};
 ghost use Rattle.definition.specs.Pack.{constraint};
 ghost use Rattle.model.specs.Passes.{Passes};
@@ -12,6 +12,7 @@ ghost use Rattle.model.specs.Parts.{text_by};
 ghost use Rattle.model.specs.Passes.{Flagged};
 ghost use Rattle.model.specs.Places.{text_in};
 
+use crate::parts::take_date;
 use bits::{Field, PAST, Place, Span};
 
 // Nothing can be read. No Option: 0 is below every item, so a list's one test of its order refuses it too.
@@ -51,12 +52,12 @@ pub(crate) fn skip_code(s: &[u8], p: Place, lo: u64, hi: u64) -> Place
     PAST
 }
 
-// The bytes that a span tells.
+// The bytes that a span tells, as far as there are such.
 pub fn text_in(s: &[u8], t: Span) -> &[u8]
-    requires { t.start + t.len ≤ length s.now }
     ensures { result.now ≡ text_in s.now (t.start, t.len) }
 {
-    &s[t.start..t.start + t.len]
+    let behind = &s[t.start.min(s.len())..];
+    &behind[..t.len.min(behind.len())]
 }
 
 // A text. It is tested for UTF-8 where CHECK says so: a model that was opened needs no test.
@@ -77,13 +78,10 @@ pub(crate) fn skip_text<const CHECK: bool>(s: &[u8], p: Place) -> Place
 pub fn take_date_key(s: &[u8], p: Place) -> Field<u64>
     ensures { Finds date (DayKey false) s.now p result }
 {
-    let Field { value, next } = bits::take_i32(s, p);
-    let Some(d) = date::from_days(value) else {
-        return NOTHING;
-    };
+    let d = take_date(s, p);
     Field {
-        value: u64::from(date::count_of(d)),
-        next,
+        value: d.value.map_or(0, |x| u64::from(date::count_of(x))),
+        next: d.next,
     }
 }
 

@@ -105,7 +105,7 @@ fn past_records<'a>(r: Reader<'a>, kind: Kind, count: u32) -> Reader<'a>
     ensures { moved_by (PassesRecords kind count) r.entry result }
 {
     Reader {
-        place: skip_records::<true>(r.model, r.place, kind, count),
+        place: skip_records::<true>(r.model, r.place, kind, count as usize),
         ..r
     }
 }
@@ -172,8 +172,7 @@ pub fn sections_of(len: usize, n: Counts, w: Places) -> Option<Sections>
         count,
         at: place.byte,
     };
-    let end = w.next;
-    if (end.bit == 0) & (end.byte == len) {
+    if w.next == (Place { byte: len, bit: 0 }) {
         return Some(PerKind {
             calendars: section(n.value.calendars, w.value.calendars),
             activities: section(n.value.activities, w.value.activities),

@@ -38,7 +38,8 @@ pub fn take_row(s: &[u8], p: Place) -> Field<Option<u32>>
     }
 }
 
-// Where an optional text starts, and its length. It is not tested for UTF-8.
+// Where an optional text starts, and its length. It is not tested for UTF-8. A pair and no range, as its contract's name_at has it: `take_name` alone
+// calls it, and would be no shorter.
 pub fn take_name_place(s: &[u8], p: Place) -> Field<Option<(usize, usize)>>
     ensures { NamePlaced s.now p result }
 {
@@ -102,7 +103,8 @@ pub fn take_date(s: &[u8], p: Place) -> Field<Option<Date>>
     }
 }
 
-// From a minute of the day to another. A WorkingTime of the crate calendar is what a plan says, which need not be in order.
+// From a minute of the day to another, which is after it. The crate calendar has a WorkingTime of the same two: neither crate uses the other, so that
+// one type would stand below both, in the crate definition, and the contracts and proofs of each speak of its own.
 #[derive(Clone, Copy, Debug, PartialEq, Eq)]
 pub struct Period {
     pub from: u16,

@@ -4,6 +4,8 @@ ghost use Rattle.std.specs.Prelude.{◌≡◌, ◌%◌};
 ghost use Rattle.definition.specs.Format.{times, whole};
 ghost use Rattle.definition.specs.Pack.{project};
 ghost use Rattle.model.specs.Passes.{Passes};
+ghost use Rattle.model.specs.declared.records.Kind.{Kind};
+ghost use Rattle.model.specs.declared.records.Kind.TheVariants.{Calendars, Activities, Resources, Expenses};
 ghost use Rattle.model.specs.Parts.{text_by, calendar_parts, activity_parts, activity_rest, activity_notes, link_parts, resource_parts, assignment_parts, expense_parts, record_of};
 
 use crate::fields::{
@@ -122,6 +124,45 @@ pub enum Kind {
     Expenses,
 }
 
+// A section's records, for what is generic over them.
+pub trait Records {
+    ghost KIND: { Kind };
+
+    const KIND: Kind;
+}
+
+pub struct Calendars;
+
+pub struct Activities;
+
+pub struct Resources;
+
+pub struct Expenses;
+
+impl Records for Calendars {
+    ghost KIND = { Calendars };
+
+    const KIND: Kind = Kind::Calendars;
+}
+
+impl Records for Activities {
+    ghost KIND = { Activities };
+
+    const KIND: Kind = Kind::Activities;
+}
+
+impl Records for Resources {
+    ghost KIND = { Resources };
+
+    const KIND: Kind = Kind::Resources;
+}
+
+impl Records for Expenses {
+    ghost KIND = { Expenses };
+
+    const KIND: Kind = Kind::Expenses;
+}
+
 pub fn skip_record<const CHECK: bool>(s: &[u8], p: Place, kind: Kind) -> Place
     ensures { Passes (record_of CHECK kind) s.now p result × (result.bit % 8 ≡ 0) }
 {
@@ -136,7 +177,7 @@ pub fn skip_record<const CHECK: bool>(s: &[u8], p: Place, kind: Kind) -> Place
 }
 
 // So many records. It ends at the first that is refused.
-pub fn skip_records<const CHECK: bool>(s: &[u8], p: Place, kind: Kind, count: u32) -> Place
+pub fn skip_records<const CHECK: bool>(s: &[u8], p: Place, kind: Kind, count: usize) -> Place
     ensures { Passes (times count (record_of CHECK kind)) s.now p result }
 {
     let mut q = p;

@@ -21,10 +21,8 @@ use Rattle.model.specs.Sections.{Decoded}
 use Rattle.model.specs.Answers.{row_at, rows_at}
 use Rattle.model.specs.Places.{NameTaken, link_rows, assignment_rows}
 use Rattle.model.specs.PerKind.{Sections}
-use Rattle.model.specs.declared.records.Kind.{Kind}
-use Rattle.model_check.specs.Kinds.{Item}
 use Rattle.model_check.specs.Keys.{same_key}
-use Rattle.model_check.specs.Rules.{rows_below, right_of}
+use Rattle.model_check.specs.Rules.{rows_below}
 
 -- ---- a parent's row
 
@@ -65,5 +63,5 @@ module _ {s : List ℕ} {p : Place} {m : Model} {w : Sections} (d : Decoded s m 
   assignment_right_lem h b = let u = assignment_rows h refl in b ∙ rw (u.0, u.1, d.activities.count, d.resources.count)
 
 -- the test of a scan for a record that is not right
-abbrev pub wrong : Model → (k : Kind) → ℕ → Item k → List (Item k) → Bool
-wrong m k i x l = not (right_of m k (i, x))
+abbrev pub wrong : {A : Type 0} → (A → Bool) → ℕ → A → List A → Bool
+wrong of i x l = not (of x)

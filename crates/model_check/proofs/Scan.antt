@@ -11,7 +11,7 @@ use native.Mathlib.Numerals.{add-one}
 use native.Mathlib.Omega.{arith}
 use lib.ListN.{length, drop, drop_of_length-le}
 use lib.Seq.{drop-drop}
-use Rattle.definition.specs.Base.{◌>>=◌, some?, every?, numbered}
+use Rattle.definition.specs.Base.{◌>>=◌, some?, every?}
 use Rattle.definition.specs.Bits.{Bits}
 use Rattle.definition.specs.Check.{distinct}
 use Rattle.definition.specs.Format.{Format, whole, times, get_all}
@@ -40,10 +40,10 @@ some_scan p i (x ∷ l) = by_test (p x) (some_scan p (suc i) l)
     by_test true e = refl
     by_test false e = e
 
-pub every_scan : {A : Type 0} (p : ℕ × A → Bool) (i : ℕ) (l : List A) → scan (λ i x l. not (p (i, x))) true i l ≡ every? p (numbered i l)
-unfolding scan every? numbered
+pub every_scan : {A : Type 0} (p : A → Bool) (i : ℕ) (l : List A) → scan (λ i x l. not (p x)) true i l ≡ every? p l
+unfolding scan every?
 every_scan p i [] = refl
-every_scan p i (x ∷ l) = by_test (p (i, x)) (every_scan p (suc i) l)
+every_scan p i (x ∷ l) = by_test (p x) (every_scan p (suc i) l)
   where
     by_test : (b : Bool) {c d : Bool} → c ≡ d → (if not b then false else c) ≡ b && d
     by_test true e = e

@@ -2,7 +2,7 @@
 use Rattle.std.specs.Prelude.{if◌then◌else◌}
 use mathlib.Core.Path.{◌≡◌, refl, sym, ap, subst, ◌∙◌}
 use mathlib.Core.Bool.{Bool, true, false}
-use mathlib.Core.List.{List, [], ◌∷◌, map}
+use mathlib.Core.List.{List, ◌∷◌, map, []}
 use Rattle.std.specs.Prelude.{Option, Some, None, All, MatchBool}
 use Rattle.std.specs.List.{AllWithin, HoldsAt, list_any}
 use Rattle.std.proofs.lemmas.List.Folds.{list_any_at, list_any_none}
@@ -28,7 +28,7 @@ use Rattle.model.specs.Splits.{Step}
 use Rattle.model.specs.Sections.{byte_at, byte_place, byte_rest}
 use Rattle.model.specs.declared.records.Kind.{Kind}
 use Rattle.model_check.specs.Kinds.{Item, format_of, Run}
-use Rattle.model_check.specs.Keys.{Key, no_key, same_key, hash_key, lead_of, KeyAt, Keyed}
+use Rattle.model_check.specs.Keys.{Key, no_key, same_key, hash_key, KeyAt, Keyed}
 use Rattle.model_check.specs.Tables.{KeysIn, KeyTable, Emptied, EmptyTable, EmptyAt}
 use Rattle.model_check.proofs.Scan.{Along, starts, goes}
 use Rattle.model_check.proofs.Twins.{key_is, some_below}
@@ -40,9 +40,9 @@ abbrev pub never : {A : Type 0} → ℕ → A → List A → Bool
 never i x l = false
 
 -- where the walk stands, at the record of row i, and the rows before it
-pub record Filling (kind : Kind) (s : List ℕ) (key : Item kind → Key) (xs : List (Item kind)) (end : ℕ) (t : Table) (w : List ℕ) (q : Place) (i : ℕ) : Type 0 where
+pub record Filling (kind : Kind) (lead : ℕ) (s : List ℕ) (key : Item kind → Key) (xs : List (Item kind)) (end : ℕ) (t : Table) (w : List ℕ) (q : Place) (i : ℕ) : Type 0 where
   pub along : Along kind s t.rows xs end never true i q
-  pub keys : KeysIn (lead_of kind) s (map key xs) t i w
+  pub keys : KeysIn lead s (map key xs) t i w
 
 nth_key : {A : Type 0} (key : A → Key) (xs : List A) (i : ℕ) {x : A} {l : List A} → drop i xs ≡ x ∷ l → get_or (map key xs) i no_key ≡ key x
 nth_key key [] zero {x} {l} e = let z : [] ≡ x ∷ l = e in cc
@@ -70,14 +70,11 @@ emptied w {at = at} {n} {t} small e f z =
 pub no_room : {t : Table} {A : Type 0} → None ≡ Some t → A
 no_room e = let y : ◌≡◌ {A = ℕ} 0 1 = cc in absurd (omega arith)
 
-pub none_made : (s : List ℕ) (at n : ℕ) (w : List ℕ) → EmptyAt s at n w w None
-none_made s at n w = record { ready = λ t e. no_room e; none = λ e. refl }
-
 pub one_made : {s : List ℕ} {at n : ℕ} {w w₂ : List ℕ} {t : Table} → EmptyTable s at n w w₂ t → EmptyAt s at n w w₂ (Some t)
 one_made {s} {at} {n} {w} {w₂} {t} x = record { ready = λ u e. let z : t ≡ u = cc in subst (EmptyTable s at n w w₂) z x; none = λ e. no_room (sym e) }
 
-module _ {kind : Kind} {s : List ℕ} {key : Item kind → Key} {xs : List (Item kind)} {end : ℕ} {t : Table} {w : List ℕ} {q : Place} where
-  pub fill_starts : Run kind s q t.rows xs end → Emptied t w → Filling kind s key xs end t w q 0
+module _ {kind : Kind} {lead : ℕ} {s : List ℕ} {key : Item kind → Key} {xs : List (Item kind)} {end : ℕ} {t : Table} {w : List ℕ} {q : Place} where
+  pub fill_starts : Run kind s q t.rows xs end → Emptied t w → Filling kind lead s key xs end t w q 0
   fill_starts r e =
       let a = starts never true r in
       record {
@@ -90,19 +87,19 @@ module _ {kind : Kind} {s : List ℕ} {key : Item kind → Key} {xs : List (Item
         };
       }
 
-  module _ {i : ℕ} (f : Filling kind s key xs end t w q i) (k : Keyed kind s key) (small : length s < 2 ^ 32) (even : q.bit % 8 ≡ 0) (l : i < t.rows) where
+  module _ {i : ℕ} (f : Filling kind lead s key xs end t w q i) (k : Keyed kind lead s key) (small : length s < 2 ^ 32) (even : q.bit % 8 ≡ 0) (l : i < t.rows) where
     at_byte : (q ≡ byte_at q.byte) × (q.byte < 2 ^ 32)
     at_byte =
         let a = f.along in
         let e = (stood (byte_rest s end a.ends) (pass_read a.left)).1 in
         (byte_place s q e even, omega (arith, (rest_fits s q e).ends))
 
-    pub fill_goes : {w₂ : List ℕ} {r : Place} {h p : ℕ} → ((k : Key) → KeyAt (lead_of kind) s q k → h ≡ hash_key k) → p ≡ q.byte % 2 ^ 32
-        → w₂ ≡ added w t i h p → Step (whole (format_of kind)) s q r (byte_at end) t.rows i xs → Filling kind s key xs end t w₂ r (i + 1)
+    pub fill_goes : {w₂ : List ℕ} {r : Place} {h p : ℕ} → ((k : Key) → KeyAt lead s q k → h ≡ hash_key k) → p ≡ q.byte % 2 ^ 32
+        → w₂ ≡ added w t i h p → Step (whole (format_of kind)) s q r (byte_at end) t.rows i xs → Filling kind lead s key xs end t w₂ r (i + 1)
     fill_goes {h = h} hash at_p e u =
         let z = nth_key key xs i u.is in
         let g = f.keys.places in
-        let here : KeyAt (lead_of kind) s (byte_at q.byte) (get_or (map key xs) i no_key) = rw (z, ← at_byte.0) (k.first u.stands) in
+        let here : KeyAt lead s (byte_at q.byte) (get_or (map key xs) i no_key) = rw (z, ← at_byte.0) (k.first u.stands) in
         record {
           along = goes never true f.along u refl;
           keys = record {
@@ -114,12 +111,12 @@ module _ {kind : Kind} {s : List ℕ} {key : Item kind → Key} {xs : List (Item
           };
         }
       where
-        by : KeyAt (lead_of kind) s (byte_at q.byte) (get_or (map key xs) i no_key) → (r : ℕ) → r < i + 1 → (b : Bool) → eqb r i ≡ b
-            → KeyAt (lead_of kind) s (byte_at (if b then q.byte else f.keys.places r)) (get_or (map key xs) r no_key)
+        by : KeyAt lead s (byte_at q.byte) (get_or (map key xs) i no_key) → (r : ℕ) → r < i + 1 → (b : Bool) → eqb r i ≡ b
+            → KeyAt lead s (byte_at (if b then q.byte else f.keys.places r)) (get_or (map key xs) r no_key)
         by here r m true e = rw (eqb-true r i e) here
         by here r m false e = let z = eqb-false r i e in f.keys.stands r (omega (arith, z))
 
-  pub filled : {i : ℕ} → Filling kind s key xs end t w q i → i ≡ t.rows → KeyTable (lead_of kind) s (map key xs) t w
+  pub filled : {i : ℕ} → Filling kind lead s key xs end t w q i → i ≡ t.rows → KeyTable lead s (map key xs) t w
   filled f e = let z = e ∙ f.keys.full in rw (← z) f.keys
 
 -- ---- a walk over a chain

@@ -156,7 +156,7 @@ module _ {s : List ℕ} {at n : ℕ} {w w₂ : List ℕ} where
 -- ---- the walk
 
 pub walked : {s : List ℕ} {n : Counts} {head : Head} {at : ℕ} {names ids : Option Table} {w w₁ w₂ w₃ : List ℕ} {r : Field Bool Place} {places : Places} → Heads s n head
-    → ((key : Calendar → Key) → Keyed Calendars s key → (xs : List Calendar) (end : ℕ) → Holds calendar s (record { count = n.value.calendars; at = head.calendars.byte }) xs end → TableFor 0 s (map key xs) names w₁)
+    → ((key : Calendar → Key) → Keyed Calendars 0 s key → (xs : List Calendar) (end : ℕ) → Holds calendar s (record { count = n.value.calendars; at = head.calendars.byte }) xs end → TableFor 0 s (map key xs) names w₁)
     → at ≡ min (end_in names) (length w₁) → EmptyAt s at n.value.activities w₁ w₂ ids
     → JudgedAll s head.activities n.value.activities (record { count = n.value.calendars; at = head.calendars.byte }) names ids w₂ w₃ r → Behind s n head r.next places
     → ModelWalked s n w w₃ (record { places = places; tables = record { names = names; ids = ids }; right = r.value })

@@ -4,8 +4,6 @@ use Rattle.std.specs.Prelude.{None, Option, Some}
 use mathlib.Core.Path.{◌≡◌, refl, sym, ap}
 use mathlib.Core.Bool.{Bool, true, false, ◌&&◌, not}
 use mathlib.Core.List.{List, [], ◌∷◌, map}
-use Prim.Native.Nat.{ℕ, suc}
-use Rattle.definition.specs.Base.{every?, numbered}
 use Rattle.definition.specs.Text.{Text}
 use Rattle.definition.specs.Model.{Model}
 use Rattle.definition.specs.Check.{distinct, keeps_list}
@@ -22,12 +20,6 @@ pub distinct_map : {A B : Type 0} (eq : B → B → Bool) (key : A → B) (l : L
 unfolding distinct
 distinct_map eq key [] = refl
 distinct_map eq key (x ∷ l) = both (ap not (sym (some_map (eq (key x)) key l))) (distinct_map eq key l)
-
--- a rule that does not look at the row
-pub every_plain : {A : Type 0} (p : A → Bool) (i : ℕ) (l : List A) → every? (λ (x : ℕ × A). p x.1) (numbered i l) ≡ every? p l
-unfolding every? numbered
-every_plain p i [] = refl
-every_plain p i (x ∷ l) = ap (λ (b : Bool). p x && b) (every_plain p (suc i) l)
 
 -- ---- the number
 

@@ -8,7 +8,6 @@ use Rattle.bits.specs.declared.Place.{Place}
 use Rattle.model.specs.Passes.{Passes}
 use Rattle.model.specs.Splits.{Stands}
 use Rattle.model.specs.declared.records.Kind.{Kind}
-use Rattle.model.specs.declared.records.Kind.TheVariants.{Calendars, Activities, Links, Resources, Assignments, Expenses}
 use Rattle.model_check.specs.Kinds.{Item, format_of}
 use Rattle.model_check.specs.declared.keys.KeyBytes.{KeyBytes}
 
@@ -30,20 +29,11 @@ no_key = (0, [])
 unfoldable pub hash_key : Key → ℕ
 hash_key k = (k.0 % 2 ^ 32 * 2654435761 + hash_of k.1) % 2 ^ 32
 
--- the bits of the row
-abbrev pub lead_of : Kind → ℕ
-lead_of Calendars = 0
-lead_of Activities = 0
-lead_of Links = 0
-lead_of Resources = 0
-lead_of Assignments = 0
-lead_of Expenses = 32
-
 -- a key stands at a place: its row of so many bits, and its text behind it
 pub record KeyAt (w : ℕ) (s : List ℕ) (p : Place) (k : Key) : Type 0 where
   pub row : Stands (field w) s p k.0
   pub name : {q : Place} → Passes (field w) s p q → Stands text s q k.1
 
--- each record begins with its key
-pub record Keyed (kind : Kind) (s : List ℕ) (key : Item kind → Key) : Type 0 where
-  pub first : {p : Place} {a : Item kind} → Stands (whole (format_of kind)) s p a → KeyAt (lead_of kind) s p (key a)
+-- each record begins with its key, whose row has so many bits
+pub record Keyed (kind : Kind) (lead : ℕ) (s : List ℕ) (key : Item kind → Key) : Type 0 where
+  pub first : {p : Place} {a : Item kind} → Stands (whole (format_of kind)) s p a → KeyAt lead s p (key a)

@@ -1,19 +1,14 @@
--- The rules of each record, by its section; the check's list asks them of all. Assumes nothing.
-use Rattle.std.specs.Prelude.{Bool, true, ◌&&◌, ℕ, ltb, length}
-use Rattle.definition.specs.Model.{Model}
-use Rattle.definition.specs.Check.{if_given, is_calendar, activity_right, link_right, assignment_right}
+-- The rules of each record, as the check's code tests them. Assumes nothing.
+use Rattle.std.specs.Prelude.{◌≡◌, Bool, ◌&&◌, List, ℕ, ltb}
+use Rattle.definition.specs.Format.{whole}
+use Rattle.bits.specs.declared.Place.{Place}
+use Rattle.model.specs.Splits.{Stands}
 use Rattle.model.specs.declared.records.Kind.{Kind}
-use Rattle.model.specs.declared.records.Kind.TheVariants.{Calendars, Activities, Links, Resources, Assignments, Expenses}
-use Rattle.model_check.specs.Kinds.{Item}
+use Rattle.model_check.specs.Kinds.{Item, format_of}
 
--- the record of a row
-abbrev pub right_of : Model → (k : Kind) → ℕ × Item k → Bool
-right_of m Calendars x = true
-right_of m Activities x = activity_right m x
-right_of m Links x = link_right m x.1
-right_of m Resources x = if_given (is_calendar m) x.1.calendar
-right_of m Assignments x = assignment_right m x.1
-right_of m Expenses x = ltb x.1.activity (length m.activities)
+-- what a test of a place answers is told of the record that stands there
+abbrev pub Tells : (kind : Kind) → List ℕ → (Item kind → Bool) → (Place → Bool → Type 0) → Type 0
+Tells kind s of test = (p : Place) (a : Item kind) (b : Bool) → Stands (whole (format_of kind)) s p a → test p b → b ≡ of a
 
 -- whether two rows are below two counts
 abbrev pub rows_below : ℕ × ℕ → ℕ → ℕ → Bool

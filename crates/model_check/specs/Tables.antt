@@ -1,10 +1,12 @@
 -- Keys in tables of words: each row's key by its hash, and the byte at which its record stands. Assumes nothing.
-use Rattle.std.specs.Prelude.{◌≡◌, List, map, ℕ, ◌^◌, ◌<◌, length, get_or}
+use Rattle.std.specs.Prelude.{◌≡◌, List, map, ℕ, ◌%◌, ◌^◌, ◌<◌, length, get_or}
 use Rattle.std.specs.Prelude.{None, Option, Some}
 use Rattle.definition.specs.Model.{Calendar, Model}
 use Rattle.index.specs.declared.Table.{Table}
+use Rattle.index.specs.Chains.{added}
 use Rattle.index.specs.Law.{Indexed}
 use Rattle.index.specs.Frame.{SameIn, Apart}
+use Rattle.bits.specs.declared.Place.{Place}
 use Rattle.model.specs.Sections.{byte_at}
 use Rattle.model_check.specs.Keys.{Key, no_key, hash_key, KeyAt}
 
@@ -26,6 +28,10 @@ TableFor lead s ks (Some t) w = KeyTable lead s ks t w
 -- no rows yet
 abbrev pub Emptied : Table → List ℕ → Type 0
 Emptied t w = (f g : ℕ → ℕ) → Indexed t f g 0 w
+
+-- a row is put into a table, by the key of the record at a place, if there is one
+abbrev pub Put : ℕ → List ℕ → Place → ℕ → Table → List ℕ → List ℕ → Type 0
+Put lead s p row t w w' = (h : ℕ) × ((k : Key) → KeyAt lead s p k → h ≡ hash_key k) × (w' ≡ added w t row h (p.byte % 2 ^ 32))
 
 -- a table with no rows yet, from a place on: tables that it has no word in common with stay, and 32 bits hold each position in the model
 pub record EmptyTable (s : List ℕ) (at rows : ℕ) (w w' : List ℕ) (t : Table) : Type 0 where

@@ -7,7 +7,6 @@ use Rattle.definition.specs.Model.{Activity, Model}
 use Rattle.definition.specs.Pack.{calendar, activity}
 use Rattle.definition.specs.Check.{activity_right}
 use Rattle.index.specs.declared.Table.{Table}
-use Rattle.index.specs.Chains.{added}
 use Rattle.index.specs.Frame.{SameIn, Apart}
 use Rattle.bits.specs.declared.Place.{Place}
 use Rattle.bits.specs.declared.Field.{Field}
@@ -20,8 +19,8 @@ use Rattle.model.specs.declared.Section.{Section}
 use Rattle.model.specs.declared.records.Kind.TheVariants.{Activities}
 use Rattle.model_check.specs.declared.walk.Walked.{Walked}
 use Rattle.model_check.specs.Kinds.{Run}
-use Rattle.model_check.specs.Keys.{Key, hash_key, KeyAt}
-use Rattle.model_check.specs.Tables.{Emptied, KeyTable, TableFor, NamesIn}
+use Rattle.model_check.specs.Keys.{Key}
+use Rattle.model_check.specs.Tables.{Emptied, KeyTable, Put, TableFor, NamesIn}
 
 -- ---- tables that may be missing
 
@@ -47,7 +46,7 @@ pub record JudgedAt (s : List ℕ) (p : Place) (own : ℕ) (x : Section) (names 
 -- the id of the activity at a place is put into a table, where there is one
 abbrev pub Noted : List ℕ → Place → ℕ → Option Table → List ℕ → List ℕ → Type 0
 Noted s p row None w w' = w' ≡ w
-Noted s p row (Some t) w w' = (h : ℕ) × ((k : Key) → KeyAt 0 s p k → h ≡ hash_key k) × (w' ≡ added w t row h (p.byte % 2 ^ 32))
+Noted s p row (Some t) w w' = Put 0 s p row t w w'
 
 -- n activities are passed over; where they stand there, whether all are right, and their ids in a table, if there is an empty one of as many rows
 pub record JudgedAll (s : List ℕ) (p : Place) (n : ℕ) (x : Section) (names ids : Option Table) (w w' : List ℕ) (r : Field Bool Place) : Type 0 where

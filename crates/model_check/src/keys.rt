@@ -1,6 +1,7 @@
 // Keys: what no two records of a section share. An id or a name that stands first in its record; of an expense its activity's row and its name.
 // Keyed, Holds, KeyTable and NamesIn are premises in the contracts, as they speak of a model, or of its keys, that are not at hand as a value.
-ghost use Rattle.std.specs.Prelude.{◌≡◌, ◌%◌, false, List, ℕ};
+ghost use Rattle.std.specs.Prelude.{◌≡◌, refl, ◌%◌, ◌≤◌, false, List, ℕ};
+ghost use Rattle.std.proofs.Common.{leb-true};
 ghost use Rattle.definition.specs.Base.{some?};
 ghost use Rattle.definition.specs.Text.{Text};
 ghost use Rattle.definition.specs.Format.{whole, text};
@@ -8,54 +9,54 @@ ghost use Rattle.definition.specs.Check.{distinct};
 ghost use Rattle.model.specs.Passes.{Passes};
 ghost use Rattle.model.specs.Parts.{record_of};
 ghost use Rattle.model.specs.Splits.{Stands};
-ghost use Rattle.model.specs.declared.records.Kind.{Kind};
-ghost use Rattle.model.specs.declared.records.Kind.TheVariants.{Calendars, Activities, Resources, Expenses};
 ghost use Rattle.model.specs.Sections.{Holds};
 ghost use Rattle.model_check.specs.Kinds.{Item, format_of, Run};
-ghost use Rattle.model_check.specs.Keys.{Key, key_of, same_key, lead_of, KeyAt, Keyed};
+ghost use Rattle.model_check.specs.Keys.{Key, key_of, same_key, KeyAt, Keyed};
 
 use bits::Place;
 use model::Section;
 use model::parts::text_in;
-use model::records::{Kind, skip_record};
+use model::records::{Activities, Calendars, Expenses, Records, Resources, skip_record};
 
-// A section's records: what the functions on keys are generic over.
-pub(crate) trait Records {
-    ghost KIND: { Kind };
+// Records that have a key, and how many bits stand in one before the text of its key: an expense's row.
+pub(crate) trait KeyedRecords: Records {
+    ghost LEAD: { ℕ };
 
-    const KIND: Kind;
+    const LEAD: usize;
+
+    ghost fits: { LEAD ≤ 64 };
 }
 
-pub(crate) struct Calendars;
+impl KeyedRecords for Calendars {
+    ghost LEAD = { 0 };
 
-pub(crate) struct Activities;
+    const LEAD: usize = 0;
 
-pub(crate) struct Resources;
-
-pub(crate) struct Expenses;
-
-impl Records for Calendars {
-    ghost KIND = { Calendars };
-
-    const KIND: Kind = Kind::Calendars;
+    ghost fits = { leb-true 0 64 refl };
 }
 
-impl Records for Activities {
-    ghost KIND = { Activities };
+impl KeyedRecords for Activities {
+    ghost LEAD = { 0 };
 
-    const KIND: Kind = Kind::Activities;
+    const LEAD: usize = 0;
+
+    ghost fits = { leb-true 0 64 refl };
 }
 
-impl Records for Resources {
-    ghost KIND = { Resources };
+impl KeyedRecords for Resources {
+    ghost LEAD = { 0 };
 
-    const KIND: Kind = Kind::Resources;
+    const LEAD: usize = 0;
+
+    ghost fits = { leb-true 0 64 refl };
 }
 
-impl Records for Expenses {
-    ghost KIND = { Expenses };
+impl KeyedRecords for Expenses {
+    ghost LEAD = { 32 };
 
-    const KIND: Kind = Kind::Expenses;
+    const LEAD: usize = 32;
+
+    ghost fits = { leb-true 32 64 refl };
 }
 
 // A key: the row that stands in the record before its text, and the text. The row is 0 and no Option where none stands: all records of a section have
@@ -68,20 +69,10 @@ pub(crate) struct KeyBytes<'a> {
 
 // The bytes of the text at a place. names::raw_text has this body and promises more, of bytes that are no text too: a function for both would stand in
 // model, with the laws of names that prove that promise; the body is one line, so it stands twice.
-pub(crate) fn text_at(s: &[u8], p: Place) -> &[u8]
+fn text_at(s: &[u8], p: Place) -> &[u8]
     ensures { (t : Text) → Stands text s.now p t → result.now ≡ t }
 {
     text_in(s, bits::take_text(s, p))
-}
-
-// How many bits stand in a record before the text of its key: an expense's row.
-fn lead<K: Records>() -> usize
-    ensures { result ≡ lead_of K.KIND }
-{
-    match K::KIND {
-        Kind::Expenses => 32,
-        _ => 0,
-    }
 }
 
 // The place behind the record at a place.
@@ -92,10 +83,10 @@ pub(crate) fn next_record<K: Records>(s: &[u8], p: Place) -> Place
 }
 
 // The key of the record at a place.
-pub(crate) fn key_at<'a, K: Records>(s: &'a [u8], p: Place) -> KeyBytes<'a>
-    ensures { (k : Key) → KeyAt (lead_of K.KIND) s.now p k → key_of result ≡ k }
+pub(crate) fn key_at<'a, K: KeyedRecords>(s: &'a [u8], p: Place) -> KeyBytes<'a>
+    ensures { (k : Key) → KeyAt K.LEAD s.now p k → key_of result ≡ k }
 {
-    let v = bits::take(s, p, lead::<K>());
+    let v = bits::take(s, p, K::LEAD);
     KeyBytes {
         row: v.value,
         name: text_at(s, v.next),
@@ -103,10 +94,10 @@ pub(crate) fn key_at<'a, K: Records>(s: &'a [u8], p: Place) -> KeyBytes<'a>
 }
 
 // Whether the record at a place has a key. Not by `==` on keys: where the rows differ, the text is not read.
-pub(crate) fn has_key<K: Records>(s: &[u8], p: Place, key: KeyBytes) -> bool
-    ensures { (k : Key) → KeyAt (lead_of K.KIND) s.now p k → result ≡ same_key (key_of key.entry) k }
+pub(crate) fn has_key<K: KeyedRecords>(s: &[u8], p: Place, key: KeyBytes) -> bool
+    ensures { (k : Key) → KeyAt K.LEAD s.now p k → result ≡ same_key (key_of key.entry) k }
 {
-    let v = bits::take(s, p, lead::<K>());
+    let v = bits::take(s, p, K::LEAD);
     if v.value != key.row {
         return false;
     }
@@ -114,8 +105,8 @@ pub(crate) fn has_key<K: Records>(s: &[u8], p: Place, key: KeyBytes) -> bool
 }
 
 // Whether one of so many records from a place on has a key.
-pub(crate) fn some_has_key<K: Records>(s: &[u8], p: Place, count: u32, key: KeyBytes) -> bool
-    ensures { (of : Item K.KIND → Key) → Keyed K.KIND s.now of → (xs : List (Item K.KIND)) (end : ℕ) → Run K.KIND s.now p count xs end → result ≡ some? (λ (x : Item K.KIND). same_key (key_of key.entry) (of x)) xs }
+pub(crate) fn some_has_key<K: KeyedRecords>(s: &[u8], p: Place, count: u32, key: KeyBytes) -> bool
+    ensures { (of : Item K.KIND → Key) → Keyed K.KIND K.LEAD s.now of → (xs : List (Item K.KIND)) (end : ℕ) → Run K.KIND s.now p count xs end → result ≡ some? (λ (x : Item K.KIND). same_key (key_of key.entry) (of x)) xs }
 {
     let mut q = p;
     for _ in 0..count {
@@ -128,15 +119,15 @@ pub(crate) fn some_has_key<K: Records>(s: &[u8], p: Place, count: u32, key: KeyB
 }
 
 // Whether one of so many records from `next` on has the key of the record at p.
-fn is_repeated<K: Records>(s: &[u8], p: Place, next: Place, count: u32) -> bool
-    ensures { (of : Item K.KIND → Key) → Keyed K.KIND s.now of → (a : Item K.KIND) → Stands (whole (format_of K.KIND)) s.now p a → (xs : List (Item K.KIND)) (end : ℕ) → Run K.KIND s.now next count xs end → result ≡ some? (λ (x : Item K.KIND). same_key (of a) (of x)) xs }
+fn is_repeated<K: KeyedRecords>(s: &[u8], p: Place, next: Place, count: u32) -> bool
+    ensures { (of : Item K.KIND → Key) → Keyed K.KIND K.LEAD s.now of → (a : Item K.KIND) → Stands (whole (format_of K.KIND)) s.now p a → (xs : List (Item K.KIND)) (end : ℕ) → Run K.KIND s.now next count xs end → result ≡ some? (λ (x : Item K.KIND). same_key (of a) (of x)) xs }
 {
     some_has_key::<K>(s, next, count, key_at::<K>(s, p))
 }
 
 // Whether no two records of a section have the same key, by a look at all later ones for each.
-pub(crate) fn distinct<K: Records>(s: &[u8], x: Section) -> bool
-    ensures { (of : Item K.KIND → Key) → Keyed K.KIND s.now of → (xs : List (Item K.KIND)) (end : ℕ) → Holds (format_of K.KIND) s.now x xs end → result ≡ distinct (λ (x y : Item K.KIND). same_key (of x) (of y)) xs }
+pub(crate) fn distinct<K: KeyedRecords>(s: &[u8], x: Section) -> bool
+    ensures { (of : Item K.KIND → Key) → Keyed K.KIND K.LEAD s.now of → (xs : List (Item K.KIND)) (end : ℕ) → Holds (format_of K.KIND) s.now x xs end → result ≡ distinct (λ (x y : Item K.KIND). same_key (of x) (of y)) xs }
 {
     let mut q = Place { byte: x.at, bit: 0 };
     for i in 0..x.count {

@@ -15,12 +15,11 @@ ghost use Rattle.definition.specs.Answer.{answer_number};
 ghost use Rattle.model.specs.Sections.{Decoded};
 ghost use Rattle.model_check.specs.Walk.{Looked};
 
-use crate::keys::{Activities, Expenses, Resources};
-use crate::rules::{Names, every_right};
+use crate::rules::{Names, every_right, resource_right, row_below, rows_below};
 use crate::tables::{all_distinct, distinct_in};
 use crate::walk::{Tables, walk_model};
 use definition::Refusal;
-use model::records::Kind;
+use model::records::{Activities, Expenses, Kind, Resources};
 use model::{Sections, sections_of, take_counts};
 
 // What is left once the activities are looked at. The tables stand in the words until the records are looked at; then the keys of each section in turn.
@@ -28,13 +27,26 @@ fn keeps_list(s: &[u8], w: Sections, words: &mut [u32], tables: Tables, activiti
     ensures { (m : Model) → Decoded s.now m w → Looked s.now m tables.names tables.ids activities words.old → result ≡ keeps_list m }
 {
     let calendars = Names {
+        section: w.calendars,
         table: tables.names,
         words,
     };
-    let resources = every_right(s, Kind::Resources, w, calendars);
-    let links = every_right(s, Kind::Links, w, calendars);
-    let assignments = every_right(s, Kind::Assignments, w, calendars);
-    let expenses = every_right(s, Kind::Expenses, w, calendars);
+    let n = w.activities.count;
+    let m = w.resources.count;
+    let resources = every_right(
+        s,
+        Kind::Resources,
+        w.resources,
+        |p| resource_right(s, p, calendars),
+    );
+    let links = every_right(s, Kind::Links, w.links, |p| rows_below(s, p, n, n));
+    let assignments = every_right(
+        s,
+        Kind::Assignments,
+        w.assignments,
+        |p| rows_below(s, p, n, m),
+    );
+    let expenses = every_right(s, Kind::Expenses, w.expenses, |p| row_below(s, p, n));
     let ids_differ = distinct_in::<Activities>(s, w.activities, words, tables.ids);
     let resource_ids = all_distinct::<Resources>(s, w.resources, words);
     let expenses_differ = all_distinct::<Expenses>(s, w.expenses, words);

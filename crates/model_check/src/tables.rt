@@ -7,15 +7,15 @@ ghost use Rattle.definition.specs.Check.{distinct};
 ghost use Rattle.index.specs.Chains.{up_to, chain};
 ghost use Rattle.model.specs.Sections.{Holds};
 ghost use Rattle.model_check.specs.Kinds.{Item, format_of};
-ghost use Rattle.model_check.specs.Keys.{Key, key_of, no_key, same_key, hash_key, lead_of, KeyAt, Keyed};
-ghost use Rattle.model_check.specs.Tables.{Emptied, EmptyAt, KeyTable, TableFor};
+ghost use Rattle.model_check.specs.Keys.{Key, key_of, no_key, same_key, hash_key, Keyed};
+ghost use Rattle.model_check.specs.Tables.{Emptied, EmptyAt, KeyTable, Put, TableFor};
 
-use crate::keys::{KeyBytes, Records, distinct, has_key, key_at, next_record};
+use crate::keys::{KeyBytes, KeyedRecords, distinct, has_key, key_at, next_record};
 use bits::Place;
 use index::Table;
 use model::Section;
 
-pub(crate) fn hash_key(key: KeyBytes) -> u32
+fn hash_key(key: KeyBytes) -> u32
     ensures { result ≡ hash_key (key_of key.entry) }
 {
     ((key.row % 4294967296) as u32)
@@ -23,20 +23,21 @@ pub(crate) fn hash_key(key: KeyBytes) -> u32
         .wrapping_add(index::hash_of(key.name))
 }
 
-pub(crate) fn hash_at<K: Records>(s: &[u8], p: Place) -> u32
-    ensures { (k : Key) → KeyAt (lead_of K.KIND) s.now p k → result ≡ hash_key k }
+// Puts the record of a row, at a place, into a table by its key. The low 32 bits are its byte: a model of more bytes has no table.
+pub(crate) fn put_key<K: KeyedRecords>(s: &[u8], p: Place, row: u32, words: &mut [u32], t: Table)
+    ensures { Put K.LEAD s.now p row t words.old words.new }
 {
-    hash_key(key_at::<K>(s, p))
+    let byte = (p.byte % 4294967296) as u32;
+    t.put(words, row, hash_key(key_at::<K>(s, p)), byte);
 }
 
 // Puts the records of a section into an empty table of as many rows.
-fn fill<K: Records>(s: &[u8], x: Section, words: &mut [u32], t: Table)
-    ensures { length s.now < 2 ^ 32 → t.rows ≡ x.count → Emptied t words.old → (of : Item K.KIND → Key) → Keyed K.KIND s.now of → (xs : List (Item K.KIND)) (end : ℕ) → Holds (format_of K.KIND) s.now x xs end → KeyTable (lead_of K.KIND) s.now (map of xs) t words.new }
+fn fill<K: KeyedRecords>(s: &[u8], x: Section, words: &mut [u32], t: Table)
+    ensures { length s.now < 2 ^ 32 → t.rows ≡ x.count → Emptied t words.old → (of : Item K.KIND → Key) → Keyed K.KIND K.LEAD s.now of → (xs : List (Item K.KIND)) (end : ℕ) → Holds (format_of K.KIND) s.now x xs end → KeyTable K.LEAD s.now (map of xs) t words.new }
 {
     let mut q = Place { byte: x.at, bit: 0 };
     for i in 0..t.rows {
-        let hash = hash_at::<K>(s, q);
-        t.put(words, i, hash, (q.byte % 4294967296) as u32);
+        put_key::<K>(s, q, i, words, t);
         q = next_record::<K>(s, q);
     }
 }
@@ -52,8 +53,8 @@ pub(crate) fn empty_table(s: &[u8], words: &mut [u32], at: usize, rows: u32) -> 
 }
 
 // A table of the keys of a section.
-pub(crate) fn index_keys<K: Records>(s: &[u8], x: Section, words: &mut [u32]) -> Option<Table>
-    ensures { (of : Item K.KIND → Key) → Keyed K.KIND s.now of → (xs : List (Item K.KIND)) (end : ℕ) → Holds (format_of K.KIND) s.now x xs end → TableFor (lead_of K.KIND) s.now (map of xs) result words.new }
+pub(crate) fn index_keys<K: KeyedRecords>(s: &[u8], x: Section, words: &mut [u32]) -> Option<Table>
+    ensures { (of : Item K.KIND → Key) → Keyed K.KIND K.LEAD s.now of → (xs : List (Item K.KIND)) (end : ℕ) → Holds (format_of K.KIND) s.now x xs end → TableFor K.LEAD s.now (map of xs) result words.new }
 {
     let t = empty_table(s, words, 0, x.count)?;
     fill::<K>(s, x, words, t);
@@ -69,13 +70,13 @@ pub(crate) struct KeyIndex<'a> {
 }
 
 // Whether a row of a chain has a key.
-fn chain_has_key<K: Records>(
+fn chain_has_key<K: KeyedRecords>(
     s: &[u8],
     index: KeyIndex<'_>,
     from: Option<u32>,
     key: KeyBytes,
 ) -> bool
-    ensures { (ks : List Key) → KeyTable (lead_of K.KIND) s.now ks index.entry.table index.entry.words.now → up_to from ≤ length ks → result ≡ given (find (λ (r : ℕ). same_key (key_of key.entry) (get_or ks r no_key)) (chain index.entry.words.now index.entry.table from)) }
+    ensures { (ks : List Key) → KeyTable K.LEAD s.now ks index.entry.table index.entry.words.now → up_to from ≤ length ks → result ≡ given (find (λ (r : ℕ). same_key (key_of key.entry) (get_or ks r no_key)) (chain index.entry.words.now index.entry.table from)) }
 {
     let KeyIndex { table, words } = index;
     table.chain_from(words, from).any(|r| {
@@ -85,16 +86,16 @@ fn chain_has_key<K: Records>(
 }
 
 // Whether a record in the table has a key.
-pub(crate) fn table_has_key<K: Records>(s: &[u8], index: KeyIndex<'_>, key: KeyBytes) -> bool
-    ensures { (ks : List Key) → KeyTable (lead_of K.KIND) s.now ks index.entry.table index.entry.words.now → result ≡ some? (same_key (key_of key.entry)) ks }
+pub(crate) fn table_has_key<K: KeyedRecords>(s: &[u8], index: KeyIndex<'_>, key: KeyBytes) -> bool
+    ensures { (ks : List Key) → KeyTable K.LEAD s.now ks index.entry.table index.entry.words.now → result ≡ some? (same_key (key_of key.entry)) ks }
 {
     let from = index.table.first(index.words, hash_key(key));
     chain_has_key::<K>(s, index, from, key)
 }
 
 // Whether a record before that of a row has its key.
-fn has_twin<K: Records>(s: &[u8], index: KeyIndex<'_>, own: u32) -> bool
-    ensures { (ks : List Key) → KeyTable (lead_of K.KIND) s.now ks index.entry.table index.entry.words.now → own < length ks → result ≡ some? (same_key (get_or ks own no_key)) (take own ks) }
+fn has_twin<K: KeyedRecords>(s: &[u8], index: KeyIndex<'_>, own: u32) -> bool
+    ensures { (ks : List Key) → KeyTable K.LEAD s.now ks index.entry.table index.entry.words.now → own < length ks → result ≡ some? (same_key (get_or ks own no_key)) (take own ks) }
 {
     let from = index.table.next(index.words, own);
     if from.is_none() {
@@ -106,20 +107,15 @@ fn has_twin<K: Records>(s: &[u8], index: KeyIndex<'_>, own: u32) -> bool
 }
 
 // Whether no two records in the table have the same key.
-fn table_distinct<K: Records>(s: &[u8], index: KeyIndex<'_>) -> bool
-    ensures { (ks : List Key) → KeyTable (lead_of K.KIND) s.now ks index.entry.table index.entry.words.now → result ≡ distinct same_key ks }
+fn table_distinct<K: KeyedRecords>(s: &[u8], index: KeyIndex<'_>) -> bool
+    ensures { (ks : List Key) → KeyTable K.LEAD s.now ks index.entry.table index.entry.words.now → result ≡ distinct same_key ks }
 {
-    for i in (0..index.table.rows).rev() {
-        if has_twin::<K>(s, index, i) {
-            return false;
-        }
-    }
-    true
+    (0..index.table.rows).all(|i| !has_twin::<K>(s, index, i))
 }
 
 // Whether no two records of a section have the same key, by a table in the words; by scans where there is none.
-pub(crate) fn all_distinct<K: Records>(s: &[u8], x: Section, words: &mut [u32]) -> bool
-    ensures { (of : Item K.KIND → Key) → Keyed K.KIND s.now of → (xs : List (Item K.KIND)) (end : ℕ) → Holds (format_of K.KIND) s.now x xs end → result ≡ distinct (λ (x y : Item K.KIND). same_key (of x) (of y)) xs }
+pub(crate) fn all_distinct<K: KeyedRecords>(s: &[u8], x: Section, words: &mut [u32]) -> bool
+    ensures { (of : Item K.KIND → Key) → Keyed K.KIND K.LEAD s.now of → (xs : List (Item K.KIND)) (end : ℕ) → Holds (format_of K.KIND) s.now x xs end → result ≡ distinct (λ (x y : Item K.KIND). same_key (of x) (of y)) xs }
 {
     match index_keys::<K>(s, x, words) {
         Some(table) => table_distinct::<K>(s, KeyIndex { table, words }),
@@ -128,13 +124,13 @@ pub(crate) fn all_distinct<K: Records>(s: &[u8], x: Section, words: &mut [u32]) 
 }
 
 // The same, by a table that is filled; by another one where there is none.
-pub(crate) fn distinct_in<K: Records>(
+pub(crate) fn distinct_in<K: KeyedRecords>(
     s: &[u8],
     x: Section,
     words: &mut [u32],
     made: Option<Table>,
 ) -> bool
-    ensures { (of : Item K.KIND → Key) → Keyed K.KIND s.now of → (xs : List (Item K.KIND)) (end : ℕ) → Holds (format_of K.KIND) s.now x xs end → TableFor (lead_of K.KIND) s.now (map of xs) made words.old → result ≡ distinct (λ (x y : Item K.KIND). same_key (of x) (of y)) xs }
+    ensures { (of : Item K.KIND → Key) → Keyed K.KIND K.LEAD s.now of → (xs : List (Item K.KIND)) (end : ℕ) → Holds (format_of K.KIND) s.now x xs end → TableFor K.LEAD s.now (map of xs) made words.old → result ≡ distinct (λ (x y : Item K.KIND). same_key (of x) (of y)) xs }
 {
     match made {
         Some(table) => table_distinct::<K>(s, KeyIndex { table, words }),

@@ -2,11 +2,11 @@
 ghost use Rattle.std.specs.Prelude.{◌≡◌};
 ghost use Rattle.model_check.specs.Walk.{Noted, JudgedAll, ModelWalked};
 
-use crate::keys::{Activities, Calendars};
 use crate::rules::{Names, judge_activity};
-use crate::tables::{empty_table, hash_at, index_keys};
+use crate::tables::{empty_table, index_keys, put_key};
 use bits::{Field, Place};
 use index::Table;
+use model::records::{Activities, Calendars};
 use model::{Counts, Places, Section, walk_behind, walk_head};
 
 // The tables of the calendars' names and of the activities' ids, where there are any.
@@ -21,9 +21,7 @@ fn note_id(s: &[u8], p: Place, row: u32, words: &mut [u32], ids: Option<Table>)
     ensures { Noted s.now p row ids words.old words.new }
 {
     if let Some(t) = ids {
-        // The place fits: a model of more bytes has no table.
-        let byte = (p.byte % 4294967296) as u32;
-        t.put(words, row, hash_at::<Activities>(s, p), byte);
+        put_key::<Activities>(s, p, row, words, t);
     }
 }
 
@@ -47,8 +45,8 @@ fn judge_activities(
             s,
             q,
             i,
-            calendars,
             Names {
+                section: calendars,
                 table: tables.names,
                 words,
             },

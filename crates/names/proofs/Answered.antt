@@ -11,12 +11,10 @@ use Rattle.definition.specs.Task.{Context, unless_main}
 use Rattle.definition.specs.Text.{Text}
 use Rattle.definition.specs.Tree.{Element}
 use Rattle.index.specs.declared.Table.{Table}
-use Rattle.index.specs.Chains.{place_of}
 use Rattle.bits.specs.declared.Place.{Place}
 use Rattle.pack.specs.Value.{starred_by, name_meaning}
 use Rattle.rows.specs.Rows.{with_uid_in}
 use Rattle.rows.specs.Tables.{sought_in}
-use Rattle.tree.specs.Place.{element_at}
 use Rattle.names.specs.Context.{wanted_name, stars_in, name_in, context_at}
 use Rattle.names.specs.Named.{name_by, name_at, named_by, name_of_row, named_in, elapsed_in}
 use Rattle.names.specs.Naming.{named_by_lem}
@@ -29,17 +27,6 @@ word_lem zero None h text = refl
 word_lem zero (Some k) h text = absurd (omega (arith, h.0))
 word_lem (suc n) None h text = absurd (h (omega arith))
 word_lem (suc n) (Some k) h text = let z : k ≡ n = omega (arith, h.1) in ap (λ (n : ℕ). Some (starred_by text n)) z
-
--- ---- a row
-
-module _ (s : Text) (w : List ℕ) (t : Table) {row : Option ℕ} where
-  pub row_there : {r : ℕ} → row ≡ Some r → {p : ℕ} → p ≡ place_of w t r → {word : ℕ} → word ≡ get_or w (name_at t r) 0 → (a : Option ℕ) → ((text : Text) → name_meaning text a ≡ name_by text word)
-      → {text : Text} → text ≡ wanted_name (element_at s p) → name_meaning text a ≡ name_of_row s w t row
-  row_there {r} e {p} i {word} j a h {text} k =
-      rw (e, k) (h (wanted_name (element_at s p)) ∙ ap (λ (p : ℕ). name_by (wanted_name (element_at s p)) word) i ∙ ap (name_by (wanted_name (element_at s (place_of w t r)))) j)
-
-  pub row_absent : row ≡ None → None ≡ name_of_row s w t row
-  row_absent e = rw e
 
 -- ---- by a look at all calendars
 

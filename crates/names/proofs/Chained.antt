@@ -5,7 +5,6 @@ use mathlib.Core.Bool.{Bool, true, false, ◌&&◌}
 use mathlib.Core.List.{List}
 use Rattle.std.specs.Prelude.{Option, Some, None, MatchOption}
 use Prim.Native.Nat.{ℕ, ◌+◌, ◌*◌, ◌≤◌, ◌<◌}
-use native.Mathlib.Numerals.{add-one}
 use native.Mathlib.Omega.{arith}
 use lib.Dec.{leb, eqb}
 use lib.ListN.{length}
@@ -13,14 +12,13 @@ use borrow.Author.Tests.{lt-ltb, le-ltb, le-leb, lt-leb, eq-eqb, ne_eqb}
 use Rattle.definition.specs.Base.{◌>>=◌, ◌or◌}
 use Rattle.definition.specs.Calendar.{free}
 use Rattle.definition.specs.Text.{Text}
-use Rattle.index.specs.Hash.{hash_of}
 use Rattle.bits.specs.Places.{inside}
 use Rattle.bits.specs.declared.Place.{Place}
-use Rattle.index.specs.Chains.{added, place_of}
+use Rattle.index.specs.Chains.{place_of}
 use Rattle.pack.specs.Value.{starred_by}
 use Rattle.model.specs.declared.records.Kind.{Kind}
 use Rattle.names.specs.Texts.{place_of_row, texts_at}
-use Rattle.names.specs.Ids.{ids_of, behind, noted, no_ids, free_in, ids_for, begun, starred_in, place_in, noted_by}
+use Rattle.names.specs.Ids.{ids_of, no_ids, free_in, ids_for, begun, starred_in, place_in}
 use Rattle.names.specs.declared.ids.Ids.{Ids}
 
 -- ---- what was found
@@ -29,14 +27,6 @@ use Rattle.names.specs.declared.ids.Ids.{Ids}
 pub its_number : (f : ℕ → ℕ) (o : Option ℕ) (n : ℕ) {P : ℕ → Type 0} → MatchOption o (n ≡ 0) P → ((r : ℕ) → P r → n ≡ f r) → n ≡ ((o >>= λ r. Some (f r)) or 0)
 its_number f None n h k = h
 its_number f (Some r) n h k = k r h
-
--- ---- one more
-
-pub behind_few : (stars count : ℕ) → stars < count → stars + 1 ≡ behind stars count
-behind_few stars count h = rw (lt-ltb stars count h) (add-one stars)
-
-pub behind_all : (stars count : ℕ) → count ≤ stars → stars ≡ behind stars count
-behind_all stars count h = rw (le-ltb stars count h)
 
 -- ---- two tables
 
@@ -52,14 +42,6 @@ module _ (len at rows : ℕ) where
   pub ids_are : 0 < rows → at + 6 * rows ≤ len → Some (record { ids = record { at = at; rows = rows }; wanted = record { at = at + 3 * rows; rows = rows } }) ≡ ids_of len at rows
   unfolding ids_of
   ids_are h k = rw (lt-ltb 0 rows h, le-leb (at + 6 * rows) len k)
-
--- ---- a row more
-
-pub noted_by_lem : (w : List ℕ) (i : Ids) (row : ℕ) (wanted : Text) (stars byte : ℕ) {id hash : ℕ} {w₁ w₂ : List ℕ} → id ≡ hash_of (starred_by wanted stars) → w₁ ≡ added w i.ids row id byte
-    → hash ≡ hash_of wanted → w₂ ≡ added w₁ i.wanted row hash stars → w₂ ≡ noted w i row wanted stars byte
-noted_by_lem w i row wanted stars byte {id} {hash} e a f b =
-    b ∙ ap (λ (l : List ℕ). added l i.wanted row hash stars) (a ∙ ap (λ (h : ℕ). added w i.ids row h byte) e)
-    ∙ ap (λ (h : ℕ). added (added w i.ids row (hash_of (starred_by wanted stars)) byte) i.wanted row h stars) f
 
 -- ---- the ids of a section
 
@@ -126,6 +108,3 @@ module _ (kind : Kind) (d : List ℕ) (start : Place) (w : List ℕ) (m : Option
     pub place_by_lem : n ≤ i.ids.rows → {byte : ℕ} → byte ≡ place_of w i.ids row → record { byte = byte; bit = 0 } ≡ place_in kind d start w m n row
     unfolding place_in
     place_by_lem l h = rw (z, le-ltb i.ids.rows n l) (λ j. record { byte = h j; bit = 0 })
-
-pub noted_by_made : (w : List ℕ) (m : Option Ids) (row : ℕ) (u : Text) (stars byte : ℕ) {i : Ids} → m ≡ Some i → {w' : List ℕ} → w' ≡ noted w i row u stars byte → w' ≡ noted_by w m row u stars byte
-noted_by_made w m row u stars byte z h = rw z h

@@ -2,7 +2,7 @@
 use mathlib.Core.Path.{◌≡◌, refl, sym, ap, ◌∙◌}
 use mathlib.Core.Bool.{Bool, true, false, not, ◌&&◌}
 use Rattle.std.specs.Bool.{then_some}
-use mathlib.Core.List.{List, [], ◌∷◌}
+use mathlib.Core.List.{List, ◌∷◌, []}
 use Rattle.std.specs.Prelude.{Option, Some, None}
 use Rattle.std.specs.Option.{MatchOption}
 use Prim.Native.Nat.{ℕ, ◌*◌, ◌-◌, ◌/◌, ◌^◌, ◌≤◌, ◌<◌}
@@ -62,18 +62,8 @@ module _ (e : Element) (n other : Text) {t : Text} (h : t ≡ (text_of e n or []
       by_child None z = refl
       by_child (Some c) z = by_text (trim c.text) z
 
-  pub wanted_given : (length t ≡ 0 → ⊥) → t ≡ (text_of e n or other)
-  wanted_given z = by_text (text_of e n) h
-    where
-      by_text : (o : Option Text) → t ≡ (o or []) → t ≡ (o or other)
-      by_text None k = absurd (z (ap length k))
-      by_text (Some s) k = k
-
 -- how many `*` a name has, by its length and that of the wanted name
 module _ (d : List ℕ) (p : Place) (e : Element) {t w : Text} (ht : t ≡ ((read_at raw d p).0 or [])) (hw : w ≡ wanted_name e) where
-  pub stars_is : length t - length w ≡ stars_by ((read_at raw d p).0 or []) e
-  stars_is = ap (λ (x : Text). length x - length w) ht ∙ ap (λ (x : Text). length ((read_at raw d p).0 or []) - length x) hw
-
   pub stars_fit : length t - length w < 2 ^ 32
   stars_fit = let z : length t < 2 ^ 32 = rw ht (raw_length d p) in omega arith
 

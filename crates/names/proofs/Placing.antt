@@ -1,10 +1,10 @@
 -- The table of the calendars while it is filled. Assumes nothing.
-use Prim.Native.Nat.{ℕ, suc, ◌+◌, ◌-◌, ◌%◌, ◌^◌, ◌≤◌, ◌<◌}
+use Prim.Native.Nat.{ℕ, suc, ◌+◌, ◌-◌, ◌%◌, ◌≤◌, ◌<◌}
 use native.Mathlib.Nat.{mod-lt}
 use native.Mathlib.Omega.{arith}
 use mathlib.Core.Path.{◌≡◌, refl, sym, ap, ◌∙◌}
 use mathlib.Core.Bool.{Bool, true, false}
-use mathlib.Core.List.{List, [], ◌∷◌}
+use mathlib.Core.List.{List, ◌∷◌, []}
 use lib.Dec.{eqb}
 use lib.ListN.{length, get_or, set, drop, length-set}
 use lib.Seq.{get_or-set_same, get_or-set_other}
@@ -50,17 +50,6 @@ pub record Placing (s : Text) (root : Element) (t : Table) (left : ℕ) (rest : 
   pub stays : Stays t.at (names_end t) w w'
 
 module _ {s : Text} {root : Element} {t : Table} {w : List ℕ} (ripe : Ripe s root t (length w)) where
-  pub placing_begin : {rest : List Element} → in_order root ≡ rest → Placing s root t t.rows rest w w
-  placing_begin h =
-      let z : t.rows - t.rows ≡ 0 = omega arith in
-      record {
-        few = omega arith;
-        most = omega arith;
-        ahead = ap (λ (k : ℕ). drop k (in_order root)) z ∙ h;
-        stand = record { stands = λ r a b. absurd (omega arith) };
-        stays = stays_refl t.at (names_end t) w;
-      }
-
   module _ {left : ℕ} {rest : List Element} {w₁ : List ℕ} (p : Placing s root t left rest w w₁) where
     none_left : rest ≡ [] → t.rows - left ≡ how_many root
     none_left i = omega (arith, drop_out (t.rows - left) (in_order root) (p.ahead ∙ i), p.most)
@@ -89,9 +78,6 @@ module _ {s : Text} {root : Element} {t : Table} {w : List ℕ} (ripe : Ripe s r
           sym (cons_head both) ∙ ap (λ (k : ℕ). get_or (in_order root) k no_element) z
 
       module _ (m : Within s 0 x) where
-        pub placing_at : x.at < 2 ^ 32
-        placing_at = omega (arith, m.inside, ripe.short)
-
         here_at : element_at s x.at ≡ of_row root (left - 1)
         here_at = ap (λ (s : Text). element_at s x.at) (sym m.tree) ∙ here
 

@@ -4,7 +4,7 @@ use Prim.Native.Nat.{ℕ, suc, ◌+◌, ◌-◌, ◌^◌, ◌≤◌, ◌<◌, ma
 use native.Mathlib.Omega.{arith}
 use mathlib.Core.Path.{◌≡◌, refl, sym, ap, ◌∙◌}
 use mathlib.Core.Bool.{Bool, true, false}
-use mathlib.Core.List.{List, [], ◌∷◌}
+use mathlib.Core.List.{List, ◌∷◌, []}
 use Rattle.std.specs.Prelude.{Option, Some, None}
 use lib.Dec.{eqb, ltb}
 use lib.ListN.{length, get_or, set}
@@ -37,13 +37,12 @@ use Rattle.rows.specs.Tables.{uid_of, sought_in}
 use Rattle.tree.specs.Place.{element_at, meaning}
 use Rattle.tree.specs.declared.element.Element.{Element as Standing}
 use Rattle.names.specs.declared.named.Main.{Main}
-use Rattle.names.specs.declared.uids.CalendarTable.{CalendarTable}
 use Rattle.names.specs.Texts.{text_at}
 use Rattle.names.specs.Seen.{text_here, raw_length}
 use Rattle.names.specs.Turned.{order_length}
 use Rattle.names.specs.Context.{main_row, section_row, wanted_name, stars_by, stars_in, context_at}
 use Rattle.names.specs.ByUid.{main_there, main_absent}
-use Rattle.names.specs.Named.{name_word, name_at, Calendars, MainOf, main_text, nth_in, word_by, NotesName, NamesNoted, Makes}
+use Rattle.names.specs.Named.{name_word, name_at, Calendars, MainOf, main_text, nth_in, word_by, NotesName, NamesNoted}
 use Rattle.names.specs.Uids.{names_end, how_many, made_in, of_row, Stays, Uids, MakesUids, row_found, calendar_by, Ripe, Stand, Chained}
 use Rattle.names.proofs.Placing.{stays_refl, stays_then, stays_wider, stays_set}
 
@@ -141,9 +140,6 @@ module _ (d : List ℕ) (c q : Place) (s : Text) (t : Table) (row : ℕ) (m : Ma
       o ∙ ap (λ (r : ℕ). set w (name_at t r) word) z ∙ ap (set w (name_at t (t.rows - suc row))) y
 
 module _ {d : List ℕ} {c q : Place} {b : Bool} where
-  pub next_main : b ≡ true → (k : ℕ) → Passes (times k (record_of false kind.Calendars)) d c q → Passes (times (if b then k else k + 1) (record_of false kind.Calendars)) d c q
-  next_main e k h = rw e h
-
   pub next_other : {r : Place} → b ≡ false → Passes (record_of false kind.Calendars) d q r → (k : ℕ) → Passes (times k (record_of false kind.Calendars)) d c q
       → Passes (times (if b then k else k + 1) (record_of false kind.Calendars)) d c r
   next_other e i k h = rw e (pass_more (record_of false kind.Calendars) k h i)
@@ -285,9 +281,6 @@ module _ {s : Text} {root : Element} {t : Table} {w w₁ : List ℕ} {count : �
 -- ---- room for it
 
 module _ (s : Text) (root : Element) (len at : ℕ) where
-  pub room_long : 2 ^ 32 ≤ length s → None ≡ made_in s root len at
-  room_long h = rw (le-ltb (length s) (2 ^ 32) h)
-
   module _ (h : length s < 2 ^ 32) {n : ℕ} (k : n ≡ length (calendar_elements root)) where
     count : n ≡ how_many root
     count = k ∙ sym (order_length root)
@@ -308,23 +301,8 @@ module _ (s : Text) (root : Element) (len at : ℕ) where
       room_short i = room_is (table_short (len - rows - 1) at rows (omega arith) (omega arith))
 
 module _ {s : Text} {root : Element} {at : ℕ} {w : List ℕ} {m : Option Table} (h : m ≡ made_in s root (length w) at) where
-  pub uids_none : m ≡ None → MakesUids s root at w w (record { table = None; end = at })
-  uids_none e = record { made = sym e ∙ h; end = refl; words = refl }
-
   pub uids_ready : {t : Table} {w' : List ℕ} → m ≡ Some t → Uids s root t w' × Stays t.at (names_end t) w w' → {end : ℕ} → end ≡ names_end t → MakesUids s root at w w' (record { table = Some t; end = end })
   uids_ready e x i = record { made = sym e ∙ h; end = i; words = x }
-
-pub makes_uids : {s : Text} {root : Element} {at : ℕ} {w w₁ : List ℕ} {r : CalendarTable} → MakesUids s root at w w₁ r → {t : Table} → r.table ≡ Some t → Uids s root t w₁
-makes_uids {s} {root} {w = w} {w₁} h {t} e = let y : Uids s root t w₁ × Stays t.at (names_end t) w w₁ = rw e at h.words in y.0
-
-module _ {d : List ℕ} {c : Place} {s : Text} {root : Element} {at : ℕ} {w w₁ : List ℕ} {r : CalendarTable} (h : MakesUids s root at w w₁ r) where
-  pub makes_none : r.table ≡ None → Makes d c s root at w w₁ r
-  makes_none e = record { made = h.made; end = h.end; words = rw e (rw e at h.words) }
-
-  pub makes_ready : {t : Table} {w₂ : List ℕ} → r.table ≡ Some t → Calendars d c s root t w₂ × Stays (end_of t) (names_end t) w₁ w₂ → Makes d c s root at w w₂ r
-  makes_ready {t} e x =
-      let y : Uids s root t w₁ × Stays t.at (names_end t) w w₁ = rw e at h.words in
-      record { made = h.made; end = h.end; words = rw e (x.0, stays_then y.1 (stays_wider (omega arith) (omega arith) x.1)) }
 
 -- ---- a calendar by it
 

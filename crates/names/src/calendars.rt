@@ -15,7 +15,7 @@ ghost use Rattle.names.specs.Context.{main_row, section_row, wanted_by, wanted_n
 use crate::records::{place_of_row, raw_text};
 use crate::stars::same_starred;
 use bits::Place;
-use model::records::Kind;
+use model::records::Calendars;
 use std::cmp::Ordering;
 use tree::{Element, Root};
 
@@ -53,10 +53,13 @@ pub fn calendars_before(out: &[u8], c: Place, root: Root<'_>, p: Place) -> bool
     if 5_000_000 < n {
         return false;
     }
-    up_to(place_of_row(out, c, Kind::Calendars, n), p)
+    up_to(place_of_row::<Calendars>(out, c, n), p)
 }
 
 // ---- names
+
+// The elapsed calendar's name, as the definition's elapsed_name has it.
+pub const ELAPSED: &[u8] = b"Elapsed (24 hours)";
 
 // The name that a calendar is to have; `unnamed` for one that says none. Public, as it was: `calendar_text` alone calls it.
 pub fn wanted_name<'a>(e: Element<'a>, unnamed: &'a [u8]) -> &'a [u8]
@@ -100,47 +103,49 @@ pub(crate) fn stars_at(out: &[u8], p: Place, e: Element<'_>) -> u32
     long.saturating_sub(short) as u32
 }
 
-// The calendars of a project, and where they stand in the buffer. The buffer is no part of it: records are put into it between the calls.
+// The calendars of a project, and where they stand in the buffer as it is while a table or a name is made.
 #[derive(Clone, Copy)]
-pub(crate) struct CalendarNames<'a> {
+pub(crate) struct CalendarNames<'a, 'b> {
+    pub out: &'b [u8],
     pub root: Root<'a>,
     pub start: Place,
 }
 
-// That of the calendar of a row.
-pub(crate) fn stars_of(out: &[u8], n: CalendarNames<'_>, row: usize, e: Element<'_>) -> u32
-    ensures { result ≡ stars_in out.now n.entry.start (root_at n.entry.root) row (meaning e.entry) }
-{
-    let k = section_row(main_row(n.root), row);
-    let p = place_of_row(out, n.start, Kind::Calendars, k);
-    stars_at(out, p, e)
-}
-
-// Whether a text with so many `*` is the main calendar's name.
-fn is_main(out: &[u8], n: CalendarNames<'_>, text: &[u8], stars: u32) -> bool
-    ensures { result ≡ same (starred_by text.now stars) (context_at out.now n.entry.start (root_at n.entry.root)).main.name }
-{
-    // A `match`: `map_or_else` would have two long closures.
-    match rows::main_calendar(n.root) {
-        Some((row, e)) => {
-            let m = stars_of(out, n, row, e);
-            same_starred(text, stars, calendar_text(e), m)
-        }
-        None => same_starred(text, stars, b"Standard", 0),
+impl<'a, 'b> CalendarNames<'a, 'b> {
+    // That of the calendar of a row.
+    pub(crate) fn stars_of(self, row: usize, e: Element<'_>) -> u32
+        ensures { result ≡ stars_in self.entry.out.now self.entry.start (root_at self.entry.root) row (meaning e.entry) }
+    {
+        let k = section_row(main_row(self.root), row);
+        let p = place_of_row::<Calendars>(self.out, self.start, k);
+        stars_at(self.out, p, e)
     }
-}
 
-// A text with so many `*`, unless it is the main calendar's name.
-pub(crate) fn unless_main(out: &[u8], n: CalendarNames<'_>, text: &[u8], stars: u32) -> Option<u32>
-    ensures { name_meaning text.now result ≡ unless_main (context_at out.now n.entry.start (root_at n.entry.root)) (starred_by text.now stars) }
-{
-    (!is_main(out, n, text, stars)).then_some(stars)
-}
+    // Whether a text with so many `*` is the main calendar's name.
+    fn is_main(self, text: &[u8], stars: u32) -> bool
+        ensures { result ≡ same (starred_by text.now stars) (context_at self.entry.out.now self.entry.start (root_at self.entry.root)).main.name }
+    {
+        // A `match`: `map_or_else` would have two long closures.
+        match rows::main_calendar(self.root) {
+            Some((row, e)) => {
+                let m = self.stars_of(row, e);
+                same_starred(text, stars, calendar_text(e), m)
+            }
+            None => same_starred(text, stars, b"Standard", 0),
+        }
+    }
 
-// The elapsed calendar's name, unless it is the main one's. Its letters stand here, in named.rt, in activities and in calendars: clauses have the
-// definition's elapsed_name, which says that they are the same.
-pub(crate) fn elapsed_named(out: &[u8], n: CalendarNames<'_>) -> Option<u32>
-    ensures { name_meaning elapsed_name result ≡ unless_main (context_at out.now n.entry.start (root_at n.entry.root)) elapsed_name }
-{
-    unless_main(out, n, b"Elapsed (24 hours)", 0)
+    // A text with so many `*`, unless it is the main calendar's name.
+    pub(crate) fn unless_main(self, text: &[u8], stars: u32) -> Option<u32>
+        ensures { name_meaning text.now result ≡ unless_main (context_at self.entry.out.now self.entry.start (root_at self.entry.root)) (starred_by text.now stars) }
+    {
+        (!self.is_main(text, stars)).then_some(stars)
+    }
+
+    // The elapsed calendar's name, unless it is the main one's.
+    pub(crate) fn elapsed_named(self) -> Option<u32>
+        ensures { name_meaning elapsed_name result ≡ unless_main (context_at self.entry.out.now self.entry.start (root_at self.entry.root)) elapsed_name }
+    {
+        self.unless_main(ELAPSED, 0)
+    }
 }

@@ -10,7 +10,7 @@ use crate::records::{free_stars, place_of_row, raw_text};
 use crate::stars::same_starred;
 use bits::Place;
 use index::Table;
-use model::records::Kind;
+use model::records::Records;
 
 #[derive(Clone, Copy)]
 pub struct Ids {
@@ -125,11 +125,9 @@ pub fn end_of_ids(ids: Option<Ids>, at: usize, len: usize) -> usize
 
 // How many `*` an id needs that is wanted for the row at p: by the tables, or by a look at all records where these have no words for so many. The section
 // begins at `start`. Once the room is spent nothing is tried.
-// The kind is a value: model's `skip_record` takes it so. Kind, start and tables go side by side, here and in `place_in`: the clauses of each section name
-// its kind, and a struct of the three would carry the fact of which kind it is through all of them.
-pub fn stars_for(
+// Start and tables go side by side, here and in `place_in`: each section has them in a struct of its own, that its clauses name.
+pub fn stars_for<K: Records>(
     out: &[u8],
-    kind: Kind,
     start: Place,
     p: Place,
     words: &[u32],
@@ -137,35 +135,34 @@ pub fn stars_for(
     row: u32,
     wanted: &[u8],
 ) -> u32
-    ensures { starred_by wanted.now result ≡ starred_in kind out.now start p words.now ids row wanted.now }
+    ensures { starred_by wanted.now result ≡ starred_in K.KIND out.now start p words.now ids row wanted.now }
 {
     if !bits::inside(out.len(), p) {
         return 0;
     }
     match ids {
         Some(t) if row <= t.ids.rows => t.free(out, words, row, wanted),
-        _ => free_stars(out, start, kind, row, wanted),
+        _ => free_stars::<K>(out, start, row, wanted),
     }
 }
 
 // Where the record of a row stands among so many, likewise.
-pub fn place_in(
+pub fn place_in<K: Records>(
     out: &[u8],
-    kind: Kind,
     start: Place,
     words: &[u32],
     ids: Option<Ids>,
     count: u32,
     row: u32,
 ) -> Place
-    ensures { result ≡ place_in kind out.now start words.now ids count row }
+    ensures { result ≡ place_in K.KIND out.now start words.now ids count row }
 {
     match ids {
         Some(t) if count <= t.ids.rows => Place {
             byte: t.ids.place(words, row) as usize,
             bit: 0,
         },
-        _ => place_of_row(out, start, kind, row as usize),
+        _ => place_of_row::<K>(out, start, row as usize),
     }
 }
 

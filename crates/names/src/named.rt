@@ -10,9 +10,7 @@ ghost use Rattle.names.specs.Context.{context_at};
 ghost use Rattle.names.specs.Named.{name_word, name_by, name_of_row, named_by, named_in, elapsed_in, main_text, NotesName, NamesNoted, Calendars, Makes};
 ghost use Rattle.names.specs.Uids.{names_end, Stays, Uids};
 
-use crate::calendars::{
-    CalendarNames, calendar_text, elapsed_named, stars_at, stars_of, unless_main,
-};
+use crate::calendars::{CalendarNames, ELAPSED, calendar_text, stars_at};
 use crate::stars::same_starred;
 use crate::uids::{CalendarTable, index_uids, name_at};
 use bits::Place;
@@ -86,38 +84,50 @@ fn note_names(out: &[u8], c: Place, tree: &[u8], words: &mut [u32], t: Table, ma
     }
 }
 
-// All of them; where there is no calendar, the main one is the default one.
-fn note_all(out: &[u8], n: CalendarNames<'_>, words: &mut [u32], t: Table)
-    requires { Uids n.root.tree.now (root_at n.root) t words.old }
-    ensures { Calendars out.now n.entry.start n.entry.root.tree.now (root_at n.entry.root) t words.new × Stays (end_of t) (names_end t) words.old words.new }
-{
-    let Some((row, e)) = rows::main_calendar(n.root) else {
-        index::set_word(words, t.at, name_at(t, t.rows), 1);
-        return;
-    };
-    let main = Main {
-        row,
-        name: calendar_text(e),
-        stars: stars_of(out, n, row, e),
-    };
-    note_names(out, n.start, n.root.tree, words, t, main);
-    let elapsed = word_of(b"Elapsed (24 hours)", 0, main);
-    index::set_word(words, t.at, name_at(t, t.rows), elapsed);
+impl<'a, 'b> CalendarNames<'a, 'b> {
+    // Notes all of them; where there is no calendar, the main one is the default one.
+    fn note_all(self, words: &mut [u32], t: Table)
+        requires { Uids self.root.tree.now (root_at self.root) t words.old }
+        ensures { Calendars self.entry.out.now self.entry.start self.entry.root.tree.now (root_at self.entry.root) t words.new × Stays (end_of t) (names_end t) words.old words.new }
+    {
+        let Some((row, e)) = rows::main_calendar(self.root) else {
+            index::set_word(words, t.at, name_at(t, t.rows), 1);
+            return;
+        };
+        let main = Main {
+            row,
+            name: calendar_text(e),
+            stars: self.stars_of(row, e),
+        };
+        note_names(self.out, self.start, self.root.tree, words, t, main);
+        let elapsed = word_of(ELAPSED, 0, main);
+        index::set_word(words, t.at, name_at(t, t.rows), elapsed);
+    }
+
+    // The name of the first calendar with a UID, by a scan.
+    fn scan(self, uid: &[u8]) -> Option<Starred<'a>>
+        ensures { given_by starred result ≡ named_by (context_at self.entry.out.now self.entry.start (root_at self.entry.root)) uid.now }
+    {
+        let (row, e) = rows::calendar_with(self.root, uid)?;
+        let text = calendar_text(e);
+        let stars = self.stars_of(row, e);
+        Starred::named(text, self.unless_main(text, stars))
+    }
 }
 
-// A table of the calendars, which stand at c, in the words from a place on, where there is room for it.
+// A table of the calendars, which stand at `start`, in the words from a place on, where there is room for it.
 pub fn index_calendars(
     out: &[u8],
-    c: Place,
+    start: Place,
     root: Root<'_>,
     words: &mut [u32],
     at: usize,
 ) -> CalendarTable
-    ensures { Makes out.now c root.entry.tree.now (root_at root.entry) at words.old words.new result }
+    ensures { Makes out.now start root.entry.tree.now (root_at root.entry) at words.old words.new result }
 {
     let made = index_uids(root, words, at);
     if let Some(t) = made.table {
-        note_all(out, CalendarNames { root, start: c }, words, t);
+        CalendarNames { out, root, start }.note_all(words, t);
     }
     made
 }
@@ -141,46 +151,38 @@ fn name_of<'a>(root: Root<'a>, words: &[u32], t: Table, row: Option<u32>) -> Opt
     Starred::named(calendar_text(e), by_word(word))
 }
 
-fn scan<'a>(out: &[u8], n: CalendarNames<'a>, uid: &[u8]) -> Option<Starred<'a>>
-    ensures { given_by starred result ≡ named_by (context_at out.now n.entry.start (root_at n.entry.root)) uid.now }
-{
-    let (row, e) = rows::calendar_with(n.root, uid)?;
-    let text = calendar_text(e);
-    let stars = stars_of(out, n, row, e);
-    Starred::named(text, unless_main(out, n, text, stars))
-}
-
-// The name of the first calendar with a UID, unless it is the main one's, by a table in the words; by a scan where there is none. The calendars stand at c.
+// The name of the first calendar with a UID, unless it is the main one's, by a table in the words; by a scan where there is none. The calendars stand
+// at `start`.
 pub fn calendar_in<'a>(
     out: &[u8],
-    c: Place,
+    start: Place,
     root: Root<'a>,
     words: &[u32],
     table: Option<Table>,
     uid: &[u8],
 ) -> Option<Starred<'a>>
-    ensures { given_by starred result ≡ named_in (context_at out.now c (root_at root.entry)) root.entry.tree.now words.now table uid.now }
+    ensures { given_by starred result ≡ named_in (context_at out.now start (root_at root.entry)) root.entry.tree.now words.now table uid.now }
 {
     // One way needs the words, the other the buffer: a trait over both is no plainer.
     match table {
         Some(t) => name_of(root, words, t, rows::seek(root.tree, words, t, uid)),
-        None => scan(out, CalendarNames { root, start: c }, uid),
+        None => CalendarNames { out, root, start }.scan(uid),
     }
 }
 
 // The elapsed calendar's name, unless it is the main one's, by the same table.
 pub fn elapsed_in(
     out: &[u8],
-    c: Place,
+    start: Place,
     root: Root<'_>,
     words: &[u32],
     table: Option<Table>,
 ) -> Option<u32>
-    ensures { name_meaning elapsed_name result ≡ elapsed_in (context_at out.now c (root_at root.entry)) words.now table }
+    ensures { name_meaning elapsed_name result ≡ elapsed_in (context_at out.now start (root_at root.entry)) words.now table }
 {
     // as in `calendar_in`
     match table {
         Some(t) => by_word(index::word(words, t.at, name_at(t, t.rows))),
-        None => elapsed_named(out, CalendarNames { root, start: c }),
+        None => CalendarNames { out, root, start }.elapsed_named(),
     }
 }

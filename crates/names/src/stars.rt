@@ -1,4 +1,5 @@
-// Texts with `*` behind them.
+// Texts with `*` behind them. Text and number go side by side in names, and not as pack's Starred: the number is what is sought or answered, so that the
+// struct would be made anew for each call.
 // A number of stars is made a length by `as usize`, which has no From<u32>.
 ghost use Rattle.std.specs.Prelude.{◌≡◌, get_or};
 ghost use Rattle.definition.specs.Base.{same};

@@ -1,5 +1,5 @@
 -- What the code puts together of a number's parts is the definition's number. Assumes nothing.
-use Rattle.std.proofs.Common.{◌≡◌, ℕ, zero, suc, ◌+◌, ◌-◌, ◌^◌, ◌<◌, ◌≤◌, min, Bool, true, false, leb, ◌⊎◌, [], ◌∷◌, ◌++◌, length, get_or, drop, sym, refl, ap, ◌∙◌, inl, inr, add-zero, add-suc, suc-add, zero-add, arith, length-drop, ne_eqb, leb-true}
+use Rattle.std.proofs.Common.{◌≡◌, ℕ, zero, suc, ◌+◌, ◌-◌, ◌^◌, ◌<◌, ◌≤◌, min, Bool, true, false, leb, ◌⊎◌, ◌∷◌, ◌++◌, length, get_or, drop, sym, refl, ap, ◌∙◌, inl, inr, add-zero, add-suc, suc-add, zero-add, arith, length-drop, ne_eqb, leb-true, []}
 use Rattle.definition.specs.declared.Unread.{Unread}
 use Rattle.definition.specs.declared.Unread.TheVariants.{Absent}
 use Rattle.std.specs.Prelude.{Err}
@@ -198,14 +198,6 @@ module _ (v : ℕ) (h : v ≤ limit) where
       go false e =
           rw (before_on is_e b s e, after_on is_e b s e, from_other (k + c) v b (before is_e s) d) (behind_other (k + c) v c b s e)
 
-pub ended_none : (c v places : ℕ) (s : Text) → c ≡ 0 → ended c v places s ≡ (Err Absent)
-ended_none zero v places s h = refl
-ended_none (suc c) v places s h = absurd (omega arith)
-
-pub ended_some : (c v places : ℕ) (s : Text) → (c ≡ 0 → ⊥) → ended c v places s ≡ scaled_at v places (power_at s)
-ended_some zero v places s h = absurd (h refl)
-ended_some (suc c) v places s h = refl
-
 -- ---- the number, from what was passed over
 module _ (s : Text) (small : length s < 2 ^ 63) (v k : ℕ) (a : Ran s 0 0 v k) where
   lead : magnitude (decimal_of s) ≡ whole_from k v (drop k s)
@@ -285,10 +277,3 @@ module _ (s t : Text) (at : t ≡ unsigned (sign_of s) s) where
       go plus m = refl
       go minus m = let z : ◌≡◌ {A = ℕ} 0 1 = cc in absurd (omega arith)
       go bare m = refl
-
-module _ (s : Text) (e : ℕ) (h : e < length s) where
-  pub power_here : is_e (get_or s e 0) ≡ true → power_of (drop (e + 1) s) ≡ power_at (drop e s)
-  power_here y = rw (at_cons s e h) (rw y)
-
-  pub power_other : is_e (get_or s e 0) ≡ false → None ≡ power_at (drop e s)
-  power_other n = rw (at_cons s e h) (rw n)

@@ -3,7 +3,7 @@ use Rattle.std.specs.Prelude.{if◌then◌else◌}
 use Rattle.definition.specs.declared.Unread.{Unread}
 use Rattle.definition.specs.declared.Unread.TheVariants.{Absent, Long}
 use Rattle.std.specs.Prelude.{Err, Ok, Result}
-use Rattle.std.proofs.Common.{◌≡◌, ℕ, suc, ◌+◌, ◌-◌, ◌<◌, ◌≤◌, Bool, true, false, eqb, [], ◌∷◌, ◌++◌, length, get_or, take, drop, sym, refl, ap, ◌∙◌, append_assoc, append-nil, add-one, arith, length-append, length-drop, get_or-drop, drop-drop, eq-eqb, ne_eqb}
+use Rattle.std.proofs.Common.{◌≡◌, ℕ, suc, ◌+◌, ◌-◌, ◌<◌, ◌≤◌, Bool, true, false, eqb, [], ◌∷◌, ◌++◌, length, get_or, take, drop, sym, refl, ap, ◌∙◌, append_assoc, append-nil, add-one, arith, length-append, eq-eqb, ne_eqb}
 use lib.Dec.{eqb-suc-suc, eqb_refl}
 use lib.Ieee.{Float}
 use Rattle.definition.specs.Base.{◌or◌, same}
@@ -15,8 +15,8 @@ use Rattle.std.specs.Prelude.{Some, None, position}
 use Rattle.std.proofs.lemmas.List.Quantifiers.{position-Some}
 use Rattle.number.specs.Tests.{is_true}
 use Rattle.number.proofs.Parts.{place_found, place_missing, cut_length}
-use Rattle.text.specs.Parts.{at_end_lem, all_of}
-use Rattle.text.specs.Cut.{before_take, after_drop}
+use Rattle.text.specs.Parts.{all_of}
+use Rattle.text.specs.Cut.{before_take}
 pub use Rattle.laws.specs.Durations.{Least, of_test, figures_least}
 
 -- an error is handed on

@@ -5,7 +5,7 @@ pub mod Parts
 pub mod Held
 pub mod Limits
 pub mod Decimals
-pub mod Doubled
+pub mod Nearest
 pub mod Rounded
 pub mod Figures
 pub mod Totals

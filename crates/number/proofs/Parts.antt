@@ -1,5 +1,5 @@
 -- Places in a text: the first byte that passes a test, and what stands before it. Assumes nothing.
-use Rattle.std.proofs.Common.{◌≡◌, ℕ, zero, suc, ◌+◌, ◌<◌, ◌≤◌, Bool, true, false, [], ◌∷◌, length, get_or, take, sym, arith, length-take-le}
+use Rattle.std.proofs.Common.{◌≡◌, ℕ, zero, suc, ◌+◌, ◌<◌, ◌≤◌, Bool, true, false, [], ◌∷◌, length, get_or, sym, arith}
 use Rattle.std.specs.Prelude.{if◌then◌else◌, ◌⊎◌, Option, Some, None, ltb, unwrap_or, position}
 use Rattle.std.specs.List.{position_or_len}
 use Rattle.std.proofs.Common.{cond, refl, ap, ◌∙◌, inl, inr, le-ltb, lt-ltb}
@@ -12,10 +12,6 @@ use Rattle.laws.specs.Options.{Some-injective}
 use Rattle.definition.specs.Base.{◌or◌}
 use Rattle.definition.specs.Text.{Text, before, after}
 use Rattle.text.specs.Cut.{place_of, place_within}
-
--- what a part up to a place has for its length
-pub up_to_lem : (p : ℕ → Bool) (s : Text) (k : ℕ) → k ≡ place_of p s → k ≡ length (take k s)
-up_to_lem p s k e = sym (length-take-le k s (omega (arith, place_within p s)))
 
 -- a byte that is not 0 stands within
 pub byte_within : (s : Text) (k b : ℕ) → get_or s k 0 ≡ suc b → k < length s

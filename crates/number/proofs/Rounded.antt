@@ -9,7 +9,7 @@ use Rattle.definition.specs.Number.{zero_float, half_away, nearest_whole, with_s
 use Rattle.number.specs.Tests.{is_true}
 use Rattle.number.specs.Floats.{le_neg, neg_below, zero_below, float-10¹⁸}
 use Rattle.number.specs.Whole.{half_within, whole_within}
-use Rattle.number.proofs.Doubled.{cap}
+use Rattle.number.proofs.Nearest.{cap}
 pub use Rattle.laws.specs.Floats.{bound}
 
 abbrev low : Float

@@ -1,15 +1,14 @@
 -- The parts of a time of day. Assumes nothing.
-use Rattle.std.proofs.Common.{◌≡◌, ℕ, ◌+◌, ◌*◌, ◌<◌, ◌≤◌, length, take, drop, sym, ap, ◌∙◌, arith, le-ltb, lt-ltb, le-leb}
-use Rattle.std.specs.Prelude.{Option, Some, None}
+use Rattle.std.proofs.Common.{◌≡◌, ℕ, ◌+◌, ◌*◌, ◌<◌, ◌≤◌, sym, ap, ◌∙◌, le-ltb, lt-ltb, le-leb}
+use Rattle.std.specs.Prelude.{Option, None}
 use borrow.Author.Tests.{lt-leb}
 use Rattle.std.specs.Bool.{then_some}
 use Rattle.std.proofs.Common.{Bool, true, false, leb, refl}
 use Rattle.definition.specs.Base.{◌or◌, when}
 use Rattle.definition.specs.Ascii.{bytes}
-use Rattle.definition.specs.Text.{Text, before, after, unsigned_of, digits, digits_after, sign_of}
+use Rattle.definition.specs.Text.{Text, before, after, unsigned_of}
 use Rattle.definition.specs.Time.{is_colon, time_parts}
-use Rattle.text.specs.Cut.{place_of, before_take, after_some, after_none}
-use Rattle.number.specs.Time.{time_at, joined, minutes_text}
+use Rattle.number.specs.Time.{time_at, joined}
 
 pub too_late : (h m : ℕ) → 24 < h → time_at h m ≡ None
 unfolding time_at

@@ -12,7 +12,7 @@ use Rattle.definition.specs.declared.Figures.{Figures}
 use Rattle.number.specs.Floats.{float-10⁹, float-10¹⁸}
 use Rattle.number.specs.Whole.{half_within, half_same}
 use Rattle.number.specs.Duration.{not_below}
-use Rattle.number.proofs.Doubled.{cap, at_most}
+use Rattle.number.proofs.Nearest.{cap, at_most}
 use Rattle.number.proofs.Rounded.{bound}
 use Rattle.laws.specs.Wholes.{eq_whole}
 pub use Rattle.laws.specs.Durations.{total_is, total_least}

@@ -1,17 +1,18 @@
 -- One byte written, the decimal digits of a number, and the end of a text. Assumes nothing.
 use Rattle.std.specs.Prelude.{if◌then◌else◌, Option, Some, None}
 use Rattle.definition.specs.declared.Refusal.{Refusal}
-use Rattle.definition.specs.declared.Refusal.TheVariants.{Outside}
-use Rattle.std.specs.Prelude.{Err, Ok, Result}
-use Rattle.std.proofs.Common.{◌≡◌, ℕ, zero, suc, ◌+◌, ◌-◌, ◌/◌, ◌%◌, ◌^◌, ◌<◌, ◌≤◌, Bool, true, false, ltb, leb, ◌⊎◌, [], ◌∷◌, ◌++◌, length, take, drop, set, replicate, sym, refl, ap, ◌∙◌, subst, inl, inr, append-nil, zero-lt-suc, div-lt_iff_lt-mul, pow-suc, add-one, arith, length-drop, length-set, length-take, length-take-le, take-suc-set, le-ltb, lt-ltb, le-leb}
+use Rattle.definition.specs.declared.Refusal.TheVariants.{NoRoom}
+use Rattle.std.specs.Prelude.{Result}
+use Rattle.std.specs.Result.{IfOk}
+use Rattle.std.specs.Option.{ok_or}
+use Rattle.std.proofs.Common.{◌≡◌, ℕ, zero, suc, ◌+◌, ◌/◌, ◌%◌, ◌^◌, ◌<◌, ◌≤◌, Bool, true, false, ltb, leb, ◌⊎◌, ◌∷◌, ◌++◌, length, take, set, sym, refl, ap, ◌∙◌, subst, inl, inr, zero-lt-suc, div-lt_iff_lt-mul, pow-suc, add-one, arith, length-set, length-take-le, take-suc-set, le-ltb, lt-ltb, le-leb, []}
 use borrow.Author.Tests.{lt-leb}
-use borrow.Rule.Slice.PartMut.{put_mid, post_of, Post-is}
 use Rattle.definition.specs.Text.{Text}
 use Rattle.definition.specs.Duration.{decimal, decimal_up}
 use Rattle.definition.specs.Time.{two_digits}
-use Rattle.text.specs.Parts.{le_or_lt, at_end_lem}
+use Rattle.text.specs.Parts.{le_or_lt}
 use Rattle.laws.specs.Buf.{holds, ◌▷◌, ▷-fits, ▷-over}
-use Rattle.number.specs.Written.{Put, Gives, view, answer_of}
+use Rattle.number.specs.Written.{Put, Gives, view, answer_of, answer_by}
 use Rattle.definition.specs.Refusal.{Answer, refused, gives, in_room, ranged}
 
 -- ---- one byte
@@ -58,18 +59,6 @@ two_digits_lem n h = let e : n / 10 % 10 ≡ n / 10 = omega arith in ap (λ (k :
 
 -- ---- the end
 
-pub ends_within : (d : Text) (at : ℕ) (m : Text) → at ≤ length d → m ≡ replicate (length (take (length d - at) (drop at d))) 0
-    → Gives (answer_of (view d (Some at))) (length d) (Ok at) (put_mid at (length d - at) d m)
-ends_within d at m h e =
-    let l : length (take at d) ≡ at = length-take-le at d h in
-    let p : post_of at (length d - at) d ≡ [] = Post-is at (length d) d h ∙ at_end_lem d (length d) (omega arith) in
-    let z : length (take (length d - at) (drop at d)) ≡ length d - length (take at d) = simp (length-take, length-drop) (omega (arith, l)) in
-    record {
-      refusal = refl;
-      count = sym l;
-      buffer = ap (λ (r : Text). take at d ++ (m ++ r)) p ∙ ap (λ (r : Text). take at d ++ r) (append-nil m ∙ e ∙ ap (λ (n : ℕ). replicate n 0) z);
-    }
-
 -- a text put from the start on, and then ended
 pub whole : (t d d' : Text) (r : Option ℕ) → Put t d 0 d' r → answer_of (view d' r) ≡ in_room (length d) t
 unfolding in_room
@@ -79,17 +68,28 @@ whole t d d' r p = ap answer_of p.bytes ∙ by (le_or_lt (length t) (length d))
     by (inl h) = rw (▷-fits (length d) [] t (omega arith), le-leb (length t) (length d) h)
     by (inr h) = rw (▷-over (length d) [] t (omega arith), lt-leb (length t) (length d) h)
 
-module _ (most : ℕ) (named : ℕ → Text) (n : ℕ) (d : Text) where
-  pub outside : (m : Text) → most < n → m ≡ replicate (length d) 0 → Gives (ranged most named n (length d)) (length d) (Err Outside) m
-  unfolding ranged
-  outside m h e =
-      subst (λ (t : Bool). Gives (if t then in_room (length d) (named n) else refused 8) (length d) (Err Outside) m) (sym (lt-leb n most h))
-      (record { refusal = refl; count = refl; buffer = e })
+-- a place where there is none left is a refusal
+pub answer_same : (d : Text) (k : Option ℕ) → answer_by d (ok_or k NoRoom) ≡ answer_of (view d k)
+answer_same d None = refl
+answer_same d (Some n) = refl
 
-  pub inside : {d' out : Text} {k : Option ℕ} {r : Result ℕ Refusal} → n ≤ most → Put (named n) d 0 d' k → Gives (answer_of (view d' k)) (length d') r out
+pub place_inside : {t d d' : Text} {n : ℕ} (k : Option ℕ) → Put t d n d' k → {e : Result ℕ Refusal} → e ≡ ok_or k NoRoom → IfOk e (λ n. n ≤ length d')
+place_inside None p h = rw h tt
+place_inside (Some n) p h = rw h p.inside
+
+module _ (most : ℕ) (named : ℕ → Text) (n : ℕ) (d : Text) where
+  pub outside : {out : Text} {r : Result ℕ Refusal} → most < n → Gives (refused 8) (length d) r out → Gives (ranged most named n (length d)) (length d) r out
+  unfolding ranged
+  outside {out} {r} h g =
+      subst (λ (t : Bool). Gives (if t then in_room (length d) (named n) else refused 8) (length d) r out) (sym (lt-leb n most h)) g
+
+  pub inside : {d' out : Text} {k : Option ℕ} {e r : Result ℕ Refusal} → n ≤ most → Put (named n) d 0 d' k → e ≡ ok_or k NoRoom → Gives (answer_by d' e) (length d') r out
       → Gives (ranged most named n (length d)) (length d) r out
   unfolding ranged
-  inside {d'} {out} {k} {r} h p g =
-      let e : answer_of (view d' k) ≡ (if leb n most then in_room (length d) (named n) else refused 8)
-      = whole (named n) d d' k p ∙ sym (ap (λ (t : Bool). if t then in_room (length d) (named n) else refused 8) (le-leb n most h)) in
-      subst (λ (a : Answer). Gives a (length d) r out) e (subst (λ (room : ℕ). Gives (answer_of (view d' k)) room r out) p.same g)
+  inside {d'} {out} {k} {e} {r} h p i g =
+      let a : answer_by d' e ≡ (if leb n most then in_room (length d) (named n) else refused 8)
+      = ap (λ (e : Result ℕ Refusal). answer_by d' e) i
+      ∙ answer_same d' k
+      ∙ whole (named n) d d' k p
+      ∙ sym (ap (λ (t : Bool). if t then in_room (length d) (named n) else refused 8) (le-leb n most h)) in
+      subst (λ (a : Answer). Gives a (length d) r out) a (subst (λ (room : ℕ). Gives (answer_by d' e) room r out) p.same g)

@@ -1,8 +1,8 @@
 -- What writing a text into a buffer gives: document 01's number, the buffer at the end, and how many bytes of it are the text. Assumes nothing.
-use Rattle.definition.specs.Answer.{answer_length, answer_number}
+use Rattle.definition.specs.Answer.{answer_length, answer_number, refusal_number}
 use Rattle.std.specs.Prelude.{◌≡◌, ℕ, ◌++◌, length, take, ◌≤◌, Option, Some, None, IfSome}
 use Rattle.definition.specs.declared.Refusal.{Refusal}
-use Rattle.std.specs.Prelude.{Result}
+use Rattle.std.specs.Prelude.{Result, Ok, Err}
 use Rattle.std.proofs.Common.{sym, ap, ◌∙◌}
 use Rattle.definition.specs.Text.{Text}
 use Rattle.definition.specs.Duration.{most_minutes, duration_text}
@@ -48,3 +48,8 @@ cut {t} {d} {d'} {n} u p =
 abbrev pub answer_of : Buf → Answer
 answer_of (holds n t) = gives t
 answer_of (full n) = refused 9
+
+-- what stands before a place in a buffer, or a refusal
+abbrev pub answer_by : Text → Result ℕ Refusal → Answer
+answer_by d (Ok n) = gives (take n d)
+answer_by d (Err e) = refused (refusal_number e)

@@ -1,4 +1,5 @@
-// Number texts, as Rust's `str::parse::<f64>` reads them, in one pass.
+// Number texts, as Rust's `str::parse::<f64>` reads them, in one pass. By hand: a number too long to be exact refuses a tree, so it is told apart from
+// a text that is no number, which `parse` does not say; and a text is bytes, no `str`.
 ghost use Rattle.std.specs.Prelude.{◌≡◌, ◌+◌, ◌-◌, ◌*◌, ◌^◌, ◌<◌, ◌≤◌, min, false, length, drop};
 ghost use Rattle.std.specs.Float.{binary64};
 ghost use Rattle.std.specs.Float.Ieee.{round};
@@ -137,10 +138,7 @@ fn judge(v: usize, up: usize, down: usize) -> Result<f64, Unread>
     if v >= 1_000_000_000_000_000 {
         return Err(Unread::Long);
     }
-    if up.saturating_sub(down) > 22 {
-        return Err(Unread::Long);
-    }
-    if down.saturating_sub(up) > 22 {
+    if up.abs_diff(down) > 22 {
         return Err(Unread::Long);
     }
     Ok(short(v, up, down))

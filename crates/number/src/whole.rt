@@ -5,13 +5,12 @@ ghost use Rattle.std.specs.Float.Ieee.{mul};
 ghost use Rattle.definition.specs.Number.{float};
 ghost use Rattle.number.specs.Whole.{half_within, whole_within};
 
-// x from 0 to 10 ^ 18 to the nearest whole number: the whole part of 2 x, which is exact, and a half of what is next. 0 for any other x, and no Option:
-// callers test the range before.
+// x from 0 to 10 ^ 18 to the nearest whole number. 0 for any other x, and no Option: callers test the range before.
 pub(crate) fn half_away(x: f64) -> u64
     ensures { result ≡ half_within x }
 {
-    if 0.0 <= x && x <= 1e18 {
-        return (std::num::truncating_f64_to_u64(x * 2.0) + 1) / 2;
+    if (0.0..=1e18).contains(&x) {
+        return std::num::truncating_f64_to_u64(x.round());
     }
     0
 }

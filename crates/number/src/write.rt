@@ -1,9 +1,10 @@
 // The texts of durations and times, written into a lent buffer. Byte by byte: what `write!` leaves in a String or a Vec is known to a proof, what it
 // leaves in a slice or a Cursor over one is not. The buffer and the place are no struct, for the reason that bits gives in writing.rt.
-ghost use Rattle.std.specs.Prelude.{◌≡◌, ◌+◌, ◌%◌, ◌<◌, ◌≤◌, [], ◌∷◌, ◌++◌, length, IfSome};
+ghost use Rattle.std.specs.Prelude.{◌≡◌, ◌+◌, ◌%◌, ◌<◌, ◌≤◌, [], ◌∷◌, ◌++◌, length};
+ghost use Rattle.std.specs.Result.{IfOk};
 ghost use Rattle.definition.specs.Duration.{decimal, duration_text};
 ghost use Rattle.definition.specs.Time.{two_digits, time_text};
-ghost use Rattle.number.specs.Written.{Put, Gives, view, answer_of, minutes_answer};
+ghost use Rattle.number.specs.Written.{Put, Gives, answer_by, minutes_answer};
 ghost use Rattle.definition.specs.Refusal.{time_answer};
 
 use definition::Refusal;
@@ -39,18 +40,13 @@ fn put_decimal(out: &mut [u8], at: usize, n: u64) -> Option<usize>
     put(out, next, digit(n))
 }
 
-// What was written up to a place, and zeros behind it; zeros alone where it did not fit. A number out of range is refused before anything is written, so
-// its callers clear by themselves: a Result in place of the Option would put their two ways together to be taken apart here.
-fn finish(out: &mut [u8], end: Option<usize>) -> Result<usize, Refusal>
-    requires { IfSome end (λ n. n ≤ length out.old) }
-    ensures { Gives (answer_of (view out.old end)) (length out.old) result out.new }
+// Zeros behind what was written, and zeros alone on a refusal.
+fn finish(out: &mut [u8], end: Result<usize, Refusal>) -> Result<usize, Refusal>
+    requires { IfOk end (λ n. n ≤ length out.old) }
+    ensures { Gives (answer_by out.old end) (length out.old) result out.new }
 {
-    let Some(n) = end else {
-        out.fill(0);
-        return Err(Refusal::NoRoom);
-    };
-    out[n..].fill(0);
-    Ok(n)
+    out[end.unwrap_or(0)..].fill(0);
+    end
 }
 
 fn put_duration(out: &mut [u8], n: u64) -> Option<usize>
@@ -71,10 +67,9 @@ pub fn duration_text(minutes: u64, out: &mut [u8]) -> Result<usize, Refusal>
     ensures { Gives (minutes_answer minutes (length out.old)) (length out.old) result out.new }
 {
     if minutes > 1_000_000_000 {
-        out.fill(0);
-        return Err(Refusal::Outside);
+        return finish(out, Err(Refusal::Outside));
     }
-    let end = put_duration(out, minutes);
+    let end = put_duration(out, minutes).ok_or(Refusal::NoRoom);
     finish(out, end)
 }
 
@@ -105,9 +100,8 @@ pub fn time_text(minutes: u64, out: &mut [u8]) -> Result<usize, Refusal>
     ensures { Gives (time_answer minutes (length out.old)) (length out.old) result out.new }
 {
     if minutes > 1440 {
-        out.fill(0);
-        return Err(Refusal::Outside);
+        return finish(out, Err(Refusal::Outside));
     }
-    let end = put_time(out, minutes);
+    let end = put_time(out, minutes).ok_or(Refusal::NoRoom);
     finish(out, end)
 }

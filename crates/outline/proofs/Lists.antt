@@ -1,7 +1,7 @@
 -- The lists in the work slice: what each store makes of its words. Assumes nothing.
 use mathlib.Core.Path.{◌≡◌, refl, sym, ap, ◌∙◌}
 use mathlib.Core.Bool.{Bool, true, false}
-use mathlib.Core.List.{List, [], ◌∷◌}
+use mathlib.Core.List.{List, ◌∷◌, []}
 use Rattle.std.specs.Prelude.{Option, Some, None}
 use Prim.Native.Nat.{ℕ, suc, ◌+◌, ◌-◌, ◌*◌, ◌≤◌, ◌<◌}
 use native.Mathlib.Omega.{arith}
@@ -13,7 +13,7 @@ use Rattle.definition.specs.Base.{keep, first, count}
 use Rattle.definition.specs.Outline.{parent_in, parent_at}
 use Rattle.laws.specs.Keep.{keep_yes, keep_no}
 use Rattle.laws.specs.Outlines.{parent_in_lem}
-use Rattle.outline.specs.Words.{no_row, parents_in}
+use Rattle.outline.specs.Words.{parents_in}
 use Rattle.outline.proofs.ParentLaws.{length_parents, parents_at}
 use Rattle.outline.specs.Steps.{word_of, home_of, slot_of, same_parent, siblings, later, Links, pushed, link_of, Empty}
 use Rattle.outline.proofs.Ahead.{same_parent_lem}
@@ -185,54 +185,6 @@ module _ (ps : List (Option ℕ)) (i : ℕ) (w : List ℕ) (h : i < length ps) (
   unfolding link_of
   link_more = rw (links.named i (omega arith)) pushed_more
 
--- ---- empty lists
-
-at_set : (l : List ℕ) (i j a : ℕ) → j ≡ i → i < length l → get_or (set l i a) j 0 ≡ a
-at_set l i j a e h = rw e (get_or-set_same l i a 0 h)
-
-pub empty_none : (w : List ℕ) → Empty 0 w w
-empty_none w = record { long = refl; parents = λ r. refl; child = λ r h. absurd (omega arith); top = λ h. absurd (omega arith) }
-
-module _ (i : ℕ) (w u : List ℕ) (e : Empty i w u) (h : 4 * i + 3 < length u) where
-  abbrev once : List ℕ
-  once = set u (4 * i + 1) no_row
-
-  abbrev twice : List ℕ
-  twice = set once (4 * i + 3) no_row
-
-  long_once : length once ≡ length u
-  long_once = length-set u (4 * i + 1) no_row
-
-  child_at : (r : ℕ) (t : Bool) → eqb r i ≡ t → r < i + 1 → get_or twice (4 * r + 1) 0 ≡ no_row
-  child_at r true t l =
-      let q : r ≡ i = eqb-true r i t in
-      get_or-set_other once (4 * i + 3) (4 * r + 1) no_row 0 (λ z. omega arith) ∙ at_set u (4 * i + 1) (4 * r + 1) no_row (omega arith) (omega arith)
-  child_at r false t l =
-      let q : r ≡ i → ⊥ = eqb-false r i t in
-      get_or-set_other once (4 * i + 3) (4 * r + 1) no_row 0 (λ z. omega arith)
-      ∙ get_or-set_other u (4 * i + 1) (4 * r + 1) no_row 0 (λ z. q (omega arith))
-      ∙ e.child r (omega arith)
-
-  top_at : (t : Bool) → eqb i 0 ≡ t → get_or twice (4 * 0 + 3) 0 ≡ no_row
-  top_at true t = let q : i ≡ 0 = eqb-true i 0 t in at_set once (4 * i + 3) (4 * 0 + 3) no_row (omega arith) (omega (arith, long_once))
-  top_at false t =
-      let q : i ≡ 0 → ⊥ = eqb-false i 0 t in
-      get_or-set_other once (4 * i + 3) (4 * 0 + 3) no_row 0 (λ z. q (omega arith))
-      ∙ get_or-set_other u (4 * i + 1) (4 * 0 + 3) no_row 0 (λ z. omega arith)
-      ∙ e.top (omega arith)
-
-  pub empty_more : Empty (i + 1) w twice
-  empty_more =
-      record {
-        long = length-set once (4 * i + 3) no_row ∙ long_once ∙ e.long;
-        parents = λ r.
-            get_or-set_other once (4 * i + 3) (4 * r + 0) no_row 0 (λ z. omega arith)
-            ∙ get_or-set_other u (4 * i + 1) (4 * r + 0) no_row 0 (λ z. omega arith)
-            ∙ e.parents r;
-        child = λ r l. child_at r (eqb r i) refl l;
-        top = λ l. top_at (eqb i 0) refl;
-      }
-
 -- ---- before the first row is linked
 
 pub links_none : (n : ℕ) (w u : List ℕ) → Empty n w u → Links (parents_in n w) n u
@@ -257,12 +209,6 @@ links_none n w u e =
     begins (Some p) h = e.child p (omega (arith, length_parents n w))
 
 -- ---- one turn of each loop
-
-pub empty_by : (i : ℕ) (w u : List ℕ) {u₁ u₂ : List ℕ} → Empty i w u → 4 * i + 3 < length u → u₁ ≡ set u (4 * i + 1) no_row → u₂ ≡ set u₁ (4 * i + 3) no_row
-    → Empty (i + 1) w u₂
-empty_by i w u e h p q =
-    let z : set (set u (4 * i + 1) no_row) (4 * i + 3) no_row ≡ _ = sym (q ∙ ap (λ (l : List ℕ). set l (4 * i + 3) no_row) p) in
-    rw z at (empty_more i w u e h)
 
 pub link_on : (ps : List (Option ℕ)) (n i : ℕ) (w : List ℕ) {w' : List ℕ} → n ≡ length ps → 0 < i → i ≤ n → 4 * n ≤ length w → Links ps i w → w' ≡ link_of n (i - 1) w
     → Links ps (i - 1) w'

@@ -3,9 +3,7 @@ use mathlib.Core.Path.{◌≡◌, refl, sym, ap, ◌∙◌}
 use mathlib.Core.List.{List, ◌++◌}
 use Prim.Native.Nat.{ℕ, ◌-◌, ◌*◌, ◌/◌, ◌≤◌}
 use native.Mathlib.Omega.{arith}
-use mathlib.Core.Bool.{Bool, true, false, ◌||◌}
-use lib.Dec.{ltb}
-use borrow.Author.Tests.{le-ltb, ltb-false}
+use borrow.Author.Tests.{le-ltb}
 use lib.ListN.{length, take, replicate}
 use lib.Seq.{length-take-le}
 use Rattle.definition.specs.Outline.{outline_of}
@@ -19,10 +17,6 @@ module _ (n room : ℕ) (work : List ℕ) where
   enough : 2 * n ≤ room → 4 * n ≤ length work → outline_words n room work ≡ gives (row_words (outline_of (parents_in n work)))
   unfolding outline_words
   enough h k = rw (le-ltb room (2 * n) h, le-ltb (length work) (4 * n) k)
-
-pub room_for : (a b c d : ℕ) (t : Bool) → ltb a b ≡ t → (t || ltb c d) ≡ false → (b ≤ a) × (d ≤ c)
-room_for a b c d true e h = let z : ◌≡◌ {A = ℕ} 0 1 = cc in absurd (omega arith)
-room_for a b c d false e h = (ltb-false a b e, ltb-false c d h)
 
 pub wrote_all : (n : ℕ) (rows work : List ℕ) {rows' work₁ work₂ : List ℕ} {r : ℕ} → 2 * n ≤ length rows → 4 * n ≤ length work → Empty n work work₁
     → Linked n work₁ work₂ → Walked n rows work₂ rows' r → Wrote n rows work rows' work₂ r

@@ -1,5 +1,5 @@
 -- The records of the values that are written. Assumes nothing.
-use Rattle.std.specs.Prelude.{ℕ, ℤ}
+use Rattle.std.specs.Prelude.{ℕ, ℤ, List, [], ◌∷◌}
 use Rattle.std.specs.Prelude.{Option}
 use Rattle.definition.specs.Date.{Date}
 use Rattle.definition.specs.Text.{Text}
@@ -62,6 +62,9 @@ project_by p = record {
 
 abbrev pub counts_by : Counts → P.Counts
 counts_by n = (n.calendars, (n.activities, (n.links, (n.resources, (n.assignments, n.expenses)))))
+
+abbrev pub each_count : Counts → List ℕ
+each_count n = n.calendars ∷ n.activities ∷ n.links ∷ n.resources ∷ n.assignments ∷ n.expenses ∷ []
 
 abbrev pub resource_by : Resource → M.Resource
 resource_by r = record {

@@ -3,7 +3,7 @@ ghost use Rattle.std.specs.Prelude.{◌≡◌, ◌+◌, ◌%◌, ◌^◌};
 ghost use Rattle.definition.specs.Format.{whole};
 ghost use Rattle.definition.specs.Pack.{project, activity, link, resource, assignment, expense, counts};
 ghost use Rattle.bits.specs.Steps.{Puts};
-ghost use Rattle.pack.specs.Record.{link_by, assignment_by, expense_by, project_by, resource_by, activity_by, activity_kind_code, schedule_fields, schedule_of, counts_by};
+ghost use Rattle.pack.specs.Record.{link_by, assignment_by, expense_by, project_by, resource_by, activity_by, activity_kind_code, schedule_fields, schedule_of, counts_by, each_count};
 
 use crate::stars::Starred;
 use crate::value::{LagFields, put_code, put_count, put_date, put_lag, put_number, put_optional};
@@ -24,9 +24,9 @@ pub struct Skips {
 
 #[derive(Clone, Copy, Debug, PartialEq, Eq)]
 pub enum ActivityKind {
-    Task,
-    StartMilestone,
-    FinishMilestone,
+    Task = 0,
+    StartMilestone = 1,
+    FinishMilestone = 2,
 }
 
 // The model's codes.
@@ -34,11 +34,7 @@ impl From<ActivityKind> for u32 {
     ghost from_gives = { λ kind n. n ≡ activity_kind_code kind };
 
     fn from(kind: ActivityKind) -> u32 {
-        match kind {
-            ActivityKind::Task => 0,
-            ActivityKind::StartMilestone => 1,
-            ActivityKind::FinishMilestone => 2,
-        }
+        kind as u32
     }
 }
 
@@ -66,8 +62,9 @@ pub struct Progress {
     pub remaining: Option<i64>,
 }
 
-// How many records of each kind there are. Not model's PerKind<u32>: this crate stands beside model, and writes records without their reader.
-#[derive(Clone, Copy, Debug, PartialEq, Eq)]
+// How many records of each kind there are. Not model's PerKind<u32>: a type for both would stand in definition, where there is only what a planner
+// reads, and the specs of either crate are over its own.
+#[derive(Clone, Copy, Debug, Default, PartialEq, Eq)]
 pub struct Counts {
     pub calendars: u32,
     pub activities: u32,
@@ -75,6 +72,22 @@ pub struct Counts {
     pub resources: u32,
     pub assignments: u32,
     pub expenses: u32,
+}
+
+impl Counts {
+    // One by one, as a model has them.
+    pub fn each(self) -> [u32; 6]
+        ensures { result ≡ each_count self }
+    {
+        [
+            self.calendars,
+            self.activities,
+            self.links,
+            self.resources,
+            self.assignments,
+            self.expenses,
+        ]
+    }
 }
 
 // The records of a section: how many there are, and the place behind them. The buffer is not in it: it is lent again for each record.
@@ -265,14 +278,12 @@ impl Activity<'_> {
 
 // ---- counts
 
-// Field by field, as the records above: an array of the six and a loop over it would be longer.
 pub fn put_counts(out: &mut [u8], p: Place, n: Counts) -> Place
     ensures { Puts counts (counts_by n) out.old p out.new result }
 {
-    let a = put_count(out, p, n.calendars);
-    let b = put_count(out, a, n.activities);
-    let c = put_count(out, b, n.links);
-    let d = put_count(out, c, n.resources);
-    let e = put_count(out, d, n.assignments);
-    put_count(out, e, n.expenses)
+    let mut next = p;
+    for count in n.each() {
+        next = put_count(out, next, count);
+    }
+    next
 }

@@ -2,7 +2,7 @@
 // year -10000 on, 0 for none, and what lies past 31 December 9999 comes in as the day behind that; a month goes by
 // its number, 13 for none. Fields, Run and what `told` answers are numbers for C. 7304850 is the day behind 31 December
 // 9999.
-ghost use Rattle.std.specs.Prelude.{◌≡◌};
+ghost use Rattle.std.specs.Prelude.{◌≡◌, Some};
 ghost use Rattle.definition.specs.Base.{◌or◌};
 ghost use Rattle.definition.specs.Recurrence.{rule_of, days_of};
 ghost use Rattle.tree.specs.Place.{element_at};
@@ -28,7 +28,7 @@ fn day_at(n: u32) -> Date
 fn month_at(n: u32) -> Option<u32>
     ensures { result ≡ month_at n }
 {
-    if n == 13 { None } else { Some(n) }
+    (n != 13).then_some(n)
 }
 
 // ---- a rule
@@ -47,27 +47,48 @@ struct Fields {
     weekdays: u32,
 }
 
-fn fields_by(r: Rule) -> Fields
-    ensures { result ≡ fields_of (Some r) }
-{
-    Fields {
-        kind: r.kind,
-        from: count_of(r.from),
-        last: count_of(r.last),
-        most: r.most,
-        period: r.period,
-        month: r.month.unwrap_or(13),
-        day: r.day,
-        item: r.item,
-        position: r.position,
-        weekdays: r.weekdays,
+impl From<Rule> for Fields {
+    ghost from_gives = { λ r f. f ≡ fields_of (Some r) };
+
+    fn from(r: Rule) -> Fields {
+        Fields {
+            kind: r.kind,
+            from: count_of(r.from),
+            last: count_of(r.last),
+            most: r.most,
+            period: r.period,
+            month: r.month.unwrap_or(13),
+            day: r.day,
+            item: r.item,
+            position: r.position,
+            weekdays: r.weekdays,
+        }
+    }
+}
+
+impl From<Fields> for Rule {
+    ghost from_gives = { λ f r. r ≡ rule f.kind f.from f.last f.most f.period f.month f.day f.item f.position f.weekdays };
+
+    fn from(f: Fields) -> Rule {
+        Rule {
+            kind: f.kind,
+            from: day_at(f.from),
+            last: day_at(f.last),
+            most: f.most,
+            period: f.period,
+            month: month_at(f.month),
+            day: f.day,
+            item: f.item,
+            position: f.position,
+            weekdays: f.weekdays,
+        }
     }
 }
 
 fn fields_of(a: Option<Rule>) -> Fields
     ensures { result ≡ fields_of a }
 {
-    a.map_or(Fields::default(), fields_by)
+    a.map_or(Fields::default(), |r| Fields::from(r))
 }
 
 // The rule of a tree whose root is an Exception; zeros where there is none.
@@ -122,23 +143,6 @@ fn told(s: Step, at: &mut u32, left: &mut u32, day: &mut u32) -> u32
     }
 }
 
-fn rule_by(f: Fields) -> Rule
-    ensures { result ≡ rule f.kind f.from f.last f.most f.period f.month f.day f.item f.position f.weekdays }
-{
-    Rule {
-        kind: f.kind,
-        from: day_at(f.from),
-        last: day_at(f.last),
-        most: f.most,
-        period: f.period,
-        month: month_at(f.month),
-        day: f.day,
-        item: f.item,
-        position: f.position,
-        weekdays: f.weekdays,
-    }
-}
-
 // The next day of a rule: 0 with the day and what is to come, 1 where no day is left, 2 where it is no rule.
 pub fn probe_next(
     kind: u32,
@@ -157,7 +161,7 @@ pub fn probe_next(
 ) -> u32
     ensures { Told (step_of (rule kind from last most period month monthday item position weekdays) (cursor at.old left.old)) at.old left.old result day.new at.new left.new }
 {
-    let r = rule_by(Fields {
+    let r = Rule::from(Fields {
         kind,
         from,
         last,
@@ -184,16 +188,21 @@ struct Run {
     count: u32,
 }
 
+impl From<Range> for Run {
+    ghost from_gives = { λ r n. n ≡ run_of (Some r) };
+
+    fn from(r: Range) -> Run {
+        Run {
+            first: count_of(r.first),
+            count: r.count,
+        }
+    }
+}
+
 fn run_of(a: Option<Range>) -> Run
     ensures { result ≡ run_of a }
 {
-    a.map_or(
-        Run::default(),
-        |r| Run {
-            first: count_of(r.first),
-            count: r.count,
-        },
-    )
+    a.map_or(Run::default(), |r| Run::from(r))
 }
 
 // The days of a tree whose root is a WeekDay: the first, and how many.

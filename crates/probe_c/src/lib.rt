@@ -1,5 +1,5 @@
-// What a C host links to compare the parts with the Rust: each export is the function of probe of that name, with its contract. C takes numbers and
-// pointers, and a name for each function, so that each of probe's stands here again, with as many parameters as it has results.
+// What a C host links to compare the parts with the Rust: each export is the function of probe of that name, with its contract. A crate is a library
+// or a static library, so that each export stands here again. C takes numbers and pointers: a result is a parameter of its own.
 #![tactic(auto)]
 
 mod days; // rules and their days

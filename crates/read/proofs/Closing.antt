@@ -1,5 +1,5 @@
 -- Counts laid over zeros, one after another. Assumes nothing.
-use Rattle.std.proofs.Common.{◌≡◌, ℕ, ◌+◌, ◌<◌, List, [], ◌∷◌, ◌++◌, length, drop, get_or, refl, sym, ap, ◌∙◌, subst, arith, append_assoc, append-nil, add-one, length-append, drop-cons}
+use Rattle.std.proofs.Common.{◌≡◌, ℕ, ◌+◌, ◌<◌, List, ◌∷◌, ◌++◌, length, drop, get_or, sym, ap, ◌∙◌, subst, arith, append_assoc, append-nil, add-one, length-append, drop-cons, []}
 use Rattle.definition.specs.Bits.{Bits, enc, bits_of}
 use Rattle.definition.specs.Format.{field, ◌⊗◌}
 use Rattle.laws.specs.Bits.{length_bits, length_enc}
@@ -7,8 +7,9 @@ use Rattle.bits.specs.Over.{over, over_mid}
 use Rattle.bits.specs.Places.{at, place, Fits, fits_room, at_place}
 use Rattle.bits.specs.Steps.{Laid, laid_in}
 use Rattle.bits.specs.declared.Place.{Place}
+use Rattle.pack.specs.Record.{each_count}
 use Rattle.pack.specs.declared.record.Counts as P
-use Rattle.read.specs.Sections.{start, Closes}
+use Rattle.read.specs.Sections.{Closes}
 
 -- a place, and the bits before it and from it on
 pub record Over (d : List ℕ) (p : Place) (a c : Bits) : Type 0 where
@@ -47,9 +48,6 @@ pub record Closing (ns ms : List ℕ) (d d' : List ℕ) (p : Place) : Type 0 whe
   pub lies : (l : Bits) → bits_of d ≡ open_for ns ++ l → Over d' p done (open_for ms ++ l)
   pub all : done ++ encs ms ≡ encs ns
 
-pub closing_none : (ns : List ℕ) (d : List ℕ) → Closing ns ns d d start
-closing_none ns d = record { same = refl; done = []; lies = λ l e. record { bits = e; here = refl; bit = omega arith }; all = refl }
-
 pub closing_more : {ns ms : List ℕ} {n : ℕ} {ks : List ℕ} {d d1 d2 : List ℕ} {p q : Place} → ms ≡ n ∷ ks → Closing ns ms d d1 p → Laid d1 p (enc 32 n) d2 q → Closing ns ks d d2 q
 unfolding encs open_for
 closing_more {ns} {ms} {n} {ks} {d} {d1} {p = p} z h' x =
@@ -63,10 +61,10 @@ closing_more {ns} {ms} {n} {ks} {d} {d1} {p = p} z h' x =
       all = append_assoc h.done (enc 32 n) (encs ks) ∙ h.all;
     }
 
-pub closing_all : (n : P.Counts) {ms d d' : List ℕ} {p : Place} → Closing (n.calendars ∷ n.activities ∷ n.links ∷ n.resources ∷ n.assignments ∷ n.expenses ∷ []) ms d d' p → ms ≡ [] → Closes n d d'
+pub closing_all : (n : P.Counts) {ms d d' : List ℕ} {p : Place} → Closing (each_count n) ms d d' p → ms ≡ [] → Closes n d d'
 unfolding ◌⊗◌ field encs open_for
 closing_all n {ms} {d} {d'} {p} h' e =
-    let ns = n.calendars ∷ n.activities ∷ n.links ∷ n.resources ∷ n.assignments ∷ n.expenses ∷ [] in
+    let ns = each_count n in
     let h : Closing ns [] d d' p = subst (λ (ms : List ℕ). Closing ns ms d d' p) e h' in
     record {
       same = h.same;

@@ -35,7 +35,7 @@ use Rattle.read.specs.Sections.{start, low, zeros, Few, AllPut, Closes}
 use Rattle.read.specs.declared.sections.Sections.{Sections}
 use Rattle.read.specs.Answers.{Leaves}
 use Rattle.read.specs.Answers as A
-use Rattle.std.specs.Prelude.{Result, Ok, Err}
+use Rattle.std.specs.Prelude.{Ok, Err}
 use Rattle.definition.specs.declared.Refusal.{Refusal}
 use Rattle.definition.specs.declared.Refusal.TheVariants as refusal
 use Rattle.definition.specs.declared.Refusal.TheVariants.{NoRoom}
@@ -209,6 +209,3 @@ module _ (s : Text) (model : List ℕ) {out : List ℕ} where
       let p : 0 < tree_refusal s = rw (← h) (above_zero e) in
       let k : read_answer s (length model) ≡ refused (refusal_number e) = reads_not s (length model) p ∙ ap refused (sym h) in
       subst (λ (a : Answer). Leaves (length model) a (Err e) out) (sym k) (record { refusal = refl; count = refl; given = o })
-
-  pub leaves_read : {r : Result ℕ Refusal} → 0 ≡ tree_refusal s → A.Fills s model out r → Leaves (length model) (read_answer s (length model)) r out
-  leaves_read e f = f.fills (sym e)

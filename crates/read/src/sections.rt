@@ -61,16 +61,7 @@ fn put_sections(
 pub(crate) fn put_all(out: &mut [u8], root: Root<'_>, words: &mut [u32]) -> Sections
     ensures { AllPut (root_at root.entry) out.old out.new result }
 {
-    // Six zeros by name, as the clause of each field asks; a default would be derived for this one use.
-    let open = Counts {
-        calendars: 0,
-        activities: 0,
-        links: 0,
-        resources: 0,
-        assignments: 0,
-        expenses: 0,
-    };
-    let p = pack::put_counts(out, Place { byte: 0, bit: 0 }, open);
+    let p = pack::put_counts(out, Place { byte: 0, bit: 0 }, Counts::default());
     let tasks = rows::index_rows(root, Listed::Tasks, words, 0);
     let finder = TaskFinder {
         root,
@@ -81,20 +72,12 @@ pub(crate) fn put_all(out: &mut [u8], root: Root<'_>, words: &mut [u32]) -> Sect
     put_sections(out, q, root, words, tasks)
 }
 
-// The six counts put in their places. Written over, where pack's put_counts appends; by an array, since each place comes of the one before.
+// The six counts put in their places. Written over, where pack's put_counts appends.
 pub(crate) fn close_counts(out: &mut [u8], n: Counts)
     ensures { Closes n out.old out.new }
 {
-    let counts = [
-        n.calendars,
-        n.activities,
-        n.links,
-        n.resources,
-        n.assignments,
-        n.expenses,
-    ];
     let mut p = Place { byte: 0, bit: 0 };
-    for count in counts {
+    for count in n.each() {
         p = bits::overwrite(out, p, 32, u64::from(count));
     }
 }

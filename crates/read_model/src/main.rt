@@ -29,11 +29,14 @@ fn put_model(rt: &impl Print, tree: &[u8]) -> io::Result<()> {
 }
 
 // One byte more than a tree may have. A read that fails ends the input; a write that fails ends the program, which says nothing of it.
+// exception_days' has the same reading: a program cannot lend it to a program.
 fn main(rt: HostRuntime) {
     let mut room = Cursor::new([0u8; MOST + 1]);
     // What came before it failed, by a read or as the room was full, stands in the room.
     let _ = io::copy(&mut rt.reader(), &mut room);
-    let n = room.position() as usize;
+    let Ok(n) = usize::try_from(room.position()) else {
+        return;
+    };
     if let Some(tree) = room.get_ref().get(..n) {
         let _ = put_model(&rt, tree);
     }

@@ -1,5 +1,5 @@
 -- Days and years on the scale, and as they are written. Assumes nothing.
-use Prim.Native.Nat.{ℕ, suc, ◌+◌, ◌-◌, ◌<◌}
+use Prim.Native.Nat.{ℕ, suc, ◌+◌, ◌-◌, ◌<◌, ◌^◌, min}
 use Rattle.definition.specs.declared.Date.{Date as DayNumber}
 use native.Mathlib.Omega.{arith}
 use native.Mathlib.Decide.{dec_lt}
@@ -11,7 +11,7 @@ use Rattle.definition.specs.Date.{Date, month_length, year_at, from_ymd, day_num
 use Rattle.definition.specs.Answer.{date_meaning, day_number_of}
 use Rattle.definition.specs.declared.Ymd.{Ymd}
 use Rattle.date.specs.Answer.{length_at, ymd_at}
-use Rattle.date.specs.Scale.{day_count, count_of_number}
+use Rattle.date.specs.Scale.{day_count, count_of_number, at_most_lem}
 use Rattle.recurrence.specs.Scale.{InDates, IsYear, IsMonth, day_date, count_by, day_in}
 use Rattle.recurrence.proofs.Dates.{days_back}
 
@@ -25,9 +25,9 @@ count_said None None e = refl
 count_said None (Some n) e = let z : ◌≡◌ {A = ℕ} 0 1 = cc in absurd (omega arith)
 
 -- the date of a count
-pub dated : (d : DayNumber) (n : ℕ) → d.0 ≡ pos n -ℤ pos 4371953 → d ≡ day_date n
+pub dated : {d : DayNumber} {n : ℕ} → d.0 ≡ pos (min n 2147483647) -ℤ pos 4371953 → n < 2 ^ 31 → d ≡ day_date n
 unfolding day_number
-dated d n e = λ i. record { 0 = e i }
+dated e h = λ i. record { 0 = at_most_lem e h i }
 
 -- ---- years
 

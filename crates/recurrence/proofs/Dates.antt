@@ -3,12 +3,11 @@ use Prim.Native.Nat.{suc, ◌+◌, ◌-◌, ◌<◌}
 use native.Mathlib.Omega.{arith}
 use native.Mathlib.Decide.{dec_lt}
 use mathlib.Core.Path.{◌≡◌, refl, subst}
-use mathlib.Core.List.{[]}
 use Rattle.std.specs.Prelude.{Option, Some, None}
 use borrow.Author.Tests.{lt-ltb, le-ltb, le-leb}
 use Rattle.definition.specs.Base.{◌>>=◌}
-use Rattle.definition.specs.Text.{Text, before, signed_of, sign_of, digits, trim, trim_front, trim_back, strip}
-use Rattle.definition.specs.Date.{Date, epoch, first_date, last_date, from_days, day_number, date_of, date_parts, first_ten}
+use Rattle.definition.specs.Text.{Text}
+use Rattle.definition.specs.Date.{Date, epoch, first_date, last_date, from_days, day_number, date_of}
 use Rattle.definition.specs.Answer.{day_number_of}
 use Rattle.recurrence.specs.Scale.{InDates}
 use Rattle.laws.specs.Formats.{IfGiven}
@@ -30,10 +29,6 @@ days_back d h = by (dec_lt d epoch)
 
 pub date_in_lem : (s : Text) (d : Date) → date_of s ≡ Some d → InDates d
 date_in_lem s d e = let h : InYears d = subst (IfGiven InYears) e (is_given_lem (date_of_lem s)) in record { low = h.0; high = h.1 }
-
-pub no_date : date_of [] ≡ None
-unfolding date_of date_parts first_ten trim trim_front trim_back strip before signed_of sign_of digits
-no_date = refl
 
 -- a date text's number, and the date of that number
 pub back : (s : Text) → (day_number_of (date_of s) >>= from_days) ≡ date_of s

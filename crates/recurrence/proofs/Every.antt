@@ -1,29 +1,13 @@
 -- Whole numbers of steps. Assumes nothing.
-use Prim.Native.Nat.{ℕ, suc, ◌+◌, ◌-◌, ◌*◌, ◌/◌, ◌%◌, ◌≤◌, ◌<◌}
+use Prim.Native.Nat.{ℕ, suc, ◌+◌, ◌*◌, ◌/◌, ◌%◌, ◌≤◌, ◌<◌}
 use native.Mathlib.Omega.{arith}
-use native.Mathlib.Nat.{mul-le-mul_right, lt_of_mul-lt-mul_right, div-mul-le_self, lt-div-mul-add, div-add-mod', mul-mod_left, mul-div_cancel, le-div_iff_mul-le, suc-mul}
+use native.Mathlib.Nat.{lt_of_mul-lt-mul_right, div-add-mod', mul-mod_left, mul-div_cancel, le-div_iff_mul-le, suc-mul}
 use mathlib.Core.Path.{◌≡◌}
 use mathlib.Core.Bool.{true, false, and-false}
 use lib.Dec.{eqb}
 use borrow.Author.Tests.{ne_eqb, lt-ltb, le-ltb}
 use Rattle.definition.specs.Recurrence.{every_nth}
 use Rattle.recurrence.specs.Kind.{UpTo}
-
-pub up_to_lem : (n step : ℕ) → 0 < step → UpTo n step ((n + (step - 1)) / step)
-up_to_lem n step pos = record { reach = reaches (lt-div-mul-add {a = n + (step - 1)} pos); short = omega (arith, div-mul-le_self (n + (step - 1)) step); between = between }
-  where
-    reaches : {k : ℕ} → n + (step - 1) < k + step → n ≤ k
-    reaches h = omega arith
-
-    between : (m : ℕ) → n ≤ m → m < (n + (step - 1)) / step * step → m % step ≡ 0 → ⊥
-    between m low high zero_rest =
-        let q = (n + (step - 1)) / step in
-        let j = m / step in
-        let whole : j * step + m % step ≡ m = div-add-mod' m step in
-        let less : j < q = lt_of_mul-lt-mul_right step (omega arith) in
-        let over : suc j * step ≤ q * step = mul-le-mul_right step less in
-        let last : q * step ≤ n + (step - 1) = div-mul-le_self (n + (step - 1)) step in
-        omega (arith, suc-mul j step)
 
 pub on_step : (q step most : ℕ) → 0 < step → q < most → every_nth step most (q * step) ≡ true
 on_step q step most pos h = rw (mul-mod_left, mul-div_cancel q pos) (lt-ltb q most h)

@@ -60,14 +60,10 @@ low_bits o z f e = rw (to_z-of_z w64 z f, of_bits z f, e) (go o)
 -- ---- by occurrences
 
 module _ (from to : Date) where
-  pub last_to : (b : Bool) → b ≡ false → to ≡ last_by b from to
+  pub last_on : from ≤ last_date - century → from + century ≡ last_by true from to
   unfolding last_by
-  last_to b e = rw e
+  last_on h = rw (le-leb first_date (from + century) (omega arith), le-leb (from + century) last_date (omega arith))
 
-  pub last_on : (b : Bool) → b ≡ true → from ≤ last_date - century → from + century ≡ last_by b from to
+  pub last_past : last_date - century < from → to ≡ last_by true from to
   unfolding last_by
-  last_on b e h = rw (e, le-leb first_date (from + century) (omega arith), le-leb (from + century) last_date (omega arith))
-
-  pub last_past : (b : Bool) → b ≡ true → last_date - century < from → to ≡ last_by b from to
-  unfolding last_by
-  last_past b e h = rw (e, le-leb first_date (from + century) (omega arith), lt-leb (from + century) last_date (omega arith))
+  last_past h = rw (le-leb first_date (from + century) (omega arith), lt-leb (from + century) last_date (omega arith))

@@ -10,7 +10,7 @@ use lib.Dec.{eqb}
 use borrow.Author.Tests.{eq-eqb, ne_eqb, le-leb, lt-leb}
 use Rattle.definition.specs.Bits.{twos}
 use Rattle.definition.specs.Date.{Date, year_of, month_of, day_of, sunday_first}
-use Rattle.definition.specs.Recurrence.{most_days, century, every_nth, on_weekday, in_nth_week, month_count, fits}
+use Rattle.definition.specs.Recurrence.{most_days, century, every_nth, on_weekday, month_count, fits}
 use Rattle.laws.specs.Calendar.{IsDay, is_day_lem}
 use Rattle.recurrence.specs.Kind.{UpTo, daily_fits, candidate_of, counts_year, yearly_fits, counts_month, candidate_at, monthly_fits, on_mask, weekly_fits, WeekDay}
 use Rattle.recurrence.specs.Meaning.{as_rule, valid_month}
@@ -85,13 +85,6 @@ module _ (r : Scaled) (at q : ℕ) (step : 0 < r.rule.period) (from : r.from ≤
         before = λ d a l n. off_step (at - r.from) r.rule.period q most_days (d - r.from) up (omega arith) (omega arith);
         hit = λ l. rw o (on_step q r.rule.period most_days step h);
       }
-
-  pub daily_none : 5000 ≤ q → FirstFit (daily_fits r) r.last at (suc r.last)
-  daily_none h = record { on = λ l. absurd (omega arith); before = λ d a l n. by d a (dec_lt (d - r.from) (q * r.rule.period)); hit = λ l. absurd (omega arith) }
-    where
-      by : (d : ℕ) → at ≤ d → Dec (d - r.from < q * r.rule.period) → daily_fits r d ≡ false
-      by d a (yes l) = off_step (at - r.from) r.rule.period q most_days (d - r.from) up (omega arith) l
-      by d a (no g) = past_steps r.rule.period most_days (d - r.from) step (omega (arith, mul-le-mul_right r.rule.period h))
 
 -- ---- yearly
 
@@ -194,10 +187,3 @@ module _ (r : Scaled) (at d g : ℕ) (w : WeekDay (sunday_of r) r.rule.period d 
   pub weekly_fit : on_mask r.rule.weekdays g ≡ true → g ≤ r.from + century → at ≤ g → FirstFit (weekly_fits r) r.last at g
   unfolding twos
   weekly_fit on h o = record { on = λ l. o; before = λ e a l n. to_week e a l; hit = λ l. rw (on, w.here, le-leb g (r.from + century) h) }
-
-  pub weekly_none : (end : ℕ) → end ≡ min r.last (r.from + century) → end < g → FirstFit (weekly_fits r) r.last at (suc r.last)
-  weekly_none end q l = record { on = λ h. absurd (omega arith); before = λ e a b n. by e a n (dec_lt e g); hit = λ h. absurd (omega arith) }
-    where
-      by : (e : ℕ) → at ≤ e → e ≤ r.last → Dec (e < g) → weekly_fits r e ≡ false
-      by e a n (yes h) = to_week e a h
-      by e a n (no h) = rw (lt-leb e (r.from + century) (omega arith), and-false (in_nth_week (as_rule r) e)) (and-false (on_weekday (as_rule r) e))

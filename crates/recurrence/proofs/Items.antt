@@ -3,26 +3,28 @@ use Rattle.std.specs.Prelude.{if◌then◌else◌}
 use Prim.Native.Nat.{ℕ, zero, suc, ◌+◌, ◌-◌, ◌≤◌, ◌<◌}
 use native.Mathlib.Omega.{arith}
 use native.Mathlib.Numerals.{add-one}
-use mathlib.Core.Path.{◌≡◌, refl, ap, ◌∙◌}
+use mathlib.Core.Path.{◌≡◌, refl, ap, sym, subst, ◌∙◌}
 use mathlib.Core.Bool.{Bool, true, false, ◌&&◌, not}
-use mathlib.Core.List.{List, [], ◌∷◌}
-use Rattle.std.specs.Prelude.{Option, Some, None}
+use mathlib.Core.List.{List, ◌∷◌, []}
+use Rattle.std.specs.Prelude.{Option, Some, None, MatchOption, length}
+use Rattle.std.specs.declared.ops.Range.{Range}
+use Rattle.std.specs.declared.iter.Rev.{Rev}
+use Rattle.std.specs.Iterator.Adapters.{rev_source, rev_steps}
+use Rattle.std.specs.List.{filter, find, range_with_len}
+use Rattle.std.proofs.lemmas.Iterator.{YieldsList}
+use Rattle.std.proofs.lemmas.Iterator.Consumers.{YieldsList-from_shown}
 use Rattle.std.specs.Prelude.{slice_get}
 use lib.Dec.{eqb}
 use lib.IntN.{pos}
 use borrow.Author.Tests.{ne_eqb, lt-ltb, le-ltb}
 use Rattle.definition.specs.Base.{◌or_else◌, within, keep, count}
-use Rattle.definition.specs.Date.{weekday, sunday_first, date_at, month_length}
+use Rattle.definition.specs.Date.{sunday_first, date_at, month_length}
 use Rattle.definition.specs.Recurrence.{item_fits, nth_in_month}
 use Rattle.recurrence.specs.Kind.{last_of}
 use Rattle.recurrence.proofs.Months.{last_cons, last_none}
 use Rattle.recurrence.proofs.Runs.{keep_yes, keep_no, keep_none}
 
 -- ---- one day
-
-pub weekday_less : (d : ℕ) → weekday d < 7
-unfolding weekday
-weekday_less d = omega arith
 
 module _ (item d : ℕ) where
   pub item_0 : item ≡ 0 → item_fits (pos item) d ≡ true
@@ -43,39 +45,39 @@ module _ (item d : ℕ) where
 
 -- ---- a run of days
 
+-- backwards
+abbrev pub down : ℕ → ℕ → List ℕ
+down a zero = []
+down a (suc n) = (a + n) ∷ down a n
+
+-- the steps of a range from its end
+abbrev pub steps_back : Range ℕ → Option ℕ → Range ℕ → Type 0
+steps_back s r t =
+    (t.start ≡ s.start) × MatchOption r ((s.end - s.start ≡ 0) × (t.end ≡ s.end)) (λ x. (0 < s.end - s.start) × (x ≡ t.end) × (s.end ≡ t.end + 1))
+
+abbrev all_down : Rev (Range ℕ) → List ℕ
+all_down s = down (rev_source s).start ((rev_source s).end - (rev_source s).start)
+
+one_down : (a n b m x : ℕ) → n ≡ suc m → x ≡ a + m → b ≡ a → down a n ≡ x ∷ down b m
+one_down a n b m x e f g = ap (down a) e ∙ ap (λ (w : ℕ). w ∷ down a m) (sym f) ∙ ap (λ (w : ℕ). x ∷ down w m) (sym g)
+
+pub yields_down : (s : Rev (Range ℕ)) (a b : ℕ) → rev_source s ≡ record { start = a; end = b } → YieldsList (rev_steps steps_back) (λ x. x) s (down a (b - a))
+yields_down s a b e =
+    subst (λ (r : Range ℕ). YieldsList (rev_steps steps_back) (λ x. x) s (down r.start (r.end - r.start))) e
+    (YieldsList-from_shown (rev_steps steps_back) (λ x. x) all_down
+    (λ u t p. ap (λ (n : ℕ). length (down (rev_source u).start n)) p.1.0)
+    (λ u x t p. one_down _ _ _ _ x (omega (arith, p.0, p.1.0, p.1.2)) (omega (arith, p.0, p.1.0, p.1.1, p.1.2)) p.0) s)
+
 module _ (p : ℕ → Bool) where
-  -- forwards
-  abbrev run : ℕ → ℕ → List ℕ
-  run a end = keep p (count a (end - a))
+  pub filtered_run : (a n : ℕ) → filter p (range_with_len a n) ≡ keep p (count a n)
+  unfolding keep count
+  filtered_run a zero = refl
+  filtered_run a (suc n) = by (p a) (rw add-one (filtered_run (suc a) n))
+    where
+      by : (t : Bool) → filter p (range_with_len (a + 1) n) ≡ keep p (count (suc a) n) → (if t then a ∷ filter p (range_with_len (a + 1) n) else filter p (range_with_len (a + 1) n)) ≡ (if t then a ∷ keep p (count (suc a) n) else keep p (count (suc a) n))
+      by true h = ap (λ (l : List ℕ). a ∷ l) h
+      by false h = h
 
-  module _ (d end : ℕ) where
-    pub run_yes : d < end → p d ≡ true → run d end ≡ d ∷ run (d + 1) end
-    run_yes h y =
-        let e : end - d ≡ suc (end - suc d) = omega arith in
-        rw (add-one, e) (keep_yes p d (end - suc d) y)
-
-    pub run_no : d < end → p d ≡ false → run d end ≡ run (d + 1) end
-    run_no h y =
-        let e : end - d ≡ suc (end - suc d) = omega arith in
-        rw (add-one, e) (keep_no p d (end - suc d) y)
-
-    pub run_end : end ≤ d → run d end ≡ []
-    run_end h = let e : end - d ≡ 0 = omega arith in rw e (keep_none p d)
-
-    pub nth_hit : (k : ℕ) → d < end → p d ≡ true → k ≡ 0 → Some d ≡ slice_get (run d end) k
-    nth_hit k h y e = rw (e, run_yes h y)
-
-    pub nth_yes : (k : ℕ) → d < end → p d ≡ true → (k ≡ 0 → ⊥) → slice_get (run d end) k ≡ slice_get (run (d + 1) end) (k - 1)
-    nth_yes zero h y n = absurd (n refl)
-    nth_yes (suc k) h y n = let e : suc k - 1 ≡ k = omega arith in rw (run_yes h y, e)
-
-    pub nth_no : (k : ℕ) → d < end → p d ≡ false → slice_get (run d end) k ≡ slice_get (run (d + 1) end) k
-    nth_no k h y = rw (run_no h y)
-
-    pub nth_end : (k : ℕ) → end ≤ d → None ≡ slice_get (run d end) k
-    nth_end k h = rw (run_end h)
-
-  -- backwards
   last_front : (a n : ℕ) → last_of (keep p (count a (suc n))) ≡ (if p a then (last_of (keep p (count (suc a) n)) or_else Some a) else last_of (keep p (count (suc a) n)))
   last_front a n = by (p a) refl
     where
@@ -97,21 +99,9 @@ module _ (p : ℕ → Bool) where
       let e : a + suc n ≡ suc a + n = omega arith in
       last_front a (suc n) ∙ rw (last_snoc (suc a) n, e, last_front a n) (swap (p a) (p (suc a + n)) a (suc a + n) (last_of (keep p (count (suc a) n))))
 
-  module _ (first d : ℕ) where
-    pub last_yes : first < d → p (d - 1) ≡ true → Some (d - 1) ≡ last_of (run first d)
-    last_yes h y =
-        let e : d - first ≡ suc (d - 1 - first) = omega arith in
-        let f : first + (d - 1 - first) ≡ d - 1 = omega arith in
-        rw (e, last_snoc first (d - 1 - first), f, y)
-
-    pub last_no : first < d → p (d - 1) ≡ false → last_of (run first d) ≡ last_of (run first (d - 1))
-    last_no h y =
-        let e : d - first ≡ suc (d - 1 - first) = omega arith in
-        let f : first + (d - 1 - first) ≡ d - 1 = omega arith in
-        rw (e, last_snoc first (d - 1 - first), f, y)
-
-    pub last_end : d ≤ first → None ≡ last_of (run first d)
-    last_end h = let e : d - first ≡ 0 = omega arith in rw (e, keep_none p first, last_none)
+  pub found_down : (a n : ℕ) → find p (down a n) ≡ last_of (keep p (count a n))
+  found_down a zero = rw (keep_none p a, last_none)
+  found_down a (suc n) = ap (λ (o : Option ℕ). if p (a + n) then Some (a + n) else o) (found_down a n) ∙ sym (last_snoc a n)
 
 -- ---- the item at a position
 

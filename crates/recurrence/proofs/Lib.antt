@@ -13,3 +13,4 @@ pub mod Going
 pub mod Rules
 pub mod Ranges
 pub mod Fields
+pub mod Coming

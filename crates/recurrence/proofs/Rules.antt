@@ -76,14 +76,13 @@ most_comm a b = omega arith
 
 -- made of its fields
 module _ (x : Element) (from to : Date) where
-  pub made : {kind last most period number day item position weekdays occurrences step : ℕ} {month : Option ℕ} {b : Bool} {first until : Declared.Date}
+  pub made : {kind last most period number day item position weekdays step : ℕ} {month : Option ℕ} {b : Bool} {first until : Declared.Date}
       → b ≡ yes_in x "EnteredByOccurrences"
       → first ≡ day_date from
       → kind ≡ pick_of 7 7 1 (int_in x "Type")
       → last ≡ last_by b from to
       → until ≡ day_date last
-      → occurrences ≡ pick_of most_days 0 1 (int_in x "Occurrences")
-      → most ≡ most_by b occurrences
+      → most ≡ most_by b (pick_of most_days 0 1 (int_in x "Occurrences"))
       → step ≡ pick_of 1000 1 1 (int_in x "Period")
       → period ≡ max step 1
       → number ≡ pick_of 12 12 0 (int_in x "Month")
@@ -94,12 +93,12 @@ module _ (x : Element) (from to : Date) where
       → weekdays ≡ mask_of (int_in x "DaysOfWeek")
       → record { kind = kind % 7; from = first; last = until; most = most; period = period; month = month; day = day; item = item; position = position; weekdays = weekdays } ≡ held_rule (rule_from x from to)
   unfolding rule_from last_by most_by mask_of
-  made {step = step} b f k l u o m s p n t d i q w = λ j.
+  made {step = step} b f k l u m s p n t d i q w = λ j.
       record {
         kind = (ap (λ (v : ℕ). v % 7) k ∙ types (int_in x "Type")) j;
         from = f j;
         last = (u ∙ ap day_date (l ∙ ap (λ (t : Bool). last_by t from to) b)) j;
-        most = (m ∙ (λ i. most_by (b i) ((o ∙ mosts (int_in x "Occurrences")) i))) j;
+        most = (m ∙ (λ i. most_by (b i) (mosts (int_in x "Occurrences") i))) j;
         period = (p ∙ most_comm step 1 ∙ ap (max 1) s ∙ periods (int_in x "Period")) j;
         month = (t ∙ ap (λ (v : ℕ). month_from (pos v)) n ∙ months (int_in x "Month")) j;
         day = (d ∙ caps 32 1 (omega arith) (int_in x "MonthDay")) j;

@@ -3,3 +3,4 @@ pub mod Sequence
 pub mod Meaning
 pub mod Kind
 pub mod Element
+pub mod Days

@@ -1,10 +1,10 @@
 // What an element says: the rule of an Exception, the days of a WeekDay of DayType 0.
-ghost use Rattle.std.specs.Prelude.{◌≡◌, ◌≤◌, pos};
+ghost use Rattle.std.specs.Prelude.{◌≡◌, ◌≤◌, pos, true};
 ghost use Rattle.definition.specs.Base.{◌or◌};
 ghost use Rattle.definition.specs.Recurrence.{month_from, rule_from};
 ghost use Rattle.fields.specs.Said.{whole_said, date_said};
 ghost use Rattle.tree.specs.Place.{meaning};
-ghost use Rattle.recurrence.specs.Element.{pick_of, mask_of, last_by, most_by, held_rule, judged, RuleRead, RangeRead};
+ghost use Rattle.recurrence.specs.Element.{pick_of, mask_of, last_by, held_rule, judged, RuleRead, RangeRead};
 
 use crate::kind::kind_of;
 use crate::scale::{LAST, count_by};
@@ -12,7 +12,8 @@ use crate::{Range, Rule};
 use date::at_count;
 use tree::Element;
 
-// A number held to `most`, with what stands for one below 0 and for a missing one.
+// A number held to `most`, with what stands for one below 0 and for a missing one. Not by fields' `unsigned_in`: it gives a u64, which would be held
+// and converted here all the same.
 fn pick(a: Option<i64>, most: u32, below: u32, absent: u32) -> u32
     ensures { result ≡ pick_of most below absent a }
 {
@@ -43,21 +44,15 @@ fn day_said(e: Element<'_>, name: &[u8]) -> Option<u32>
     count_by(fields::date_in(e, name))
 }
 
-// By occurrences, a century on, if that is a date. By the flag that the element says, here and in `most_by`: an `if` in `rule_at` would split its one literal.
-fn last_by(by_count: bool, from: u32, to: u32) -> u32
-    ensures { result ≡ last_by by_count from to }
+// A century on, if that is a date.
+fn century_on(from: u32, to: u32) -> u32
+    ensures { result ≡ last_by true from to }
 {
-    if by_count && from <= LAST - 36600 {
+    if from <= LAST - 36600 {
         from + 36600
     } else {
         to
     }
-}
-
-fn most_by(by_count: bool, occurrences: u32) -> u32
-    ensures { result ≡ most_by by_count occurrences }
-{
-    if by_count { occurrences } else { 5000 }
 }
 
 // MSPDI counts months from 0.
@@ -72,13 +67,20 @@ fn rule_at(e: Element<'_>, from: u32, to: u32) -> Rule
     requires to { to ≤ 7304849 }
     ensures { result ≡ held_rule (rule_from (meaning e.entry) from to) }
 {
-    let by_count = fields::yes_in(e, b"EnteredByOccurrences");
+    let (last, most) = if fields::yes_in(e, b"EnteredByOccurrences") {
+        (
+            century_on(from, to),
+            number_in(e, b"Occurrences", 5000, 0, 1),
+        )
+    } else {
+        (to, 5000)
+    };
     Rule {
         // Past 6 and below 0 the Type becomes 0, which no kind has.
         kind: number_in(e, b"Type", 7, 7, 1) % 7,
         from: at_count(from),
-        last: at_count(last_by(by_count, from, to)),
-        most: most_by(by_count, number_in(e, b"Occurrences", 5000, 0, 1)),
+        last: at_count(last),
+        most,
         period: number_in(e, b"Period", 1000, 1, 1).max(1),
         month: month_from(number_in(e, b"Month", 12, 12, 0)),
         day: number_in(e, b"MonthDay", 32, 32, 1),

@@ -1,5 +1,5 @@
 // The first day that fits a rule, from a day on, kind by kind: daily, yearly, monthly, weekly. It may lie past the last day. The kind is chosen by
-// the Type. The rule and the day go side by side: `Ready` speaks of both, so that a field of Scaled would hold half of it.
+// the Type.
 ghost use Rattle.std.specs.Prelude.{◌≡◌, ◌≤◌};
 ghost use Rattle.definition.specs.Recurrence.{fits};
 ghost use Rattle.recurrence.specs.Sequence.{FirstFound};
@@ -20,55 +20,6 @@ fn steps_up(n: u32, step: u32) -> u32
     n.div_ceil(step)
 }
 
-fn daily(r: Scaled, at: u32) -> Option<u32>
-    requires { Ready r at }
-    ensures { FirstFound (daily_fits r) r.last at result }
-{
-    let q = steps_up(at - r.from, r.rule.period);
-    if q < 5000 {
-        return Some(r.from + q * r.rule.period);
-    }
-    None
-}
-
-// A candidate a year, 200 years on at most.
-fn yearly<C: Candidate>(r: Scaled, month: u32, at: u32) -> Option<u32>
-    requires ready { Ready r at }
-    requires month { IsMonth month }
-    ensures { FirstFound (yearly_fits C.positioned r month) r.last at result }
-{
-    let end = year_of(r.last).min(year_of(r.from) + 200) + 1;
-    for y in year_of(at)..end {
-        if let Some(x) = C::candidate_in(r, y, month) {
-            if at <= x {
-                return Some(x);
-            }
-        }
-    }
-    None
-}
-
-// A candidate every Period-th month, 2,400 steps on at most.
-fn monthly<C: Candidate>(r: Scaled, at: u32) -> Option<u32>
-    requires { Ready r at }
-    ensures { FirstFound (monthly_fits C.positioned r) r.last at result }
-{
-    let first = month_at(r.from);
-    let end = month_at(r.last);
-    for q in steps_up(month_at(at) - first, r.rule.period)..2400 {
-        let k = first + q * r.rule.period;
-        if end < k {
-            return None;
-        }
-        if let Some(x) = C::candidate_in(r, k / 12, k % 12 + 1) {
-            if at <= x {
-                return Some(x);
-            }
-        }
-    }
-    None
-}
-
 // The first day from d on in a week that counts. Weeks begin on the day `sunday`.
 fn week_day_from(sunday: u32, step: u32, d: u32) -> u32
     requires sunday { sunday ≤ d }
@@ -86,26 +37,6 @@ fn on_weekday(weekdays: u32, d: u32) -> bool
     ensures { result ≡ on_mask weekdays d }
 {
     (weekdays >> sunday_first(d)) % 2 == 1
-}
-
-fn weekly(r: Scaled, at: u32) -> Option<u32>
-    requires { Ready r at }
-    ensures { FirstFound (weekly_fits r) r.last at result }
-{
-    let sunday = r.from - sunday_first(r.from);
-    let end = r.last.min(r.from + 36600);
-    let mut d = at;
-    // no `for`: d leaps over the weeks that do not count
-    loop {
-        let g = week_day_from(sunday, r.rule.period, d);
-        if end < g {
-            return None;
-        }
-        if on_weekday(r.rule.weekdays, g) {
-            return Some(g);
-        }
-        d = g + 1;
-    }
 }
 
 // The kinds of a rule, by its Type, the yearly ones with their month. An enum and no trait: a rule chooses one by its numbers, at each call.
@@ -135,18 +66,93 @@ pub(crate) fn kind_of(kind: u32, month: Option<u32>) -> Option<Kind>
     }
 }
 
-// Of a rule of that kind: the first day from `at` on that fits.
-pub(crate) fn first_fit(kind: Kind, r: Scaled, at: u32) -> Option<u32>
-    requires ready { Ready r at }
-    requires kind { IsKind r.rule.kind r.rule.month kind }
-    ensures { FirstFound (fits (as_rule r)) r.last at result }
-{
-    match kind {
-        Kind::Daily => daily(r, at),
-        Kind::YearlyByDay(month) => yearly::<ByDay>(r, month, at),
-        Kind::YearlyByPosition(month) => yearly::<ByPosition>(r, month, at),
-        Kind::MonthlyByDay => monthly::<ByDay>(r, at),
-        Kind::MonthlyByPosition => monthly::<ByPosition>(r, at),
-        Kind::Weekly => weekly(r, at),
+// A rule, and the day from which on a day that fits is looked for.
+#[derive(Clone, Copy)]
+pub(crate) struct Search {
+    pub(crate) r: Scaled,
+    pub(crate) at: u32,
+    ghost ready: { Ready r at },
+}
+
+impl Search {
+    fn daily(self) -> Option<u32>
+        ensures { FirstFound (daily_fits self.r) self.r.last self.at result }
+    {
+        let q = steps_up(self.at - self.r.from, self.r.rule.period);
+        if q < 5000 {
+            return Some(self.r.from + q * self.r.rule.period);
+        }
+        None
+    }
+
+    // A candidate a year, 200 years on at most. By `for`, here and in `monthly`: `candidate_in` asks for a year and a month that there are, which the loop
+    // knows at each turn; a closure in `find_map` would have to ask for them itself.
+    fn yearly<C: Candidate>(self, month: u32) -> Option<u32>
+        requires { IsMonth month }
+        ensures { FirstFound (yearly_fits C.positioned self.r month) self.r.last self.at result }
+    {
+        let end = year_of(self.r.last).min(year_of(self.r.from) + 200) + 1;
+        for y in year_of(self.at)..end {
+            if let Some(x) = C::candidate_in(self.r, y, month) {
+                if self.at <= x {
+                    return Some(x);
+                }
+            }
+        }
+        None
+    }
+
+    // A candidate every Period-th month, 2,400 steps on at most.
+    fn monthly<C: Candidate>(self) -> Option<u32>
+        ensures { FirstFound (monthly_fits C.positioned self.r) self.r.last self.at result }
+    {
+        let first = month_at(self.r.from);
+        let end = month_at(self.r.last);
+        for q in steps_up(month_at(self.at) - first, self.r.rule.period)..2400 {
+            let k = first + q * self.r.rule.period;
+            if end < k {
+                return None;
+            }
+            if let Some(x) = C::candidate_in(self.r, k / 12, k % 12 + 1) {
+                if self.at <= x {
+                    return Some(x);
+                }
+            }
+        }
+        None
+    }
+
+    fn weekly(self) -> Option<u32>
+        ensures { FirstFound (weekly_fits self.r) self.r.last self.at result }
+    {
+        let sunday = self.r.from - sunday_first(self.r.from);
+        let end = self.r.last.min(self.r.from + 36600);
+        let mut d = self.at;
+        // no `for`: d leaps over the weeks that do not count
+        loop {
+            let g = week_day_from(sunday, self.r.rule.period, d);
+            if end < g {
+                return None;
+            }
+            if on_weekday(self.r.rule.weekdays, g) {
+                return Some(g);
+            }
+            d = g + 1;
+        }
+    }
+
+    // The first day from the day on that fits, of a rule of that kind.
+    pub(crate) fn first_fit(self, kind: Kind) -> Option<u32>
+        requires { IsKind self.r.rule.kind self.r.rule.month kind }
+        ensures { FirstFound (fits (as_rule self.r)) self.r.last self.at result }
+    {
+        match kind {
+            Kind::Daily => self.daily(),
+            Kind::YearlyByDay(month) => self.yearly::<ByDay>(month),
+            Kind::YearlyByPosition(month) => self.yearly::<ByPosition>(month),
+            Kind::MonthlyByDay => self.monthly::<ByDay>(),
+            Kind::MonthlyByPosition => self.monthly::<ByPosition>(),
+            Kind::Weekly => self.weekly(),
+        }
     }
 }

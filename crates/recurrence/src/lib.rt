@@ -9,7 +9,7 @@ mod sequence;
 
 use definition::Date;
 pub use element::{days_of, rule_of};
-pub use sequence::{next, start};
+pub use sequence::{RuleDays, days, next, start};
 
 // A rule, as definition's Recurrence.antt has it, in whole numbers. The day is held to 32, the item to 10 and the position to 5, at which
 // and past which nothing fits; of the weekdays the seven low bits are held.

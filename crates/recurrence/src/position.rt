@@ -9,7 +9,7 @@ ghost use Rattle.recurrence.specs.Kind.{last_of, candidate_of};
 
 use crate::scale::{Scaled, day_in, length_in};
 
-// Sunday 0.
+// Sunday 0. Here and not in date: of a day on the scale, with no Date in between.
 pub(crate) fn sunday_first(d: u32) -> u32
     ensures { result ≡ sunday_first d }
 {
@@ -36,31 +36,16 @@ fn item_fits(item: u32, d: u32) -> bool
     }
 }
 
-// `(first..end).filter(..).nth(..)`, and `.rev().find(..)` below, were tried: the search finds no proof that leads over the range.
-fn nth_fit(first: u32, end: u32, item: u32, position: u32) -> Option<u32>
+fn nth_fit(first: u32, end: u32, item: u32, position: usize) -> Option<u32>
     ensures { result ≡ slice_get (keep (item_fits (pos item)) (count first (end - first))) position }
 {
-    let mut k = position;
-    for d in first..end {
-        if item_fits(item, d) {
-            if k == 0 {
-                return Some(d);
-            }
-            k -= 1;
-        }
-    }
-    None
+    (first..end).filter(|d| item_fits(item, *d)).nth(position)
 }
 
 fn last_fit(first: u32, end: u32, item: u32) -> Option<u32>
     ensures { result ≡ last_of (keep (item_fits (pos item)) (count first (end - first))) }
 {
-    for d in (first..end).rev() {
-        if item_fits(item, d) {
-            return Some(d);
-        }
-    }
-    None
+    (first..end).rev().find(|d| item_fits(item, *d))
 }
 
 // Position 0 to 3 counts from the first, 4 is the last; December 9999 has none.
@@ -75,7 +60,8 @@ fn nth_of(y: u32, m: u32, item: u32, position: u32) -> Option<u32>
     let first = day_in(y, m, 1)?;
     let end = first + length_in(y, m);
     match position {
-        0..=3 => nth_fit(first, end, item, position),
+        // There is no From from u32 to usize.
+        0..=3 => nth_fit(first, end, item, position as usize),
         4 => last_fit(first, end, item),
         _ => None,
     }

@@ -5,7 +5,7 @@ ghost use Rattle.definition.specs.Date.{month_length, year_of};
 ghost use Rattle.recurrence.specs.Scale.{InDates, IsYear, IsMonth, YearNumber, count_by, scaled_by, month_on, month_at, day_in};
 
 use crate::Rule;
-use date::{at_count, count_of, lowered};
+use date::{at_count, count_of};
 use definition::Date;
 
 // The last date, 31 December 9999. Clauses write the number, as their arithmetic reads it.
@@ -44,6 +44,23 @@ pub(crate) fn to_scale(r: Rule) -> Scaled
     }
 }
 
+// ---- a year as it is written, and back
+
+// Here and not in date, whose `lowered` is private and takes any two numbers below 2 ^ 31: this one has a year that is known.
+fn year_number(y: u32) -> i32
+    requires { IsYear y }
+    ensures { result ≡ pos y -ℤ pos 10000 }
+{
+    y.cast_signed() - 10000
+}
+
+fn year_count(year: i32) -> u32
+    requires { YearNumber year }
+    ensures { pos result -ℤ pos 10000 ≡ year }
+{
+    (year + 10000).cast_unsigned()
+}
+
 // ---- the calendar, by the crate date. A day is a number under a bound, here and in `kind`: a type of it would be made at each of its readings.
 
 // The day of a month, if it has one. Here and for the candidates of a rule the year and the month go side by side: loops count them, so that a Month
@@ -53,7 +70,7 @@ pub(crate) fn day_in(y: u32, m: u32, day: u32) -> Option<u32>
     requires month { IsMonth m }
     ensures { result ≡ day_in y m day }
 {
-    count_by(date::from_ymd(lowered(y, 10000), m, day))
+    count_by(date::from_ymd(year_number(y), m, day))
 }
 
 pub(crate) fn length_in(y: u32, m: u32) -> u32
@@ -62,14 +79,7 @@ pub(crate) fn length_in(y: u32, m: u32) -> u32
     ensures { result ≡ month_length y m }
 {
     // Never 0: each month of a year has a length.
-    date::days_in_month(lowered(y, 10000), m).unwrap_or(0)
-}
-
-fn year_count(year: i32) -> u32
-    requires { YearNumber year }
-    ensures { pos result -ℤ pos 10000 ≡ year }
-{
-    (year + 10000).cast_unsigned()
+    date::days_in_month(year_number(y), m).unwrap_or(0)
 }
 
 pub(crate) fn month_on(d: u32) -> Month

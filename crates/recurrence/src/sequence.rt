@@ -1,12 +1,16 @@
 // The days of a rule, one after the other.
 ghost use Rattle.std.specs.Prelude.{◌≡◌, [], IsTrue, MatchOption};
+ghost use Rattle.std.specs.Iterator.{YieldsFirstBy, item_count};
+ghost use Rattle.definition.specs.Base.{◌or◌};
+ghost use Rattle.recurrence.specs.Days.{days_left, day_of};
 ghost use Rattle.recurrence.specs.Kind.{IsKind};
 ghost use Rattle.recurrence.specs.Meaning.{sound, days_by, coming, Comes, to_come, said, start_of, step_of};
 
-use crate::kind::{Kind, first_fit, kind_of};
+use crate::kind::{Kind, Search, kind_of};
 use crate::scale::{LAST, Scaled, to_scale};
 use crate::{Cursor, Rule, Step};
 use date::{at_count, count_of};
+use definition::Date;
 
 // Its dates are such, and its Period is held.
 fn is_sound(r: Scaled) -> bool
@@ -25,7 +29,7 @@ fn day_from(kind: Kind, r: Scaled, c: Cursor) -> Option<u32>
     if c.left == 0 || r.last < at {
         return None;
     }
-    first_fit(kind, r, at).filter(|x| *x <= r.last)
+    Search { r, at }.first_fit(kind).filter(|x| *x <= r.last)
 }
 
 // The cursor that leaves all days to come.
@@ -55,4 +59,37 @@ pub fn next(r: Rule, c: Cursor) -> Step
         left: c.left - 1,
     };
     Step::Day(at_count(x), behind)
+}
+
+// The days of a rule as an iterator; none where the rule is none.
+#[derive(Clone, Copy)]
+pub struct RuleDays {
+    rule: Rule,
+    cursor: Cursor,
+}
+
+// Not `Days`: a function and a type whose names differ only in case cannot stand together.
+pub fn days(r: Rule) -> RuleDays
+    ensures { days_left result ≡ (days_by r or []) }
+{
+    RuleDays {
+        rule: r,
+        cursor: start(r),
+    }
+}
+
+impl Iterator for RuleDays {
+    type Item = Date;
+
+    ghost next_gives = { YieldsFirstBy day_of days_left };
+
+    ghost remaining = { item_count days_left };
+
+    fn next(&mut self) -> Option<Date> {
+        let Step::Day(day, after) = next(self.rule, self.cursor) else {
+            return None;
+        };
+        self.cursor = after;
+        Some(day)
+    }
 }

@@ -17,7 +17,8 @@ pub struct Amounts {
     pub remaining: Option<i64>,
 }
 
-// Planned less actual, at least 0.
+// Planned less actual, at least 0. That an amount is at most 10 ^ 18 stands in clauses, here and below: a struct with a ghost field for it would need a
+// file of its own, as no definition over it may stand in a specs file that its own file uses, and the clauses a map from it to the number.
 fn left(planned: i64, actual: i64) -> i64
     requires planned_small { nat_abs planned ≤ 10 ^ 18 }
     requires actual_small { nat_abs actual ≤ 10 ^ 18 }

@@ -10,8 +10,8 @@ use tree::Element;
 
 #[derive(Clone, Copy, Debug, PartialEq, Eq)]
 pub enum ResourceKind {
-    Labor,
-    Material,
+    Labor = 0,
+    Material = 2,
 }
 
 // The model's codes.
@@ -19,19 +19,16 @@ impl From<ResourceKind> for u32 {
     ghost from_gives = { λ kind n. n ≡ resource_kind_code kind };
 
     fn from(kind: ResourceKind) -> u32 {
-        match kind {
-            ResourceKind::Labor => 0,
-            ResourceKind::Material => 2,
-        }
+        kind as u32
     }
 }
 
 // When the cost of a resource falls due.
 #[derive(Clone, Copy, Debug, PartialEq, Eq)]
 pub enum Accrual {
-    AtStart,
-    AtEnd,
-    Evenly,
+    AtStart = 0,
+    AtEnd = 1,
+    Evenly = 2,
 }
 
 // The model's codes.
@@ -39,11 +36,7 @@ impl From<Accrual> for u32 {
     ghost from_gives = { λ accrual n. n ≡ accrual_code accrual };
 
     fn from(accrual: Accrual) -> u32 {
-        match accrual {
-            Accrual::AtStart => 0,
-            Accrual::AtEnd => 1,
-            Accrual::Evenly => 2,
-        }
+        accrual as u32
     }
 }
 

@@ -1,8 +1,8 @@
 -- The table of a list while it is filled: the rows so far are in their chains, each with the place of its element. Assumes nothing.
-use Rattle.std.proofs.Common.{◌≡◌, ℕ, suc, ◌+◌, ◌^◌, ◌<◌, ◌≤◌, max, List, [], ◌∷◌, length, get_or, drop, sym, refl, ap, ◌∙◌, add-one, arith, length-drop, drop-cons, le-ltb, lt-ltb}
+use Rattle.std.proofs.Common.{◌≡◌, ℕ, suc, ◌+◌, ◌^◌, ◌<◌, ◌≤◌, max, List, ◌∷◌, length, get_or, drop, sym, refl, ap, ◌∙◌, add-one, arith, length-drop, drop-cons, lt-ltb, []}
 use Rattle.std.proofs.Math.Nat.{max_comm}
 use Rattle.std.proofs.lemmas.List.{drop_all}
-use Rattle.std.specs.Prelude.{None, Option, Some}
+use Rattle.std.specs.Prelude.{Option, Some}
 use Rattle.definition.specs.Text.{Text}
 use Rattle.definition.specs.Tree.{Element}
 use Rattle.index.specs.declared.Table.{Table}
@@ -113,15 +113,9 @@ module _ {s : Text} {root : Element} {l : Listed} {t : Table} {w : List ℕ} (ri
 -- ---- a table is made
 
 module _ (s : Text) (root : Element) (l : Listed) (at : ℕ) (w : List ℕ) where
-  pub makes_long : 2 ^ 32 ≤ length s → Makes s root l at w w None
-  makes_long h = record { made = rw (le-ltb (length s) (2 ^ 32) h); words = refl }
-
   module _ {n k : ℕ} {m : Option Table} (short : length s < 2 ^ 32) (i : n ≡ length (listed l root)) (o : k ≡ max n 1) (j : m ≡ table_of (length w) at k) where
     made_is : m ≡ made_for s root l (length w) at
     made_is = rw (lt-ltb (length s) (2 ^ 32) short) (j ∙ ap (table_of (length w) at) (o ∙ max_comm n 1 ∙ ap (max 1) i))
-
-    pub makes_none : m ≡ None → Makes s root l at w w None
-    makes_none e = record { made = sym e ∙ made_is; words = refl }
 
     module _ {t : Table} (e : m ≡ Some t) where
       pub made_ripe : n < 2 ^ 32 → Ripe s root l t w

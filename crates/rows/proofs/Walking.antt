@@ -1,5 +1,5 @@
 -- The walks: each turn of the search for the next element that counts. Assumes nothing.
-use Rattle.std.proofs.Common.{◌≡◌, ℕ, zero, suc, ◌+◌, ◌-◌, ◌<◌, ◌≤◌, Bool, true, false, not, List, [], ◌∷◌, length, take, length-append, sym, refl, ap, ◌∙◌, arith}
+use Rattle.std.proofs.Common.{◌≡◌, ℕ, zero, suc, ◌+◌, ◌-◌, ◌<◌, ◌≤◌, Bool, true, false, not, List, ◌∷◌, length, take, length-append, sym, refl, ap, ◌∙◌, arith, []}
 use Rattle.std.specs.Prelude.{if◌then◌else◌, Option, Some, None, is_some, IfSome}
 use Rattle.std.specs.Option.{option_or}
 use Rattle.std.proofs.lemmas.Bool.{false≢true}
@@ -46,9 +46,6 @@ pub record TasksIn (start : Option Place) (most : ℕ) (next : Option Place) (le
   pub there : (s : Text) → Past s 0 start → Past s 0 next
   pub few : left ≤ most
 
-pub tasks_all : (start : Option Place) (most : ℕ) → TasksIn start most start most
-tasks_all start most = record { is = refl; there = λ s h. h; few = omega arith }
-
 module _ {start next : Option Place} (most : ℕ) {left : ℕ} (h : TasksIn start most next left) where
   pub kept_none : next ≡ None → KeptFrom start most None
   unfolding kept_by room keep Past
@@ -78,9 +75,6 @@ pub kept_first : (root : Element) {s : Text} {m : ℕ} {f : Option Place} {r : O
 unfolding kept_tasks
 kept_first root i h = ap (λ (l : List Element). keep is_kept (take most_tasks l)) i.is ∙ h.is
 
-pub kept_after : {s : Text} {l : List Element} {left m : ℕ} {f : Option Place} {r : Option (Place × ℕ)} → Starts s (bytes "Task") l m f → KeptFrom f left r → keep is_kept (take left l) ≡ kept_by r
-kept_after {left = left} i h = ap (λ (l : List Element). keep is_kept (take left l)) i.is ∙ h.is
-
 pub kept_there : {s n : Text} {l : List Element} {left m : ℕ} {f : Option Place} {r : Option (Place × ℕ)} → Starts s n l m f → KeptFrom f left r → Past s 0 (place_in r)
 kept_there {s} {f = f} i h = h.there s (past_all s _ f i.on)
 
@@ -93,9 +87,6 @@ place_at e = rw e
 pub record Left (n : Text) (w : Element → Bool) (start e : Option Place) : Type 0 where
   pub is : keep w (list_of n start) ≡ keep w (list_of n e)
   pub on : (s : Text) (m : ℕ) → Past s m start → Past s m e
-
-pub left_all : {n : Text} {w : Element → Bool} {e : Option Place} → Left n w e e
-left_all = record { is = refl; on = λ s m h. h }
 
 module _ {n : Text} {w : Element → Bool} {start e : Option Place} (h : Left n w start e) where
   pub picks_none : e ≡ None → PicksFrom n w start None
@@ -112,9 +103,6 @@ module _ {n : Text} {w : Element → Bool} {start e : Option Place} (h : Left n 
       is = h.is ∙ ap (keep w) (list_at n i) ∙ keep_no w (meaning x) _ j ∙ ap (keep w) k.is;
       on = λ s m z. past_from r (past_in i (h.on s m z)) k.on;
     }
-
-pub picks_of : {s n : Text} {w : Element → Bool} {l : List Element} {m : ℕ} {f r : Option Place} → Starts s n l m f → PicksFrom n w f r → Picks s n w l m r
-picks_of {s} {w = w} {m = m} i h = record { is = ap (keep w) i.is ∙ h.is; there = h.there s m i.on }
 
 -- ---- a section
 
@@ -222,7 +210,3 @@ pub or_first_row : (c r : Option (ℕ × Place)) → calendar_meaning (option_or
 unfolding calendar_meaning
 or_first_row None r = refl
 or_first_row (Some (row, x)) r = refl
-
-pub or_there : (s : Text) (c r : Option (ℕ × Place)) → IfSome c (λ x. x.1.tree.now ≡ s) → IfSome r (λ x. x.1.tree.now ≡ s) → IfSome (option_or c r) (λ x. x.1.tree.now ≡ s)
-or_there s None r h k = k
-or_there s (Some x) r h k = h

@@ -1,23 +1,24 @@
 -- Rows by their UIDs, from tables in lent words. Assumes nothing: these are definitions.
-use Rattle.std.specs.Prelude.{if◌then◌else◌, ◌≡◌, ℕ, ◌%◌, ◌^◌, ◌<◌, ◌≤◌, max, List, [], ◌∷◌, length, take, nat_lt, slice_index, slice_index_or}
+use Rattle.std.specs.Prelude.{if◌then◌else◌, ◌≡◌, ℕ, ◌%◌, ◌^◌, ◌<◌, ◌≤◌, max, List, [], length, nat_lt, slice_index, slice_index_or}
 use Rattle.std.specs.Prelude.{Option, Some, None}
 use Rattle.definition.specs.Ascii.{bytes}
-use Rattle.definition.specs.Base.{◌>>=◌, ◌or◌, keep, find, find_last, same}
+use Rattle.definition.specs.Base.{◌>>=◌, ◌or◌, find, find_last, same}
 use Rattle.definition.specs.Text.{Text}
 use Rattle.definition.specs.Tree.{Element, nothing}
 use Rattle.definition.specs.Field.{text_in}
-use Rattle.definition.specs.Task.{is_kept, kept_tasks, row_of}
+use Rattle.definition.specs.Task.{kept_tasks, row_of}
 use Rattle.definition.specs.Resource.{work_resources, cost_resources}
 use Rattle.index.specs.declared.Table.{Table}
 use Rattle.index.specs.Hash.{hash_of}
 use Rattle.index.specs.Chains.{table_of, chain_of, place_of}
 use Rattle.index.specs.Frame.{Outside}
 use Rattle.index.specs.Law.{Fits, Indexed}
-use Rattle.tree.specs.Place.{element_at, meaning, later, Past}
+use Rattle.tree.specs.Place.{element_at, Past}
 use Rattle.rows.specs.Rows.{has_uid}
-use Rattle.rows.specs.Walks.{is_work, is_cost_resource, place_in}
+use Rattle.rows.specs.Walks.{is_work, is_cost_resource, place_in, kept_left, picked_by}
 use Rattle.tree.specs.declared.element.Element.{Element as Place}
 use Rattle.rows.specs.declared.table.Listed.{Listed}
+use Rattle.rows.specs.declared.table.Rest.{Rest}
 use Rattle.rows.specs.declared.table.ListElements.{ListElements}
 
 -- the elements of a list
@@ -53,33 +54,24 @@ found_in s w t o = o >>= λ r. Some (element_at s (place_of w t r))
 
 -- ---- the walk over a list
 
--- those that follow one, in the list of tasks among so many later ones
-unfoldable pub later_in : Listed → Place → ℕ → List Element
-later_in Listed.Tasks x left = keep is_kept (take left (later (bytes "Task") x))
-later_in Listed.Work x left = keep is_work (later (bytes "Resource") x)
-later_in Listed.Cost x left = keep is_cost_resource (later (bytes "Resource") x)
+-- what is left of a list
+abbrev pub rest_of : Rest → List Element
+rest_of (Rest.Tasks k) = kept_left k
+rest_of (Rest.Work o) = picked_by (bytes "Resource") is_work o
+rest_of (Rest.Cost o) = picked_by (bytes "Resource") is_cost_resource o
 
--- none, or one and those that follow it
-unfoldable pub listed_by : Listed → Option (Place × ℕ) → List Element
-listed_by l None = []
-listed_by l (Some (x, left)) = meaning x ∷ later_in l x left
-
--- r stands for the list es, and is a position in the tree
-pub record Lists (s : Text) (l : Listed) (es : List Element) (r : Option (Place × ℕ)) : Type 0 where
-  pub is : es ≡ listed_by l r
-  pub there : Past s 0 (place_in r)
-
--- any number after it
-abbrev pub unbounded_of : Option Place → Option (Place × ℕ)
-unbounded_of (Some x) = Some (x, 0)
-unbounded_of None = None
+-- and the position where it begins
+abbrev pub place_of_rest : Rest → Option Place
+place_of_rest (Rest.Tasks k) = place_in k.next
+place_of_rest (Rest.Work o) = o
+place_of_rest (Rest.Cost o) = o
 
 abbrev pub elements_left : ListElements → List Element
-elements_left e = listed_by e.list e.next
+elements_left e = rest_of e.rest
 
 -- of a tree
 abbrev pub ElementsOf : ListElements → Text → Type 0
-ElementsOf e s = Past s 0 (place_in e.next)
+ElementsOf e s = Past s 0 (place_of_rest e.rest)
 
 -- ---- the table of a list
 

@@ -11,7 +11,7 @@ ghost use Rattle.rows.specs.Walks.{Gives, kept_by, place_in, room, KeptFrom, kep
 use tree::{Element, Root};
 
 // The first of at most `most` tasks, from where a list of tasks starts, and how many after it are still to be looked at.
-// By hand: it goes on from a task and the number left, where `take` and `filter` begin anew.
+// By hand: what `children` promises is what its elements mean, and not where they stand in the tree, which `Past` says below.
 fn kept_from(start: Option<Element<'_>>, most: u32) -> Option<(Element<'_>, u32)>
     ensures { KeptFrom start.entry most result }
 {

@@ -63,7 +63,7 @@ pub fn first_in<'a>(e: Element<'a>, section: &[u8], name: &[u8]) -> Option<Eleme
     e.child(section)?.child(name)
 }
 
-// The first that passes, from where a list of elements starts: at a child or at a sibling, where `children` has the first alone.
+// The first that passes, from where a list of elements starts: at a child or at a sibling. By hand, as `kept_from`.
 fn which_from<'a, T: Test>(start: Option<Element<'a>>, name: &[u8]) -> Option<Element<'a>>
     ensures { PicksFrom name.now T.test start.entry result }
 {

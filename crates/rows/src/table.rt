@@ -1,14 +1,14 @@
 // Tables of the elements that have a UID, in lent words: the hash of each UID, and where its element stands in the tree.
-// A row or a word is made a place by `as usize`, which has no From<u32>. The words and their table go side by side, here and there with
-// the root: the words are written between two looks, so that a struct over both would be made anew for each.
+// A row or a word is made a place by `as usize`, which has no From<u32>. The root, the words and their table go side by side: most callers write in the
+// words between two looks, and would make a struct over the three anew for each. Links look in words that stay, and have one, TaskFinder.
 ghost use Rattle.std.specs.Prelude.{◌≡◌, ◌^◌, ◌<◌, length, IfSome};
 ghost use Rattle.std.specs.Iterator.{item_count};
 ghost use Rattle.tree.specs.Root.{root_at};
 ghost use Rattle.rows.specs.Rows.{found_meaning};
 ghost use Rattle.rows.specs.Walks.{Gives};
-ghost use Rattle.rows.specs.Tables.{listed, row_in32, sought_in, row_in, cost_in, later_in, Lists, unbounded_of, elements_left, ElementsOf, found_in, Ripe, Tabled, Makes};
+ghost use Rattle.rows.specs.Tables.{listed, row_in32, sought_in, row_in, cost_in, elements_left, ElementsOf, found_in, Ripe, Tabled, Makes};
 
-use crate::kept::{first_kept, next_kept};
+use crate::kept::{KeptTasks, kept_tasks};
 use crate::resource::cost_resource;
 use crate::section::{Cost, Work, first_which, next_which};
 use index::Table;
@@ -25,39 +25,18 @@ pub enum Listed {
 
 // ---- the elements of a list, one after another
 
-// 0, a number that is not looked at: one pair serves all three lists.
-fn unbounded(e: Option<Element<'_>>) -> Option<(Element<'_>, u32)>
-    ensures { result ≡ unbounded_of e.entry }
-{
-    e.map(|e| (e, 0))
-}
-
-fn first_listed(root: Root<'_>, list: Listed) -> Option<(Element<'_>, u32)>
-    ensures { Lists root.entry.tree.now list (listed list (root_at root.entry)) result }
-{
-    let resources = root.part(root.resources);
-    match list {
-        Listed::Tasks => first_kept(root),
-        Listed::Work => unbounded(first_which::<Work>(resources, b"Resource")),
-        Listed::Cost => unbounded(first_which::<Cost>(resources, b"Resource")),
-    }
-}
-
-fn next_listed(list: Listed, e: Element<'_>, left: u32) -> Option<(Element<'_>, u32)>
-    ensures { Lists e.entry.tree.now list (later_in list e.entry left) result }
-{
-    match list {
-        Listed::Tasks => next_kept(e, left),
-        Listed::Work => unbounded(next_which::<Work>(e, b"Resource")),
-        Listed::Cost => unbounded(next_which::<Cost>(e, b"Resource")),
-    }
+// What is left of a list.
+#[derive(Clone, Copy)]
+enum Rest<'a> {
+    Tasks(KeptTasks<'a>),
+    Work(Option<Element<'a>>),
+    Cost(Option<Element<'a>>),
 }
 
 // The elements of a list.
 #[derive(Clone, Copy)]
 pub struct ListElements<'a> {
-    list: Listed,
-    next: Option<(Element<'a>, u32)>,
+    rest: Rest<'a>,
 }
 
 impl<'a> Iterator for ListElements<'a> {
@@ -68,9 +47,19 @@ impl<'a> Iterator for ListElements<'a> {
     ghost remaining = { item_count elements_left };
 
     fn next(&mut self) -> Option<Element<'a>> {
-        let (e, left) = self.next?;
-        self.next = next_listed(self.list, e, left);
-        Some(e)
+        match &mut self.rest {
+            Rest::Tasks(tasks) => tasks.next(),
+            Rest::Work(next) => {
+                let e = (*next)?;
+                *next = next_which::<Work>(e, b"Resource");
+                Some(e)
+            }
+            Rest::Cost(next) => {
+                let e = (*next)?;
+                *next = next_which::<Cost>(e, b"Resource");
+                Some(e)
+            }
+        }
     }
 }
 
@@ -78,10 +67,13 @@ pub fn elements(root: Root<'_>, list: Listed) -> ListElements<'_>
     ensures is { elements_left result ≡ listed list (root_at root.entry) }
     ensures of { ElementsOf result root.entry.tree.now }
 {
-    ListElements {
-        list,
-        next: first_listed(root, list),
-    }
+    let resources = root.part(root.resources);
+    let rest = match list {
+        Listed::Tasks => Rest::Tasks(kept_tasks(root)),
+        Listed::Work => Rest::Work(first_which::<Work>(resources, b"Resource")),
+        Listed::Cost => Rest::Cost(first_which::<Cost>(resources, b"Resource")),
+    };
+    ListElements { rest }
 }
 
 // ---- a table is made
@@ -135,7 +127,8 @@ fn scan(root: Root<'_>, list: Listed, uid: &[u8]) -> Option<u32>
     ensures { result ≡ row_in32 list (root_at root.entry) uid.now }
 {
     let mut found = None;
-    // Counted by hand: `enumerate` counts in usize, and as nothing bounds how many there are, there is no range for `zip` as in `fill`.
+    // Counted by hand, in 32 bits: `enumerate` counts in usize, of which 32 bits would be cut in the end, and as nothing bounds how many there are, there is
+    // no range for `zip` as in `fill`.
     let mut row: u32 = 0;
     for e in elements(root, list) {
         let named = fields::text_is(e, b"UID", uid).then_some(row);

@@ -17,9 +17,9 @@ fn field_agrees(room: &mut [u8], p: Place, width: usize, value: u64, s: &[u8]) -
 pub fn agrees(body: &[u8]) -> bool {
     let p = Place {
         byte: 0,
-        bit: parts::byte(body) as usize,
+        bit: usize::from(parts::byte(body)),
     };
-    let width = parts::byte(parts::behind(body, 1)) as usize;
+    let width = usize::from(parts::byte(parts::behind(body, 1)));
     if 64 < width {
         return false;
     }

@@ -12,6 +12,7 @@ mod trees;
 
 use std::io;
 use std::io::Read;
+use texts::Reading;
 
 // No list has more cases, and no case a longer body.
 const CASES: u32 = 100000;
@@ -22,15 +23,7 @@ const MOST: usize = 65536;
 
 #[derive(Clone, Copy)]
 enum Kind {
-    Date,
-    Time,
-    Duration,
-    Number,
-    I64,
-    U64,
-    U32,
-    U16,
-    I32,
+    Reading(Reading),
     Trim,
     Utf8,
     Tree,
@@ -41,15 +34,15 @@ enum Kind {
 
 // By their numbers.
 const KINDS: [(Kind, &str); 15] = [
-    (Kind::Date, "date"),
-    (Kind::Time, "time"),
-    (Kind::Duration, "duration"),
-    (Kind::Number, "number"),
-    (Kind::I64, "i64"),
-    (Kind::U64, "u64"),
-    (Kind::U32, "u32"),
-    (Kind::U16, "u16"),
-    (Kind::I32, "i32"),
+    (Kind::Reading(Reading::Date), "date"),
+    (Kind::Reading(Reading::Time), "time"),
+    (Kind::Reading(Reading::Duration), "duration"),
+    (Kind::Reading(Reading::Number), "number"),
+    (Kind::Reading(Reading::I64), "i64"),
+    (Kind::Reading(Reading::U64), "u64"),
+    (Kind::Reading(Reading::U32), "u32"),
+    (Kind::Reading(Reading::U16), "u16"),
+    (Kind::Reading(Reading::I32), "i32"),
     (Kind::Trim, "trim"),
     (Kind::Utf8, "utf8"),
     (Kind::Tree, "tree"),
@@ -88,11 +81,13 @@ fn agrees(number: u8, body: &[u8]) -> bool {
         return false;
     };
     match kind {
+        Kind::Reading(reading) => texts::reading_agrees(*reading, body),
+        Kind::Trim => texts::trim_agrees(body),
+        Kind::Utf8 => texts::utf8_agrees(body),
         Kind::Tree => trees::agrees(body),
         Kind::Rule => rules::agrees(body),
         Kind::Model => models::agrees(body),
         Kind::Field => bit_fields::agrees(body),
-        _ => texts::agrees(*kind, body),
     }
 }
 
@@ -119,10 +114,7 @@ fn replay<R: Read>(input: &mut R, tallies: &mut [Tally; 256]) -> Result<(), Cut>
 // ---- the tally
 
 fn name_of(number: usize) -> &'static str {
-    match KINDS.get(number) {
-        Some((_, name)) => name,
-        None => "no kind",
-    }
+    KINDS.get(number).map_or("no kind", |k| k.1)
 }
 
 fn put_tallies(rt: &impl Print, tallies: &[Tally; 256]) -> io::Result<()> {

@@ -2,6 +2,7 @@
 // an index by `as`, here and in the other files, as there is no From between usize and u32 or u64. Answers are numbers, as the cases hold them and as the
 // entries give them for C.
 use definition::Refusal;
+use std::array;
 
 // At most so many bytes, from the first on.
 pub fn first(s: &[u8], n: usize) -> &[u8] {
@@ -14,20 +15,23 @@ pub fn behind(s: &[u8], n: usize) -> &[u8] {
 }
 
 // The byte in front.
-pub fn byte(s: &[u8]) -> u32 {
-    u32::from(text::byte_at(s, 0))
+pub fn byte(s: &[u8]) -> u8 {
+    text::byte_at(s, 0)
+}
+
+// So many bytes in front.
+fn array<const N: usize>(s: &[u8]) -> [u8; N] {
+    array::from_fn(|i| text::byte_at(s, i))
 }
 
 // Four bytes in front.
 pub fn number(s: &[u8]) -> u32 {
-    let at = |i| text::byte_at(s, i);
-    u32::from_be_bytes([at(0), at(1), at(2), at(3)])
+    u32::from_be_bytes(array(s))
 }
 
 // Eight bytes in front.
 pub fn word(s: &[u8]) -> u64 {
-    let at = |i| text::byte_at(s, i);
-    u64::from_be_bytes([at(0), at(1), at(2), at(3), at(4), at(5), at(6), at(7)])
+    u64::from_be_bytes(array(s))
 }
 
 // Four bytes in front, with a sign.
@@ -42,22 +46,47 @@ pub fn piece(s: &[u8]) -> (&[u8], &[u8]) {
     (first(rest, n), behind(rest, n))
 }
 
-// Whether an entry answered a number and so long a result.
-pub fn told(a: u32, written: u64, answer: u32, len: usize) -> bool {
-    (a == answer) & (written == len as u64)
+// What an entry is to answer: a number, and a result.
+#[derive(Clone, Copy)]
+pub struct Told<'a> {
+    pub answer: u32,
+    pub bytes: &'a [u8],
 }
 
-// Whether a result is right in just the bytes that it needs, in more, and in one less, where there is no room and nothing is left. `is` tells whether the
-// entry in so many bytes answers a number and a result.
-pub fn fits<F: Fn(usize, u32, &[u8]) -> bool>(most: usize, answer: u32, s: &[u8], is: F) -> bool
+// Whether an entry that is lent so many bytes, which are not zeros, answers so.
+fn is_in<F: Fn(&mut [u8], Told<'_>) -> bool>(
+    out: &mut [u8],
+    room: usize,
+    told: Told<'_>,
+    is: &F,
+) -> bool
+    requires { F.IsAlwaysCallable is.now }
+{
+    out.fill(0xAA);
+    let n = room.min(out.len());
+    is(&mut out[0..n], told)
+}
+
+// Whether a result is right in just the bytes that it needs, in all of `out`, and in one less, where there is no room and nothing is left. `is` tells
+// whether the entry answers so in a slice, and leaves zeros behind the result.
+pub fn fits<F: Fn(&mut [u8], Told<'_>) -> bool>(out: &mut [u8], told: Told<'_>, is: F) -> bool
     requires { F.IsAlwaysCallable is }
 {
-    let n = s.len();
-    let right = is(most, answer, s);
+    let n = told.bytes.len();
+    let most = out.len();
+    let right = is_in(out, most, told, &is);
     if n == 0 {
         return right;
     }
-    right & is(n, 0, s) & is(n - 1, u32::from(Refusal::NoRoom), &[])
+    let all = Told {
+        answer: 0,
+        bytes: told.bytes,
+    };
+    let none = Told {
+        answer: u32::from(Refusal::NoRoom),
+        bytes: &[],
+    };
+    right & is_in(out, n, all, &is) & is_in(out, n - 1, none, &is)
 }
 
 // Whether the bytes are these, and zeros behind.

@@ -1,5 +1,6 @@
 // A tree and what the Rust reads from it: the refusal or 0 (one byte), the tree behind its length (four bytes), the model, none where the tree is
 // refused. A model that was read passes the check.
+use crate::parts::Told;
 use crate::{models, parts};
 use definition::Refusal;
 
@@ -7,25 +8,15 @@ use definition::Refusal;
 
 const ROOM: usize = 8192;
 
-// Whether the read into this slice answers a number and this model, and leaves zeros behind it and in work.
-fn read_into(s: &[u8], out: &mut [u8], answer: u32, model: &[u8]) -> bool {
+// Whether the read into this slice answers so, and leaves zeros behind the model and in work.
+fn read_is(s: &[u8], out: &mut [u8], told: Told<'_>) -> bool {
     let mut work = [0xFFFF_FFFF; 3];
     let mut written: u64 = 0xFFFF_FFFF;
     let a = mspdi::mspdi_read(s, out, &mut work, &mut written);
-    parts::told(a, written, answer, model.len())
-        & parts::bytes_are(out, model)
+    (a == told.answer)
+        & (written == told.bytes.len() as u64)
+        & parts::bytes_are(out, told.bytes)
         & parts::words_are(&work, &[])
-}
-
-// The same in so many bytes that are not zeros.
-fn read_is(s: &[u8], room: usize, answer: u32, model: &[u8]) -> bool {
-    let mut out = [0xAA; ROOM];
-    let n = room.min(ROOM);
-    read_into(s, &mut out[0..n], answer, model)
-}
-
-fn read_agrees(s: &[u8], answer: u32, model: &[u8]) -> bool {
-    parts::fits(ROOM, answer, model, |room, a, m| read_is(s, room, a, m))
 }
 
 // ---- the check
@@ -40,7 +31,12 @@ fn check_number(refusal: u32) -> u32 {
 }
 
 pub fn agrees(body: &[u8]) -> bool {
-    let refusal = parts::byte(body);
+    let answer = u32::from(parts::byte(body));
     let (tree, model) = parts::piece(parts::behind(body, 1));
-    read_agrees(tree, refusal, model) & models::check_agrees(model, check_number(refusal))
+    let told = Told {
+        answer,
+        bytes: model,
+    };
+    parts::fits(&mut [0; ROOM], told, |out, t| read_is(tree, out, t))
+        & models::check_agrees(model, check_number(answer))
 }

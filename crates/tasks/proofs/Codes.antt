@@ -1,12 +1,10 @@
--- Codes of formats, types, kinds and constraints, by the tests that the code makes. Assumes nothing.
+-- Dates that are given and constraints, by the tests that the code makes. Assumes nothing.
 use Rattle.std.specs.Prelude.{if◌then◌else◌}
-use Prim.Native.Nat.{ℕ, ◌≤◌}
-use native.Mathlib.Omega.{arith}
-use mathlib.Core.Path.{◌≡◌, refl, sym, subst}
+use Prim.Native.Nat.{ℕ}
+use mathlib.Core.Path.{◌≡◌, refl}
 use mathlib.Core.Bool.{Bool, true, false}
 use Rattle.std.specs.Prelude.{Option, Some, None}
-use lib.Dec.{T, leb, eqb, leb→le}
-use lib.Ieee.Fits.{and_l}
+use lib.Dec.{eqb}
 use Rattle.definition.specs.Base.{when, given, within}
 use Rattle.definition.specs.Date.{Date, day_number}
 use Rattle.definition.specs.Task.{constraint_from}
@@ -15,11 +13,6 @@ use Rattle.definition.specs.declared.Date.{Date as DayNumber}
 use Rattle.std.specs.Option.{is_some}
 use Rattle.std.proofs.Common.{rules}
 use Rattle.tasks.specs.Task.{day_numbered}
-
--- ---- formats
-
-pub marked_least : (code : ℕ) → within 35 52 code ≡ true → 32 ≤ code
-marked_least code e = omega (arith, leb→le 35 code (and_l (leb 35 code) (leb code 52) (subst T (sym e) tt)))
 
 -- ---- dates
 

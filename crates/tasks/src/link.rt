@@ -25,10 +25,10 @@ pub enum Lag {
 // Which end of the predecessor the link leaves, and which end of the successor it enters.
 #[derive(Clone, Copy, Debug, PartialEq, Eq)]
 pub enum LinkKind {
-    FinishToStart,
-    StartToStart,
-    FinishToFinish,
-    StartToFinish,
+    FinishToStart = 0,
+    StartToStart = 1,
+    FinishToFinish = 2,
+    StartToFinish = 3,
 }
 
 // The model's codes.
@@ -36,12 +36,7 @@ impl From<LinkKind> for u32 {
     ghost from_gives = { λ kind n. n ≡ link_kind_code kind };
 
     fn from(kind: LinkKind) -> u32 {
-        match kind {
-            LinkKind::FinishToStart => 0,
-            LinkKind::StartToStart => 1,
-            LinkKind::FinishToFinish => 2,
-            LinkKind::StartToFinish => 3,
-        }
+        kind as u32
     }
 }
 

@@ -60,9 +60,9 @@ impl Constraint {
 // What stays as it is when a task's duration changes.
 #[derive(Clone, Copy, Debug, PartialEq, Eq)]
 pub enum DurationType {
-    FixedDurationAndRate,
-    FixedRate,
-    FixedUnits,
+    FixedDurationAndRate = 0,
+    FixedRate = 2,
+    FixedUnits = 3,
 }
 
 // The model's codes.
@@ -70,11 +70,7 @@ impl From<DurationType> for u32 {
     ghost from_gives = { λ kind n. n ≡ duration_type_code kind };
 
     fn from(kind: DurationType) -> u32 {
-        match kind {
-            DurationType::FixedDurationAndRate => 0,
-            DurationType::FixedRate => 2,
-            DurationType::FixedUnits => 3,
-        }
+        kind as u32
     }
 }
 

@@ -1,4 +1,4 @@
-// Whole numbers, as Rust's `parse` reads them.
+// Whole numbers, as Rust's `parse` reads them. Not by `str::parse`: a text is bytes that need not be UTF-8, and would be tested for UTF-8 first.
 ghost use Rattle.std.specs.Prelude.{◌≡◌, refl, ◌-◌, ◌≤◌, ℕ, Bool, Option, length};
 ghost use Rattle.definition.specs.Base.{when};
 ghost use Rattle.definition.specs.Text.{Text, is_digit, sign_of, unsigned_of, signed_of};
@@ -80,6 +80,7 @@ pub trait Whole: Sized {
     ghost reads: { (s : Text) → means s ≡ whole_by most sized s };
 }
 
+// Those of the unsigned types differ in the type alone: the gate refuses an `impl` that a macro wrote, and a const parameter is a number and no type.
 impl Whole for u64 {
     ghost means = { unsigned_of 64 };
 

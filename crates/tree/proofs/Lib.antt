@@ -6,3 +6,4 @@ pub mod Found
 pub mod Passes
 pub mod Parts
 pub mod Left
+pub mod Names

@@ -3,13 +3,13 @@ use mathlib.Core.Path.{◌≡◌, refl, ap, ◌∙◌}
 use denote.Ref.{Bor}
 use Rattle.std.specs.Prelude.{None, Option, Some, MatchOption}
 use mathlib.Core.Logic.{◌⊎◌, inl, inr}
-use mathlib.Core.List.{List, [], ◌∷◌}
+use mathlib.Core.List.{List, ◌∷◌, []}
 use Prim.Native.Nat.{ℕ, ◌+◌, ◌≤◌, ◌<◌}
 use native.Mathlib.Omega.{arith}
 use borrow.Author.Tests.{le-leb, lt-leb, le-ltb, lt-ltb, eq-eqb, ne_eqb}
 use Rattle.definition.specs.Base.{◌or◌, keep, same}
-use Rattle.definition.specs.Text.{Text, trim}
-use Rattle.definition.specs.Tree.{Rec, size, Element, elements, level, element, all, non_empty, text_of}
+use Rattle.definition.specs.Text.{Text}
+use Rattle.definition.specs.Tree.{Rec, size, Element, elements, level, element, all, text_of}
 use Rattle.tree.specs.Place.{IsHead, records_at, under, after, element_at, siblings, later_at, meaning, list_of, Past, Starts}
 use Rattle.tree.specs.declared.element.Element.{Element as Place}
 use Rattle.tree.specs.Answer.{found_child, none_child}
@@ -143,14 +143,7 @@ module _ (s n : Text) (at : ℕ) where
     pub later_whole : {r : Option Place} → Starts s n (having n (row s h.depth h.next)) h.next r → Starts s n (later_at s n at) (at + 1) r
     later_whole = starts_also later_row beyond
 
--- ---- the trimmed text of an element, and of a child
-
-non_empty_lem : (t : Text) → t ≡ (non_empty t or [])
-non_empty_lem [] = refl
-non_empty_lem (b ∷ t) = refl
-
-pub own_trimmed : (e : Element) {t u : Text} → t ≡ e.text → u ≡ trim t → u ≡ (own_text e or [])
-own_trimmed e i k = k ∙ rw i (non_empty_lem _)
+-- ---- the trimmed text of a child
 
 module _ {s n : Text} (e : Element) {m : ℕ} {r : Option Place} (h : Starts s n (all e n) m r) where
   pub text_none : r ≡ None → [] ≡ (text_of e n or [])

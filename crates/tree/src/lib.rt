@@ -36,11 +36,11 @@ fn word_at(s: &[u8], i: usize) -> usize
     usize::from(u16::from_be_bytes([s[i], s[i + 1]]))
 }
 
-// The head at a position: 7 bits of depth, 9 of the name's length, 16 of the text's.
+// The head at a position: 7 bits of depth, 9 of the name's length, 16 of the text's. By positions and not by `split_at_checked`, as `next` is one.
 fn read_head(s: &[u8], at: usize) -> Option<Head<'_>>
     ensures { MatchOption result (records_at s.now at ≡ []) (IsHead s.now at) }
 {
-    if s.len() < HEAD || s.len() - HEAD < at {
+    if s.len().saturating_sub(at) < HEAD {
         return None;
     }
     let w = word_at(s, at);
@@ -89,7 +89,8 @@ fn right_at(p: usize, d: usize, t: usize) -> bool
     d < 65 || t == 0
 }
 
-// Walks all records once. By `while let`, as it asks where it ended: a `for` over `&mut heads` was tried, and after it nothing is known of them.
+// Walks all records once. By `while let`, as it asks where it ended: a `for` over `Heads` was tried, whose `next` promises the record and those that are
+// left, as `all` and `any` need it, and not where the next one begins.
 fn layout(s: &[u8]) -> Option<usize>
     ensures { result ≡ verdict s.now }
 {
@@ -108,7 +109,7 @@ fn layout(s: &[u8]) -> Option<usize>
 }
 
 // The position of the first record from `from` on that is not deeper than d. Children are passed over one after the other, and what stands below a child
-// is skipped by a call for its level. `Heads` would stand behind the head that ends it.
+// is skipped by a call for its level: document 01 asks for skipping by recursion, and a loop would do. `Heads` would stand behind the head that ends it.
 fn skip(s: &[u8], from: usize, d: usize) -> usize
     ensures { result ≡ from + size (under d (records_at s.now from)) }
 {

@@ -34,19 +34,6 @@ const DURATIONS: [&[u8]; 5] = [
     b"RemainingWork",
 ];
 
-// Two names for one call of `any`, here and for a duration: a function of the list would be as long.
-fn is_number(name: &[u8]) -> bool
-    ensures { result ≡ some? (same name.now) number_names }
-{
-    NUMBERS.iter().any(|n| text::same(name, n))
-}
-
-fn is_duration(name: &[u8]) -> bool
-    ensures { result ≡ some? (same name.now) duration_names }
-{
-    DURATIONS.iter().any(|n| text::same(name, n))
-}
-
 // Whether a number was too long to be read.
 fn too_long<T: Copy>(a: Result<T, Unread>) -> bool
     ensures { result ≡ long? a }
@@ -58,10 +45,10 @@ fn too_long<T: Copy>(a: Result<T, Unread>) -> bool
 fn is_long(name: &[u8], t: &[u8]) -> bool
     ensures { result ≡ long_in name.now t.now }
 {
-    if is_number(name) {
+    if NUMBERS.contains(&name) {
         return too_long(number::number_of(text::trim(t)));
     }
-    is_duration(name) && too_long(number::duration_of(t))
+    DURATIONS.contains(&name) && too_long(number::duration_of(t))
 }
 
 // Whether a record below the root has a number too long. The root is passed by `next`: `skip(1)` asks at each record whether one is still to be

@@ -1,11 +1,7 @@
 use native.Mathlib.Omega.{arith}
-use Rattle.definition.specs.Format.{◌⊗◌, date, periods}
 use Rattle.model.specs.Passes.{◌⨾◌}
-use Rattle.day_sheet.proofs.Walks.{on_day, unmet, met, unmet_more, unmet_all, days_dated, exceptions_ahead, date_passed, hours_found, hours_missing}
+use Rattle.day_sheet.proofs.Walks.{on_day, met, unmet_more, unmet_all, days_dated, exceptions_ahead, date_passed, hours_found, hours_missing}
 use Rattle.day_sheet.proofs.exception_place.Goals as goal
-
-pub loop-init : goal.loop-init
-loop-init c = let a = c.args in (omega arith, unmet (date ⊗ periods) (λ x. x.0) a.s.now a.day.0 c.take_u32-n.result.next c.take_u32-n.result.value)
 
 pub returns-then-eq : goal.returns-then-eq
 returns-then-eq c = let a = c.args in λ d k l h. hours_found (met days_dated c.loop.invariant.1 c.loop-test.true c.take_date-t.ensures (on_day c.take_date-t.result.value a.day c.eq.ensures) c.if-eq.true d k l (exceptions_ahead a.s.now a.p c.take_u32-n.ensures h)) (date_passed a.s.now _ c.take_date-t.ensures)

@@ -1,10 +1,6 @@
 use native.Mathlib.Omega.{arith}
-use Rattle.definition.specs.Format.{date}
-use Rattle.day_sheet.proofs.Walks.{on_day, unmet, met, unmet_more, unmet_all, dates_dated, dates_ahead, date_passed, date_found, date_missing}
+use Rattle.day_sheet.proofs.Walks.{on_day, met, unmet_more, unmet_all, dates_dated, dates_ahead, date_passed, date_found, date_missing}
 use Rattle.day_sheet.proofs.has_date.Goals as goal
-
-pub loop-init : goal.loop-init
-loop-init c = let a = c.args in (omega arith, unmet date (λ d. d) a.s.now a.day.0 c.take_u32-n.result.next c.take_u32-n.result.value)
 
 pub returns-then-eq : goal.returns-then-eq
 returns-then-eq c = let a = c.args in λ d k l h. date_found d l (met dates_dated c.loop.invariant.1 c.loop-test.true c.take_date-t.ensures (on_day c.take_date-t.result.value a.day c.eq.ensures) c.if-eq.true d k l (dates_ahead a.s.now a.p c.take_u32-n.ensures h)).is

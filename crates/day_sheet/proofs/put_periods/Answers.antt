@@ -1,10 +1,5 @@
-use Rattle.day_sheet.proofs.Writes.{default_counts, list_counts}
+use Rattle.day_sheet.proofs.Writes.{list_counts}
 use Rattle.day_sheet.proofs.put_periods.Goals as goal
-
-pub returns-then-n-eq0 : goal.returns-then-n-eq0
-returns-then-n-eq0 c =
-    let a = c.args in
-    λ l h. default_counts a.s.now a.q c.take_u32-n.ensures c.if-n-eq0.true h c.put_default.ensures
 
 pub returns : goal.returns
 returns c =

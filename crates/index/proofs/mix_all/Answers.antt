@@ -1,5 +1,4 @@
-use mathlib.Core.Path.{◌≡◌, sym, ap, ◌∙◌}
-use Rattle.index.specs.Hash.{hash_after}
+use mathlib.Core.Path.{sym, ◌∙◌}
 use Rattle.laws.specs.Stars.{starred_by, star_length}
 use Rattle.index.specs.Steps.{hash_none, hash_more}
 use native.Mathlib.Omega.{arith}
@@ -14,9 +13,3 @@ pub loop-k-preserved : goal.loop-k-preserved
 loop-k-preserved c =
     let a = c.args in
     (omega arith, hash_more (starred_by a.s.now a.stars) c.loop-k.k c.loop-k.invariant.1 c.starred_quad.ensures c.starred_quad-in-loop-k.ensures c.mix-h.ensures)
-
-pub returns : goal.returns
-returns c =
-    let a = c.args in
-    let z : c.loop-k.k ≡ a.rounds = omega arith in
-    c.loop-k.invariant.1 ∙ ap (hash_after (starred_by a.s.now a.stars)) z

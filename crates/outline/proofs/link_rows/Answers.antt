@@ -1,12 +1,9 @@
-use mathlib.Core.Path.{◌≡◌, refl, ap, ◌∙◌}
+use mathlib.Core.Path.{ap, ◌∙◌}
 use Prim.Native.Nat.{◌-◌}
 use lib.ListN.{length}
 use Rattle.outline.proofs.Lists.{link_on, length_link}
 use native.Mathlib.Omega.{arith}
 use Rattle.outline.proofs.link_rows.Goals as goal
-
-pub loop-i-init : goal.loop-i-init
-loop-i-init c = (omega arith, refl, λ ps e l. l)
 
 pub loop-i-preserved : goal.loop-i-preserved
 loop-i-preserved c =
@@ -15,12 +12,3 @@ loop-i-preserved c =
       ap length c.link.ensures ∙ length_link a.n (c.loop-i.i - 1) c.loop-i.work ∙ c.loop-i.invariant.1,
       λ ps e m. link_on ps a.n c.loop-i.i c.loop-i.work e (omega arith) (omega arith) (omega arith) (c.loop-i.invariant.2 ps e m) c.link.ensures,
     )
-
-pub shape_of-work : goal.shape_of-work
-shape_of-work c = c.loop-i.invariant.1
-
-pub returns : goal.returns
-returns c =
-    let l = c.loop-i in
-    let e : l.i ≡ 0 = omega arith in
-    record { long = l.invariant.1; links = rw e at l.invariant.2 }

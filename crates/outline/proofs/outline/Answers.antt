@@ -1,12 +1,7 @@
 -- `outline::outline` meets its contract. The rows of a model with room for them; else both slices are cleared. Assumes nothing.
-use mathlib.Core.Path.{sym, refl, ◌∙◌}
-use Rattle.outline.proofs.Whole.{room_for}
 use Rattle.outline.proofs.Models.{gives_rows, gives_short, gives_no_model}
 use Rattle.outline.proofs.outline.Goals as goal
 use Rattle.outline.proofs.outline.Goals.{in-None, in-Some}
-
-pub outline_rows-requires : goal.outline_rows-requires
-outline_rows-requires c = room_for _ _ _ _ _ refl (sym c.is_short.ensures ∙ c.if-is_short.false)
 
 pub returns-in-Some-2 : goal.returns-in-Some-2
 returns-in-Some-2 c = gives_rows c.take_counts-counts.ensures c.walk_model-places.ensures c.sections_of.ensures c.in-Some.is c.is_short.ensures c.if-is_short.false c.outline_rows.ensures

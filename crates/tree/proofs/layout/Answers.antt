@@ -9,12 +9,6 @@ loop-h-init c = (verdict_all _, omega arith)
 pub returns-then-not-right_at : goal.returns-then-not-right_at
 returns-then-not-right_at c = sym (c.loop-h.invariant.0 ∙ left_wrong _ _ _ _ c.in-Some.ensures (sym c.right_at.ensures ∙ c.if-not-right_at.true))
 
-pub overflow_add-count : goal.overflow_add-count
-overflow_add-count c = omega (arith, c.in-Some.ensures)
-
-pub loop-h-smaller : goal.loop-h-smaller
-loop-h-smaller c = omega (arith, c.in-Some.ensures)
-
 pub loop-h-preserved : goal.loop-h-preserved
 loop-h-preserved c = (c.loop-h.invariant.0 ∙ left_step _ _ _ _ c.in-Some.ensures (sym c.right_at.ensures ∙ c.if-not-right_at.false), omega (arith, c.in-Some.ensures))
 

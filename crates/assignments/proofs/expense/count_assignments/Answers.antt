@@ -1,9 +1,7 @@
-use Rattle.std.proofs.Common.{◌+◌, ◌%◌, ◌<◌, ◌^◌, ℕ, length, ap, ◌∙◌, arith}
-use Rattle.std.proofs.lemmas.Iterator.Consumers.{count_from_yields_List}
+use Rattle.std.proofs.Common.{◌+◌, ◌<◌, ◌^◌, length, ap, arith}
 use mathlib.Core.Logic.{inl}
 use Rattle.definition.specs.Ascii.{bytes}
 use Rattle.tree.specs.Few.{children_few}
-use Rattle.tree.specs.Lists.{children_list}
 use Rattle.tree.specs.Place.{left}
 use Rattle.assignments.proofs.expense.count_assignments.Goals as goal
 
@@ -12,7 +10,3 @@ count-requires-clause-fits c =
     let a = c.args.section in
     let few : 0 + length (left c.children.result) < 2 ^ 64 = omega (arith, ap length c.children.ensures, children_few a.tree.now a.at (bytes "Assignment"), c.ranges) in
     inl few
-
-pub returns : goal.returns
-returns c =
-    ap (λ (n : ℕ). n % 2 ^ 32) (count_from_yields_List _ _ c.count.ensures.ran (children_list c.children.result) ∙ ap length c.children.ensures)

@@ -1,5 +1,5 @@
 use mathlib.Core.Path.{refl}
-use mathlib.Core.Path.{◌≡◌, ◌∙◌}
+use mathlib.Core.Path.{◌∙◌}
 use Rattle.bits.specs.Places.{at}
 use Rattle.bits.proofs.Copied.{copy_none, copy_more}
 use native.Mathlib.Omega.{arith}
@@ -26,11 +26,3 @@ loop-n-preserved c =
       c.overwrite-r.ensures.same ∙ l.invariant.9,
       copy_more a.out.now l.out (at a.from) a.p l.q l.n c.place_after-q.result l.invariant.10 (omega arith) (omega arith) (omega arith) (omega arith) l.invariant.0 c.take-f.ensures c.overwrite-r.ensures c.place_after-q.ensures.1,
     )
-
-pub returns : goal.returns
-returns c =
-    let l = c.loop-n in
-    let a = c.args in
-    let z : l.n ≡ 0 = omega arith in
-    let e : at a.to ≡ at l.q = l.invariant.4 z in
-    rw e l.invariant.10

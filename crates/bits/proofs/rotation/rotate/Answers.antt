@@ -1,13 +1,10 @@
 use mathlib.Core.Path.{sym, ◌∙◌}
 use native.Mathlib.Omega.{arith}
 use lib.ListN.{length}
-use borrow.Author.Tests.{not-true, not-false}
+use borrow.Author.Tests.{not-false}
 use Rattle.bits.specs.Moves.{order}
-use Rattle.bits.proofs.Rotating.{rotates, rotates_bytes, rotates_not}
+use Rattle.bits.proofs.Rotating.{rotates_bytes}
 use Rattle.bits.proofs.rotation.rotate.Goals as goal
-
-pub returns-then-not-in_order : goal.returns-then-not-in_order
-returns-then-not-in_order c = rotates_not (sym c.in_order.ensures ∙ not-true _ c.if-not-in_order.true-raw)
 
 pub rotate_bytes-requires : goal.rotate_bytes-requires
 rotate_bytes-requires c =
@@ -23,7 +20,3 @@ pub rotate_bits-requires : goal.rotate_bits-requires
 rotate_bits-requires c =
     let a = c.args in
     order (length a.out.now) a.a a.m a.e (sym c.in_order.ensures ∙ not-false _ c.if-not-in_order.false-raw)
-
-pub returns : goal.returns
-returns c =
-    rotates (sym c.in_order.ensures ∙ not-false _ c.if-not-in_order.false-raw) c.rotate_bits.ensures.0 c.rotate_bits.ensures.1

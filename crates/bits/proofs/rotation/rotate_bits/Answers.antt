@@ -1,4 +1,4 @@
-use mathlib.Core.Path.{◌≡◌, refl, ap, ◌∙◌}
+use mathlib.Core.Path.{refl, ap, ◌∙◌}
 use Prim.Native.Nat.{◌-◌}
 use Rattle.definition.specs.Bits.{bits_of}
 use Rattle.laws.specs.Bits.{length_bits}
@@ -31,11 +31,3 @@ loop-n-preserved c =
       c.rotate_last.ensures.1 ∙ ap (rotated (at a.a) (at a.e - l.n) (at a.e)) l.invariant.11
           ∙ rotate_more (at a.a) (at c.place_before-t.result) (at a.e) l.n (bits_of a.out.now) (omega arith) c.place_before-t.ensures.1 (omega arith) (omega (arith, length_bits a.out.now)),
     )
-
-pub returns : goal.returns
-returns c =
-    let l = c.loop-n in
-    let a = c.args in
-    let z : l.n ≡ 0 = omega arith in
-    let e : at l.t ≡ at a.m = l.invariant.4 z in
-    (l.invariant.10, rw e at l.invariant.11)

@@ -1,4 +1,4 @@
-use mathlib.Core.Path.{◌≡◌, refl, ◌∙◌}
+use mathlib.Core.Path.{refl, ◌∙◌}
 use Rattle.bits.specs.Places.{at}
 use Rattle.bits.proofs.Rotating.{move_none}
 use Rattle.bits.proofs.Rotating.{shift_turn}
@@ -25,11 +25,3 @@ loop-n-preserved c =
       shift_turn a.out.now l.out _ (at a.e) a.k l.p c.place_before-p.result l.n l.invariant.8 l.invariant.9 (omega arith) (omega arith) c.place_before-p.ensures.0 c.place_before-p.ensures.1 c.take-f.ensures
           c.place_after.ensures.0 c.place_after.ensures.1 c.overwrite.ensures,
     )
-
-pub returns : goal.returns
-returns c =
-    let l = c.loop-n in
-    let a = c.args in
-    let z : l.n ≡ 0 = omega arith in
-    let e : at l.p ≡ at a.a = l.invariant.4 z in
-    (l.invariant.8, rw e at l.invariant.9)

@@ -6,8 +6,5 @@ use Rattle.bits.proofs.texts.put_bytes.Goals as goal
 pub returns-then-p-gt7 : goal.returns-then-p-gt7
 returns-then-p-gt7 c = let a = c.args in bytes_past a.out.now a.s.now a.p (omega arith)
 
-pub returns-then-p-gt0 : goal.returns-then-p-gt0
-returns-then-p-gt0 c = c.put_each.ensures
-
 pub returns : goal.returns
 returns c = laid_step c.copy_bytes.ensures

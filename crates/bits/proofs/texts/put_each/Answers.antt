@@ -1,5 +1,4 @@
 use native.Mathlib.Omega.{arith}
-use lib.Seq.{take_all}
 use Rattle.bits.proofs.Bytes.{each_none, each_more}
 use Rattle.bits.proofs.texts.put_each.Goals as goal
 
@@ -10,11 +9,3 @@ loop-b-init c =
 pub loop-b-preserved : goal.loop-b-preserved
 loop-b-preserved c =
     each_more c.args.s.now c.loop-b.b-index (omega arith) c.from.ensures c.loop-b.invariant c.put-q.ensures
-
-pub shape_of-out : goal.shape_of-out
-shape_of-out c =
-    c.loop-b.invariant.same
-
-pub returns : goal.returns
-returns c =
-    rw (take_all c.loop-b.b-index c.args.s.now (omega arith)) at c.loop-b.invariant

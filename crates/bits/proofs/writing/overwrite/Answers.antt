@@ -6,7 +6,6 @@ use borrow.Author.Tests.{not-true, not-false}
 use Rattle.bits.specs.Places.{room_fits}
 use Rattle.bits.proofs.Overwriting.{over_none}
 use Rattle.bits.proofs.Overwriting.{overwrite_more, overwrite_short, overwrite_done, enc_zero}
-use Rattle.bits.proofs.Laws.{part_lt}
 use native.Mathlib.Omega.{arith}
 use Rattle.bits.proofs.writing.overwrite.Goals as goal
 
@@ -21,9 +20,6 @@ loop-left-init c =
     let f = room_fits (length a.out.now) a.p a.width (sym c.room.ensures ∙ not-false _ c.if-not-room.false-raw) in
     let z : a.width - a.width ≡ 0 = omega arith in
     (omega (arith, f.ends), omega (arith, f.bit), omega arith, omega (arith, f.ends), omega arith, refl, rw (z, enc_zero) (sym (over_none _ _)))
-
-pub mix-b-requires : goal.mix-b-requires
-mix-b-requires c = (omega arith, omega (arith, c.slice_known-in-loop-left-1.given c.loop-left.q.byte), part_lt _ _ c.part.ensures)
 
 pub loop-left-preserved : goal.loop-left-preserved
 loop-left-preserved c =

@@ -1,4 +1,4 @@
-use Rattle.std.proofs.Common.{refl, ◌≡◌, ◌∙◌, arith}
+use Rattle.std.proofs.Common.{refl, ◌∙◌}
 use Rattle.definition.specs.Format.{periods}
 use Rattle.bits.specs.Steps.{put_no}
 use Rattle.calendars.proofs.PlainCalendars.{put_again}
@@ -9,6 +9,3 @@ loop-init c = (refl, put_no 7 periods _ _)
 
 pub loop-preserved : goal.loop-preserved
 loop-preserved c = (c.put_day_hours-q.auto.out ∙ c.loop.invariant.0, put_again 7 periods c.loop.counter c.loop.invariant.1 c.put_day_hours-q.ensures)
-
-pub returns : goal.returns
-returns c = let e : c.loop.counter ≡ 7 = omega arith in rw e at c.loop.invariant.1

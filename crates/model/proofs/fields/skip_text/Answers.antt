@@ -1,7 +1,6 @@
 use mathlib.Core.Path.{ap, ◌∙◌}
 use borrow.Author.Tests.{not-true, not-false}
 use Rattle.definition.specs.Text.{is_utf8}
-use Rattle.model.specs.Places.{span_ends}
 use Rattle.model.proofs.Single.{is_set, is_set-true, is_set-false, text_good, text_bad, text_any}
 use Rattle.model.proofs.fields.skip_text.Goals as goal
 
@@ -9,11 +8,6 @@ pub returns-then-not-this : goal.returns-then-not-this
 returns-then-not-this g c =
     let a = c.args in
     text_any a.s.now a.p c.take_text-t.ensures (is_set g.row.CHECK) (is_set-false c.if-not-this.true)
-
-pub text_in-requires : goal.text_in-requires
-text_in-requires g c =
-    let a = c.args in
-    span_ends a.s.now a.p c.take_text-t.ensures.is
 
 pub returns-then-not-is_utf8 : goal.returns-then-not-is_utf8
 returns-then-not-is_utf8 g c =

@@ -1,16 +1,10 @@
-use mir.Syntax.{w32}
-use Rattle.std.proofs.Common.{rules, ℤ, ap, ◌∙◌, to_z-of_z}
-use Rattle.definition.specs.Answer.{day_number_of}
-use Rattle.definition.specs.Date.{from_days}
-use Rattle.model.proofs.Single.{date_refused, date_found}
+use Rattle.std.proofs.Common.{rules, tests, ◌≡◌}
+use Rattle.std.specs.Option.{MatchOption}
+use Rattle.date.specs.Scale.{day_count}
+use Rattle.model.proofs.Single.{date_keyed}
 use Rattle.model.proofs.fields.take_date_key.Goals as goal
-
-pub returns-in_default : goal.returns-in_default
-returns-in_default c =
-    let m = c.from_days.ensures ∙ ap (λ (z : ℤ). day_number_of (from_days z)) (to_z-of_z {w = w32} (record { sfits = search rules })) in
-    date_refused c.args.s.now c.args.p c.take_i32-value.ensures m c.in_default.is
 
 pub returns : goal.returns
 returns c =
-    let m = c.from_days.ensures ∙ ap (λ (z : ℤ). day_number_of (from_days z)) (to_z-of_z {w = w32} (record { sfits = search rules })) in
-    rw (c.from.ensures, c.count_of.ensures) (date_found c.args.s.now c.args.p c.take_i32-value.ensures m c.in-Some.is)
+    let k : MatchOption c.take_date-d.result.value (c.map_or.result ≡ 0) (λ d. c.map_or.result ≡ day_count d.0) = search (rules, tests) in
+    date_keyed c.args.s.now c.args.p c.take_date-d.result.next c.map_or.result _ c.take_date-d.ensures k

@@ -1,4 +1,3 @@
-use mathlib.Core.Path.{◌≡◌}
 use Prim.Native.Nat.{◌+◌}
 use Rattle.definition.specs.Format.{periods}
 use Rattle.model.specs.Passes.{pass_no, pass_more, pass_cut}
@@ -18,8 +17,3 @@ returns-then-q-gt7 c =
 
 pub loop-preserved : goal.loop-preserved
 loop-preserved c = (omega arith, pass_more periods c.loop.counter c.loop.invariant.1 c.skip_periods-q.ensures)
-
-pub returns : goal.returns
-returns c =
-    let e : c.loop.counter ≡ c.args.count = omega arith in
-    rw e at c.loop.invariant.1

@@ -1,4 +1,3 @@
-use mathlib.Core.Path.{◌≡◌}
 use Prim.Native.Nat.{◌+◌}
 use Rattle.model.specs.Passes.{pass_no, pass_more, pass_cut}
 use Rattle.model.specs.Parts.{record_of}
@@ -22,8 +21,3 @@ pub loop-preserved : goal.loop-preserved
 loop-preserved g c =
     let a = c.args in
     (omega arith, pass_more (record_of (is_set g.row.CHECK) a.kind) c.loop.counter c.loop.invariant.1 c.skip_record-q.ensures.0)
-
-pub returns : goal.returns
-returns g c =
-    let e : c.loop.counter ≡ c.args.count = omega arith in
-    rw e at c.loop.invariant.1

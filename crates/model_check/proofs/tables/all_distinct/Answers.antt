@@ -10,6 +10,3 @@ returns-in-Some g c =
     λ key k xs end h.
     let x = c.index_keys.ensures key k xs end h in
     c.table_distinct.ensures (map key xs) (rw c.in-Some.is at x) ∙ sym (distinct_map same_key key xs)
-
-pub returns-in-None : goal.returns-in-None
-returns-in-None g c = c.distinct.ensures

@@ -8,6 +8,3 @@ use Rattle.model_check.proofs.tables.distinct_in.Goals as goal
 pub returns-in-Some : goal.returns-in-Some
 returns-in-Some g c =
     λ key k xs end h x. c.table_distinct.ensures (map key xs) (rw c.in-Some.is at x) ∙ sym (distinct_map same_key key xs)
-
-pub returns-in-None : goal.returns-in-None
-returns-in-None g c = λ key k xs end h x. c.all_distinct.ensures key k xs end h

@@ -13,13 +13,10 @@ pub loop-i-preserved : goal.loop-i-preserved
 loop-i-preserved g c =
     let v = c.loop-i.invariant in (
       omega arith,
-      c.put.auto.words ∙ v.1,
+      c.put_key.auto.words ∙ v.1,
       c.next_record-q.ensures.1,
-      λ small e key k xs end r. fill_goes (v.3 small e key k xs end r) k small v.2 (omega arith) c.hash_at-hash.ensures refl c.put.ensures (on never true (v.3 small e key k xs end r).along (omega arith) c.next_record-q.ensures.0),
+      λ small e key k xs end r. fill_goes (v.3 small e key k xs end r) k small v.2 (omega arith) c.put_key.ensures.1 refl c.put_key.ensures.2 (on never true (v.3 small e key k xs end r).along (omega arith) c.next_record-q.ensures.0),
     )
-
-pub shape_of-words : goal.shape_of-words
-shape_of-words g c = c.loop-i.invariant.1
 
 pub returns : goal.returns
 returns g c =

@@ -25,10 +25,6 @@ loop-i-init c =
       λ small z t o e em xs next r. fill_starts (rw e r) em,
     )
 
-pub shape_of-words-then-q-gt7 : goal.shape_of-words-then-q-gt7
-shape_of-words-then-q-gt7 c =
-    c.note_id.auto.words ∙ c.loop-i.invariant.1
-
 pub returns-then-q-gt7 : goal.returns-then-q-gt7
 returns-then-q-gt7 c =
     let v = c.loop-i.invariant in
@@ -62,9 +58,6 @@ loop-i-preserved c =
           let e : Noted b.s.now c.loop-i.q i (Some t) c.loop-i.words c.note_id.new.words = rw o at c.note_id.ensures in
           fill_goes g activity_key small (v.3 z) (omega arith) e.1 refl e.2 (tested g.along (omega arith) y.next),
     )
-
-pub shape_of-words : goal.shape_of-words
-shape_of-words c = c.loop-i.invariant.1
 
 pub returns : goal.returns
 returns c =

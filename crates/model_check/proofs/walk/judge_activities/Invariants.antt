@@ -26,4 +26,4 @@ invariant-loop-i l =
     (l.i ≤ l.count) × (length l.words ≡ length l.initial.words) × Passes (times l.i (record_of true Activities)) l.s l.initial.q l.q × (l.initial.q.bit % 8 ≡ 0 → l.q.bit % 8 ≡ 0)
     × (ApartFrom l.tables.names l.tables.ids → Kept l.tables.names l.initial.words l.words)
     × (ApartFrom l.tables.names l.tables.ids → (m : Model) (end : ℕ) → Holds calendar l.s l.calendars m.calendars end → NamesIn l.s m l.tables.names l.initial.words → (next : ℕ) → Run Activities l.s l.initial.q l.count m.activities next → Judging l.s l.count m next l.right l.i l.q)
-    × (length l.s < 2 ^ 32 → l.initial.q.bit % 8 ≡ 0 → (t : Table) → l.tables.ids ≡ Some t → t.rows ≡ l.count → Emptied t l.initial.words → (xs : List Activity) (next : ℕ) → Run Activities l.s l.initial.q l.count xs next → Filling Activities l.s id_key xs next t l.words l.q l.i)
+    × (length l.s < 2 ^ 32 → l.initial.q.bit % 8 ≡ 0 → (t : Table) → l.tables.ids ≡ Some t → t.rows ≡ l.count → Emptied t l.initial.words → (xs : List Activity) (next : ℕ) → Run Activities l.s l.initial.q l.count xs next → Filling Activities 0 l.s id_key xs next t l.words l.q l.i)

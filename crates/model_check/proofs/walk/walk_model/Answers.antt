@@ -1,11 +1,6 @@
 -- `model_check::walk::walk_model` meets its contract. Assumes nothing.
-use mathlib.Core.Path.{◌∙◌}
 use Rattle.model_check.proofs.Walking.{walked}
 use Rattle.model_check.proofs.walk.walk_model.Goals as goal
-
-pub shape_of-words : goal.shape_of-words
-shape_of-words c =
-    c.judge_activities-a.auto.words ∙ c.empty_table-ids.auto.words ∙ c.index_keys-names.auto.words
 
 pub returns : goal.returns
 returns c =

@@ -1,11 +1,7 @@
 use mathlib.Core.Path.{◌∙◌}
 use native.Mathlib.Omega.{arith}
-use Rattle.model.specs.Places.{span_ends}
 use Rattle.names.specs.Seen.{bytes_of_lem, raw_spanned}
 use Rattle.names.proofs.records.raw_text.Goals as goal
-
-pub text_in-requires : goal.text_in-requires
-text_in-requires c = span_ends c.args.out.now c.args.p c.take_text.ensures.is
 
 pub returns : goal.returns
 returns c =

@@ -1,4 +1,3 @@
-use Rattle.std.proofs.Common.{refl}
 use Rattle.rows.specs.Rows.{calendar_meaning}
 use Rattle.names.proofs.uids.in_order.Goals as goal
 
@@ -9,6 +8,3 @@ returns-in_err-r-clause-is c = rw (c.from_residual.ensures, c.in_err-r.was)
 pub returns-clause-is : goal.returns-clause-is
 unfolding calendar_meaning
 returns-clause-is c = rw (c.in_ok-r.was, c.order_row.ensures, c.part.ensures, c.place.ensures)
-
-pub returns-clause-there : goal.returns-clause-there
-returns-clause-there c = rw c.part.ensures refl

@@ -3,11 +3,8 @@ use mathlib.Core.Path.{sym, ◌∙◌}
 use lib.ListN.{length}
 use Rattle.tree.specs.Root.{root_at}
 use Rattle.names.specs.Sought.{made_ripe}
-use Rattle.names.proofs.Wording.{chain_fits, uids_made, uids_none, uids_ready}
+use Rattle.names.proofs.Wording.{chain_fits, uids_made, uids_ready}
 use Rattle.names.proofs.uids.index_uids.Goals as goal
-
-pub returns-in_default : goal.returns-in_default
-returns-in_default c = uids_none c.room_for.ensures c.in_default.is
 
 pub note_places-count-requires : goal.note_places-count-requires
 note_places-count-requires c = let a = c.args in made_ripe a.root.tree.now (root_at a.root) (length a.words.now) a.at (sym c.in-Some.is ∙ c.room_for.ensures)

@@ -2,11 +2,8 @@ use mathlib.Core.Path.{◌∙◌}
 use Rattle.std.proofs.Math.Nat.{max_comm}
 use Rattle.std.proofs.Common.{rules}
 use Rattle.tree.specs.Root.{root_at}
-use Rattle.names.proofs.Wording.{room_long, room_many, room_short, room_is}
+use Rattle.names.proofs.Wording.{room_many, room_short, room_is}
 use Rattle.names.proofs.uids.room_for.Goals as goal
-
-pub returns-in_err-ok : goal.returns-in_err-ok
-returns-in_err-ok c = let a = c.args in rw c.from_residual.ensures (room_long a.root.tree.now (root_at a.root) a.len a.at (search rules))
 
 pub returns-then-n-gt5000000 : goal.returns-then-n-gt5000000
 returns-then-n-gt5000000 c = let a = c.args in room_many a.root.tree.now (root_at a.root) a.len a.at (search rules) c.count_calendars-n.ensures c.if-n-gt5000000.true

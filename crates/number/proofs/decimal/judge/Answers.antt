@@ -11,11 +11,8 @@ returns-then-v-eq0 c = sym (zero_is c.args.v c.args.up c.args.down c.if-v-eq0.tr
 pub returns-then-v-ge1000000000000000 : goal.returns-then-v-ge1000000000000000
 returns-then-v-ge1000000000000000 c = sym (long_is c.args.v c.args.up c.args.down (search rules) (λ h. omega arith))
 
-pub returns-then-saturating_sub-gt22 : goal.returns-then-saturating_sub-gt22
-returns-then-saturating_sub-gt22 c = sym (long_is c.args.v c.args.up c.args.down (search rules) (λ h. omega arith))
-
-pub returns-then-saturating_sub-gt22-2 : goal.returns-then-saturating_sub-gt22-2
-returns-then-saturating_sub-gt22-2 c = sym (long_is c.args.v c.args.up c.args.down (search rules) (λ h. omega arith))
+pub returns-then-abs_diff-gt22 : goal.returns-then-abs_diff-gt22
+returns-then-abs_diff-gt22 c = sym (long_is c.args.v c.args.up c.args.down (search rules) (λ h. omega arith))
 
 pub returns : goal.returns
 returns c =

@@ -1,12 +1,7 @@
-use Rattle.std.proofs.Common.{◌^◌, ◌<◌, length, sym, ◌∙◌, arith, rules}
+use Rattle.std.proofs.Common.{◌^◌, ◌<◌, length, sym, ◌∙◌, arith}
 use Rattle.number.proofs.Parts.{byte_within}
 use Rattle.number.proofs.Decimals.{number_whole, number_dot}
 use Rattle.number.proofs.decimal.mantissa_of.Goals as goal
-
-pub run-all-requires : goal.run-all-requires
-run-all-requires c =
-    let h = byte_within c.args.s.now _ 45 (sym c.byte_at.ensures ∙ c.if-byte_at-eq46.true) in
-    search rules
 
 pub returns-then-byte_at-eq46 : goal.returns-then-byte_at-eq46
 returns-then-byte_at-eq46 c =

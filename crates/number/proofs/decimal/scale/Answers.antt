@@ -5,9 +5,6 @@ use Rattle.number.specs.Number.{decimal, scaled_by}
 use Rattle.number.proofs.Limits.{few_same}
 use Rattle.number.proofs.decimal.scale.Goals as goal
 
-pub returns-in-Up : goal.returns-in-Up
-returns-in-Up c = c.judge.ensures ∙ sym (ap (scaled_by c.args.v c.args.places) c.in-Up.is)
-
 pub returns-in-Down : goal.returns-in-Down
 returns-in-Down c =
     let a = c.args in

@@ -1,5 +1,5 @@
-use Rattle.std.proofs.Common.{◌≡◌, ℕ, ◌+◌, ◌-◌, ◌*◌, ◌^◌, ◌<◌, ◌≤◌, false, pos, sym, ap, ◌∙◌, le_trans, le_of_lt, zero-lt-suc, mul_assoc, mul_comm, mul-pos, mul-one, arith, lit≤, le→leb, pow-add}
-use lib.Ieee.{binary64, in_float, of_int, round}
+use Rattle.std.proofs.Common.{◌≡◌, ℕ, ◌+◌, ◌-◌, ◌*◌, ◌^◌, ◌<◌, ◌≤◌, false, pos, sym, ap, ◌∙◌, le_trans, le_of_lt, zero-lt-suc, mul_assoc, mul_comm, mul-pos, mul-one, arith, lit≤, pow-add}
+use lib.Ieee.{binary64, of_int, round}
 use lib.Ieee.Back.{round_whole}
 use lib.Ieee.Exact.{HasValue}
 use lib.Ieee.Scale.{round_same}
@@ -26,10 +26,6 @@ down_same m k u d e =
     let p : 10 ^ d ≡ 10 ^ u * 10 ^ k = ap (λ (z : ℕ). 10 ^ z) (sym e) ∙ pow-add 10 k u ∙ mul_comm (10 ^ k) (10 ^ u) in
     round_same binary64 false (m * 1) (10 ^ k * 1) (m * 10 ^ u) (10 ^ d) (mul-pos (ten_pos k) (zero-lt-suc 0)) (ten_pos d)
     (rw (mul-one m, mul-one (10 ^ k), p) (sym (mul_assoc m (10 ^ u) (10 ^ k))))
-
-pub int_to_float-x : goal.int_to_float-x
-unfolding in_float
-int_to_float-x c = le→leb c.args.v (2 ^ 53) (whole_le c.args.v c.requires.few)
 
 pub returns-then-down-up : goal.returns-then-down-up
 returns-then-down-up c =

@@ -22,6 +22,3 @@ loop-n-preserved c =
 
 pub returns-then-n-eq1-2 : goal.returns-then-n-eq1-2
 returns-then-n-eq1-2 c = at_last (taken c.requires (same_count (omega arith) c.loop-n.invariant))
-
-pub returns : goal.returns
-returns c = at_last (same_count (omega arith) c.loop-n.invariant)

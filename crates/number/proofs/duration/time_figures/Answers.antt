@@ -1,7 +1,7 @@
-use Rattle.std.proofs.Common.{◌+◌, ◌-◌, [], length, take, drop, length-take, length-drop, sym, ap, ◌∙◌, arith, rules}
+use Rattle.std.proofs.Common.{◌+◌, ◌-◌, length, take, drop, length-take, length-drop, sym, ap, ◌∙◌, arith, rules, []}
 use Rattle.definition.specs.Duration.{time_figures}
 use Rattle.definition.specs.declared.Figures.{Figures}
-use Rattle.number.proofs.Figures.{err_then, read, unit_within, no_unit, all_read}
+use Rattle.number.proofs.Figures.{err_then, read, no_unit, all_read}
 use Rattle.std.proofs.lemmas.Result.{err_from_is_err_and}
 use Rattle.number.proofs.duration.time_figures.Goals as goal
 
@@ -10,9 +10,6 @@ returns-in_err-piece_of c =
     let l = c.loop-u in
     let p = err_from_is_err_and c.from_residual.result c.from_residual.ensures.1 in
     rw (p.1, p.2) (err_then _ _ ∙ read l.rest.now c.in-Some.u l.f c.in-Some.ensures c.piece_of.result c.piece_of.ensures c.in_err-piece_of.was ∙ l.invariant.1)
-
-pub overflow_add-rest : goal.overflow_add-rest
-overflow_add-rest c = omega (arith, c.well_formed, c.loop-u.invariant.0, unit_within c.loop-u.rest.now c.in-Some.u c.loop-u.f c.in-Some.ensures)
 
 pub loop-u-preserved : goal.loop-u-preserved
 loop-u-preserved c =

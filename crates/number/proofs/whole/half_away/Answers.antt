@@ -1,45 +1,36 @@
 use Rattle.std.specs.Prelude.{if◌then◌else◌}
-use Rattle.std.proofs.Common.{◌≡◌, ℕ, ◌+◌, ◌/◌, Bool, true, ◌&&◌, T, sym, ap, ◌∙◌, subst}
-use lib.Ieee.{Float, le, of_bits, fits, binary64}
+use Rattle.std.proofs.Common.{◌≡◌, Bool, ◌&&◌, T, sym, ap, ◌∙◌, subst}
+use lib.Ieee.{le, of_bits, fits, binary64}
 use denote.Floats.{passes}
+use lib.Ieee.Fits.{and_l, and_r}
 use Rattle.definition.specs.Number.{half_away, zero_float}
-use Rattle.number.proofs.Doubled.{cap, halved, Halved}
+use Rattle.number.proofs.Nearest.{cap, contained, rounded, Cut}
+use Rattle.number.specs.Whole.{half_within}
 use Rattle.number.proofs.Rounded.{half_is}
 use Rattle.number.proofs.whole.half_away.Goals as goal
-use Rattle.number.proofs.whole.half_away.Goals.{else-x-via-then-x+else-x-2, else-x-via-else-x}
+use Rattle.number.proofs.whole.half_away.Goals.{After-contains, After-round}
 
-abbrev pick : Float → Bool → Bool → ℕ
-pick x a b = if a && b then half_away x else 0
+module _ (c : After-contains) where
+  inside : c.contains.result ≡ (le zero_float c.args.x && le c.args.x cap)
+  unfolding of_bits
+  inside = c.contains.ensures.value ∙ contained c.args.x c.new.ensures.start c.new.ensures.end c.new.ensures.exhausted
 
-both : (x : Float) → T (fits binary64 x) → le zero_float x ≡ true → le x cap ≡ true → Halved x
-both x f a b = halved x f (subst T (sym a) tt) (subst T (sym b) tt)
+  half : half_within c.args.x ≡ (if c.contains.result then half_away c.args.x else 0)
+  half = half_is c.args.x ∙ ap (λ (t : Bool). if t then half_away c.args.x else 0) (sym inside)
+
+cut : (c : After-round) → Cut c.round.result (half_away c.args.x)
+unfolding of_bits
+cut c =
+    let x = c.args.x in
+    let h : T (le zero_float x && le x cap) = subst T (sym c.if-contains.true ∙ inside (goal.at.truncating_f64_to_u64-requires c).After-contains) tt in
+    rw c.round.ensures (rounded x (passes (fits binary64 x) c.well_formed.0.1) (and_l (le zero_float x) (le x cap) h) (and_r (le zero_float x) (le x cap) h))
 
 pub truncating_f64_to_u64-requires : goal.truncating_f64_to_u64-requires
 unfolding of_bits
-truncating_f64_to_u64-requires c =
-    let h = both c.args.x (passes (fits binary64 c.args.x) c.well_formed.0.1) c.if-x.true c.if-x-2.true in
-    record { lower_bound = h.cuts.low; upper_bound = h.cuts.high }
+truncating_f64_to_u64-requires c = record { lower_bound = (cut c).low; upper_bound = (cut c).high }
 
-pub overflow_add-result : goal.overflow_add-result
-unfolding of_bits
-overflow_add-result c =
-    let h = both c.args.x (passes (fits binary64 c.args.x) c.well_formed.0.1) c.if-x.true c.if-x-2.true in
-    record { fits = rw (c.truncating_f64_to_u64.ensures ∙ h.cuts.is) h.fine }
-
-pub returns-then-x-2 : goal.returns-then-x-2
-unfolding of_bits
-returns-then-x-2 c =
-    let x = c.args.x in
-    let h = both x (passes (fits binary64 x) c.well_formed.0.1) c.if-x.true c.if-x-2.true in
-    ap (λ (n : ℕ). (n + 1) / 2) (c.truncating_f64_to_u64.ensures ∙ h.cuts.is)
-    ∙ h.is_half
-    ∙ sym (half_is x ∙ ap (λ (t : Bool). pick x t (le x cap)) c.if-x.true ∙ ap (λ (t : Bool). pick x true t) c.if-x-2.true)
+pub returns-then-contains : goal.returns-then-contains
+returns-then-contains c = c.truncating_f64_to_u64.ensures ∙ (cut (goal.at.returns-then-contains c).After-round).is ∙ sym (rw c.if-contains.true at (half (goal.at.returns-then-contains c).After-contains))
 
 pub returns : goal.returns
-unfolding of_bits
-returns c =
-    let x = c.args.x in
-    elim c.else-x.branch [
-      | else-x-via-then-x+else-x-2 w ↦ sym (half_is x ∙ ap (λ (t : Bool). pick x t (le x cap)) w.if-x.true ∙ ap (λ (t : Bool). pick x true t) w.if-x-2.false)
-      | else-x-via-else-x w ↦ sym (half_is x ∙ ap (λ (t : Bool). pick x t (le x cap)) w.if-x.false)
-    ]
+returns c = sym (rw c.if-contains.false at (half (goal.at.returns c).After-contains))

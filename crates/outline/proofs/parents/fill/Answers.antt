@@ -1,4 +1,4 @@
-use mathlib.Core.Path.{◌≡◌, refl, ◌∙◌, ap}
+use mathlib.Core.Path.{refl, ◌∙◌, ap}
 use mathlib.Core.Bool.{true}
 use Prim.Native.Nat.{◌+◌}
 use lib.ListN.{length, length-set}
@@ -14,10 +14,6 @@ pub loop-i-init : goal.loop-i-init
 loop-i-init c =
     let a = c.args in
     (omega arith, refl, pass_no (record_of true Activities) a.s.now a.p, λ xs next h e room. turn_none h a.work.now e)
-
-pub shape_of-work-then-q-gt7 : goal.shape_of-work-then-q-gt7
-shape_of-work-then-q-gt7 c =
-    ap length c.set_field.ensures ∙ length-set c.loop-i.work _ _ ∙ c.loop-i.invariant.1
 
 pub returns-then-q-gt7 : goal.returns-then-q-gt7
 returns-then-q-gt7 c =
@@ -41,16 +37,3 @@ loop-i-preserved c =
       pass_more (record_of true Activities) i c.loop-i.invariant.2 t.next,
       λ xs next h z room. rw e (turn_more h i (omega arith) (omega (arith, room, c.loop-i.invariant.1)) (c.loop-i.invariant.3 xs next h z room) t),
     )
-
-pub shape_of-work : goal.shape_of-work
-shape_of-work c = c.loop-i.invariant.1
-
-pub returns : goal.returns
-returns c =
-    let l = c.loop-i in
-    let e : l.i ≡ c.args.count = omega arith in
-    record {
-      long = l.invariant.1;
-      passes = rw e at l.invariant.2;
-      names = λ xs next h z room. rw e at (l.invariant.3 xs next h z room).names;
-    }

@@ -1,4 +1,8 @@
-use Rattle.definition.specs.Pack.{project}
+use Rattle.std.proofs.Common.{◌≡◌, subst}
+use Rattle.definition.specs.Pack.{project, counts, Counts}
+use Rattle.bits.specs.Steps.{Puts}
+use Rattle.read.specs.Sections.{start, zeros}
+use Rattle.pack.specs.Record.{counts_by}
 use Rattle.tree.specs.Root.{root_at}
 use Rattle.read.proofs.Chains.{whole_after, all_put}
 use Rattle.read.proofs.Tables.{tasks_made}
@@ -15,7 +19,9 @@ pub returns : goal.returns
 returns c =
     let a = c.args in
     let e = root_at a.root in
-    let x = c.put_counts-p.ensures in
+    let (k, (v, (l, (r, (t, w0))))) = c.default.ensures in
+    let none : counts_by c.default.result ≡ zeros = λ i. (k i, (v i, (l i, (r i, (t i, w0 i))))) in
+    let x = subst (λ (n : Counts). Puts counts n a.out.now start c.put_counts-p.new.out c.put_counts-p.result) none c.put_counts-p.ensures in
     let y = c.put_project-q.ensures in
     let z = c.put_sections.ensures in
     let w = whole_after project fills_counts x y in

@@ -1,16 +1,11 @@
-use mathlib.Core.Path.{◌∙◌}
 use Rattle.read.specs.Sections.{Few}
 use Rattle.tree.specs.Root.{root_at}
 use Rattle.read.proofs.Chains.{Fit, fit_tree, six_same, six_put, six_counted}
 use Rattle.read.proofs.Tables.{tasked_from, tasked_behind, links_written, activities_written}
 use Rattle.read.proofs.sections.put_sections.Goals as goal
-use Rattle.read.proofs.sections.put_sections.Goals.{After-next-1}
 
 pub put_assigned-d-requires : goal.put_assigned-d-requires
 put_assigned-d-requires c = tasked_behind (tasked_from c.requires c.end_of-behind.ensures c.put_calendars-a.ensures.clears) c.put_activities-b.ensures.1
-
-pub shape_of-words : goal.shape_of-words
-shape_of-words c = c.words-3-1.given ∙ c.words-2-1.given ∙ c.words-1.given
 
 pub returns : goal.returns
 returns c =
@@ -28,6 +23,3 @@ returns c =
       puts = λ few. six_put e w1 w2 w3 w4.resources_put w4.assignments_put w4.expenses_put (fit few) few;
       counts = λ few. six_counted e w1 w2 w3 w4.resources_put w4.assignments_put w4.expenses_put (fit few) few;
     }
-
-pub shape_of-out : goal.shape_of-out
-shape_of-out c = (returns (goal.at.shape_of-out c).After-next-1).same

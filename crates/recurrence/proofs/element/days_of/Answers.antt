@@ -35,14 +35,11 @@ returns-in_err-last c =
     subst⁻¹ (RangeRead x) c.from_residual-in_err-last.ensures
     (none_to x (meaning c.in_ok-p.p) (found_child x c.child.ensures c.in_ok-p.was) _ (from_is (goal.at.returns-in_err-last c).In_ok-first) (sym c.day_said-2.ensures ∙ c.in_err-last.was))
 
-pub at_count-requires : goal.at_count-requires
-at_count-requires c =
-    omega (arith, (field_in (meaning c.in_ok-p.p) "FromDate" _ (from_is (goal.at.at_count-requires c).In_ok-first)).high)
-
 pub returns : goal.returns
 unfolding date_in
 returns c =
     let x = meaning c.args.e in
     let n = c.min.ensures ∙ ap (λ (n : ℕ). min n 3660) c.saturating_sub.ensures in
-    subst⁻¹ (RangeRead x) (λ i. Some (record { first = dated _ _ c.at_count.ensures i; count = n i + 1 }))
+    let h = field_in (meaning c.in_ok-p.p) "FromDate" _ (from_is (goal.at.returns c).In_ok-first) in
+    subst⁻¹ (RangeRead x) (λ i. Some (record { first = dated c.at_count.ensures (omega (arith, h.high)) i; count = n i + 1 }))
     (range_read x (meaning c.in_ok-p.p) (found_child x c.child.ensures c.in_ok-p.was) _ (from_is (goal.at.returns c).In_ok-first) _ (sym c.day_said-2.ensures ∙ c.in_ok-last.was))

@@ -1,19 +1,17 @@
-use Rattle.recurrence.proofs.Items.{last_yes, last_no, last_end}
-use mathlib.Core.Path.{refl, sym, ◌∙◌}
+use Prim.Native.Nat.{◌-◌}
+use mathlib.Core.Path.{sym, ◌∙◌}
+use Rattle.std.proofs.Common.{rules, tests}
+use Rattle.std.proofs.lemmas.Iterator.Adapters.{option_map_id}
+use Rattle.std.proofs.lemmas.Iterator.Search.{find_from_yields_List}
 use lib.IntN.{pos}
 use Rattle.definition.specs.Recurrence.{item_fits}
+use Rattle.recurrence.proofs.Items.{yields_down, found_down}
 use Rattle.recurrence.proofs.position.last_fit.Goals as goal
 
-pub loop-d-init : goal.loop-d-init
-loop-d-init c = refl
-
-pub returns-then-item_fits : goal.returns-then-item_fits
-returns-then-item_fits c =
-    last_yes (item_fits (pos c.args.item)) c.args.first c.loop-d.d c.loop-d-test.true (sym c.item_fits.ensures ∙ c.if-item_fits.true) ∙ sym c.loop-d.invariant
-
-pub loop-d-preserved : goal.loop-d-preserved
-loop-d-preserved c =
-    c.loop-d.invariant ∙ last_no (item_fits (pos c.args.item)) c.args.first c.loop-d.d c.loop-d-test.true (sym c.item_fits.ensures ∙ c.if-item_fits.false)
-
 pub returns : goal.returns
-returns c = last_end (item_fits (pos c.args.item)) c.args.first c.loop-d.d c.loop-d-test.false ∙ sym c.loop-d.invariant
+returns c =
+    let a = c.args in
+    let p = item_fits (pos a.item) in
+    sym (option_map_id c.find.result)
+    ∙ find_from_yields_List p c.find.new.self _ c.find.result c.find.ensures.ran (yields_down c.rev.result a.first a.end c.rev.ensures.source) (λ x b q k. search (rules, tests))
+    ∙ found_down p a.first (a.end - a.first)

@@ -1,4 +1,3 @@
-use Prim.Native.Nat.{◌+◌, ◌-◌, ◌*◌}
 use mathlib.Core.Path.{ap}
 use native.Mathlib.Omega.{arith}
 use Rattle.laws.specs.Calendar.{is_day_lem}
@@ -19,7 +18,3 @@ pub overflow_add-result : goal.overflow_add-result
 overflow_add-result c =
     let i = is_day_lem c.args.d in
     omega (arith, ap (λ (v : Month). v.year) c.month_on-c.ensures, ap (λ (v : Month). v.month) c.month_on-c.ensures, year_last c.args.d c.requires.high, i.high)
-
-pub returns : goal.returns
-returns c =
-    ap (λ (v : Month). v.year * 12 + (v.month - 1)) c.month_on-c.ensures

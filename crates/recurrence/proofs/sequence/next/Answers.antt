@@ -1,4 +1,6 @@
-use Prim.Native.Nat.{◌-◌}
+use Rattle.std.proofs.Common.{rules, tests}
+use Prim.Native.Nat.{◌-◌, ◌<◌}
+use native.Mathlib.Omega.{arith}
 use mathlib.Core.Path.{◌≡◌, ap, sym, subst, subst⁻¹, ◌∙◌}
 use mathlib.Core.Bool.{true}
 use Rattle.definition.specs.declared.Date.{Date}
@@ -31,6 +33,7 @@ returns c =
     let x = c.in-Some-day_from.x in
     let r = c.args.r in
     let n = c.args.c.left - 1 in
-    subst⁻¹ (λ (d : Date). Right r c.args.c (Day d (record { at = c.at_count.result; left = n }))) (dated _ _ c.at_count-2.ensures)
-    (subst⁻¹ (λ (d : Date). Right r c.args.c (Day (day_date x) (record { at = d; left = n }))) (dated _ _ c.at_count.ensures)
+    let low : x < 7304850 = search (rules, tests) in
+    subst⁻¹ (λ (d : Date). Right r c.args.c (Day d (record { at = c.at_count.result; left = n }))) (dated c.at_count-2.ensures (omega (arith, low)))
+    (subst⁻¹ (λ (d : Date). Right r c.args.c (Day (day_date x) (record { at = d; left = n }))) (dated c.at_count.ensures (omega (arith, low)))
     (day_next r c.args.c (sounds (goal.at.returns c).Else-not-is_sound) c.kind_of.ensures c.in-Some.is x (subst (λ (t : Scaled). Comes t c.args.c x) c.to_scale-t.ensures c.in-Some-day_from.ensures)))

@@ -1,4 +1,4 @@
-use Rattle.std.proofs.Common.{arith, ◌+◌}
+use Rattle.std.proofs.Common.{◌+◌}
 use Rattle.definition.specs.Ascii.{bytes}
 use Rattle.tree.specs.Root.{root_at, in_calendars}
 use Rattle.rows.specs.Turns.{picks_same, past_all}
@@ -15,10 +15,3 @@ returns-clause-there c =
     let root = c.args.root in
     let first = rw c.part.ensures at c.first_which.ensures in
     c.or_derived.ensures.there (past_all root.tree.now (root.calendars + 1) c.first_which.result first.there)
-
-pub returns-clause-few : goal.returns-clause-few
-returns-clause-few c =
-    let root = c.args.root in
-    let first = rw c.part.ensures at c.first_which.ensures in
-    let few = c.or_derived.ensures.few root.tree.now (root.calendars + 1) first.there in
-    omega (arith, few)

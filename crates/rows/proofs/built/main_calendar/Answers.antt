@@ -4,7 +4,7 @@ use Rattle.definition.specs.Base.{◌or_else◌, first, numbered}
 use Rattle.definition.specs.Tree.{Element}
 use Rattle.tree.specs.Root.{root_at}
 use Rattle.rows.specs.Rows.{main_in, in_order, calendar_meaning}
-use Rattle.rows.proofs.Walking.{or_first_row, or_there}
+use Rattle.rows.proofs.Walking.{or_first_row}
 use Rattle.rows.proofs.built.main_calendar.Goals as goal
 
 pub returns-clause-is : goal.returns-clause-is
@@ -15,6 +15,3 @@ returns-clause-is c =
     rw c.or.ensures (or_first_row c.named_calendar.result c.first_row.result)
     ∙ ap (λ (o : Option (ℕ × Element)). calendar_meaning c.named_calendar.result or_else o) c.first_row.ensures.is
     ∙ ap (λ (o : Option (ℕ × Element)). o or_else first_one) c.named_calendar.ensures.is
-
-pub returns-clause-there : goal.returns-clause-there
-returns-clause-there c = rw c.or.ensures (or_there c.args.root.tree.now c.named_calendar.result c.first_row.result c.named_calendar.ensures.there c.first_row.ensures.there)

@@ -11,6 +11,3 @@ returns-clause-is c =
 
 pub returns-clause-there : goal.returns-clause-there
 returns-clause-there c = kept_there (rw c.part.ensures at c.child.ensures) c.kept_from.ensures
-
-pub returns-clause-few : goal.returns-clause-few
-returns-clause-few c = c.kept_from.ensures.few

@@ -1,19 +1,13 @@
 use Rattle.std.proofs.Common.{sym, ◌∙◌, arith}
 use Rattle.rows.specs.Turns.{list_less}
-use Rattle.rows.proofs.Walking.{tasks_all, tasks_later, kept_none, kept_out, kept_here}
+use Rattle.rows.proofs.Walking.{tasks_later, kept_none, kept_out, kept_here}
 use Rattle.rows.proofs.kept.kept_from.Goals as goal
-
-pub loop-next-init : goal.loop-next-init
-loop-next-init c = tasks_all _ _
 
 pub returns : goal.returns
 returns c = kept_none _ c.loop-next.invariant c.in_default.is
 
 pub returns-then-left-eq0 : goal.returns-then-left-eq0
 returns-then-left-eq0 c = kept_out _ c.loop-next.invariant c.if-left-eq0.true
-
-pub overflow_sub-left : goal.overflow_sub-left
-overflow_sub-left c = omega (arith, c.if-left-eq0.false)
 
 pub returns-then-is_kept : goal.returns-then-is_kept
 returns-then-is_kept c =

@@ -20,6 +20,3 @@ loop-e-preserved c =
 pub returns-clause-is : goal.returns-clause-is
 returns-clause-is c =
     last_end c.loop-e.invariant.0 c.in-None.ensures.steps.0 ∙ ap (find_last (has_uid c.args.uid.now)) (ap (λ (k : ListElements). elements_left k) c.into_iter-e-iterator.ensures.into_iter_gives ∙ c.elements-e-items.ensures.is)
-
-pub returns-clause-there : goal.returns-clause-there
-returns-clause-there c = c.loop-e.invariant.2

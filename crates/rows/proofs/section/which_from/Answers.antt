@@ -1,10 +1,7 @@
 use Rattle.std.proofs.Common.{sym, ◌∙◌}
 use Rattle.rows.specs.Turns.{list_less}
-use Rattle.rows.proofs.Walking.{left_all, left_later, picks_none, picks_here}
+use Rattle.rows.proofs.Walking.{left_later, picks_none, picks_here}
 use Rattle.rows.proofs.section.which_from.Goals as goal
-
-pub loop-next-init : goal.loop-next-init
-loop-next-init g c = left_all
 
 pub returns : goal.returns
 returns g c = picks_none c.loop-next.invariant c.in_default.is

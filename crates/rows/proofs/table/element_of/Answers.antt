@@ -1,4 +1,3 @@
-use Rattle.std.proofs.Common.{refl}
 use Rattle.rows.specs.Rows.{found_meaning}
 use Rattle.rows.proofs.table.element_of.Goals as goal
 
@@ -9,6 +8,3 @@ returns-in_err-row-clause-is c = rw (c.from_residual.ensures, c.in_err-row.was)
 pub returns-clause-is : goal.returns-clause-is
 unfolding found_meaning
 returns-clause-is c = rw (c.in_ok-row.was, c.part.ensures, c.place.ensures)
-
-pub returns-clause-there : goal.returns-clause-there
-returns-clause-there c = rw c.part.ensures refl

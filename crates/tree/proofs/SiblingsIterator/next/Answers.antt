@@ -1,10 +1,7 @@
-use Rattle.std.proofs.Common.{arith, length, refl, sym, ap, ◌∙◌}
+use Rattle.std.proofs.Common.{arith, length, sym, ap, ◌∙◌}
 use lib.Arith.{lt_of_le-ne}
 use Rattle.tree.proofs.Rows.{name_whole, row_cut, row_end, row_here, row_later, row_under}
 use Rattle.tree.proofs.SiblingsIterator.next.Goals as goal
-
-pub loop-h-init : goal.loop-h-init
-loop-h-init c = (refl, refl, omega arith)
 
 pub returns-then-h-self-clause-steps : goal.returns-then-h-self-clause-steps
 returns-then-h-self-clause-steps c = let e = row_end _ _ _ c.in-Some.ensures c.if-h-self.true in (c.loop-h.invariant.0 ∙ e, e)
@@ -26,9 +23,6 @@ pub returns-then-h-self-2-clause-goes : goal.returns-then-h-self-2-clause-goes
 returns-then-h-self-2-clause-goes c =
     let e = ap length (c.loop-h.invariant.0 ∙ row_here _ _ _ c.in-Some.ensures c.if-h-self-2.true) in
     record { on = λ f. (tt, f, omega (arith, e)); keeps = tt; rests = λ f. tt }
-
-pub loop-h-smaller : goal.loop-h-smaller
-loop-h-smaller c = omega (arith, c.skip-self.ensures, c.in-Some.ensures)
 
 pub loop-h-preserved : goal.loop-h-preserved
 loop-h-preserved c =

@@ -1,5 +1,5 @@
 use Rattle.std.proofs.Common.{length, refl, ap, arith}
-use Rattle.calendar_days.proofs.RuleDays.{none_left, day_left, done_left}
+use Rattle.calendar_days.proofs.RuleDays.{none_left, day_left, done_left, year_left}
 use Rattle.calendar_days.proofs.exceptions.DaysIterator.next.Goals as goal
 use Rattle.std.specs.Prelude.{Some}
 
@@ -18,3 +18,7 @@ pub returns-in-Done-clause-steps : goal.returns-in-Done-clause-steps
 returns-in-Done-clause-steps c =
     let e = done_left c.args.self.now c.in_ok-rule.was c.next.ensures c.in-Done.is in
     (e, e)
+
+pub invariant_of-result : goal.invariant_of-result
+invariant_of-result c =
+    record { in_years = year_left c.args.self.now (day_left c.args.self.now c.in_ok-rule.was c.next.ensures (record { left = Some (c.in_ok-rule.rule, c.in-Day.after) }) c.in-Day.is refl) }

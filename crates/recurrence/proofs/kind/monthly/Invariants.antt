@@ -1,8 +1,0 @@
-use Rattle.recurrence.specs.Kind.{monthly_fits}
-use Rattle.recurrence.specs.Scale.{month_at}
-use Rattle.recurrence.proofs.Fits.{step_month}
-use Rattle.recurrence.proofs.Units.{Passed}
-use Rattle.recurrence.proofs.kind.monthly.Given as goal
-
-abbrev pub invariant-loop-q : goal.invariant-loop-q
-invariant-loop-q g l = Passed (monthly_fits g.C.Candidate.positioned l.r) month_at l.at (step_month l.r l.q)
