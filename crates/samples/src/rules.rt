@@ -27,7 +27,8 @@ fn with_day(check: u64, day: u64) -> u64 {
     (check % 4294967296 * 31 + day % 4294967296) % 4294967291
 }
 
-// No rule has more than 5,000 days; one turn more would find another. A loop: a step is a value of recurrence, which has no iterator, and a skip is no end.
+// No rule has more than 5,000 days; one turn more would find another. A loop over `next`: recurrence's
+// `days` ends alike where no day is left and where it is no rule, which are told apart here.
 fn sum_of(r: Rule) -> Sum {
     let mut cursor = recurrence::start(r);
     let mut t = Sum { days: 0, check: 0 };
