@@ -1,7 +1,7 @@
 #!/usr/bin/env bash
 # The counts of docs/DESIGN-PASS.md. usage: docs/design/counts.sh [CHECKOUT]
+here=$(cd "$(dirname "${BASH_SOURCE[0]}")" && pwd)
 cd "${1:-.}" || exit 1
-here=$(cd "$(dirname "${BASH_SOURCE[0]}")" 2>/dev/null && pwd)
 n() { printf '%6s  %s\n' "$2" "$1"; }
 r() { grep -rnE "$1" crates/*/src --include=*.rt; }
 n "1 own enums" "$(r '^(pub(\([a-z]+\))? )?enum ' | wc -l)"
@@ -24,5 +24,5 @@ n "7 match on a kind" "$(r '\bmatch (kind|which|list|sort|k|n|w|item)\b' | wc -l
 n "7 if on a flag" "$(r '^\s*if !?(extra|old|check|hours|positioned|elapsed|whole_day|keep|minus|by_count)\b' | wc -l)"
 n "8 files of proofs/" "$(find crates/*/proofs -name '*.antt' | wc -l)"
 n "8 lines of proofs/" "$(cat $(find crates/*/proofs -name '*.antt') | wc -l)"
-p="python3 ${here:-docs/design}/places.py"
+p="python3 $here/places.py"
 $p apart . | tail -1; $p twins . | grep groups; $p casts . | tail -1; $p groups . | tail -1; $p params . | tail -1; $p switches . | tail -1

@@ -2,14 +2,14 @@
 use Rattle.std.specs.Prelude.{if◌then◌else◌}
 use Rattle.index.specs.declared.Table.{Table}
 use Prim.Native.Nat.{ℕ}
-use mathlib.Core.Path.{◌≡◌, refl, ap, ◌∙◌}
+use mathlib.Core.Path.{◌≡◌, refl, sym, ap, ◌∙◌}
 use mathlib.Core.Bool.{Bool, true, false, not}
 use mathlib.Core.List.{List, []}
 use Rattle.std.specs.Prelude.{Option, Some, None}
 use lib.Dec.{eqb}
 use lib.ListN.{length}
 use Rattle.definition.specs.Ascii.{bytes}
-use Rattle.std.specs.Option.{unwrap_or}
+use Rattle.std.specs.Option.{unwrap_or, option_map}
 use Rattle.definition.specs.Base.{◌>>=◌, ◌or◌, when, same, within}
 use Rattle.definition.specs.Calendar.{name_of, free}
 use Rattle.definition.specs.Date.{Date}
@@ -47,6 +47,18 @@ calendar_found {x} {s} {k} {w} f false t = go (text_in t "CalendarUID")
     go : (o : Option Text) → (o >>= λ u. when (not (same u (bytes "-1"))) u >>= named_in x s w k) ≡ (o >>= λ u. when (not (same u (bytes "-1"))) u >>= name_of x.built) >>= unless_main x
     go None = refl
     go (Some u) = own (not (same u (bytes "-1"))) u
+
+-- what a text leads to that is there and is kept
+pub kept_text : {A : Type 0} (now : A → Text) (t : Text → Bool) (f : Text → Option Text) (o : Option A) {p : Option Text} → option_map now o ≡ p → {v : A} → (o >>= λ u. when (t (now u)) u) ≡ Some v → f (now v) ≡ (p >>= λ u. when (t u) u >>= f)
+kept_text {A} now t f o e h = ap (λ o. o >>= λ u. f (now u)) (sym h) ∙ rw (← e) (go o)
+  where
+    own : (b : Bool) (u : A) → (when b u >>= λ u. f (now u)) ≡ (when b (now u) >>= f)
+    own true u = refl
+    own false u = refl
+
+    go : (o : Option A) → ((o >>= λ u. when (t (now u)) u) >>= λ u. f (now u)) ≡ (option_map now o >>= λ u. when (t u) u >>= f)
+    go None = refl
+    go (Some u) = own (t (now u)) u
 
 -- ---- a number that may be missing
 

@@ -41,7 +41,8 @@ fn put_tasks(out: &mut [u8], words: &mut [u32], section: Section<'_>) -> Records
 }
 
 // The calendars stand at c in the same buffer, before p; their names are read there. Where they do not, nothing is written. The words behind the
-// table of the kept tasks are used, and cleared. Resources begin with the like test: to share it would lend the buffer and the words through a closure.
+// table of the kept tasks are used, and cleared. Resources begin with the like test, and calendars with one of their
+// own: to share it would lend the buffer and the words through a closure.
 pub fn put_activities(
     out: &mut [u8],
     p: Place,

@@ -49,7 +49,8 @@ fn climb(tree: &[u8], words: &[u32], first: usize, row: u32, level: u64) -> u32
     0
 }
 
-// The parent of the task, which has the row; noted where there are words for the row.
+// The parent of the task, which has the row; noted where there are words for the row. One way writes the words, the other needs the tree alone: an
+// `if`, as the `match` in `row_with` of rows.
 pub(crate) fn parent_of(
     root: Root<'_>,
     task: Element<'_>,

@@ -21,7 +21,7 @@ use crate::parents::parent_of;
 use crate::value::{calendar_for, dates_of, day_of, plan_of, progress_of, wanted_id};
 use bits::Place;
 use links::TaskFinder;
-use model::records::{Activities, Kind};
+use model::records::Kind;
 use pack::{Activity, Plan, Starred};
 use tree::Element;
 
@@ -63,7 +63,16 @@ pub(crate) fn put_row(
     let calendar = calendar_for(out, words, section, task, elapsed);
     let parent = parent_of(section.root, task, words, section.own.columns, row);
     let text = wanted_id(task);
-    let stars = names::stars_for::<Activities>(out, section.start, p, words, ids, row, text);
+    let stars = names::stars_for(
+        out,
+        Kind::Activities,
+        section.start,
+        p,
+        words,
+        ids,
+        row,
+        text,
+    );
     names::note_stars(words, ids, row, text, stars, p);
     let find = TaskFinder {
         root: section.root,

@@ -41,8 +41,10 @@ pub(crate) fn calendar_for<'a>(
         let name = names::elapsed_in(out, c, root, words, table);
         return Starred::named(names::ELAPSED, name);
     }
+    // By text::same: of `!=` in this closure the check does not get to the definition's word.
     let uid = fields::text_in(task, b"CalendarUID").filter(|u| !text::same(u, b"-1"))?;
-    names::calendar_in(out, c, root, words, table, uid)
+    let name = names::calendar_in(out, c, root, words, table, uid)?;
+    Some(name.starred())
 }
 
 // ---- what an activity is

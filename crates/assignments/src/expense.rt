@@ -30,7 +30,8 @@ struct Used {
     made: Option<Table>,
 }
 
-// What tells expenses apart: the activity's row and the name. No PartialEq: the other one is bits in the lent buffer.
+// What tells expenses apart: the activity's row and the name. No PartialEq: the other one is bits in the lent buffer. model_check has keys of its own, in a
+// model that was opened: neither crate uses the other.
 #[derive(Clone, Copy)]
 struct Key<'a> {
     activity: u32,
@@ -45,8 +46,7 @@ impl<'a> Key<'a> {
         ensures { result ≡ is_expense_at out.now p self.entry.activity self.entry.name.now }
     {
         let row = bits::take(out, p, 32);
-        u64::from(self.activity) == row.value
-            && text::same(self.name, names::raw_text(out, row.next))
+        u64::from(self.activity) == row.value && self.name == names::raw_text(out, row.next)
     }
 
     // Whether one of so many from a place on has it, where they stand there. No walk for this and names' `taken`: the test would be a closure that reads the
@@ -56,7 +56,7 @@ impl<'a> Key<'a> {
     {
         let mut q = p;
         for _ in 0..count {
-            let next = model::records::skip_record::<false>(out, q, Kind::Expenses);
+            let next = model::records::skip_record(out, q, Kind::Expenses, false);
             if self.is_at(out, q) {
                 return true;
             }

@@ -19,15 +19,16 @@ ghost use Rattle.assignments.specs.Resources.{wanted_id, resource_with, section_
 use crate::section::Done;
 use bits::{PAST, Place};
 use index::Table;
-use model::records::Resources;
+use model::records::Kind;
 use names::Ids;
 use pack::{Records, Resource, Starred};
 use rows::Listed;
-use tree::{Element, Root};
+use tree::{Element, MOST_ELEMENTS, Root};
 
 // ---- what a Resource says
 
-// Its ID, else its UID, which is looked up in any case, as in activities.
+// Its ID, else its UID, which is looked up in any case, as in activities. A function over a list of names, which would serve activities' three as well,
+// would be a loop for one line.
 fn wanted_id(e: Element<'_>) -> &[u8]
     ensures { result.now ≡ wanted_id (meaning e.entry) }
 {
@@ -70,14 +71,15 @@ impl<'a> Section<'a> {
         ensures { given_by starred result ≡ bind (text_in (meaning e.entry) "CalendarUID") (section_names self.entry out.now words.now) }
     {
         let uid = fields::text_in(e, b"CalendarUID")?;
-        names::calendar_in(
+        let name = names::calendar_in(
             out,
             self.calendars,
             self.root,
             words,
             self.calendar_names,
             uid,
-        )
+        )?;
+        Some(name.starred())
     }
 
     // One more.
@@ -87,7 +89,16 @@ impl<'a> Section<'a> {
         let id = wanted_id(e);
         let row = done.row();
         let p = done.next;
-        let stars = names::stars_for::<Resources>(out, self.start, p, words, self.ids, row, id);
+        let stars = names::stars_for(
+            out,
+            Kind::Resources,
+            self.start,
+            p,
+            words,
+            self.ids,
+            row,
+            id,
+        );
         let calendar = self.calendar_of(out, words, e);
         let next = resource_of(e, stars, calendar).put(out, p);
         names::note_stars(words, self.ids, row, id, stars, p);
@@ -120,7 +131,7 @@ fn put_all(
     ensures { WritesIf (nat_le (length (work_resources (root_at root.entry))) most_elements && calendars_before out.old c (root_at root.entry) p) (whole resource) (resources_of (context_at out.old c (root_at root.entry)) (root_at root.entry)) out.old p out.new result × (cleared at words.new ≡ cleared at words.old) }
 {
     let n = rows::elements(root, Listed::Work).count();
-    if 5_000_000 < n || !names::calendars_before(out, c, root, p) {
+    if MOST_ELEMENTS < n || !names::calendars_before(out, c, root, p) {
         return Records::none(PAST);
     }
     let calendars = names::index_calendars(out, c, root, words, at);

@@ -21,7 +21,7 @@ pub fn inside(n: usize, p: Place) -> bool
     room(n, p, 0)
 }
 
-// Whether a place is not behind another.
+// Whether a place is not behind another, by the derived order of places whose bits are below 8; names has one for any bits, which no order tells.
 fn up_to(p: Place, q: Place) -> bool
     requires { q.bit < 8 }
     ensures { result ≡ up_to p q }
@@ -65,7 +65,8 @@ pub(crate) fn place_after(p: Place, k: usize) -> Place
     }
 }
 
-// How many bits stand from a place to another, 64 at most.
+// How many bits stand from a place to another, 64 at most. Two parameters: one of the places moves at each turn of a loop, so that a struct of both
+// would be made anew for it.
 pub(crate) fn run_length(a: Place, e: Place) -> usize
     requires { (a.bit < 8) × (e.bit < 8) × (at a ≤ at e) }
     ensures { (result ≤ 64) × (at a + result ≤ at e) × (result ≡ 0 → at e ≡ at a) }

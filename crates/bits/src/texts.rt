@@ -31,7 +31,8 @@ fn copy_bytes(out: &mut [u8], p: Place, s: &[u8]) -> Place
     Place { byte: end, bit: 0 }
 }
 
-// Puts bytes one after another, as fields of 8 bits.
+// Puts bytes one after another, as fields of 8 bits. pack's put_stars does so with one byte many times: a fold for both would have the lent buffer in its
+// closure.
 fn put_each(out: &mut [u8], p: Place, s: &[u8]) -> Place
     ensures { Step out.old p (λ b. b ▷ bits_of s.now) out.new result }
 {

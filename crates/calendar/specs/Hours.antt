@@ -1,7 +1,6 @@
--- What a working time means. Assumes nothing.
+-- The hours of a working time. Assumes nothing.
 use Rattle.std.specs.Prelude.{if◌then◌else◌, ◌≡◌, ℕ, ◌==◌, nat_lt, refl}
-use Rattle.calendar.specs.declared.hours.WorkingTime.{WorkingTime}
-use Rattle.std.specs.Prelude.{Option, Some, None}
+use Rattle.std.specs.Prelude.{Option}
 use Rattle.definition.specs.Base.{◌>>=◌, when}
 use Rattle.definition.specs.Ascii.{bytes}
 use Rattle.definition.specs.Format.{Period}
@@ -9,10 +8,6 @@ use Rattle.definition.specs.Time.{time_of}
 use Rattle.definition.specs.Text.{Text}
 use Rattle.definition.specs.Tree.{Element, text_of}
 use Rattle.definition.specs.Calendar.{working_time}
-
-unfoldable pub working_meaning : Option WorkingTime → Option Period
-working_meaning (Some t) = Some (t.from, t.to)
-working_meaning None = None
 
 -- the time in a child whose name is given by its bytes
 abbrev pub time_said : Element → Text → Option ℕ

@@ -22,7 +22,7 @@ fn without_rule(e: Element<'_>) -> u32
     ensures { result ≡ without_rule (all (meaning e.entry) (bytes "Exception")) % 2 ^ 32 }
 {
     let n = e.children(b"Exception").filter(|x| has_no_rule(*x)).count();
-    // Below 2 ^ 32.
+    // Below 2 ^ 32: try_from would have a case for what never is.
     (n % 4294967296) as u32
 }
 

@@ -1,18 +1,15 @@
 // The hours of a WorkingTime. What is right is said in the crate definition, specs/Calendar.antt.
 ghost use Rattle.std.specs.Prelude.{if◌then◌else◌, ◌≡◌, nat_eq};
+ghost use Rattle.definition.specs.Answer.{period_meaning};
 ghost use Rattle.definition.specs.Calendar.{working_time};
 ghost use Rattle.tree.specs.Place.{meaning};
-ghost use Rattle.calendar.specs.Hours.{working_meaning, time_said, time_by};
+ghost use Rattle.calendar.specs.Hours.{time_said, time_by};
 
+use definition::Period;
 use tree::Element;
 
-// Minutes of a day, from below to. The crate model has a Period of this shape; this crate, which reads a tree, uses nothing of model, and would come
-// to stand on it for two fields.
-#[derive(Clone, Copy)]
-pub struct WorkingTime {
-    pub from: u16,
-    pub to: u16,
-}
+// What a WorkingTime says, under the name that a plan has for it.
+pub type WorkingTime = Period;
 
 // As the readers of `fields`.
 fn time_in(e: Element<'_>, name: &[u8]) -> Option<u16>
@@ -31,21 +28,21 @@ fn end_of(t: u16) -> u16
     t
 }
 
-fn time_by(from: Option<u16>, until: Option<u16>) -> Option<WorkingTime>
-    ensures { working_meaning result ≡ time_by from until }
+fn time_by(from: Option<u16>, until: Option<u16>) -> Option<Period>
+    ensures { period_meaning result ≡ time_by from until }
 {
     let from = from?;
     let until = until?;
     let to = end_of(until);
     if from < to {
-        return Some(WorkingTime { from, to });
+        return Some(Period { from, to });
     }
     None
 }
 
 // FromTime to ToTime.
-pub fn working_time(e: Element<'_>) -> Option<WorkingTime>
-    ensures { working_meaning result ≡ working_time (meaning e.entry) }
+pub fn working_time(e: Element<'_>) -> Option<Period>
+    ensures { period_meaning result ≡ working_time (meaning e.entry) }
 {
     let from = time_in(e, b"FromTime");
     time_by(from, time_in(e, b"ToTime"))

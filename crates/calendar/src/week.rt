@@ -65,10 +65,7 @@ fn low(w: u32, n: u32) -> u32
 fn flag_at(week: u32, k: u32) -> bool
     ensures { result ≡ slice_index_or (flags_in week) k false }
 {
-    if 6 < k {
-        return false;
-    }
-    (week >> (6 - k)) & 1 == 1
+    k <= 6 && (week >> (6 - k)) & 1 == 1
 }
 
 // The bit above the n low ones replaced: by the parts above and below it, as masks would be no plainer.

@@ -2,8 +2,8 @@
 use Rattle.std.proofs.Common.{◌||◌, ◌≡◌, ℕ, zero, suc, ◌+◌, ◌≤◌, Bool, true, false, not, eqb, List, [], ◌∷◌, ◌++◌, length, map, take, drop, length-drop, sym, refl, ap, ◌∙◌, append-nil, arith}
 use Rattle.recurrence.specs.declared.Range.{Range}
 use Rattle.recurrence.specs.declared.Rule.{Rule}
-use Rattle.calendar.specs.declared.hours.WorkingTime.{WorkingTime}
-use Rattle.calendar.specs.Hours.{working_meaning}
+use Rattle.definition.specs.declared.Period.{Period as PeriodAt}
+use Rattle.definition.specs.Answer.{period_meaning}
 use Rattle.std.specs.Prelude.{Option, None, Some, is_some, MatchOption, slice_get}
 use Rattle.std.specs.Option.{option_map}
 use Rattle.std.proofs.lemmas.List.{length-append, length-map}
@@ -136,8 +136,8 @@ pub hours_some : (e : Element) {c : Element} → child e (bytes "WorkingTimes") 
 unfolding times_in some?
 hours_some e h = sym (ap times_in h) ∙ names_hours e
 
-pub given_some : (o : Option WorkingTime) → given (working_meaning o) ≡ is_some o
-unfolding working_meaning
+pub given_some : (o : Option PeriodAt) → given (period_meaning o) ≡ is_some o
+unfolding period_meaning
 given_some None = refl
 given_some (Some t) = refl
 

@@ -55,9 +55,9 @@ impl Lists {
 pub(crate) fn base_at(s: &[u8], from: Place, p: Place) -> Option<Lists>
     ensures { BaseLists result s.now p (lists_at s.now from p) }
 {
-    let extra = model::lists::skip_dates(s, from);
-    let exceptions = model::lists::skip_dates(s, extra);
-    let end = model::lists::skip_days(s, exceptions);
+    let extra = model::lists::skip_days(s, from, false);
+    let exceptions = model::lists::skip_days(s, extra, false);
+    let end = model::lists::skip_days(s, exceptions, true);
     if !bits::inside(s.len(), end) || p < end {
         return None;
     }

@@ -11,7 +11,6 @@ ghost use Rattle.calendar_days.specs.Exceptions.{placed, item_of, items_of, item
 
 use crate::span::YearDate;
 use crate::wanted::Wanted;
-use definition::Date;
 use recurrence::{Cursor, Range, Rule, Step};
 use tree::Element;
 
@@ -107,7 +106,7 @@ fn daily(r: Range) -> Rule
     Rule {
         kind: DAILY,
         from,
-        last: Date(2932896), // 31 December 9999
+        last: date::at_count(date::LAST),
         most: r.count,
         period: 1,
         month: None,

@@ -11,7 +11,7 @@ use Rattle.definition.specs.Ascii.{bytes}
 use Rattle.laws.specs.Buf.{◌▷◌}
 use Rattle.bits.specs.Steps.{Puts, view, said, field_step, put_same, put_via, put_no, put_more, put_list}
 use Rattle.bits.specs.declared.Place.{Place}
-use Rattle.calendar.specs.declared.hours.WorkingTime.{WorkingTime}
+use Rattle.definition.specs.declared.Period.{Period as PeriodAt}
 use Rattle.calendar.specs.Week.{flags_in}
 use Rattle.calendar_days.proofs.Inserts.{put_empty}
 use Rattle.calendars.specs.Plain.{hours_each}
@@ -61,10 +61,10 @@ module _ {d d1 : List ℕ} {p p1 : Place} where
   unfolding dates
   no_dates x = put_empty ltb date x
 
-  pub no_hours : {o : Option WorkingTime} → o ≡ None → Puts count 0 d p d1 p1 → Puts periods (hours_each o) d p d1 p1
+  pub no_hours : {o : Option PeriodAt} → o ≡ None → Puts count 0 d p d1 p1 → Puts periods (hours_each o) d p d1 p1
   unfolding periods
   no_hours e x = put_same (ap hours_each (sym e)) (put_empty earlier period x)
 
-  pub day_hours_lem : {o : Option WorkingTime} {t : WorkingTime} {d2 : List ℕ} {p2 : Place} → o ≡ Some t → Puts count 1 d p d1 p1 → Puts period (t.from, t.to) d1 p1 d2 p2 → Puts periods (hours_each o) d p d2 p2
+  pub day_hours_lem : {o : Option PeriodAt} {t : PeriodAt} {d2 : List ℕ} {p2 : Place} → o ≡ Some t → Puts count 1 d p d1 p1 → Puts period (t.from, t.to) d1 p1 d2 p2 → Puts periods (hours_each o) d p d2 p2
   unfolding periods
   day_hours_lem e x y = put_same (ap hours_each (sym e)) (put_list 1 earlier period x (put_more 1 (put_no 1 period d1 p1) y))

@@ -17,10 +17,10 @@ use crate::record::Entry;
 use bits::{PAST, Place};
 use index::Table;
 use model::parts::CalendarPlaces;
-use model::records::Calendars;
+use model::records::Kind;
 use names::Ids;
 use pack::Records;
-use tree::{Element, Root};
+use tree::{Element, MOST_ELEMENTS, Root};
 
 // ---- the section
 
@@ -44,7 +44,15 @@ impl Section<'_> {
         if count <= row {
             return None;
         }
-        let p = names::place_in::<Calendars>(out, self.start, words, self.ids, count, row);
+        let p = names::place_in(
+            out,
+            Kind::Calendars,
+            self.start,
+            words,
+            self.ids,
+            count,
+            row,
+        );
         Some(model::parts::calendar_places(out, p))
     }
 
@@ -73,7 +81,16 @@ impl Section<'_> {
         let count = done.count;
         let p = done.next;
         let name = names::calendar_text(e);
-        let stars = names::stars_for::<Calendars>(out, self.start, p, words, self.ids, count, name);
+        let stars = names::stars_for(
+            out,
+            Kind::Calendars,
+            self.start,
+            p,
+            words,
+            self.ids,
+            count,
+            name,
+        );
         let entry = Entry {
             calendar: e,
             base: self.base_of(out, words, count, e),
@@ -139,11 +156,11 @@ fn turn(out: &mut [u8], start: Place, row: usize)
     ensures { Turns row start out.old out.new }
 {
     // No row is as high, since no calendars are put then; so row + 1 is one too.
-    if 5_000_000 <= row {
+    if MOST_ELEMENTS <= row {
         return;
     }
-    let m = names::place_of_row::<Calendars>(out, start, row);
-    let e = names::place_of_row::<Calendars>(out, start, row + 1);
+    let m = names::place_of_row(out, start, Kind::Calendars, row);
+    let e = names::place_of_row(out, start, Kind::Calendars, row + 1);
     bits::rotate(out, start, m, e);
 }
 
@@ -180,7 +197,7 @@ pub fn put_calendars(
     // For proofs alone: says that a tree is bytes.
     rows::are_bytes(root.tree);
     let n = names::count_calendars(root);
-    if 5_000_000 < n || p.bit % 8 != 0 {
+    if MOST_ELEMENTS < n || p.bit % 8 != 0 {
         bits::fill_from(words, at, 0);
         return Records::none(PAST);
     }

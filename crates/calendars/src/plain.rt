@@ -8,7 +8,7 @@ ghost use Rattle.calendar.specs.Week.{flags_in};
 ghost use Rattle.calendars.specs.Plain.{hours_each};
 
 use bits::Place;
-use calendar::WorkingTime;
+use definition::Period;
 use pack::put_count;
 
 // Weeks as their seven bits, Monday first.
@@ -16,7 +16,7 @@ pub(crate) const WORKDAYS: u32 = 0b1111100;
 
 pub(crate) const EVERY_DAY: u32 = 0b1111111;
 
-pub(crate) const WHOLE_DAY: WorkingTime = WorkingTime { from: 0, to: 1440 };
+pub(crate) const WHOLE_DAY: Period = Period { from: 0, to: 1440 };
 
 // The seven low bits of a number, Monday first. A name for the width and its contract, as pack's put_count.
 pub(crate) fn put_week(out: &mut [u8], p: Place, week: u32) -> Place
@@ -26,7 +26,7 @@ pub(crate) fn put_week(out: &mut [u8], p: Place, week: u32) -> Place
 }
 
 // One period, or none. A `match`, as in record.rt's put_base_hours.
-fn put_day_hours(out: &mut [u8], p: Place, hours: Option<WorkingTime>) -> Place
+fn put_day_hours(out: &mut [u8], p: Place, hours: Option<Period>) -> Place
     ensures { Puts periods (hours_each hours) out.old p out.new result }
 {
     match hours {
@@ -39,7 +39,7 @@ fn put_day_hours(out: &mut [u8], p: Place, hours: Option<WorkingTime>) -> Place
 }
 
 // The same hours on each weekday.
-fn put_hours(out: &mut [u8], p: Place, hours: Option<WorkingTime>) -> Place
+fn put_hours(out: &mut [u8], p: Place, hours: Option<Period>) -> Place
     ensures { Puts (times 7 periods) (replicate 7 (hours_each hours)) out.old p out.new result }
 {
     let mut q = p;
@@ -54,7 +54,7 @@ pub(crate) fn put_plain_calendar(
     p: Place,
     name: &[u8],
     week: u32,
-    hours: Option<WorkingTime>,
+    hours: Option<Period>,
 ) -> Place
     ensures { Puts (whole calendar) (plain_calendar name.now (flags_in week) (replicate 7 (hours_each hours))) out.old p out.new result }
 {

@@ -12,6 +12,17 @@ ghost use Rattle.date.specs.Scale.{day_count};
 
 use definition::{Date, Ymd};
 
+// The first and the last date, 1 January -9999 and 31 December 9999, as count_of counts.
+pub const FIRST: u32 = 366;
+
+pub const LAST: u32 = 7304849;
+
+// 1 January 1970, from which a day number counts, likewise.
+const EPOCH: u32 = 4371953;
+
+// The date of count 0, 1 January of the year -10000. By `as`, since a constant calls no `cast_signed`.
+pub const ORIGIN: Date = Date(-(EPOCH as i32));
+
 fn is_leap(y: u32) -> bool
     ensures { result ≡ leap y }
 {
@@ -29,7 +40,7 @@ fn month_length(y: u32, m: u32) -> u32
     }
 }
 
-// Monday is 0. A number: the plan and the sheet write it so, and weeks are counted with it.
+// Monday is 0. A number: the day sheet writes it so, and a model's week begins on Monday.
 fn weekday_of(d: u32) -> u32
     ensures { result ≡ weekday d }
 {
@@ -127,7 +138,7 @@ fn year_at(year: i32) -> Option<u32>
 fn date_of_number(n: i32) -> Option<u32>
     ensures { result ≡ from_days n }
 {
-    place(n, 4371953, 366, 7304849)
+    place(n, EPOCH, FIRST, LAST)
 }
 
 // The days of a month of the years -9999 to 9999.
@@ -190,14 +201,14 @@ pub fn days_between(a: Date, b: Date) -> u32
 pub fn count_of(d: Date) -> u32
     ensures { result ≡ day_count d.0 }
 {
-    days_between(Date(-4371953), d)
+    days_between(ORIGIN, d)
 }
 
 // The date that lies so many days behind 1 January of the year -10000; 2 ^ 31 - 1 days stand for more.
 pub fn at_count(n: u32) -> Date
     ensures { result.0 ≡ pos (min n 2147483647) -ℤ pos 4371953 }
 {
-    Date(lowered(n.min(2147483647), 4371953))
+    Date(lowered(n.min(2147483647), EPOCH))
 }
 
 // ---- date texts

@@ -10,10 +10,9 @@ ghost use Rattle.definition.specs.Pack.{calendar as calendar_format};
 ghost use Rattle.definition.specs.Calendar.{default_periods, or_hours, hours_on};
 ghost use Rattle.definition.specs.DaySheet.{sheet as sheet_format};
 ghost use Rattle.definition.specs.Refusal.{day_sheet_answer};
-ghost use Rattle.definition.specs.Answer.{answer_length};
+ghost use Rattle.definition.specs.Answer.{answer_length, period_meaning};
 ghost use Rattle.bits.specs.Clear.{cleared};
 ghost use Rattle.bits.specs.Steps.{Puts};
-ghost use Rattle.model.specs.Answers.{period_meaning};
 ghost use Rattle.model.specs.Splits.{Stands};
 ghost use Rattle.model.specs.Lists.{Ahead};
 ghost use Rattle.day_sheet.specs.Days.{exceptions, Listed, ListedAt, DayIs, day_value};
@@ -113,7 +112,7 @@ fn find_day(s: &[u8], calendar: u32, date: Date) -> Result<Day, Refusal>
         byte: calendars.at,
         bit: 0,
     };
-    let p = skip_records::<false>(s, first, Kind::Calendars, calendar as usize);
+    let p = skip_records(s, first, Kind::Calendars, calendar as usize, false);
     Ok(day_of(s, p, date, weekday))
 }
 
@@ -129,13 +128,12 @@ fn put_default(out: &mut [u8], p: Place) -> Place
 }
 
 // A period that was taken; from 0 to 0 where there is none, which never is: an opened model holds its periods.
+#[tactic(auto, unfolding(definition::specs::Answer::period_meaning))]
 fn put_taken(out: &mut [u8], p: Place, t: Option<Period>) -> Place
     ensures { Puts period (period_meaning t or (0, 0)) out.old p out.new result }
 {
-    match t {
-        Some(x) => put_period(out, p, u64::from(x.from), u64::from(x.to)),
-        None => put_period(out, p, 0, 0),
-    }
+    let x = t.unwrap_or(Period { from: 0, to: 0 });
+    put_period(out, p, u64::from(x.from), u64::from(x.to))
 }
 
 // So many periods of the model, one after another.

@@ -1,11 +1,14 @@
 -- What the answers stand for that several crates share. Assumes nothing.
-use Rattle.std.specs.Prelude.{List, ℕ, ℤ, codes}
+use Rattle.std.specs.Prelude.{List, [], ◌∷◌, ℕ, ℤ, codes}
 use Rattle.definition.specs.declared.Date.{Date as DayNumber}
+use Rattle.definition.specs.declared.Period.{Period as PeriodAt}
+use Rattle.definition.specs.declared.PerKind.{PerKind}
 use Rattle.std.specs.Prelude.{Option, Some, None, Result, Ok, Err}
 use Rattle.definition.specs.declared.Refusal.{Refusal}
 use Rattle.definition.specs.declared.Refusal.TheVariants as refusal
 use Rattle.definition.specs.Base.{◌>>=◌}
 use Rattle.definition.specs.Date.{Date, day_number}
+use Rattle.definition.specs.Format.{Period}
 
 -- a date by document 01's number
 unfoldable pub date_meaning : Option DayNumber → Option ℤ
@@ -14,6 +17,15 @@ date_meaning None = None
 
 unfoldable pub day_number_of : Option Date → Option ℤ
 day_number_of d = d >>= λ d. Some (day_number d)
+
+-- a period as the definitions have it
+unfoldable pub period_meaning : Option PeriodAt → Option Period
+period_meaning (Some t) = Some (t.from, t.to)
+period_meaning None = None
+
+-- the values for the six kinds one by one
+abbrev pub each_of : {T : Type 0} → PerKind T → List T
+each_of n = n.calendars ∷ n.activities ∷ n.links ∷ n.resources ∷ n.assignments ∷ n.expenses ∷ []
 
 -- document 01's number of a refusal
 abbrev pub refusal_number : Refusal → ℕ

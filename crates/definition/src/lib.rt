@@ -3,7 +3,7 @@
 
 ghost use Rattle.std.specs.Prelude.{◌≡◌};
 ghost use Rattle.std.specs.Prelude.{Some};
-ghost use Rattle.definition.specs.Answer.{refusal_number, refusal_text};
+ghost use Rattle.definition.specs.Answer.{refusal_number, refusal_text, each_of};
 
 use std::error::Error;
 use std::fmt;
@@ -43,6 +43,40 @@ pub struct Ymd {
 // A day: its number, 0 for 1 January 1970.
 #[derive(Clone, Copy, Debug, PartialEq, Eq, PartialOrd, Ord)]
 pub struct Date(pub i32);
+
+// Minutes of a day, from one to another. What is read of a tree or of a model has the second after the first.
+#[derive(Clone, Copy, Debug, PartialEq, Eq)]
+pub struct Period {
+    pub from: u16,
+    pub to: u16,
+}
+
+// A value for each of the six kinds of records.
+#[derive(Clone, Copy, Debug, Default, PartialEq, Eq)]
+pub struct PerKind<T> {
+    pub calendars: T,
+    pub activities: T,
+    pub links: T,
+    pub resources: T,
+    pub assignments: T,
+    pub expenses: T,
+}
+
+impl<T: Copy> PerKind<T> {
+    // One by one, as a model has them.
+    pub fn each(self) -> [T; 6]
+        ensures { result ≡ each_of self }
+    {
+        [
+            self.calendars,
+            self.activities,
+            self.links,
+            self.resources,
+            self.assignments,
+            self.expenses,
+        ]
+    }
+}
 
 // Why a call is refused.
 #[derive(Clone, Copy, Debug, PartialEq, Eq)]

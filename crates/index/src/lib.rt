@@ -31,7 +31,7 @@ fn quad(s: &[u8], i: usize) -> u32
 
 // A byte of a text with so many `*` behind it; past its end 0 and no Option, as the hash takes zeros there. Text and number go side by side in the
 // four functions of the hash: names alone has stars, and has them apart from the text, so that a struct would be made at each call and taken apart in
-// each body.
+// each body. A text is bytes: whether it is UTF-8 is for others to test.
 fn starred(s: &[u8], stars: u32, i: usize) -> u8
     ensures { result ≡ get_or (starred_by s.now stars) i 0 }
 {
@@ -197,7 +197,7 @@ impl Table {
         row_below(self.rows, head)
     }
 
-    // The row before a row in its chain. It is smaller, whatever the words hold, so that every walk ends.
+    // The row before a row in its chain. It is smaller, whatever the words hold, so that every walk ends. `first` reads another word, with another bound.
     pub fn next(self, words: &[u32], row: u32) -> Option<u32>
         ensures { result ≡ next_of words.now self row }
     {
@@ -232,7 +232,7 @@ impl Table {
 }
 
 // The rows of a chain from one on.
-#[derive(Clone, Copy)]
+#[derive(Clone, Copy, Debug, PartialEq, Eq)]
 pub struct Chain<'a> {
     table: Table,
     words: &'a [u32],

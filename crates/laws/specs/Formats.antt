@@ -10,6 +10,7 @@ use Rattle.definition.specs.Base.{◌>>=◌, when, given, same, within}
 use Rattle.definition.specs.Bits.{Bits, enc, dec, bits_of, bytes_up_to, gap, pad}
 use Rattle.definition.specs.Text.{Text, tail_byte, following, utf8_after, is_utf8}
 use Rattle.definition.specs.Format.{Format, field, ◌⊗◌, via, put_given, get_given, depending, put_all, get_all, times, get_pad, whole, count, count_width, text, rises, list_of}
+use Rattle.definition.specs.Pack.{Counts, project, calendar, activity, link, resource, assignment, expense, body}
 use Rattle.laws.specs.Options.{never, some_is, when_is}
 use Rattle.laws.specs.Same.{same_refl, same_eq}
 use Rattle.laws.specs.Each.{Each, empty, next, each_append, each_back, each_replicate}
@@ -489,3 +490,14 @@ fills_all {f = f} p n (x ∷ l) h =
 pub fills_times : {A : Type 0} (k : ℕ) {f : Format A} → Fills f → Fills (times k f)
 unfolding times
 fills_times k p = record { ends = fills_all p }
+
+-- of a model's body
+pub fills_body : (k : Counts) → Fills (body k)
+unfolding body
+fills_body k =
+    fills_pair (fills_whole project)
+    (fills_pair (fills_times k.0 (fills_whole calendar))
+    (fills_pair (fills_times k.1.0 (fills_whole activity))
+    (fills_pair (fills_times k.1.1.0 (fills_whole link))
+    (fills_pair (fills_times k.1.1.1.0 (fills_whole resource))
+    (fills_pair (fills_times k.1.1.1.1.0 (fills_whole assignment)) (fills_times k.1.1.1.1.1 (fills_whole expense)))))))

@@ -16,7 +16,7 @@ use rows::Listed;
 use tree::Root;
 pub use writing::put_links;
 
-// How many link elements dangle, and how many go across.
+// How many link elements dangle, and how many go across: two of the four counts of pack's Skips, which stands below and so holds no Fates.
 #[derive(Clone, Copy, Debug, Default, PartialEq, Eq)]
 pub struct Fates {
     pub dangling: u32,
@@ -24,7 +24,7 @@ pub struct Fates {
 }
 
 // Finds the row of a kept task by its UID: by the table in the lent words, or in the tree where there is none.
-#[derive(Clone, Copy)]
+#[derive(Clone, Copy, Debug, PartialEq, Eq)]
 pub struct TaskFinder<'a> {
     pub root: Root<'a>,
     pub words: &'a [u32],

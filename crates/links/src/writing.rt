@@ -63,8 +63,8 @@ pub fn put_links(out: &mut [u8], p: Place, finder: TaskFinder<'_>) -> Records
 {
     let per_day = tasks::per_day(finder.root);
     let mut r = Records::none(p);
-    // No more tasks are kept. `enumerate` counts in usize, and a row has 32 bits.
-    for (row, task) in (0..100_000).zip(rows::kept_tasks(finder.root)) {
+    // No more tasks are kept, so that the range does not end first. `enumerate` counts in usize, and a row has 32 bits.
+    for (row, task) in (0..rows::MOST_TASKS).zip(rows::kept_tasks(finder.root)) {
         r = put_links_in(out, r, task, finder, per_day, row);
     }
     r

@@ -11,13 +11,12 @@ use Rattle.laws.specs.Options.{never}
 use Rattle.definition.specs.Base.{◌>>=◌, ◌or◌, when}
 use Rattle.definition.specs.Bits.{Bits, bits_of, dec}
 use Rattle.definition.specs.Answer.{day_number_of}
-use Rattle.definition.specs.Format.{Format, field, via, ◌⊗◌, depending, get_given, optional, flag, row, time, Period, period, date}
+use Rattle.definition.specs.Format.{Format, field, via, ◌⊗◌, depending, get_given, optional, flag, row, time, period, date}
 use Rattle.definition.specs.Pack.{Counts as CountsOf, counts}
 use Rattle.laws.specs.Bits.{length_bits}
 use Rattle.bits.specs.Places.{at, place, past, inside, Fits, room_fits, at_place}
 use Rattle.bits.specs.Reads.{rest, Reads, Refuses, spot, flag_at, span_at, rest_in, rest_out, rest_past, length_rest, spot_at}
 use Rattle.bits.specs.declared.Place.{Place}
-use Rattle.model.specs.declared.parts.Period.{Period as PeriodAt}
 use Rattle.bits.specs.declared.Span.{Span}
 
 abbrev pub seen : {A : Type 0} → List ℕ → Option (A × Bits) → Option A × Place
@@ -43,10 +42,6 @@ counts_at = or_at (0, (0, (0, (0, (0, 0))))) counts
 -- a date by document 01's number
 abbrev pub date_at : List ℕ → Place → Option ℤ × Place
 date_at s p = (day_number_of (read_at date s p).0, (read_at date s p).1)
-
-unfoldable pub period_meaning : Option PeriodAt → Option Period
-period_meaning (Some t) = Some (t.from, t.to)
-period_meaning None = None
 
 abbrev pub spanned : Span → Option (ℕ × ℕ) × Place
 spanned x = if ltb 7 x.next.bit then (None, past) else (Some (x.start, x.len), x.next)

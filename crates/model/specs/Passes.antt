@@ -1,14 +1,14 @@
 -- Passing over a value: where what follows it stands, whatever the value is. To pass over is to read and to forget the value, so the laws are those
 -- of the readers. Assumes nothing.
-use Rattle.std.specs.Prelude.{◌≡◌, refl, Bool, true, false, List, [], ℕ, ◌+◌, ◌-◌, ◌%◌, ◌≤◌, length}
+use Rattle.std.specs.Prelude.{◌≡◌, refl, Bool, true, false, List, [], ℕ, ◌+◌, ◌-◌, ◌%◌, ◌≤◌, ◌<◌, ltb, length}
 use Rattle.std.proofs.Math.Path.{sym, ap}
-use Rattle.std.proofs.Common.{◌∙◌, arith}
+use Rattle.std.proofs.Common.{◌∙◌, arith, ltb-true, ltb-false}
 use Rattle.std.specs.Prelude.{Option, Some, None}
 use Rattle.laws.specs.Options.{bind_assoc, bind_ext, bind_some, some_is}
 use Rattle.definition.specs.Base.{◌>>=◌}
 use Rattle.definition.specs.Bits.{Bits}
 use Rattle.definition.specs.Format.{Format, ◌⊗◌, depending, optional, whole, times, flag}
-use Rattle.bits.specs.Reads.{rest, Reads, Refuses, Skips, taken_at, pad_at, chain, skip_pad, pad_whole, read_nothing, read-⊗, read_whole, read_both, read_alone, read_some, read_none, read_no, read_on, read_more, refuse_times}
+use Rattle.bits.specs.Reads.{far, rest, Reads, Refuses, Skips, taken_at, pad_at, chain, skip_pad, pad_whole, read_nothing, read-⊗, read_whole, read_both, read_alone, read_some, read_none, read_no, read_on, read_more, refuse_times}
 use Rattle.bits.specs.declared.Place.{Place}
 use Rattle.model.specs.Lax.{left, Lax, Like, left_bytes, left_all_bytes, passed, like_passed, like_back, like-⊗, like_whole, like_depending, like_optional}
 
@@ -39,6 +39,18 @@ pass_as {f = f} e h = rw e (pass_like (like_back (like_passed f)) h)
 pub record Flagged (s : List ℕ) (p r : Place) (φ : Place → Type 0) : Type 0 where
   pub set : (taken_at s p 1).value ≡ 1 → φ (taken_at s p 1).next
   pub clear : ((taken_at s p 1).value ≡ 1 → ⊥) → r ≡ (taken_at s p 1).next
+
+-- from p on, a function was called so many times, each time at the place behind; φ is what is known of its answers
+pub data Called (φ : Place → Place → Type 0) (p : Place) : ℕ → Place → Type 0 where
+  begun : Called φ p 0 p
+  again : {n m : ℕ} {q r : Place} → m ≡ n + 1 → Called φ p n q → φ q r → Called φ p m r
+
+-- so often as was asked, or until a place past every end
+pub record Repeated (φ : Place → Place → Type 0) (p : Place) (count : ℕ) (r : Place) : Type 0 where
+  pub often : ℕ
+  pub called : Called φ p often r
+  pub most : often ≤ count
+  pub cut : often < count → 7 < r.bit
 
 -- ---- what a place behind a value tells
 
@@ -106,6 +118,19 @@ module _ {A : Type 0} (f : Format A) where
         let m = n - k in
         let z : n ≡ k + m = omega arith in
         rw z (pass_refused (record { gives = read_on f k m (items k h).1 ∙ rw e }) e)
+
+  -- passed over again and again
+  module _ {φ : Place → Place → Type 0} {s : List ℕ} {p : Place} (on : (q r : Place) → φ q r → Passes f s q r) where
+    pass_called : {n : ℕ} {r : Place} → Called φ p n r → Passes (times n f) s p r
+    pass_called begun = pass_no s p
+    pass_called (again {n} {m} {q} {r} e x h) = rw e (pass_more n (pass_called x) (on q r h))
+
+    pub pass_repeated : {n : ℕ} {r : Place} → Repeated φ p n r → Passes (times n f) s p r
+    pass_repeated {n} {r} h = by_often (ltb h.often n) refl
+      where
+        by_often : (t : Bool) → ltb h.often n ≡ t → Passes (times n f) s p r
+        by_often true e = pass_cut h.often n h.most (pass_called h.called) (far s r (h.cut (ltb-true h.often n e)))
+        by_often false e = let z : n ≡ h.often = omega (arith, h.most, ltb-false h.often n e) in rw z (pass_called h.called)
 
 -- where a stricter format is not refused, the place behind the other is behind it
 pub lax_pass : {A B : Type 0} {f : Format A} {g : Format B} {s : List ℕ} {p q : Place} → Lax g f → (Refuses f s p → ⊥) → Passes g s p q → Passes f s p q

@@ -2,7 +2,7 @@
 use Rattle.std.specs.Prelude.{ℕ}
 use Rattle.bits.specs.declared.Field.{Field}
 use Rattle.bits.specs.declared.Place.{Place}
-use Rattle.model.specs.declared.PerKind.{PerKind}
+use Rattle.definition.specs.declared.PerKind.{PerKind}
 use Rattle.model.specs.declared.Section.{Section}
 
 abbrev pub Counts : Type 0

@@ -9,7 +9,7 @@ ghost use Rattle.model.specs.Passes.{Passes};
 ghost use Rattle.model.specs.Rising.{Finds, PeriodKey, DayKey};
 ghost use Rattle.definition.specs.Pack.{lag_kind};
 ghost use Rattle.model.specs.Parts.{text_by};
-ghost use Rattle.model.specs.Passes.{Flagged};
+ghost use Rattle.model.specs.Passes.{Flagged, Repeated};
 ghost use Rattle.model.specs.Places.{text_in};
 
 use crate::parts::take_date;
@@ -105,6 +105,23 @@ pub fn take_period_key(s: &[u8], p: Place) -> Field<u64>
         value: from.value * 2048 + to.value,
         next,
     }
+}
+
+// ---- what stands several times
+
+// Calls a function that passes over one value so many times. It ends at the first that is refused.
+pub(crate) fn skip_times<F: Fn(Place) -> Place>(p: Place, count: usize, skip: F) -> Place
+    requires { F.IsAlwaysCallable skip }
+    ensures { Repeated (λ q r. F.post skip q r) p count result }
+{
+    let mut q = p;
+    for _ in 0..count {
+        q = skip(q);
+        if 7 < q.bit {
+            return q;
+        }
+    }
+    q
 }
 
 // ---- what may be missing

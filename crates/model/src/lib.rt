@@ -13,25 +13,15 @@ ghost use Rattle.model.specs.Sections.{start, counts_in, sections_by, PassesProj
 
 use crate::records::{Kind, skip_project, skip_records};
 use bits::{Field, PAST, Place};
+pub use definition::PerKind;
 use reader::Reader;
 
 // A section: how many records it has, and the byte at which the first stands. The model goes beside it, and no slice of it: its records have no
-// common size, and callers keep the places of some.
+// common size, and callers keep the places of some. Numbers that mean something else than those of an index::Table.
 #[derive(Clone, Copy, Debug, PartialEq, Eq)]
 pub struct Section {
     pub count: u32,
     pub at: usize,
-}
-
-// One value for each kind of records.
-#[derive(Clone, Copy, Debug, PartialEq, Eq)]
-pub struct PerKind<T> {
-    pub calendars: T,
-    pub activities: T,
-    pub links: T,
-    pub resources: T,
-    pub assignments: T,
-    pub expenses: T,
 }
 
 // A model's sections.
@@ -56,7 +46,7 @@ const NO_COUNTS: Counts = Field {
     next: PAST,
 };
 
-// Read one after another by a reader at the first bit.
+// Read one after another by a reader at the first bit, by name: an array of six would be taken apart at once into the fields of a PerKind.
 pub fn take_counts(s: &[u8]) -> Counts
     ensures { (counts_in result, result.next) ≡ counts_at s.now start }
 {
@@ -91,7 +81,7 @@ pub struct Head {
 }
 
 // The reader behind the project record, and the reader behind so many records of a kind. `moved_by` promises that its bytes are the same ones: two
-// contracts do for the walk, while those of the fields would each need it (head of fields.rt).
+// contracts do for the walk, while those of the fields would each need it (head of fields.rt). The kind is a value, as `skip_records` takes it.
 fn past_project<'a>(r: Reader<'a>) -> Reader<'a>
     ensures { moved_by PassesProject r.entry result }
 {
@@ -104,8 +94,9 @@ fn past_project<'a>(r: Reader<'a>) -> Reader<'a>
 fn past_records<'a>(r: Reader<'a>, kind: Kind, count: u32) -> Reader<'a>
     ensures { moved_by (PassesRecords kind count) r.entry result }
 {
+    // There is no From from u32 to usize.
     Reader {
-        place: skip_records::<true>(r.model, r.place, kind, count as usize),
+        place: skip_records(r.model, r.place, kind, count as usize, true),
         ..r
     }
 }
@@ -126,7 +117,8 @@ pub fn walk_head(s: &[u8], n: Counts) -> Head
     }
 }
 
-// The walk from the links on, behind the activities.
+// The walk from the links on, behind the activities. Each place by its name: two of the seven are a Head's, and `..` takes from a value of the same
+// type alone.
 pub fn walk_behind(s: &[u8], n: Counts, head: Head, links: Place) -> Places
     ensures { Behind s.now n head links result }
 {

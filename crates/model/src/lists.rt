@@ -4,10 +4,10 @@ ghost use Rattle.definition.specs.Format.{Format, Period as Minutes, period, ear
 ghost use Rattle.model.specs.Passes.{Passes};
 ghost use Rattle.model.specs.Rising.{Finds, Keys, PeriodKey, DayOf, DayKey, day_of, day_before, days_of, by_period, by_day_lem};
 
+use crate::fields::skip_times;
 pub use crate::fields::{take_date_key, take_period_key};
-use crate::parts::Period;
 use bits::{Field, PAST, Place};
-use definition::Date;
+use definition::{Date, Period};
 
 // What a list holds in rising order, each item above the one before by a number of its own.
 trait Item {
@@ -107,31 +107,20 @@ pub fn skip_periods(s: &[u8], p: Place) -> Place
     skip_list::<Period>(s, p)
 }
 
-// Dates alone.
-pub fn skip_dates(s: &[u8], p: Place) -> Place
-    ensures { Passes (days_of false) s.now p result }
+// Dates, each with its periods or alone. The flag is a value, as a caller may have it only as it runs; inside it is the type of the item.
+pub fn skip_days(s: &[u8], p: Place, hours: bool) -> Place
+    ensures { Passes (days_of hours) s.now p result }
 {
-    skip_list::<Date>(s, p)
+    if hours {
+        skip_list::<WorkingDay>(s, p)
+    } else {
+        skip_list::<Date>(s, p)
+    }
 }
 
-// Dates, each with its periods.
-pub fn skip_days(s: &[u8], p: Place) -> Place
-    ensures { Passes (days_of true) s.now p result }
-{
-    skip_list::<WorkingDay>(s, p)
-}
-
-// So many lists of periods: a week's, or those of the days before one. records::skip_records is this loop over another step: the step as a closure would
-// stand in a function that has a const parameter, where a closure is not proved, which was tried.
+// So many lists of periods: a week's, or those of the days before one.
 pub fn skip_hours(s: &[u8], p: Place, count: usize) -> Place
     ensures { Passes (times count periods) s.now p result }
 {
-    let mut q = p;
-    for _ in 0..count {
-        q = skip_periods(s, q);
-        if 7 < q.bit {
-            return q;
-        }
-    }
-    q
+    skip_times(p, count, |q| skip_periods(s, q))
 }

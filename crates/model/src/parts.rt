@@ -1,20 +1,21 @@
-// The parts of records: where they stand, and what they are. In a model that was opened no text is tested again; a function with CHECK tests
+// The parts of records: where they stand, and what they are. In a model that was opened no text is tested again; a function with CHECK or `check` tests
 // where that says so.
 ghost use Rattle.std.specs.Prelude.{◌≡◌, false};
-ghost use Rattle.definition.specs.Answer.{date_meaning};
+ghost use Rattle.definition.specs.Answer.{date_meaning, period_meaning};
 ghost use Rattle.definition.specs.Format.{period};
 ghost use Rattle.bits.specs.Steps.{Puts};
 ghost use Rattle.model.specs.Passes.{Passes};
 ghost use Rattle.model.specs.Parts.{text_by, activity_head, resource_head};
-ghost use Rattle.model.specs.Answers.{read_at, row_at, rows_at, date_at, period_meaning};
+ghost use Rattle.model.specs.Answers.{read_at, row_at, rows_at, date_at};
 ghost use Rattle.model.specs.Places.{NamePlaced, NameTaken, CalendarAt};
 
 pub use crate::fields::text_in;
 use crate::fields::{skip, skip_code, skip_optional, skip_text};
-use crate::lists::skip_dates;
+use crate::lists::skip_days;
 pub use crate::lists::{skip_hours, skip_periods};
 use bits::{Field, PAST, Place, Span};
 use definition::Date;
+pub use definition::Period;
 
 // ---- what stands at a place. Where nothing can be read, a value is missing or 0, and the next place is past every end. A row and a name are two
 // functions: skip_flagged's form would take a closure that gives a Field, and a contract of its own for what an Option of either is
@@ -103,14 +104,6 @@ pub fn take_date(s: &[u8], p: Place) -> Field<Option<Date>>
     }
 }
 
-// From a minute of the day to another, which is after it. The crate calendar has a WorkingTime of the same two: neither crate uses the other, so that
-// one type would stand below both, in the crate definition, and the contracts and proofs of each speak of its own.
-#[derive(Clone, Copy, Debug, PartialEq, Eq)]
-pub struct Period {
-    pub from: u16,
-    pub to: u16,
-}
-
 // A period. lists' take_period_key is not this with another result: that both minutes are below 2048 would have to be promised too.
 pub fn take_period(s: &[u8], p: Place) -> Field<Option<Period>>
     ensures { (period_meaning result.value, result.next) ≡ read_at period s.now p }
@@ -145,7 +138,7 @@ pub fn put_period(out: &mut [u8], p: Place, from: u64, to: u64) -> Place
 // ---- where a part of a record stands, from the record's place
 
 // An activity's parent. The texts before it are tested where CHECK says so.
-pub fn parent_place_by<const CHECK: bool>(s: &[u8], p: Place) -> Place
+pub(crate) fn parent_place_as<const CHECK: bool>(s: &[u8], p: Place) -> Place
     ensures { Passes (activity_head (text_by CHECK)) s.now p result }
 {
     let a = skip_text::<CHECK>(s, p);
@@ -155,8 +148,20 @@ pub fn parent_place_by<const CHECK: bool>(s: &[u8], p: Place) -> Place
     skip_optional(s, d, 64)
 }
 
-// The name of a resource's calendar. The texts before it are tested where CHECK says so.
-pub(crate) fn resource_calendar_place_by<const CHECK: bool>(s: &[u8], p: Place) -> Place
+// The same, for callers outside: the flag is a value to the public functions, as a caller may have it only as it runs, and const inside.
+pub fn parent_place_by(s: &[u8], p: Place, check: bool) -> Place
+    ensures { Passes (activity_head (text_by check)) s.now p result }
+{
+    if check {
+        parent_place_as::<true>(s, p)
+    } else {
+        parent_place_as::<false>(s, p)
+    }
+}
+
+// The name of a resource's calendar. The texts before it are tested where CHECK says so. An activity begins with the same three fields: a function for them
+// would be a name and a clause for three lines.
+pub(crate) fn resource_calendar_place_as<const CHECK: bool>(s: &[u8], p: Place) -> Place
     ensures { Passes (resource_head (text_by CHECK)) s.now p result }
 {
     let a = skip_text::<CHECK>(s, p);
@@ -170,7 +175,7 @@ pub(crate) fn resource_calendar_place_by<const CHECK: bool>(s: &[u8], p: Place) 
 pub fn resource_calendar_place(s: &[u8], p: Place) -> Place
     ensures { Passes (resource_head (text_by false)) s.now p result }
 {
-    resource_calendar_place_by::<false>(s, p)
+    resource_calendar_place_as::<false>(s, p)
 }
 
 // A calendar's parts.
@@ -189,8 +194,8 @@ pub fn calendar_places(s: &[u8], p: Place) -> CalendarPlaces
     let week = skip_text::<false>(s, p);
     let hours = skip(s, week, 7);
     let holidays = skip_hours(s, hours, 7);
-    let extra = skip_dates(s, holidays);
-    let exceptions = skip_dates(s, extra);
+    let extra = skip_days(s, holidays, false);
+    let exceptions = skip_days(s, extra, false);
     CalendarPlaces {
         week,
         hours,

@@ -4,16 +4,14 @@ ghost use Rattle.std.specs.Prelude.{◌≡◌, ◌%◌};
 ghost use Rattle.definition.specs.Format.{times, whole};
 ghost use Rattle.definition.specs.Pack.{project};
 ghost use Rattle.model.specs.Passes.{Passes};
-ghost use Rattle.model.specs.declared.records.Kind.{Kind};
-ghost use Rattle.model.specs.declared.records.Kind.TheVariants.{Calendars, Activities, Resources, Expenses};
 ghost use Rattle.model.specs.Parts.{text_by, calendar_parts, activity_parts, activity_rest, activity_notes, link_parts, resource_parts, assignment_parts, expense_parts, record_of};
 
 use crate::fields::{
     skip, skip_code, skip_date, skip_lag_kind, skip_optional, skip_optional_constraint,
-    skip_optional_date, skip_optional_text, skip_text,
+    skip_optional_date, skip_optional_text, skip_text, skip_times,
 };
-use crate::lists::{skip_dates, skip_days, skip_hours};
-use crate::parts::{parent_place_by, resource_calendar_place_by};
+use crate::lists::{skip_days, skip_hours};
+use crate::parts::{parent_place_as, resource_calendar_place_as};
 use bits::Place;
 
 pub(crate) fn skip_project(s: &[u8], p: Place) -> Place
@@ -29,16 +27,17 @@ pub(crate) fn skip_project(s: &[u8], p: Place) -> Place
     bits::take_pad(s, skip_optional_date(s, g))
 }
 
-// A function for each kind of record, a line for each field, in the order in which they stand.
+// A function for each kind of record, a line for each field, in the order in which they stand: six impls of a trait would have these lines, and
+// `skip_record_as` would choose among them all the same.
 fn skip_calendar<const CHECK: bool>(s: &[u8], p: Place) -> Place
     ensures { Passes (whole (calendar_parts (text_by CHECK))) s.now p result × (result.bit % 8 ≡ 0) }
 {
     let a = skip_text::<CHECK>(s, p);
     let b = skip(s, a, 7);
     let c = skip_hours(s, b, 7);
-    let d = skip_dates(s, c);
-    let e = skip_dates(s, d);
-    bits::take_pad(s, skip_days(s, e))
+    let d = skip_days(s, c, false);
+    let e = skip_days(s, d, false);
+    bits::take_pad(s, skip_days(s, e, true))
 }
 
 // From the calendar's name on.
@@ -57,19 +56,30 @@ fn skip_activity_rest<const CHECK: bool>(s: &[u8], p: Place) -> Place
 }
 
 // From the notes on, behind the parent.
-pub fn skip_from_notes<const CHECK: bool>(s: &[u8], p: Place) -> Place
+fn skip_from_notes_as<const CHECK: bool>(s: &[u8], p: Place) -> Place
     ensures { Passes (activity_notes (text_by CHECK)) s.now p result }
 {
     let a = skip_text::<CHECK>(s, p);
     skip_activity_rest::<CHECK>(s, a)
 }
 
+// The same, for callers outside: the flag is a value to the public functions, as a caller may have it only as it runs, and const inside.
+pub fn skip_from_notes(s: &[u8], p: Place, check: bool) -> Place
+    ensures { Passes (activity_notes (text_by check)) s.now p result }
+{
+    if check {
+        skip_from_notes_as::<true>(s, p)
+    } else {
+        skip_from_notes_as::<false>(s, p)
+    }
+}
+
 fn skip_activity<const CHECK: bool>(s: &[u8], p: Place) -> Place
     ensures { Passes (whole (activity_parts (text_by CHECK))) s.now p result × (result.bit % 8 ≡ 0) }
 {
-    let a = parent_place_by::<CHECK>(s, p);
+    let a = parent_place_as::<CHECK>(s, p);
     let b = skip_optional(s, a, 32);
-    bits::take_pad(s, skip_from_notes::<CHECK>(s, b))
+    bits::take_pad(s, skip_from_notes_as::<CHECK>(s, b))
 }
 
 fn skip_link(s: &[u8], p: Place) -> Place
@@ -86,7 +96,7 @@ fn skip_link(s: &[u8], p: Place) -> Place
 fn skip_resource<const CHECK: bool>(s: &[u8], p: Place) -> Place
     ensures { Passes (whole (resource_parts (text_by CHECK))) s.now p result × (result.bit % 8 ≡ 0) }
 {
-    let a = resource_calendar_place_by::<CHECK>(s, p);
+    let a = resource_calendar_place_as::<CHECK>(s, p);
     let b = skip_optional_text::<CHECK>(s, a);
     bits::take_pad(s, skip_optional(s, b, 64))
 }
@@ -113,7 +123,7 @@ fn skip_expense<const CHECK: bool>(s: &[u8], p: Place) -> Place
     bits::take_pad(s, skip_code(s, e, 0, 2))
 }
 
-// The six sections of records. The kind is a value to the functions below, as callers have it as one.
+// The six sections of records. The kind is a value to the functions below: two are public, and a caller may have it only as it runs.
 #[derive(Clone, Copy, Debug, PartialEq, Eq)]
 pub enum Kind {
     Calendars,
@@ -124,46 +134,7 @@ pub enum Kind {
     Expenses,
 }
 
-// A section's records, for what is generic over them.
-pub trait Records {
-    ghost KIND: { Kind };
-
-    const KIND: Kind;
-}
-
-pub struct Calendars;
-
-pub struct Activities;
-
-pub struct Resources;
-
-pub struct Expenses;
-
-impl Records for Calendars {
-    ghost KIND = { Calendars };
-
-    const KIND: Kind = Kind::Calendars;
-}
-
-impl Records for Activities {
-    ghost KIND = { Activities };
-
-    const KIND: Kind = Kind::Activities;
-}
-
-impl Records for Resources {
-    ghost KIND = { Resources };
-
-    const KIND: Kind = Kind::Resources;
-}
-
-impl Records for Expenses {
-    ghost KIND = { Expenses };
-
-    const KIND: Kind = Kind::Expenses;
-}
-
-pub fn skip_record<const CHECK: bool>(s: &[u8], p: Place, kind: Kind) -> Place
+fn skip_record_as<const CHECK: bool>(s: &[u8], p: Place, kind: Kind) -> Place
     ensures { Passes (record_of CHECK kind) s.now p result × (result.bit % 8 ≡ 0) }
 {
     match kind {
@@ -176,16 +147,20 @@ pub fn skip_record<const CHECK: bool>(s: &[u8], p: Place, kind: Kind) -> Place
     }
 }
 
-// So many records. It ends at the first that is refused.
-pub fn skip_records<const CHECK: bool>(s: &[u8], p: Place, kind: Kind, count: usize) -> Place
-    ensures { Passes (times count (record_of CHECK kind)) s.now p result }
+// A record of any kind; its texts are tested where `check` says so, a value as in skip_from_notes.
+pub fn skip_record(s: &[u8], p: Place, kind: Kind, check: bool) -> Place
+    ensures { Passes (record_of check kind) s.now p result × (result.bit % 8 ≡ 0) }
 {
-    let mut q = p;
-    for _ in 0..count {
-        q = skip_record::<CHECK>(s, q, kind);
-        if 7 < q.bit {
-            return q;
-        }
+    if check {
+        skip_record_as::<true>(s, p, kind)
+    } else {
+        skip_record_as::<false>(s, p, kind)
     }
-    q
+}
+
+// So many records. It ends at the first that is refused.
+pub fn skip_records(s: &[u8], p: Place, kind: Kind, count: usize, check: bool) -> Place
+    ensures { Passes (times count (record_of check kind)) s.now p result }
+{
+    skip_times(p, count, |q| skip_record(s, q, kind, check))
 }

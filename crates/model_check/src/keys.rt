@@ -9,6 +9,8 @@ ghost use Rattle.definition.specs.Check.{distinct};
 ghost use Rattle.model.specs.Passes.{Passes};
 ghost use Rattle.model.specs.Parts.{record_of};
 ghost use Rattle.model.specs.Splits.{Stands};
+ghost use Rattle.model.specs.declared.records.Kind.{Kind};
+ghost use Rattle.model.specs.declared.records.Kind.TheVariants.{Calendars, Activities, Resources, Expenses};
 ghost use Rattle.model.specs.Sections.{Holds};
 ghost use Rattle.model_check.specs.Kinds.{Item, format_of, Run};
 ghost use Rattle.model_check.specs.Keys.{Key, key_of, same_key, KeyAt, Keyed};
@@ -16,43 +18,72 @@ ghost use Rattle.model_check.specs.Keys.{Key, key_of, same_key, KeyAt, Keyed};
 use bits::Place;
 use model::Section;
 use model::parts::text_in;
-use model::records::{Activities, Calendars, Expenses, Records, Resources, skip_record};
+use model::records::{Kind, skip_record};
 
-// Records that have a key, and how many bits stand in one before the text of its key: an expense's row.
-pub(crate) trait KeyedRecords: Records {
+// A section's records that have a key: what the functions on keys are generic over. LEAD is how many bits stand in one before the text of its key: an
+// expense's row.
+pub(crate) trait Records {
+    ghost KIND: { Kind };
+
     ghost LEAD: { ℕ };
+
+    const KIND: Kind;
 
     const LEAD: usize;
 
     ghost fits: { LEAD ≤ 64 };
 }
 
-impl KeyedRecords for Calendars {
+pub(crate) struct Calendars;
+
+pub(crate) struct Activities;
+
+pub(crate) struct Resources;
+
+pub(crate) struct Expenses;
+
+impl Records for Calendars {
+    ghost KIND = { Calendars };
+
     ghost LEAD = { 0 };
+
+    const KIND: Kind = Kind::Calendars;
 
     const LEAD: usize = 0;
 
     ghost fits = { leb-true 0 64 refl };
 }
 
-impl KeyedRecords for Activities {
+impl Records for Activities {
+    ghost KIND = { Activities };
+
     ghost LEAD = { 0 };
+
+    const KIND: Kind = Kind::Activities;
 
     const LEAD: usize = 0;
 
     ghost fits = { leb-true 0 64 refl };
 }
 
-impl KeyedRecords for Resources {
+impl Records for Resources {
+    ghost KIND = { Resources };
+
     ghost LEAD = { 0 };
+
+    const KIND: Kind = Kind::Resources;
 
     const LEAD: usize = 0;
 
     ghost fits = { leb-true 0 64 refl };
 }
 
-impl KeyedRecords for Expenses {
+impl Records for Expenses {
+    ghost KIND = { Expenses };
+
     ghost LEAD = { 32 };
+
+    const KIND: Kind = Kind::Expenses;
 
     const LEAD: usize = 32;
 
@@ -79,11 +110,11 @@ fn text_at(s: &[u8], p: Place) -> &[u8]
 pub(crate) fn next_record<K: Records>(s: &[u8], p: Place) -> Place
     ensures { Passes (record_of false K.KIND) s.now p result × (result.bit % 8 ≡ 0) }
 {
-    skip_record::<false>(s, p, K::KIND)
+    skip_record(s, p, K::KIND, false)
 }
 
 // The key of the record at a place.
-pub(crate) fn key_at<'a, K: KeyedRecords>(s: &'a [u8], p: Place) -> KeyBytes<'a>
+pub(crate) fn key_at<'a, K: Records>(s: &'a [u8], p: Place) -> KeyBytes<'a>
     ensures { (k : Key) → KeyAt K.LEAD s.now p k → key_of result ≡ k }
 {
     let v = bits::take(s, p, K::LEAD);
@@ -94,18 +125,18 @@ pub(crate) fn key_at<'a, K: KeyedRecords>(s: &'a [u8], p: Place) -> KeyBytes<'a>
 }
 
 // Whether the record at a place has a key. Not by `==` on keys: where the rows differ, the text is not read.
-pub(crate) fn has_key<K: KeyedRecords>(s: &[u8], p: Place, key: KeyBytes) -> bool
+pub(crate) fn has_key<K: Records>(s: &[u8], p: Place, key: KeyBytes) -> bool
     ensures { (k : Key) → KeyAt K.LEAD s.now p k → result ≡ same_key (key_of key.entry) k }
 {
     let v = bits::take(s, p, K::LEAD);
     if v.value != key.row {
         return false;
     }
-    text::same(key.name, text_at(s, v.next))
+    key.name == text_at(s, v.next)
 }
 
 // Whether one of so many records from a place on has a key.
-pub(crate) fn some_has_key<K: KeyedRecords>(s: &[u8], p: Place, count: u32, key: KeyBytes) -> bool
+pub(crate) fn some_has_key<K: Records>(s: &[u8], p: Place, count: u32, key: KeyBytes) -> bool
     ensures { (of : Item K.KIND → Key) → Keyed K.KIND K.LEAD s.now of → (xs : List (Item K.KIND)) (end : ℕ) → Run K.KIND s.now p count xs end → result ≡ some? (λ (x : Item K.KIND). same_key (key_of key.entry) (of x)) xs }
 {
     let mut q = p;
@@ -119,14 +150,14 @@ pub(crate) fn some_has_key<K: KeyedRecords>(s: &[u8], p: Place, count: u32, key:
 }
 
 // Whether one of so many records from `next` on has the key of the record at p.
-fn is_repeated<K: KeyedRecords>(s: &[u8], p: Place, next: Place, count: u32) -> bool
+fn is_repeated<K: Records>(s: &[u8], p: Place, next: Place, count: u32) -> bool
     ensures { (of : Item K.KIND → Key) → Keyed K.KIND K.LEAD s.now of → (a : Item K.KIND) → Stands (whole (format_of K.KIND)) s.now p a → (xs : List (Item K.KIND)) (end : ℕ) → Run K.KIND s.now next count xs end → result ≡ some? (λ (x : Item K.KIND). same_key (of a) (of x)) xs }
 {
     some_has_key::<K>(s, next, count, key_at::<K>(s, p))
 }
 
 // Whether no two records of a section have the same key, by a look at all later ones for each.
-pub(crate) fn distinct<K: KeyedRecords>(s: &[u8], x: Section) -> bool
+pub(crate) fn distinct<K: Records>(s: &[u8], x: Section) -> bool
     ensures { (of : Item K.KIND → Key) → Keyed K.KIND K.LEAD s.now of → (xs : List (Item K.KIND)) (end : ℕ) → Holds (format_of K.KIND) s.now x xs end → result ≡ distinct (λ (x y : Item K.KIND). same_key (of x) (of y)) xs }
 {
     let mut q = Place { byte: x.at, bit: 0 };

@@ -15,11 +15,12 @@ ghost use Rattle.definition.specs.Answer.{answer_number};
 ghost use Rattle.model.specs.Sections.{Decoded};
 ghost use Rattle.model_check.specs.Walk.{Looked};
 
+use crate::keys::{Activities, Expenses, Resources};
 use crate::rules::{Names, every_right, resource_right, row_below, rows_below};
 use crate::tables::{all_distinct, distinct_in};
 use crate::walk::{Tables, walk_model};
 use definition::Refusal;
-use model::records::{Activities, Expenses, Kind, Resources};
+use model::records::Kind;
 use model::{Sections, sections_of, take_counts};
 
 // What is left once the activities are looked at. The tables stand in the words until the records are looked at; then the keys of each section in turn.

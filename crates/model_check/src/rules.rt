@@ -16,13 +16,13 @@ ghost use Rattle.model_check.specs.Rules.{rows_below, Tells};
 ghost use Rattle.model_check.specs.Tables.{NamesIn};
 ghost use Rattle.model_check.specs.Walk.{JudgedAt};
 
-use crate::keys::{KeyBytes, some_has_key};
+use crate::keys::{Calendars, KeyBytes, some_has_key};
 use crate::tables::{KeyIndex, table_has_key};
 use bits::{Field, Place};
 use index::Table;
 use model::Section;
 use model::parts::{parent_place_by, resource_calendar_place, take_name, take_row, take_rows};
-use model::records::{Calendars, Kind, skip_from_notes, skip_record};
+use model::records::{Kind, skip_from_notes, skip_record};
 
 // The names of the calendars: their section, and their table, if there is one, in the words that hold it.
 #[derive(Clone, Copy)]
@@ -33,7 +33,8 @@ pub(crate) struct Names<'a> {
     pub(crate) words: &'a [u32],
 }
 
-// Whether some calendar has a name, by the table of the calendars; by a scan where there is none.
+// Whether some calendar has a name, by the table of the calendars; by a scan where there is none. One way needs the words, the other the section, so
+// that a trait over both is no plainer than the `match`, here and in tables.rt.
 fn is_calendar(s: &[u8], names: Names<'_>, name: &[u8]) -> bool
     ensures { (m : Model) (end : ℕ) → Holds calendar s.now names.entry.section m.calendars end → NamesIn s.now m names.entry.table names.entry.words.now → result ≡ is_calendar m name.now }
 {
@@ -73,11 +74,11 @@ fn is_below(row: Option<u32>, own: u32) -> bool
 pub(crate) fn judge_activity(s: &[u8], p: Place, own: u32, names: Names<'_>) -> Field<bool>
     ensures { JudgedAt s.now p own names.entry.section names.entry.table names.entry.words.now result }
 {
-    let parent = take_row(s, parent_place_by::<true>(s, p));
+    let parent = take_row(s, parent_place_by(s, p, true));
     let row = parent.value;
     let calendar = bits::take_text(s, parent.next).next;
     let known = calendar_known(s, calendar, names);
-    let end = skip_from_notes::<true>(s, parent.next);
+    let end = skip_from_notes(s, parent.next, true);
     let next = bits::take_pad(s, end);
     Field {
         value: is_below(row, own) & known,
@@ -108,7 +109,8 @@ pub(crate) fn resource_right(s: &[u8], p: Place, names: Names<'_>) -> bool
 }
 
 // Whether each record of a section, all of a kind, passes a test at its place. The other walks over a section are no such test: `some_has_key` begins
-// between two records too, `distinct` asks of the records that follow, and `fill` writes.
+// between two records too, `distinct` asks of the records that follow, and `fill` writes. The kind is a value: links and assignments have no key, and
+// so no type in keys.rt.
 pub(crate) fn every_right<F: Fn(Place) -> bool>(s: &[u8], kind: Kind, x: Section, right: F) -> bool
     requires { F.IsAlwaysCallable right }
     ensures { (of : Item kind → Bool) → Tells kind s.now of (λ p b. F.post right p b) → (xs : List (Item kind)) (end : ℕ) → Holds (format_of kind) s.now x xs end → result ≡ every? of xs }
@@ -118,7 +120,7 @@ pub(crate) fn every_right<F: Fn(Place) -> bool>(s: &[u8], kind: Kind, x: Section
         if !right(q) {
             return false;
         }
-        q = skip_record::<false>(s, q, kind);
+        q = skip_record(s, q, kind, false);
     }
     true
 }

@@ -10,11 +10,12 @@ ghost use Rattle.model_check.specs.Kinds.{Item, format_of};
 ghost use Rattle.model_check.specs.Keys.{Key, key_of, no_key, same_key, hash_key, Keyed};
 ghost use Rattle.model_check.specs.Tables.{Emptied, EmptyAt, KeyTable, Put, TableFor};
 
-use crate::keys::{KeyBytes, KeyedRecords, distinct, has_key, key_at, next_record};
+use crate::keys::{KeyBytes, Records, distinct, has_key, key_at, next_record};
 use bits::Place;
 use index::Table;
 use model::Section;
 
+// That of assignments is over texts in a buffer that is being written, and adds the row as it is: what each table holds is said by its own.
 fn hash_key(key: KeyBytes) -> u32
     ensures { result ≡ hash_key (key_of key.entry) }
 {
@@ -24,15 +25,15 @@ fn hash_key(key: KeyBytes) -> u32
 }
 
 // Puts the record of a row, at a place, into a table by its key. The low 32 bits are its byte: a model of more bytes has no table.
-pub(crate) fn put_key<K: KeyedRecords>(s: &[u8], p: Place, row: u32, words: &mut [u32], t: Table)
+pub(crate) fn put_key<K: Records>(s: &[u8], p: Place, row: u32, words: &mut [u32], t: Table)
     ensures { Put K.LEAD s.now p row t words.old words.new }
 {
     let byte = (p.byte % 4294967296) as u32;
     t.put(words, row, hash_key(key_at::<K>(s, p)), byte);
 }
 
-// Puts the records of a section into an empty table of as many rows.
-fn fill<K: KeyedRecords>(s: &[u8], x: Section, words: &mut [u32], t: Table)
+// Puts the records of a section into an empty table of as many rows. The walk of walk.rt tests each besides: what the two share is `put_key`.
+fn fill<K: Records>(s: &[u8], x: Section, words: &mut [u32], t: Table)
     ensures { length s.now < 2 ^ 32 → t.rows ≡ x.count → Emptied t words.old → (of : Item K.KIND → Key) → Keyed K.KIND K.LEAD s.now of → (xs : List (Item K.KIND)) (end : ℕ) → Holds (format_of K.KIND) s.now x xs end → KeyTable K.LEAD s.now (map of xs) t words.new }
 {
     let mut q = Place { byte: x.at, bit: 0 };
@@ -53,7 +54,7 @@ pub(crate) fn empty_table(s: &[u8], words: &mut [u32], at: usize, rows: u32) -> 
 }
 
 // A table of the keys of a section.
-pub(crate) fn index_keys<K: KeyedRecords>(s: &[u8], x: Section, words: &mut [u32]) -> Option<Table>
+pub(crate) fn index_keys<K: Records>(s: &[u8], x: Section, words: &mut [u32]) -> Option<Table>
     ensures { (of : Item K.KIND → Key) → Keyed K.KIND K.LEAD s.now of → (xs : List (Item K.KIND)) (end : ℕ) → Holds (format_of K.KIND) s.now x xs end → TableFor K.LEAD s.now (map of xs) result words.new }
 {
     let t = empty_table(s, words, 0, x.count)?;
@@ -70,7 +71,7 @@ pub(crate) struct KeyIndex<'a> {
 }
 
 // Whether a row of a chain has a key.
-fn chain_has_key<K: KeyedRecords>(
+fn chain_has_key<K: Records>(
     s: &[u8],
     index: KeyIndex<'_>,
     from: Option<u32>,
@@ -86,7 +87,7 @@ fn chain_has_key<K: KeyedRecords>(
 }
 
 // Whether a record in the table has a key.
-pub(crate) fn table_has_key<K: KeyedRecords>(s: &[u8], index: KeyIndex<'_>, key: KeyBytes) -> bool
+pub(crate) fn table_has_key<K: Records>(s: &[u8], index: KeyIndex<'_>, key: KeyBytes) -> bool
     ensures { (ks : List Key) → KeyTable K.LEAD s.now ks index.entry.table index.entry.words.now → result ≡ some? (same_key (key_of key.entry)) ks }
 {
     let from = index.table.first(index.words, hash_key(key));
@@ -94,7 +95,7 @@ pub(crate) fn table_has_key<K: KeyedRecords>(s: &[u8], index: KeyIndex<'_>, key:
 }
 
 // Whether a record before that of a row has its key.
-fn has_twin<K: KeyedRecords>(s: &[u8], index: KeyIndex<'_>, own: u32) -> bool
+fn has_twin<K: Records>(s: &[u8], index: KeyIndex<'_>, own: u32) -> bool
     ensures { (ks : List Key) → KeyTable K.LEAD s.now ks index.entry.table index.entry.words.now → own < length ks → result ≡ some? (same_key (get_or ks own no_key)) (take own ks) }
 {
     let from = index.table.next(index.words, own);
@@ -107,14 +108,14 @@ fn has_twin<K: KeyedRecords>(s: &[u8], index: KeyIndex<'_>, own: u32) -> bool
 }
 
 // Whether no two records in the table have the same key.
-fn table_distinct<K: KeyedRecords>(s: &[u8], index: KeyIndex<'_>) -> bool
+fn table_distinct<K: Records>(s: &[u8], index: KeyIndex<'_>) -> bool
     ensures { (ks : List Key) → KeyTable K.LEAD s.now ks index.entry.table index.entry.words.now → result ≡ distinct same_key ks }
 {
     (0..index.table.rows).all(|i| !has_twin::<K>(s, index, i))
 }
 
-// Whether no two records of a section have the same key, by a table in the words; by scans where there is none.
-pub(crate) fn all_distinct<K: KeyedRecords>(s: &[u8], x: Section, words: &mut [u32]) -> bool
+// Whether no two records of a section have the same key, by a table in the words; by scans where there is none: a `match`, as in rules.rt.
+pub(crate) fn all_distinct<K: Records>(s: &[u8], x: Section, words: &mut [u32]) -> bool
     ensures { (of : Item K.KIND → Key) → Keyed K.KIND K.LEAD s.now of → (xs : List (Item K.KIND)) (end : ℕ) → Holds (format_of K.KIND) s.now x xs end → result ≡ distinct (λ (x y : Item K.KIND). same_key (of x) (of y)) xs }
 {
     match index_keys::<K>(s, x, words) {
@@ -124,7 +125,7 @@ pub(crate) fn all_distinct<K: KeyedRecords>(s: &[u8], x: Section, words: &mut [u
 }
 
 // The same, by a table that is filled; by another one where there is none.
-pub(crate) fn distinct_in<K: KeyedRecords>(
+pub(crate) fn distinct_in<K: Records>(
     s: &[u8],
     x: Section,
     words: &mut [u32],

@@ -2,11 +2,11 @@
 ghost use Rattle.std.specs.Prelude.{◌≡◌};
 ghost use Rattle.model_check.specs.Walk.{Noted, JudgedAll, ModelWalked};
 
+use crate::keys::{Activities, Calendars};
 use crate::rules::{Names, judge_activity};
 use crate::tables::{empty_table, index_keys, put_key};
 use bits::{Field, Place};
 use index::Table;
-use model::records::{Activities, Calendars};
 use model::{Counts, Places, Section, walk_behind, walk_head};
 
 // The tables of the calendars' names and of the activities' ids, where there are any.
@@ -26,7 +26,8 @@ fn note_id(s: &[u8], p: Place, row: u32, words: &mut [u32], ids: Option<Table>)
 }
 
 // Passes over so many activities, and puts the id of each into a table: whether all are right, and the place behind. It ends at the first that
-// is refused.
+// is refused. No walk for this and outline's `fill`: their steps write other things into the words, and a clause that says so of a closure would be
+// longer than either loop.
 fn judge_activities(
     s: &[u8],
     p: Place,

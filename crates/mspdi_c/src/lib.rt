@@ -1,5 +1,5 @@
 // What a C host links: each export is the function of mspdi of that name, with its contract. Each returns 0, or the number of the refusal; on a
-// refusal all that is lent is zeros. A crate is a library or a static library: mspdi is one for samples, so that each export stands here again.
+// refusal all that is lent is zeros. A crate is either a library or a static library. mspdi is a library, as samples uses it; so the exports stand here.
 #![tactic(auto)]
 
 ghost use Rattle.std.specs.Prelude.{◌≡◌, List, ℕ, length, replicate};

@@ -6,15 +6,15 @@ use mathlib.Core.List.{List}
 use Rattle.std.specs.Prelude.{Option, Some, None, MatchOption}
 use Prim.Native.Nat.{ℕ, ◌+◌, ◌*◌, ◌≤◌, ◌<◌}
 use native.Mathlib.Omega.{arith}
-use lib.Dec.{leb, eqb}
+use lib.Dec.{ltb, leb, eqb}
 use lib.ListN.{length}
-use borrow.Author.Tests.{lt-ltb, le-ltb, le-leb, lt-leb, eq-eqb, ne_eqb}
+use borrow.Author.Tests.{lt-ltb, le-ltb, le-leb, lt-leb, eq-eqb, ne_eqb, leb-true, leb-false}
 use Rattle.definition.specs.Base.{◌>>=◌, ◌or◌}
 use Rattle.definition.specs.Calendar.{free}
 use Rattle.definition.specs.Text.{Text}
 use Rattle.bits.specs.Places.{inside}
 use Rattle.bits.specs.declared.Place.{Place}
-use Rattle.index.specs.Chains.{place_of}
+use Rattle.index.specs.Chains.{table_of, place_of}
 use Rattle.pack.specs.Value.{starred_by}
 use Rattle.model.specs.declared.records.Kind.{Kind}
 use Rattle.names.specs.Texts.{place_of_row, texts_at}
@@ -30,18 +30,23 @@ its_number f (Some r) n h k = k r h
 
 -- ---- two tables
 
-module _ (len at rows : ℕ) where
-  pub ids_none : rows ≡ 0 → None ≡ ids_of len at rows
-  unfolding ids_of
-  ids_none e = rw (le-ltb 0 rows (omega arith))
+-- one behind the other
+pub ids_two : (len at rows : ℕ) → (table_of len at rows >>= λ i. table_of len (at + 3 * rows) rows >>= λ w. Some (record { ids = i; wanted = w })) ≡ ids_of len at rows
+unfolding table_of ids_of
+ids_two len at rows =
+    let z : at + 3 * rows + 3 * rows ≡ at + 6 * rows = omega arith in
+    go (ltb 0 rows) (leb (at + 3 * rows) len) (leb (at + 3 * rows + 3 * rows) len) refl refl ∙ ap (λ (n : ℕ). if ltb 0 rows && leb n len then Some both else None) z
+  where
+    both : Ids
+    both = record { ids = record { at = at; rows = rows }; wanted = record { at = at + 3 * rows; rows = rows } }
 
-  pub ids_short : 0 < rows → len < at + 6 * rows → None ≡ ids_of len at rows
-  unfolding ids_of
-  ids_short h k = rw (lt-ltb 0 rows h, lt-leb (at + 6 * rows) len k)
-
-  pub ids_are : 0 < rows → at + 6 * rows ≤ len → Some (record { ids = record { at = at; rows = rows }; wanted = record { at = at + 3 * rows; rows = rows } }) ≡ ids_of len at rows
-  unfolding ids_of
-  ids_are h k = rw (lt-ltb 0 rows h, le-leb (at + 6 * rows) len k)
+    go : (a b d : Bool) → leb (at + 3 * rows) len ≡ b → leb (at + 3 * rows + 3 * rows) len ≡ d
+        → ((if a && b then Some both.ids else None) >>= λ i. (if a && d then Some both.wanted else None) >>= λ w. Some (record { ids = i; wanted = w })) ≡ (if a && d then Some both else None)
+    go false b d h k = refl
+    go true true true h k = refl
+    go true true false h k = refl
+    go true false true h k = absurd (omega (arith, leb-false (at + 3 * rows) len h, leb-true (at + 3 * rows + 3 * rows) len k))
+    go true false false h k = refl
 
 -- ---- the ids of a section
 

@@ -17,9 +17,10 @@ use Rattle.model.specs.declared.records.Kind.TheVariants as kind
 use Rattle.pack.specs.Value.{starred_by}
 use Rattle.rows.specs.Rows.{main_in}
 use Rattle.rows.specs.Tables.{sought_in}
-use Rattle.tree.specs.Place.{element_at}
+use Rattle.tree.specs.Place.{element_at, meaning}
 use Rattle.names.specs.declared.uids.CalendarTable.{CalendarTable}
 use Rattle.names.specs.declared.named.Main.{Main}
+use Rattle.names.specs.declared.named.CalendarName.{CalendarName}
 use Rattle.names.specs.Texts.{text_at}
 use Rattle.names.specs.Uids.{names_end, how_many, made_in, of_row, Stays, Uids, end_from}
 use Rattle.names.specs.Context.{section_row, wanted_name, stars_by, stars_in, context_at}
@@ -34,6 +35,12 @@ name_word main text stars = if same (starred_by text stars) main then 0 else suc
 unfoldable pub name_by : Text → ℕ → Option Text
 name_by text zero = None
 name_by text (suc stars) = Some (starred_by text stars)
+
+-- ---- a calendar's name
+
+-- its wanted name with so many `*` behind it
+abbrev pub calendar_name : CalendarName → Text
+calendar_name x = starred_by (wanted_name (meaning x.calendar)) x.stars
 
 -- ---- the words of a table
 

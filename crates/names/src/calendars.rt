@@ -15,9 +15,9 @@ ghost use Rattle.names.specs.Context.{main_row, section_row, wanted_by, wanted_n
 use crate::records::{place_of_row, raw_text};
 use crate::stars::same_starred;
 use bits::Place;
-use model::records::Calendars;
+use model::records::Kind;
 use std::cmp::Ordering;
-use tree::{Element, Root};
+use tree::{Element, MOST_ELEMENTS, Root};
 
 // ---- how many
 
@@ -50,10 +50,10 @@ pub fn calendars_before(out: &[u8], c: Place, root: Root<'_>, p: Place) -> bool
     ensures { result ≡ calendars_before out.now c (root_at root.entry) p }
 {
     let n = count_calendars(root);
-    if 5_000_000 < n {
+    if MOST_ELEMENTS < n {
         return false;
     }
-    up_to(place_of_row::<Calendars>(out, c, n), p)
+    up_to(place_of_row(out, c, Kind::Calendars, n), p)
 }
 
 // ---- names
@@ -117,7 +117,7 @@ impl<'a, 'b> CalendarNames<'a, 'b> {
         ensures { result ≡ stars_in self.entry.out.now self.entry.start (root_at self.entry.root) row (meaning e.entry) }
     {
         let k = section_row(main_row(self.root), row);
-        let p = place_of_row::<Calendars>(self.out, self.start, k);
+        let p = place_of_row(self.out, self.start, Kind::Calendars, k);
         stars_at(self.out, p, e)
     }
 

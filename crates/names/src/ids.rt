@@ -10,9 +10,9 @@ use crate::records::{free_stars, place_of_row, raw_text};
 use crate::stars::same_starred;
 use bits::Place;
 use index::Table;
-use model::records::Records;
+use model::records::Kind;
 
-#[derive(Clone, Copy)]
+#[derive(Clone, Copy, Debug, PartialEq, Eq)]
 pub struct Ids {
     pub ids: Table,
     pub wanted: Table,
@@ -20,18 +20,13 @@ pub struct Ids {
 
 // ---- both tables
 
-// Tables of so many rows in the words from a place on, where there is room for both: by one test, where `index::table_at` for each would test twice.
+// Tables of so many rows in the words from a place on, where there is room for both.
 fn ids_at(len: usize, at: usize, rows: u32) -> Option<Ids>
     ensures { result ≡ ids_of len at rows }
 {
-    let n = 3 * (rows as usize);
-    if rows == 0 || len <= at || len - at < 2 * n {
-        return None;
-    }
-    Some(Ids {
-        ids: Table { at, rows },
-        wanted: Table { at: at + n, rows },
-    })
+    let ids = index::table_at(len, at, rows)?;
+    let wanted = index::table_at(len, at + 3 * (rows as usize), rows)?;
+    Some(Ids { ids, wanted })
 }
 
 // One more, unless there are that many; an `if` says that plainer than a sum with `u32::from`.
@@ -125,9 +120,11 @@ pub fn end_of_ids(ids: Option<Ids>, at: usize, len: usize) -> usize
 
 // How many `*` an id needs that is wanted for the row at p: by the tables, or by a look at all records where these have no words for so many. The section
 // begins at `start`. Once the room is spent nothing is tried.
-// Start and tables go side by side, here and in `place_in`: each section has them in a struct of its own, that its clauses name.
-pub fn stars_for<K: Records>(
+// Start and tables go side by side, here and in `place_in`: each section has them in a struct of its own, that its clauses name. The kind is a value: a
+// caller may have it only as it runs.
+pub fn stars_for(
     out: &[u8],
+    kind: Kind,
     start: Place,
     p: Place,
     words: &[u32],
@@ -135,34 +132,37 @@ pub fn stars_for<K: Records>(
     row: u32,
     wanted: &[u8],
 ) -> u32
-    ensures { starred_by wanted.now result ≡ starred_in K.KIND out.now start p words.now ids row wanted.now }
+    ensures { starred_by wanted.now result ≡ starred_in kind out.now start p words.now ids row wanted.now }
 {
     if !bits::inside(out.len(), p) {
         return 0;
     }
+    // One way needs the words, the other the kind: a `match`, as in `row_with` of rows.
     match ids {
         Some(t) if row <= t.ids.rows => t.free(out, words, row, wanted),
-        _ => free_stars::<K>(out, start, row, wanted),
+        _ => free_stars(out, start, kind, row, wanted),
     }
 }
 
 // Where the record of a row stands among so many, likewise.
-pub fn place_in<K: Records>(
+pub fn place_in(
     out: &[u8],
+    kind: Kind,
     start: Place,
     words: &[u32],
     ids: Option<Ids>,
     count: u32,
     row: u32,
 ) -> Place
-    ensures { result ≡ place_in K.KIND out.now start words.now ids count row }
+    ensures { result ≡ place_in kind out.now start words.now ids count row }
 {
+    // as in `stars_for`
     match ids {
         Some(t) if count <= t.ids.rows => Place {
             byte: t.ids.place(words, row) as usize,
             bit: 0,
         },
-        _ => place_of_row::<K>(out, start, row as usize),
+        _ => place_of_row(out, start, kind, row as usize),
     }
 }
 

@@ -10,6 +10,6 @@ mod uids; // calendars by their UIDs, from a table in lent words
 
 pub use calendars::{ELAPSED, calendar_text, calendars_before, count_calendars, wanted_name};
 pub use ids::{Ids, end_of_ids, ids_for, note_stars, place_in, stars_for};
-pub use named::{calendar_in, elapsed_in, index_calendars};
+pub use named::{CalendarName, calendar_in, elapsed_in, index_calendars};
 pub use records::{place_of_row, raw_text};
 pub use uids::{CalendarTable, calendar_by, index_uids};

@@ -1,13 +1,13 @@
 // The name of a calendar by its UID, from a table in lent words: behind that of the UIDs each row has a word for its name in the buffer, 0 where it is
 // the main calendar's, else how many `*` it has behind the wanted name, plus 1. A last word is for the elapsed calendar's name.
-ghost use Rattle.std.specs.Prelude.{if◌then◌else◌, ◌≡◌, ◌+◌, ◌^◌, ◌≤◌, ◌<◌, length};
+ghost use Rattle.std.specs.Prelude.{◌≡◌, ◌+◌, ◌^◌, ◌≤◌, ◌<◌, length, IfSome};
 ghost use Rattle.definition.specs.Calendar.{elapsed_name};
 ghost use Rattle.definition.specs.Text.{Text};
 ghost use Rattle.index.specs.Chains.{end_of};
 ghost use Rattle.tree.specs.Root.{root_at};
 ghost use Rattle.pack.specs.Value.{given_by, starred, name_meaning};
 ghost use Rattle.names.specs.Context.{context_at};
-ghost use Rattle.names.specs.Named.{name_word, name_by, name_of_row, named_by, named_in, elapsed_in, main_text, NotesName, NamesNoted, Calendars, Makes};
+ghost use Rattle.names.specs.Named.{name_word, name_by, name_of_row, named_by, named_in, elapsed_in, calendar_name, main_text, NotesName, NamesNoted, Calendars, Makes};
 ghost use Rattle.names.specs.Uids.{names_end, Stays, Uids};
 
 use crate::calendars::{CalendarNames, ELAPSED, calendar_text, stars_at};
@@ -39,13 +39,6 @@ fn word_of(text: &[u8], stars: u32, main: Main<'_>) -> u32
     stars + 1
 }
 
-// A function of its own: with the `if` at its call the proof has each way twice.
-fn either(test: bool, p: Place, q: Place) -> Place
-    ensures { result ≡ (if «test» then p else q) }
-{
-    if test { p } else { q }
-}
-
 // The word of a row, counted from the first calendar. The main one's record stands at c, those of the others from q on; answers where the next stands.
 // The parameters go side by side, here and in `note_names`: the words are written at each row, and a struct of the others would serve these two alone.
 fn note_name(
@@ -65,20 +58,21 @@ fn note_name(
     let at = t.place(words, r) as usize;
     let e = Element { tree, at };
     let first = row as usize == main.row;
-    let stars = stars_at(out, either(first, c, q), e);
+    let p = if first { c } else { q };
+    let stars = stars_at(out, p, e);
     let word = word_of(calendar_text(e), stars, main);
     index::set_word(words, t.at, name_at(t, r), word);
     if first {
         return q;
     }
-    skip_record::<false>(out, q, Kind::Calendars)
+    skip_record(out, q, Kind::Calendars, false)
 }
 
 fn note_names(out: &[u8], c: Place, tree: &[u8], words: &mut [u32], t: Table, main: Main<'_>)
     requires { names_end t ≤ length words.old }
     ensures { NamesNoted out.now c tree.now t main.entry t.rows words.old words.new }
 {
-    let mut q = skip_record::<false>(out, c, Kind::Calendars);
+    let mut q = skip_record(out, c, Kind::Calendars, false);
     for row in 0..t.rows {
         q = note_name(out, c, q, tree, words, t, row, main);
     }
@@ -104,14 +98,16 @@ impl<'a, 'b> CalendarNames<'a, 'b> {
         index::set_word(words, t.at, name_at(t, t.rows), elapsed);
     }
 
-    // The name of the first calendar with a UID, by a scan.
-    fn scan(self, uid: &[u8]) -> Option<Starred<'a>>
-        ensures { given_by starred result ≡ named_by (context_at self.entry.out.now self.entry.start (root_at self.entry.root)) uid.now }
+    // The first calendar with a UID and its name, by a scan.
+    fn scan(self, uid: &[u8]) -> Option<CalendarName<'a>>
+        ensures is { given_by calendar_name result ≡ named_by (context_at self.entry.out.now self.entry.start (root_at self.entry.root)) uid.now }
+        ensures there { IfSome result (λ x. x.calendar.tree.now ≡ self.entry.root.tree.now) }
     {
-        let (row, e) = rows::calendar_with(self.root, uid)?;
-        let text = calendar_text(e);
-        let stars = self.stars_of(row, e);
-        Starred::named(text, self.unless_main(text, stars))
+        let (row, calendar) = rows::calendar_with(self.root, uid)?;
+        let text = calendar_text(calendar);
+        let stars = self.stars_of(row, calendar);
+        let stars = self.unless_main(text, stars)?;
+        Some(CalendarName { calendar, stars })
     }
 }
 
@@ -132,7 +128,28 @@ pub fn index_calendars(
     made
 }
 
-// ---- names by it. The buffer, the root, the words and their table go side by side, as in `rows`, which says why; the two public functions take root
+// ---- a calendar and its name
+
+// A calendar, and how many `*` its name has behind its wanted name.
+#[derive(Clone, Copy, Debug, PartialEq, Eq)]
+pub struct CalendarName<'a> {
+    pub calendar: Element<'a>,
+    pub stars: u32,
+}
+
+impl<'a> CalendarName<'a> {
+    // The name.
+    pub fn starred(self) -> Starred<'a>
+        ensures { starred result ≡ calendar_name self.entry }
+    {
+        Starred {
+            text: calendar_text(self.calendar),
+            stars: self.stars,
+        }
+    }
+}
+
+// ---- names by the table. The buffer, the root, the words and their table go side by side, as in `rows`, which says why; the two public functions take root
 // and start apart, as their callers have them.
 
 // What a word says of a name.
@@ -142,16 +159,22 @@ fn by_word(word: u32) -> Option<u32>
     word.checked_sub(1)
 }
 
-fn name_of<'a>(root: Root<'a>, words: &[u32], t: Table, row: Option<u32>) -> Option<Starred<'a>>
-    ensures { given_by starred result ≡ name_of_row root.entry.tree.now words.now t row }
+fn name_of<'a>(
+    root: Root<'a>,
+    words: &[u32],
+    t: Table,
+    row: Option<u32>,
+) -> Option<CalendarName<'a>>
+    ensures is { given_by calendar_name result ≡ name_of_row root.entry.tree.now words.now t row }
+    ensures there { IfSome result (λ x. x.calendar.tree.now ≡ root.entry.tree.now) }
 {
     let r = row?;
-    let e = root.part(t.place(words, r) as usize);
-    let word = index::word(words, t.at, name_at(t, r));
-    Starred::named(calendar_text(e), by_word(word))
+    let stars = by_word(index::word(words, t.at, name_at(t, r)))?;
+    let calendar = root.part(t.place(words, r) as usize);
+    Some(CalendarName { calendar, stars })
 }
 
-// The name of the first calendar with a UID, unless it is the main one's, by a table in the words; by a scan where there is none. The calendars stand
+// The first calendar with a UID and its name, unless that is the main one's, by a table in the words; by a scan where there is none. The calendars stand
 // at `start`.
 pub fn calendar_in<'a>(
     out: &[u8],
@@ -160,8 +183,9 @@ pub fn calendar_in<'a>(
     words: &[u32],
     table: Option<Table>,
     uid: &[u8],
-) -> Option<Starred<'a>>
-    ensures { given_by starred result ≡ named_in (context_at out.now start (root_at root.entry)) root.entry.tree.now words.now table uid.now }
+) -> Option<CalendarName<'a>>
+    ensures is { given_by calendar_name result ≡ named_in (context_at out.now start (root_at root.entry)) root.entry.tree.now words.now table uid.now }
+    ensures there { IfSome result (λ x. x.calendar.tree.now ≡ root.entry.tree.now) }
 {
     // One way needs the words, the other the buffer: a trait over both is no plainer.
     match table {

@@ -1,5 +1,6 @@
 // Records by their rows, and the texts at their fronts. No text is tested for UTF-8.
-// The buffer and the place go side by side: records are put into the buffer between the calls, so that a struct over it would be made anew for each.
+// The buffer, the kind and the place go side by side: records are put into the buffer between the calls, so that a struct over it would be made anew for
+// each. The kind is a value, any of the six: a caller may have it only as it runs.
 ghost use Rattle.std.specs.Prelude.{◌≡◌, []};
 ghost use Rattle.definition.specs.Base.{◌or◌, some?, same};
 ghost use Rattle.definition.specs.Calendar.{free};
@@ -11,14 +12,14 @@ ghost use Rattle.names.specs.Texts.{place_of_row, texts_at};
 use crate::stars::same_starred;
 use bits::{PAST, Place};
 use model::parts::text_in;
-use model::records::{Records, skip_record, skip_records};
+use model::records::{Kind, skip_record, skip_records};
 
 // The place of the record of a row, past every end where there is none. Nothing keeps the places, as there is no memory for them.
 // PAST and no Option: a read at it gives nothing by itself, as everywhere in `bits`.
-pub fn place_of_row<K: Records>(out: &[u8], p: Place, row: usize) -> Place
-    ensures { result ≡ place_of_row K.KIND out.now p row }
+pub fn place_of_row(out: &[u8], p: Place, kind: Kind, row: usize) -> Place
+    ensures { result ≡ place_of_row kind out.now p row }
 {
-    let q = skip_records::<false>(out, p, K::KIND, row);
+    let q = skip_records(out, p, kind, row, false);
     if bits::inside(out.len(), q) {
         return q;
     }
@@ -33,24 +34,24 @@ pub fn raw_text(out: &[u8], p: Place) -> &[u8]
 }
 
 // Whether one of so many records at a place has the text with so many `*` at its front.
-fn taken<K: Records>(out: &[u8], p: Place, count: u32, wanted: &[u8], stars: u32) -> bool
-    ensures { result ≡ some? (same (starred_by wanted.now stars)) (texts_at K.KIND out.now p count) }
+fn taken(out: &[u8], p: Place, kind: Kind, count: u32, wanted: &[u8], stars: u32) -> bool
+    ensures { result ≡ some? (same (starred_by wanted.now stars)) (texts_at kind out.now p count) }
 {
     let mut q = p;
     for _ in 0..count {
         if same_starred(wanted, stars, raw_text(out, q), 0) {
             return true;
         }
-        q = skip_record::<false>(out, q, K::KIND);
+        q = skip_record(out, q, kind, false);
     }
     false
 }
 
 // How many `*` a text needs so that none of so many records at a place has it at its front.
-pub(crate) fn free_stars<K: Records>(out: &[u8], p: Place, count: u32, wanted: &[u8]) -> u32
-    ensures { starred_by wanted.now result ≡ free (texts_at K.KIND out.now p count) wanted.now }
+pub(crate) fn free_stars(out: &[u8], p: Place, kind: Kind, count: u32, wanted: &[u8]) -> u32
+    ensures { starred_by wanted.now result ≡ free (texts_at kind out.now p count) wanted.now }
 {
     (0..count)
-        .find(|stars| !taken::<K>(out, p, count, wanted, *stars))
+        .find(|stars| !taken(out, p, kind, count, wanted, *stars))
         .unwrap_or(count)
 }

@@ -12,7 +12,7 @@ fn byte_of(s: &[u8], i: usize) -> u8
     s.get(i).copied().unwrap_or(b'*')
 }
 
-// Whether two texts are the same, each with so many `*` behind it.
+// Whether two texts are the same, each with so many `*` behind it. No `==`: a text with `*` behind it is no slice.
 pub(crate) fn same_starred(a: &[u8], m: u32, b: &[u8], n: u32) -> bool
     ensures { result ≡ same (starred_by a.now m) (starred_by b.now n) }
 {

@@ -12,7 +12,7 @@ ghost use Rattle.names.specs.Uids.{how_many, made_in, names_end, Stays, Ripe, St
 
 use crate::calendars::count_calendars;
 use index::Table;
-use tree::{Element, Root};
+use tree::{Element, MOST_ELEMENTS, Root};
 
 // Where the word of a row's name stands, from where the table begins. That of the row past the last is the elapsed calendar's.
 pub(crate) fn name_at(t: Table, row: u32) -> usize
@@ -29,7 +29,7 @@ fn room_for(root: Root<'_>, len: usize, at: usize) -> Option<Table>
 {
     u32::try_from(root.tree.len()).ok()?;
     let n = count_calendars(root);
-    if 5_000_000 < n {
+    if MOST_ELEMENTS < n {
         return None;
     }
     // One row at least: a table of no rows would be none. By `as`: 5,000,000 are the most here, so that `try_from` would have an error that cannot occur.
@@ -75,7 +75,7 @@ fn chain_rows(tree: &[u8], words: &mut [u32], t: Table, count: u32)
 }
 
 // A table, and where the words behind it begin: a position and no slice, as the words are lent anew at each call.
-#[derive(Clone, Copy)]
+#[derive(Clone, Copy, Debug, PartialEq, Eq)]
 pub struct CalendarTable {
     pub table: Option<Table>,
     pub end: usize,

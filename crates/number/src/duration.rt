@@ -37,7 +37,8 @@ fn first_unit(s: &[u8]) -> Option<usize>
     s.iter().position(|b| matches!(*b, b'H' | b'M' | b'S'))
 }
 
-// The figures that a time part sets, one piece after the other.
+// The figures that a time part sets, one piece after the other. By the place of the next unit and no `split_inclusive`, in whose last piece it would be
+// asked again whether a unit ends it.
 fn time_figures(s: &[u8], start: Figures) -> Result<Figures, Unread>
     ensures { result ≡ time_figures s.now [] start }
 {

@@ -27,7 +27,7 @@ fn time_parts(s: &[u8]) -> Option<u16>
     )
 }
 
-// The time of day that s is.
+// The time of day that s is. A function and no TryFrom: a text is bytes and a time a u16, and neither type is of this crate.
 pub fn time_of(s: &[u8]) -> Option<u16>
     ensures { result ≡ time_of s.now }
 {

@@ -5,7 +5,8 @@ ghost use Rattle.std.specs.Float.Ieee.{mul};
 ghost use Rattle.definition.specs.Number.{float};
 ghost use Rattle.number.specs.Whole.{half_within, whole_within};
 
-// x from 0 to 10 ^ 18 to the nearest whole number. 0 for any other x, and no Option: callers test the range before.
+// x from 0 to 10 ^ 18 to the nearest whole number. 0 for any other x, and no Option: those who call nearest_whole
+// and hundredths from other crates test the range before, and duration_from its total.
 pub(crate) fn half_away(x: f64) -> u64
     ensures { result ≡ half_within x }
 {

@@ -169,7 +169,7 @@ fn outline_rows(n: u32, rows: &mut [u32], work: &mut [u32]) -> u32
     count
 }
 
-// Whether rows or work has less than n activities need.
+// Whether rows or work has less than n activities need: two tests, as the order of pairs asks for the second only where the first are equal.
 fn is_short(n: u32, rows: usize, work: usize) -> bool
     ensures { result ≡ (ltb rows (2 * n) || ltb work (4 * n)) }
 {

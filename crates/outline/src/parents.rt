@@ -22,10 +22,10 @@ fn word_of(parent: Option<u32>) -> u32
 fn take_parent(s: &[u8], p: Place) -> Field<u32>
     ensures { ParentAt s.now p result }
 {
-    let at = parent_place_by::<true>(s, p);
+    let at = parent_place_by(s, p, true);
     let parent = take_row(s, at);
     let row = parent.value;
-    let end = skip_from_notes::<true>(s, parent.next);
+    let end = skip_from_notes(s, parent.next, true);
     let next = take_pad(s, end);
     Field {
         value: word_of(row),

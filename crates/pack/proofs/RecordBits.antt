@@ -3,14 +3,14 @@ use Prim.Native.Nat.{ℕ}
 use mathlib.Core.List.{List}
 use Rattle.definition.specs.Model.{Project, Activity, Link, Resource, Assignment, Expense}
 use Rattle.std.proofs.Common.{ap, append-nil}
+use Rattle.definition.specs.Answer.{each_of}
 use Rattle.definition.specs.Bits.{Bits}
 use Rattle.definition.specs.Format.{◌⊗◌, times, put_all, row, count, code, number, date, text, optional}
 use Rattle.definition.specs.Pack.{lag_kind, project, activity, link, resource, assignment, expense, counts}
 use Rattle.laws.specs.Buf.{◌▷◌}
 use Rattle.bits.specs.Steps.{Puts, put_via, said, view}
 use Rattle.bits.specs.declared.Place.{Place}
-use Rattle.pack.specs.Record.{schedule_fields, schedule_of, counts_by, each_count}
-use Rattle.pack.specs.declared.record.Counts.{Counts}
+use Rattle.pack.specs.Record.{schedule_fields, schedule_of, Counts, counts_by}
 
 module _ {d : List ℕ} {p : Place} {d' : List ℕ} {q : Place} where
   pub put_project : (x : Project) → Puts (text ⊗ date ⊗ text ⊗ count ⊗ count ⊗ count ⊗ count ⊗ optional date) (x.name, (x.start, (x.currency, (x.skipped, (x.dangling, (x.across, (x.fractional, x.data_date))))))) d p d' q
@@ -44,6 +44,6 @@ module _ {d : List ℕ} {p : Place} {d' : List ℕ} {q : Place} where
   put_activity x h = put_via _ _ h
 
   -- counts are a list of six
-  pub put_six : (x : Counts) → Puts (times 6 count) (each_count x) d p d' q → Puts counts (counts_by x) d p d' q
+  pub put_six : (x : Counts) → Puts (times 6 count) (each_of x) d p d' q → Puts counts (counts_by x) d p d' q
   unfolding times put_all ◌⊗◌
   put_six x h = record { step = said h.step _ (ap (λ (l : Bits). view d p ▷ l) (simp (append-nil))) }

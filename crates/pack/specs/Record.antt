@@ -1,7 +1,8 @@
 -- The records of the values that are written. Assumes nothing.
-use Rattle.std.specs.Prelude.{ℕ, ℤ, List, [], ◌∷◌}
+use Rattle.std.specs.Prelude.{ℕ, ℤ}
 use Rattle.std.specs.Prelude.{Option}
 use Rattle.definition.specs.Date.{Date}
+use Rattle.definition.specs.declared.PerKind.{PerKind}
 use Rattle.definition.specs.Text.{Text}
 use Rattle.definition.specs.Model as M
 use Rattle.definition.specs.Format.{Format, ◌⊗◌, code, number, date, text, optional}
@@ -10,7 +11,6 @@ use Rattle.definition.specs.Pack as P
 use Rattle.pack.specs.Value.{date_by, date_given, constraint_given, given_by, starred}
 use Rattle.pack.specs.declared.record.ActivityKind.{ActivityKind}
 use Rattle.pack.specs.declared.record.ActivityKind.TheVariants as kind
-use Rattle.pack.specs.declared.record.Counts.{Counts}
 use Rattle.pack.specs.declared.record.Link.{Link}
 use Rattle.pack.specs.declared.record.Assignment.{Assignment}
 use Rattle.pack.specs.declared.record.Expense.{Expense}
@@ -60,11 +60,11 @@ project_by p = record {
   data_date = date_given p.data_date;
 }
 
+abbrev pub Counts : Type 0
+Counts = PerKind ℕ
+
 abbrev pub counts_by : Counts → P.Counts
 counts_by n = (n.calendars, (n.activities, (n.links, (n.resources, (n.assignments, n.expenses)))))
-
-abbrev pub each_count : Counts → List ℕ
-each_count n = n.calendars ∷ n.activities ∷ n.links ∷ n.resources ∷ n.assignments ∷ n.expenses ∷ []
 
 abbrev pub resource_by : Resource → M.Resource
 resource_by r = record {

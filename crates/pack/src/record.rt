@@ -3,12 +3,12 @@ ghost use Rattle.std.specs.Prelude.{◌≡◌, ◌+◌, ◌%◌, ◌^◌};
 ghost use Rattle.definition.specs.Format.{whole};
 ghost use Rattle.definition.specs.Pack.{project, activity, link, resource, assignment, expense, counts};
 ghost use Rattle.bits.specs.Steps.{Puts};
-ghost use Rattle.pack.specs.Record.{link_by, assignment_by, expense_by, project_by, resource_by, activity_by, activity_kind_code, schedule_fields, schedule_of, counts_by, each_count};
+ghost use Rattle.pack.specs.Record.{link_by, assignment_by, expense_by, project_by, resource_by, activity_by, activity_kind_code, schedule_fields, schedule_of, counts_by};
 
 use crate::stars::Starred;
 use crate::value::{LagFields, put_code, put_count, put_date, put_lag, put_number, put_optional};
 use bits::Place;
-use definition::Date;
+use definition::{Date, PerKind};
 use resources::Amounts;
 use tasks::{Constraint, Parts};
 
@@ -62,33 +62,8 @@ pub struct Progress {
     pub remaining: Option<i64>,
 }
 
-// How many records of each kind there are. Not model's PerKind<u32>: a type for both would stand in definition, where there is only what a planner
-// reads, and the specs of either crate are over its own.
-#[derive(Clone, Copy, Debug, Default, PartialEq, Eq)]
-pub struct Counts {
-    pub calendars: u32,
-    pub activities: u32,
-    pub links: u32,
-    pub resources: u32,
-    pub assignments: u32,
-    pub expenses: u32,
-}
-
-impl Counts {
-    // One by one, as a model has them.
-    pub fn each(self) -> [u32; 6]
-        ensures { result ≡ each_count self }
-    {
-        [
-            self.calendars,
-            self.activities,
-            self.links,
-            self.resources,
-            self.assignments,
-            self.expenses,
-        ]
-    }
-}
+// How many records of each kind there are.
+pub type Counts = PerKind<u32>;
 
 // The records of a section: how many there are, and the place behind them. The buffer is not in it: it is lent again for each record.
 #[derive(Clone, Copy, PartialEq, Eq)]

@@ -10,7 +10,7 @@ ghost use Rattle.pack.specs.Value.{given_by, starred, name_meaning};
 use crate::value::Put;
 use bits::Place;
 
-// So many `*`.
+// So many `*`. No fold for this and put_each of bits, which says why.
 fn put_stars(out: &mut [u8], p: Place, stars: u32) -> Place
     ensures { Step out.old p (λ b. b ▷ bits_of (replicate stars 42)) out.new result }
 {

@@ -11,7 +11,7 @@ use bits::Place;
 use definition::Date;
 use tasks::{Constraint, Lag};
 
-// A count or a row. `bits::put` by a name for the width, as put_code.
+// A count or a row. `bits::put` by a name for the width, as put_code and calendars' put_week: each clause names a format, which no width tells.
 pub fn put_count(out: &mut [u8], p: Place, n: u32) -> Place
     ensures { Puts count n out.old p out.new result }
 {
@@ -36,7 +36,7 @@ pub(crate) fn put_number(out: &mut [u8], p: Place, v: i64) -> Place
 fn day_number(d: Date) -> i32
     ensures { result ≡ day_number (date_by d.0) }
 {
-    date::from_days(d.0).unwrap_or(Date(-4371953)).0
+    date::from_days(d.0).unwrap_or(date::ORIGIN).0
 }
 
 pub fn put_date(out: &mut [u8], p: Place, d: Date) -> Place

@@ -1,7 +1,6 @@
 // Rules and their days. A rule goes out and comes in by its fields; a day goes as its count from 1 January of the
 // year -10000 on, 0 for none, and what lies past 31 December 9999 comes in as the day behind that; a month goes by
-// its number, 13 for none. Fields, Run and what `told` answers are numbers for C. 7304850 is the day behind 31 December
-// 9999.
+// its number, 13 for none. Fields, Run and what `told` answers are numbers for C.
 ghost use Rattle.std.specs.Prelude.{◌≡◌, Some};
 ghost use Rattle.definition.specs.Base.{◌or◌};
 ghost use Rattle.definition.specs.Recurrence.{rule_of, days_of};
@@ -10,7 +9,7 @@ ghost use Rattle.recurrence.specs.Meaning.{step_of};
 ghost use Rattle.recurrence.specs.Element.{rule_by, range_by};
 ghost use Rattle.probe.specs.Fields.{day_at, month_at, fields_of, run_of, Told, rule, cursor};
 
-use date::{at_count, count_of};
+use date::{LAST, at_count, count_of};
 use definition::Date;
 use recurrence::{Cursor, Range, Rule, Step};
 use tree::Element;
@@ -20,7 +19,7 @@ use tree::Element;
 fn day_at(n: u32) -> Date
     ensures { result ≡ day_at n }
 {
-    at_count(n.min(7304850))
+    at_count(n.min(LAST + 1))
 }
 
 // ---- a month, 13 for none
@@ -85,12 +84,6 @@ impl From<Fields> for Rule {
     }
 }
 
-fn fields_of(a: Option<Rule>) -> Fields
-    ensures { result ≡ fields_of a }
-{
-    a.map_or(Fields::default(), |r| Fields::from(r))
-}
-
 // The rule of a tree whose root is an Exception; zeros where there is none.
 pub fn probe_rule(
     s: &[u8],
@@ -107,7 +100,9 @@ pub fn probe_rule(
 )
     ensures { record { kind = kind.exit.now; from = from.new; last = last.new; most = most.new; period = period.new; month = month.new; day = day.new; item = item.new; position = position.new; weekdays = weekdays.new } ≡ fields_of (rule_by (rule_of (element_at s.now 0))) }
 {
-    let f = fields_of(recurrence::rule_of(Element { tree: s, at: 0 }));
+    let f = recurrence::rule_of(Element { tree: s, at: 0 })
+        .map(Fields::from)
+        .unwrap_or_default();
     *kind = f.kind;
     *from = f.from;
     *last = f.last;
@@ -199,17 +194,13 @@ impl From<Range> for Run {
     }
 }
 
-fn run_of(a: Option<Range>) -> Run
-    ensures { result ≡ run_of a }
-{
-    a.map_or(Run::default(), |r| Run::from(r))
-}
-
 // The days of a tree whose root is a WeekDay: the first, and how many.
 pub fn probe_week_day(s: &[u8], first: &mut u32, count: &mut u32)
     ensures { record { first = first.exit.now; count = count.new } ≡ run_of (range_by (days_of (element_at s.now 0))) }
 {
-    let r = run_of(recurrence::days_of(Element { tree: s, at: 0 }));
+    let r = recurrence::days_of(Element { tree: s, at: 0 })
+        .map(Run::from)
+        .unwrap_or_default();
     *first = r.first;
     *count = r.count;
 }

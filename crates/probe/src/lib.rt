@@ -1,6 +1,6 @@
 // Leaves that the boundary does not export, exported by probe_c for compare/ alone, which sets each beside the Rust on the same texts. The answer of a
 // leaf is 0 where there is a value, which `out` then holds, 1 where there is none and 2 where document 01 refuses a number as too long, with 0 in `out`.
-// A duration has two values, its minutes and 1 where the sum was whole. Numbers and lent results, and no Option, for C.
+// A duration has two values, its minutes and 1 where the sum was whole. Numbers and lent results, no Option, and a function for each type, for C.
 #![tactic(auto)]
 
 use definition::{Date, Duration, Unread};
@@ -72,10 +72,11 @@ pub fn probe_trim(s: &[u8]) -> usize
 }
 
 // Whether the trimmed text is t.
+#[tactic(auto, using(text::proofs::Equal::same_is))]
 pub fn probe_trimmed(s: &[u8], t: &[u8]) -> u32
     ensures { result ≡ one (same (trim s.now) t.now) }
 {
-    u32::from(text::same(text::trim(s), t))
+    u32::from(text::trim(s) == t)
 }
 
 pub fn probe_utf8(s: &[u8]) -> u32

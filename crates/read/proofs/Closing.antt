@@ -1,5 +1,6 @@
 -- Counts laid over zeros, one after another. Assumes nothing.
 use Rattle.std.proofs.Common.{◌≡◌, ℕ, ◌+◌, ◌<◌, List, ◌∷◌, ◌++◌, length, drop, get_or, sym, ap, ◌∙◌, subst, arith, append_assoc, append-nil, add-one, length-append, drop-cons, []}
+use Rattle.definition.specs.Answer.{each_of}
 use Rattle.definition.specs.Bits.{Bits, enc, bits_of}
 use Rattle.definition.specs.Format.{field, ◌⊗◌}
 use Rattle.laws.specs.Bits.{length_bits, length_enc}
@@ -7,8 +8,7 @@ use Rattle.bits.specs.Over.{over, over_mid}
 use Rattle.bits.specs.Places.{at, place, Fits, fits_room, at_place}
 use Rattle.bits.specs.Steps.{Laid, laid_in}
 use Rattle.bits.specs.declared.Place.{Place}
-use Rattle.pack.specs.Record.{each_count}
-use Rattle.pack.specs.declared.record.Counts as P
+use Rattle.pack.specs.Record as P
 use Rattle.read.specs.Sections.{Closes}
 
 -- a place, and the bits before it and from it on
@@ -61,10 +61,10 @@ closing_more {ns} {ms} {n} {ks} {d} {d1} {p = p} z h' x =
       all = append_assoc h.done (enc 32 n) (encs ks) ∙ h.all;
     }
 
-pub closing_all : (n : P.Counts) {ms d d' : List ℕ} {p : Place} → Closing (each_count n) ms d d' p → ms ≡ [] → Closes n d d'
+pub closing_all : (n : P.Counts) {ms d d' : List ℕ} {p : Place} → Closing (each_of n) ms d d' p → ms ≡ [] → Closes n d d'
 unfolding ◌⊗◌ field encs open_for
 closing_all n {ms} {d} {d'} {p} h' e =
-    let ns = each_count n in
+    let ns = each_of n in
     let h : Closing ns [] d d' p = subst (λ (ms : List ℕ). Closing ns ms d d' p) e h' in
     record {
       same = h.same;

@@ -15,13 +15,13 @@ use Rattle.definition.specs.Bits.{Bits, bits_of, bytes_of}
 use Rattle.definition.specs.Format.{field, ◌⊗◌}
 use Rattle.definition.specs.Tree.{records, layout, element, below_root}
 use Rattle.definition.specs.Model.{Model}
-use Rattle.definition.specs.Pack.{Counts, counts, counts_of, Body, body, body_of, model, encode, project, calendar, activity, link, resource, assignment, expense}
+use Rattle.definition.specs.Pack.{Counts, counts, counts_of, Body, body, body_of, model, encode}
 use Rattle.definition.specs.Read.{model_of}
 use Rattle.definition.specs.Refusal.{Answer, refused, gives, in_room, most_elements, utf8?, project?, too_long, tree_refusal, read_answer}
 use Rattle.laws.specs.Bits.{length_enc, enc_low, length_bytes, whole_bytes, bits_take, bytes_of_lem}
 use Rattle.laws.specs.Each.{each_take}
 use Rattle.laws.specs.FitTrees.{calendars_most, resources_most}
-use Rattle.laws.specs.Formats.{Fills, fills_whole, fills_pair, fills_times}
+use Rattle.laws.specs.Formats.{Fills, fills_body}
 use Rattle.laws.specs.Buf.{◌▷◌, size_of}
 use Rattle.tree.specs.Place.{element_at}
 use Rattle.bits.specs.Places.{at, inside, Fits, room_none}
@@ -30,7 +30,7 @@ use Rattle.bits.specs.Steps.{Puts, Step, said, view, view_in}
 use Rattle.bits.specs.Round.{put_stood, stood_all, overran}
 use Rattle.bits.specs.declared.Place.{Place}
 use Rattle.pack.specs.Record.{counts_by}
-use Rattle.pack.specs.declared.record.Counts as P
+use Rattle.pack.specs.Record as P
 use Rattle.read.specs.Sections.{start, low, zeros, Few, AllPut, Closes}
 use Rattle.read.specs.declared.sections.Sections.{Sections}
 use Rattle.read.specs.Answers.{Leaves}
@@ -51,16 +51,6 @@ counts_length k = simp (length-append, length_enc)
 pub fills_counts : Fills counts
 unfolding ◌⊗◌ field
 fills_counts = record { ends = λ n k h. simp (length-append, length_enc) (omega arith) }
-
-fills_body : (k : Counts) → Fills (body k)
-unfolding body
-fills_body k =
-    fills_pair (fills_whole project)
-    (fills_pair (fills_times k.0 (fills_whole calendar))
-    (fills_pair (fills_times k.1.0 (fills_whole activity))
-    (fills_pair (fills_times k.1.1.0 (fills_whole link))
-    (fills_pair (fills_times k.1.1.1.0 (fills_whole resource))
-    (fills_pair (fills_times k.1.1.1.1.0 (fills_whole assignment)) (fills_times k.1.1.1.1.1 (fills_whole expense)))))))
 
 -- the bits of a model: its counts, and its body behind them
 module _ (m : Model) where

@@ -15,7 +15,7 @@ use Rattle.bits.specs.Steps.{Puts}
 use Rattle.bits.specs.declared.Place.{Place}
 use Rattle.pack.specs.Writes.{Writes, WritesIf}
 use Rattle.pack.specs.Record.{counts_by}
-use Rattle.pack.specs.declared.record.Counts as P
+use Rattle.pack.specs.Record as P
 use Rattle.names.specs.Context.{context_at, calendars_before}
 use Rattle.assignments.specs.Section.{WritesIn}
 use Rattle.read.specs.declared.assigned.Assigned.{Assigned}

@@ -1,15 +1,16 @@
 // What an element says: the rule of an Exception, the days of a WeekDay of DayType 0.
 ghost use Rattle.std.specs.Prelude.{◌≡◌, ◌≤◌, pos, true};
 ghost use Rattle.definition.specs.Base.{◌or◌};
+ghost use Rattle.definition.specs.Date.{last_date};
 ghost use Rattle.definition.specs.Recurrence.{month_from, rule_from};
 ghost use Rattle.fields.specs.Said.{whole_said, date_said};
 ghost use Rattle.tree.specs.Place.{meaning};
 ghost use Rattle.recurrence.specs.Element.{pick_of, mask_of, last_by, held_rule, judged, RuleRead, RangeRead};
 
 use crate::kind::kind_of;
-use crate::scale::{LAST, count_by};
+use crate::scale::count_by;
 use crate::{Range, Rule};
-use date::at_count;
+use date::{LAST, at_count};
 use tree::Element;
 
 // A number held to `most`, with what stands for one below 0 and for a missing one. Not by fields' `unsigned_in`: it gives a u64, which would be held
@@ -63,8 +64,8 @@ fn month_from(n: u32) -> Option<u32>
 }
 
 fn rule_at(e: Element<'_>, from: u32, to: u32) -> Rule
-    requires from { from ≤ 7304849 }
-    requires to { to ≤ 7304849 }
+    requires from { from ≤ last_date }
+    requires to { to ≤ last_date }
     ensures { result ≡ held_rule (rule_from (meaning e.entry) from to) }
 {
     let (last, most) = if fields::yes_in(e, b"EnteredByOccurrences") {
@@ -94,7 +95,7 @@ fn rule_at(e: Element<'_>, from: u32, to: u32) -> Rule
 fn judge(r: Rule) -> Option<Rule>
     ensures { result ≡ judged r }
 {
-    kind_of(r.kind, r.month)?;
+    kind_of(r)?;
     Some(r)
 }
 

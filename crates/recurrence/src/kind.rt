@@ -1,18 +1,20 @@
 // The first day that fits a rule, from a day on, kind by kind: daily, yearly, monthly, weekly. It may lie past the last day. The kind is chosen by
 // the Type.
-ghost use Rattle.std.specs.Prelude.{◌≡◌, ◌≤◌};
+ghost use Rattle.std.specs.Prelude.{◌≡◌, ◌+◌, ◌≤◌};
+ghost use Rattle.definition.specs.Date.{last_date};
 ghost use Rattle.definition.specs.Recurrence.{fits};
 ghost use Rattle.recurrence.specs.Sequence.{FirstFound};
 ghost use Rattle.recurrence.specs.Scale.{IsMonth};
 ghost use Rattle.recurrence.specs.Kind.{UpTo, Ready, daily_fits, yearly_fits, monthly_fits, weekly_fits, WeekDay, on_mask, IsKind, Chosen};
 ghost use Rattle.recurrence.specs.Meaning.{as_rule};
 
+use crate::Rule;
 use crate::position::{ByDay, ByPosition, Candidate, sunday_first};
 use crate::scale::{Scaled, month_at, year_of};
 
 // How many steps reach n.
 fn steps_up(n: u32, step: u32) -> u32
-    requires days { n ≤ 7304850 }
+    requires days { n ≤ last_date + 1 }
     requires step { 1 ≤ step }
     requires most { step ≤ 1000 }
     ensures { UpTo n step result }
@@ -23,7 +25,7 @@ fn steps_up(n: u32, step: u32) -> u32
 // The first day from d on in a week that counts. Weeks begin on the day `sunday`.
 fn week_day_from(sunday: u32, step: u32, d: u32) -> u32
     requires sunday { sunday ≤ d }
-    requires day { d ≤ 7304850 }
+    requires day { d ≤ last_date + 1 }
     requires step { 1 ≤ step }
     requires most { step ≤ 1000 }
     ensures { WeekDay sunday step d result }
@@ -40,7 +42,7 @@ fn on_weekday(weekdays: u32, d: u32) -> bool
 }
 
 // The kinds of a rule, by its Type, the yearly ones with their month. An enum and no trait: a rule chooses one by its numbers, at each call.
-#[derive(Clone, Copy)]
+#[derive(Clone, Copy, Debug, PartialEq, Eq)]
 pub(crate) enum Kind {
     Daily,
     YearlyByDay(u32),
@@ -51,11 +53,11 @@ pub(crate) enum Kind {
 }
 
 // A Type chooses among the six; any other and, in 2 and 3, a bad Month give no rule.
-pub(crate) fn kind_of(kind: u32, month: Option<u32>) -> Option<Kind>
-    ensures { Chosen kind month result }
+pub(crate) fn kind_of(r: Rule) -> Option<Kind>
+    ensures { Chosen r.kind r.month result }
 {
-    let month = month.filter(|m| (1..=12).contains(m));
-    match kind {
+    let month = r.month.filter(|m| (1..=12).contains(m));
+    match r.kind {
         1 => Some(Kind::Daily),
         2 => Some(Kind::YearlyByDay(month?)),
         3 => Some(Kind::YearlyByPosition(month?)),
@@ -67,7 +69,7 @@ pub(crate) fn kind_of(kind: u32, month: Option<u32>) -> Option<Kind>
 }
 
 // A rule, and the day from which on a day that fits is looked for.
-#[derive(Clone, Copy)]
+#[derive(Clone, Copy, Debug, PartialEq, Eq)]
 pub(crate) struct Search {
     pub(crate) r: Scaled,
     pub(crate) at: u32,

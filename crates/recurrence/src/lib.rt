@@ -12,8 +12,8 @@ pub use element::{days_of, rule_of};
 pub use sequence::{RuleDays, days, next, start};
 
 // A rule, as definition's Recurrence.antt has it, in whole numbers. The day is held to 32, the item to 10 and the position to 5, at which
-// and past which nothing fits; of the weekdays the seven low bits are held.
-#[derive(Clone, Copy)]
+// and past which nothing fits; of the weekdays the seven low bits are held. probe's Fields have numbers for its dates and its month, for C.
+#[derive(Clone, Copy, Debug, PartialEq, Eq)]
 pub struct Rule {
     // a number, since callers may pass any, and `next` refuses those that no kind has
     pub kind: u32,
@@ -30,14 +30,14 @@ pub struct Rule {
 }
 
 // From which day on the days of a rule are still to come, and how many at most.
-#[derive(Clone, Copy)]
+#[derive(Clone, Copy, Debug, PartialEq, Eq)]
 pub struct Cursor {
     pub at: Date,
     pub left: u32,
 }
 
 // The next day, with the cursor behind it; no day; no rule. Three outcomes with names: a `Result` of an `Option` is no plainer.
-#[derive(Clone, Copy)]
+#[derive(Clone, Copy, Debug, PartialEq, Eq)]
 pub enum Step {
     Day(Date, Cursor),
     Done,
@@ -45,7 +45,7 @@ pub enum Step {
 }
 
 // Days in a row. What probe gives for C has numbers in their place.
-#[derive(Clone, Copy)]
+#[derive(Clone, Copy, Debug, PartialEq, Eq)]
 pub struct Range {
     pub first: Date,
     pub count: u32,

@@ -9,7 +9,7 @@ ghost use Rattle.recurrence.specs.Kind.{last_of, candidate_of};
 
 use crate::scale::{Scaled, day_in, length_in};
 
-// Sunday 0. Here and not in date: of a day on the scale, with no Date in between.
+// Sunday 0, as a rule has its items and weekdays. Not by date's `weekday`, where Monday is 0: this is of a day on the scale, with no Date in between.
 pub(crate) fn sunday_first(d: u32) -> u32
     ensures { result ≡ sunday_first d }
 {
@@ -22,7 +22,7 @@ fn is_workday(w: u32) -> bool
     (1..=5).contains(&w)
 }
 
-// The item stays the number that a rule has, as does the position: an enum would be made of it at each day.
+// The item stays the number that a rule has, as does the position: an enum would be made of it once a month, in `nth_of`.
 // Item 0 is any day, 1 Monday to Friday, 2 the weekend, 3 to 9 Sunday to Saturday.
 fn item_fits(item: u32, d: u32) -> bool
     ensures { result ≡ item_fits (pos item) d }

@@ -8,11 +8,8 @@ use crate::Rule;
 use date::{at_count, count_of};
 use definition::Date;
 
-// The last date, 31 December 9999. Clauses write the number, as their arithmetic reads it.
-pub(crate) const LAST: u32 = 7304849;
-
 // A rule with its days counted so.
-#[derive(Clone, Copy)]
+#[derive(Clone, Copy, Debug, PartialEq, Eq)]
 pub(crate) struct Scaled {
     pub rule: Rule,
     pub from: u32,
@@ -20,7 +17,7 @@ pub(crate) struct Scaled {
 }
 
 // A month of a year. March of `date` is a year that begins in March, and a day of it.
-#[derive(Clone, Copy)]
+#[derive(Clone, Copy, Debug, PartialEq, Eq)]
 pub(crate) struct Month {
     pub year: u32,
     pub month: u32,

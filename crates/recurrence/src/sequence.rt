@@ -7,16 +7,16 @@ ghost use Rattle.recurrence.specs.Kind.{IsKind};
 ghost use Rattle.recurrence.specs.Meaning.{sound, days_by, coming, Comes, to_come, said, start_of, step_of};
 
 use crate::kind::{Kind, Search, kind_of};
-use crate::scale::{LAST, Scaled, to_scale};
+use crate::scale::{Scaled, to_scale};
 use crate::{Cursor, Rule, Step};
-use date::{at_count, count_of};
+use date::{FIRST, LAST, at_count, count_of};
 use definition::Date;
 
 // Its dates are such, and its Period is held.
 fn is_sound(r: Scaled) -> bool
     ensures { result ≡ sound r }
 {
-    (366..=LAST).contains(&r.from) & ((r.last <= LAST) & (1..=1000).contains(&r.rule.period))
+    (FIRST..=LAST).contains(&r.from) & ((r.last <= LAST) & (1..=1000).contains(&r.rule.period))
 }
 
 // The first of the days to come.
@@ -48,7 +48,7 @@ pub fn next(r: Rule, c: Cursor) -> Step
     if !is_sound(t) {
         return Step::Skipped;
     }
-    let Some(kind) = kind_of(r.kind, r.month) else {
+    let Some(kind) = kind_of(r) else {
         return Step::Skipped;
     };
     let Some(x) = day_from(kind, t, c) else {
@@ -62,7 +62,7 @@ pub fn next(r: Rule, c: Cursor) -> Step
 }
 
 // The days of a rule as an iterator; none where the rule is none.
-#[derive(Clone, Copy)]
+#[derive(Clone, Copy, Debug, PartialEq, Eq)]
 pub struct RuleDays {
     rule: Rule,
     cursor: Cursor,

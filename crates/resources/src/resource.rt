@@ -64,13 +64,14 @@ pub fn resource_kind(e: Element<'_>) -> ResourceKind
     }
 }
 
-// A test and then hundredths, here and in price_from, money_from and tasks::percent_from: each has its own bounds, and no range of the library is
-// open below.
-// Closed bounds, and yet by `<=` and no range: as in tasks' `day_from`, which says why.
+// A test and then hundredths, here and in price_from, money_from and tasks::percent_from: each has its own bounds, and the others' are open below, which
+// no `..` writes and a pair of Bounds would write longer.
 fn units_from(u: f64) -> Option<i64>
     ensures { result ≡ units_from u }
 {
-    ((0.0 <= u) & (u <= 1000000.0)).then(|| number::hundredths(u))
+    (0.0..=1000000.0)
+        .contains(&u)
+        .then(|| number::hundredths(u))
 }
 
 // Hundredths of a number from 0 to 1,000,000.

@@ -1,6 +1,5 @@
 -- The last of a list that passes a test, and its row, found from the front on. Assumes nothing.
 use Rattle.std.proofs.Common.{◌≡◌, ℕ, suc, ◌+◌, ◌-◌, ◌%◌, Bool, true, false, ltb, List, [], ◌∷◌, map, take, sym, refl, ap, subst, ◌∙◌, add-one, arith}
-use native.Mathlib.Nat.{zero-mod, mod-add-mod}
 use Rattle.std.specs.Prelude.{Option, Some, None, IfSome}
 use Rattle.std.specs.Iterator.{YieldsThen}
 use Rattle.std.specs.Iterator.Adapters.{enumerate_steps}
@@ -16,61 +15,51 @@ use Rattle.tree.specs.declared.element.Element.{Element as Place}
 use Rattle.rows.specs.Rows.{has_uid, found_meaning, calendar_meaning}
 use Rattle.rows.specs.Walks.{Gives}
 
--- ---- the row of the last that passes, counted from a row on
+-- ---- the row of the last that passes, counted from a row on, by what a row gives
 
 unfoldable pub row_by : {A : Type 0} → (ℕ → ℕ) → (A → Bool) → ℕ → List A → Option ℕ
-row_by next p n [] = None
-row_by next p n (x ∷ l) = row_by next p (next n) l or_else when (p x) n
+row_by f p n [] = None
+row_by f p n (x ∷ l) = row_by f p (n + 1) l or_else when (p x) (f n)
 
--- the row after a row, and as so many bits hold it
-abbrev pub up : ℕ → ℕ
-up n = n + 1
+-- the row itself, and as so many bits hold it
+abbrev pub itself : ℕ → ℕ
+itself n = n
 
-abbrev pub up_within : ℕ → ℕ → ℕ
-up_within m n = (n + 1) % m
+abbrev pub within : ℕ → ℕ → ℕ
+within m n = n % m
 
-module _ {A : Type 0} (p : A → Bool) where
-  last_row : (n : ℕ) (l : List A) → (find_last (λ (x : ℕ × A). p x.1) (numbered n l) >>= λ x. Some x.0) ≡ row_by up p n l
+module _ {A : Type 0} (f : ℕ → ℕ) (p : A → Bool) where
+  last_row : (n : ℕ) (l : List A) → (find_last (λ (x : ℕ × A). p x.1) (numbered n l) >>= λ x. Some (f x.0)) ≡ row_by f p n l
   unfolding find_last numbered row_by
   last_row n [] = refl
-  last_row n (x ∷ l) = by (find_last (λ (x : ℕ × A). p x.1) (numbered (suc n) l)) (p x) (last_row (suc n) l ∙ ap (λ (k : ℕ). row_by up p k l) (omega arith))
+  last_row n (x ∷ l) = by (find_last (λ (x : ℕ × A). p x.1) (numbered (suc n) l)) (p x) (last_row (suc n) l ∙ ap (λ (k : ℕ). row_by f p k l) (omega arith))
     where
-      by : (o : Option (ℕ × A)) (t : Bool) {k : Option ℕ} → (o >>= λ x. Some x.0) ≡ k → (o or_else when t (n, x) >>= λ x. Some x.0) ≡ (k or_else when t n)
+      by : (o : Option (ℕ × A)) (t : Bool) {k : Option ℕ} → (o >>= λ x. Some (f x.0)) ≡ k → (o or_else when t (n, x) >>= λ x. Some (f x.0)) ≡ (k or_else when t (f n))
       by None true e = rw (← e)
       by None false e = rw (← e)
       by (Some y) t e = rw (← e)
 
-  within_rows : (m n : ℕ) (l : List A) → (row_by up p n l >>= λ k. Some (k % m)) ≡ row_by (up_within m) p (n % m) l
-  unfolding row_by
-  within_rows m n [] = refl
-  within_rows m n (x ∷ l) = by (row_by up p (n + 1) l) (p x) (within_rows m (n + 1) l ∙ ap (λ (k : ℕ). row_by (up_within m) p k l) (sym (mod-add-mod n m 1)))
-    where
-      by : (o : Option ℕ) (t : Bool) {k : Option ℕ} → (o >>= λ k. Some (k % m)) ≡ k → (o or_else when t n >>= λ k. Some (k % m)) ≡ (k or_else when t (n % m))
-      by None true e = rw (← e)
-      by None false e = rw (← e)
-      by (Some y) t e = rw (← e)
-
-map_rows : {A B : Type 0} (f : A → B) (p : B → Bool) (n : ℕ) (l : List A) → row_by up p n (map f l) ≡ row_by up (λ x. p (f x)) n l
+map_rows : {A B : Type 0} (f : A → B) (p : B → Bool) (n : ℕ) (l : List A) → row_by itself p n (map f l) ≡ row_by itself (λ x. p (f x)) n l
 unfolding row_by
 map_rows f p n [] = refl
 map_rows f p n (x ∷ l) = rw (map_rows f p (n + 1) l)
 
-row_of_lem : (es : List Element) (u : Text) → row_of es u ≡ row_by up (has_uid u) 0 es
+some_then : {A B : Type 0} (f : A → ℕ) (g : ℕ → B) (o : Option A) → ((o >>= λ x. Some (f x)) >>= λ n. Some (g n)) ≡ (o >>= λ x. Some (g (f x)))
+some_then f g None = refl
+some_then f g (Some x) = refl
+
+row_within : (m : ℕ) (es : List Element) (u : Text) → (row_of es u >>= λ n. Some (n % m)) ≡ row_by (within m) (has_uid u) 0 es
 unfolding row_of
-row_of_lem es u = last_row (has_uid u) 0 es
+row_within m es u = some_then (λ (x : ℕ × Element). x.0) (within m) _ ∙ last_row (within m) (has_uid u) 0 es
 
-row_within : (m : ℕ) (es : List Element) (u : Text) → (row_of es u >>= λ n. Some (n % m)) ≡ row_by (up_within m) (has_uid u) 0 es
-row_within m es u =
-    ap (λ o. o >>= λ n. Some (n % m)) (row_of_lem es u) ∙ within_rows (has_uid u) m 0 es ∙ ap (λ (k : ℕ). row_by (up_within m) (has_uid u) k es) (zero-mod m)
-
-parent_of_lem : (es : List Element) (k : ℕ) → parent_of (map level_of es) k ≡ row_by up (λ e. ltb (level_of e) k) 0 es
+parent_of_lem : (es : List Element) (k : ℕ) → parent_of (map level_of es) k ≡ row_by itself (λ e. ltb (level_of e) k) 0 es
 unfolding parent_of
-parent_of_lem es k = last_row (λ n. ltb n k) 0 (map level_of es) ∙ map_rows level_of (λ n. ltb n k) 0 es
+parent_of_lem es k = last_row itself (λ n. ltb n k) 0 (map level_of es) ∙ map_rows level_of (λ n. ltb n k) 0 es
 
 -- ---- the loop: of the list that is left, else the last so far
 
-pub record RowIn {A : Type 0} (next : ℕ → ℕ) (p : A → Bool) (t : Option ℕ) (n : ℕ) (l : List A) (found : Option ℕ) : Type 0 where
-  pub is : t ≡ (row_by next p n l or_else found)
+pub record RowIn {A : Type 0} (f : ℕ → ℕ) (p : A → Bool) (t : Option ℕ) (n : ℕ) (l : List A) (found : Option ℕ) : Type 0 where
+  pub is : t ≡ (row_by f p n l or_else found)
 
 none_else : {A : Type 0} (o : Option A) → (o or_else None) ≡ o
 none_else None = refl
@@ -80,31 +69,31 @@ else_else : {A : Type 0} (a b c : Option A) → (a or_else b or_else c) ≡ (a o
 else_else None b c = refl
 else_else (Some x) b c = refl
 
-module _ {A : Type 0} {next : ℕ → ℕ} {p : A → Bool} {t : Option ℕ} where
-  row_all : {l : List A} → t ≡ row_by next p 0 l → RowIn next p t 0 l None
+module _ {A : Type 0} {f : ℕ → ℕ} {p : A → Bool} {t : Option ℕ} where
+  row_all : {l : List A} → t ≡ row_by f p 0 l → RowIn f p t 0 l None
   row_all h = record { is = h ∙ sym (none_else _) }
 
-  module _ {n : ℕ} {l : List A} {found : Option ℕ} (h : RowIn next p t n l found) where
-    pub row_turn : {x : A} {k : List A} → l ≡ x ∷ k → {b : Bool} → b ≡ p x → {here : Option ℕ} → here ≡ when b n → {found' : Option ℕ} → found' ≡ (here or_else found) → {n' : ℕ} → n' ≡ next n
-        → RowIn next p t n' k found'
+  module _ {n : ℕ} {l : List A} {found : Option ℕ} (h : RowIn f p t n l found) where
+    pub row_turn : {x : A} {k : List A} → l ≡ x ∷ k → {b : Bool} → b ≡ p x → {here : Option ℕ} → here ≡ when b (f n) → {found' : Option ℕ} → found' ≡ (here or_else found) → {n' : ℕ} → n' ≡ n + 1
+        → RowIn f p t n' k found'
     unfolding row_by
     row_turn {x} {k} i {b} z w {found'} j m =
-        let f : found' ≡ (when (p x) n or_else found) = j ∙ ap (λ o. o or_else found) (w ∙ ap (λ (t : Bool). when t n) z) in
-        let a : (row_by next p n l or_else found) ≡ (row_by next p (next n) k or_else (when (p x) n or_else found)) = rw i (else_else (row_by next p (next n) k) (when (p x) n) found) in
-        record { is = h.is ∙ a ∙ ap (λ o. row_by next p (next n) k or_else o) (sym f) ∙ ap (λ (j : ℕ). row_by next p j k or_else found') (sym m) }
+        let o : found' ≡ (when (p x) (f n) or_else found) = j ∙ ap (λ o. o or_else found) (w ∙ ap (λ (t : Bool). when t (f n)) z) in
+        let a : (row_by f p n l or_else found) ≡ (row_by f p (n + 1) k or_else (when (p x) (f n) or_else found)) = rw i (else_else (row_by f p (n + 1) k) (when (p x) (f n)) found) in
+        record { is = h.is ∙ a ∙ ap (λ o. row_by f p (n + 1) k or_else o) (sym o) ∙ ap (λ (j : ℕ). row_by f p j k or_else found') (sym m) }
 
     pub row_end : l ≡ [] → found ≡ t
     unfolding row_by
     row_end i = sym (h.is ∙ rw i)
 
-pub within_begin : (m : ℕ) (es : List Element) (u : Text) {l : List Element} → es ≡ l → RowIn (up_within m) (has_uid u) (row_of es u >>= λ n. Some (n % m)) 0 l None
-within_begin m es u e = row_all (row_within m es u ∙ ap (row_by (up_within m) (has_uid u) 0) e)
+pub within_begin : (m : ℕ) (es : List Element) (u : Text) {n : ℕ} → n ≡ 0 → RowIn (within m) (has_uid u) (row_of es u >>= λ n. Some (n % m)) n es None
+within_begin m es u z = rw z (row_all (row_within m es u))
 
-pub parents_begin : (row : ℕ) (es : List Element) (k : ℕ) {l : List Element} → es ≡ l → RowIn up (λ e. ltb (level_of e) k) (parent_of (map level_of (take row es)) k) 0 (take (row - 0) l) None
+pub parents_begin : (row : ℕ) (es : List Element) (k : ℕ) {l : List Element} → es ≡ l → RowIn itself (λ e. ltb (level_of e) k) (parent_of (map level_of (take row es)) k) 0 (take (row - 0) l) None
 parents_begin row es k {l} e =
     let z : row ≡ row - 0 = omega arith in
     let p : Element → Bool = λ e. ltb (level_of e) k in
-    row_all (parent_of_lem (take row es) k ∙ ap (λ (l : List Element). row_by up p 0 (take row l)) e ∙ ap (λ (i : ℕ). row_by up p 0 (take i l)) z)
+    row_all (parent_of_lem (take row es) k ∙ ap (λ (l : List Element). row_by itself p 0 (take row l)) e ∙ ap (λ (i : ℕ). row_by itself p 0 (take i l)) z)
 
 -- ---- the last itself
 

@@ -1,5 +1,5 @@
 -- The walk over a list of elements with a UID, and the table that is filled on it. Assumes nothing.
-use Rattle.std.proofs.Common.{◌≡◌, ℕ, ◌^◌, ◌<◌, ◌≤◌, Bool, List, [], ◌∷◌, length, sym, ap, ◌∙◌, arith}
+use Rattle.std.proofs.Common.{◌≡◌, ℕ, ◌^◌, ◌<◌, ◌≤◌, max, Bool, List, [], ◌∷◌, length, sym, ap, ◌∙◌, arith}
 use Rattle.std.specs.Prelude.{None, Option, Some}
 use Rattle.definition.specs.Ascii.{bytes}
 use Rattle.definition.specs.Text.{Text}
@@ -41,8 +41,8 @@ module _ (n : Text) (w : Element → Bool) {o : Option Place} where
 
 -- ---- how many there are
 
-pub listed_few : (root : Root) (l : Listed) → length root.tree.now < 2 ^ 32 → length (listed l (root_at root)) < 2 ^ 32
-listed_few root l h = by l
+pub listed_most : (root : Root) (l : Listed) → length (listed l (root_at root)) ≤ max (length root.tree.now) 100000
+listed_most root l = by l
   where
     es : List Element
     es = resources_in (root_at root)
@@ -50,7 +50,10 @@ listed_few root l h = by l
     f : length es ≤ length root.tree.now
     f = rw (in_resources root (bytes "Resource")) (children_few root.tree.now root.resources (bytes "Resource"))
 
-    by : (l : Listed) → length (listed l (root_at root)) < 2 ^ 32
+    by : (l : Listed) → length (listed l (root_at root)) ≤ max (length root.tree.now) 100000
     by Listed.Tasks = omega (arith, tasks_most (root_at root))
     by Listed.Work = rw (← work_picked (root_at root)) (omega (arith, f, keep_most is_work es))
     by Listed.Cost = rw (← cost_picked (root_at root)) (omega (arith, f, keep_most is_cost_resource es))
+
+pub listed_few : (root : Root) (l : Listed) → length root.tree.now < 2 ^ 32 → length (listed l (root_at root)) < 2 ^ 32
+listed_few root l h = omega (arith, listed_most root l)

@@ -47,7 +47,7 @@ pub fn next_calendar<'a>(root: Root<'a>, e: Element<'a>) -> Option<Element<'a>>
 }
 
 // The calendars to be built, one after another.
-#[derive(Clone, Copy)]
+#[derive(Clone, Copy, Debug, PartialEq, Eq)]
 pub struct CalendarsInOrder<'a> {
     root: Root<'a>,
     next: Option<Element<'a>>,

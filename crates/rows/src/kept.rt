@@ -10,6 +10,9 @@ ghost use Rattle.rows.specs.Walks.{Gives, kept_by, place_in, room, KeptFrom, kep
 
 use tree::{Element, Root};
 
+// The most tasks that are kept: the definition's most_tasks.
+pub const MOST_TASKS: u32 = 100_000;
+
 // The first of at most `most` tasks, from where a list of tasks starts, and how many after it are still to be looked at.
 // By hand: what `children` promises is what its elements mean, and not where they stand in the tree, which `Past` says below.
 fn kept_from(start: Option<Element<'_>>, most: u32) -> Option<(Element<'_>, u32)>
@@ -36,7 +39,7 @@ pub fn first_kept(root: Root<'_>) -> Option<(Element<'_>, u32)>
     ensures there { Past root.entry.tree.now 0 (place_in result) }
     ensures few { room result ≤ most_tasks }
 {
-    kept_from(root.part(root.tasks).child(b"Task"), 100000)
+    kept_from(root.part(root.tasks).child(b"Task"), MOST_TASKS)
 }
 
 // The next one, of at most `left` tasks after another.
@@ -49,7 +52,7 @@ pub fn next_kept(task: Element<'_>, left: u32) -> Option<(Element<'_>, u32)>
 }
 
 // The kept tasks, one after another.
-#[derive(Clone, Copy)]
+#[derive(Clone, Copy, Debug, PartialEq, Eq)]
 pub struct KeptTasks<'a> {
     next: Option<(Element<'a>, u32)>,
 }

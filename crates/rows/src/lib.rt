@@ -14,7 +14,8 @@ pub use built::{
 };
 pub use bytes::are_bytes;
 pub use kept::{
-    KeptTasks, any_elapsed, count_fractional, first_kept, kept_tasks, next_kept, parent_row,
+    KeptTasks, MOST_TASKS, any_elapsed, count_fractional, first_kept, kept_tasks, next_kept,
+    parent_row,
 };
 pub use section::first_in;
 pub use table::{ListElements, Listed, cost_with, elements, index_rows, row_with, seek};

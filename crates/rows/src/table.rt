@@ -26,7 +26,7 @@ pub enum Listed {
 // ---- the elements of a list, one after another
 
 // What is left of a list.
-#[derive(Clone, Copy)]
+#[derive(Clone, Copy, Debug, PartialEq, Eq)]
 enum Rest<'a> {
     Tasks(KeptTasks<'a>),
     Work(Option<Element<'a>>),
@@ -34,7 +34,7 @@ enum Rest<'a> {
 }
 
 // The elements of a list.
-#[derive(Clone, Copy)]
+#[derive(Clone, Copy, Debug, PartialEq, Eq)]
 pub struct ListElements<'a> {
     rest: Rest<'a>,
 }
@@ -127,13 +127,11 @@ fn scan(root: Root<'_>, list: Listed, uid: &[u8]) -> Option<u32>
     ensures { result ≡ row_in32 list (root_at root.entry) uid.now }
 {
     let mut found = None;
-    // Counted by hand, in 32 bits: `enumerate` counts in usize, of which 32 bits would be cut in the end, and as nothing bounds how many there are, there is
-    // no range for `zip` as in `fill`.
-    let mut row: u32 = 0;
-    for e in elements(root, list) {
+    for (n, e) in elements(root, list).enumerate() {
+        // As 32 bits hold it: a cast is proved to lose nothing, so the rest is taken before it.
+        let row = (n % 4294967296) as u32;
         let named = fields::text_is(e, b"UID", uid).then_some(row);
         found = named.or(found);
-        row = row.wrapping_add(1);
     }
     found
 }

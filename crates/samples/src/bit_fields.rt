@@ -11,7 +11,7 @@ fn field_agrees(room: &mut [u8], p: Place, width: usize, value: u64, s: &[u8]) -
     let end = bits::put(room, p, width, value);
     bits::pad(room, end);
     let t = bits::take(room, p, width);
-    (t.value == value) & text::same(parts::first(room, s.len()), s)
+    t.value == value && parts::first(room, s.len()) == s
 }
 
 pub fn agrees(body: &[u8]) -> bool {

@@ -97,7 +97,7 @@ pub fn bytes_are(bytes: &[u8], s: &[u8]) -> bool {
         .all(|(i, b)| *b == text::byte_at(s, i))
 }
 
-// Whether the words are those of the bytes, and zeros behind.
+// Whether the words are those of the bytes, and zeros behind: each of four bytes, so no `bytes_are`.
 pub fn words_are(words: &[u32], s: &[u8]) -> bool {
     words
         .iter()

@@ -99,7 +99,7 @@ pub fn trim_agrees(body: &[u8]) -> bool {
     let count = (case.value % 65536) as usize;
     let trimmed = text::trim(case.text);
     let part = parts::first(parts::behind(case.text, from), count);
-    (trimmed.len() == count) & text::same(trimmed, part)
+    trimmed.len() == count && trimmed == part
 }
 
 pub fn utf8_agrees(body: &[u8]) -> bool {

@@ -108,7 +108,7 @@ pub fn is_elapsed(task: Element<'_>) -> bool
     format_of(task, b"DurationFormat").is_elapsed()
 }
 
-// A Duration that gives minutes and was not whole.
+// A Duration that gives minutes and was not whole. A name for one call, like `is_across`.
 #[tactic(auto, unfolding(definition::specs::Task::is_fractional))]
 pub fn is_fractional(task: Element<'_>) -> bool
     ensures { result ≡ is_fractional (meaning task.entry) }
@@ -118,11 +118,12 @@ pub fn is_fractional(task: Element<'_>) -> bool
 
 // ---- the day
 
-// By `<=` and no range: what `contains` promises speaks of the library's order of floats, and the definition of `<=`.
 fn day_from(m: f64) -> Option<u64>
     ensures { result ≡ per_day_from m }
 {
-    ((1.0 <= m) & (m <= 1440.0)).then(|| number::nearest_whole(m).unsigned_abs())
+    (1.0..=1440.0)
+        .contains(&m)
+        .then(|| number::nearest_whole(m).unsigned_abs())
 }
 
 // MinutesPerDay of the root, from 1 to 1440; else 480.
@@ -212,7 +213,7 @@ pub fn remaining_of(task: Element<'_>) -> Option<i64>
     fields::minutes_in(task, b"RemainingDuration").map(i64::from)
 }
 
-// Open below, which no range of the library is.
+// Open below, which no `..` writes and a pair of Bounds would write longer.
 fn percent_from(p: f64) -> Option<i64>
     ensures { result ≡ percent_from p }
 {

@@ -66,6 +66,7 @@ fn ahead(s: &[u8]) -> Option<&[u8]>
     }
 }
 
+// A loop for each end: one over both would take `behind` or `ahead` as a function, and what it would ask and promise of that is longer than the loop.
 fn trim_front(mut s: &[u8]) -> &[u8]
     ensures { result.now ≡ trim_front s.now }
 {

@@ -1,4 +1,5 @@
-// Whole numbers, as Rust's `parse` reads them. Not by `str::parse`: a text is bytes that need not be UTF-8, and would be tested for UTF-8 first.
+// Whole numbers, as Rust's `parse` reads them. Not by `str::parse`: a text is bytes that need not be UTF-8, and would be tested for UTF-8 first. In Rust,
+// `from_utf8` and `parse` took 1.9 to 2.5 times as long as `parse` alone over texts of one to ten digits; the bar is 1.5 times the Rust's time.
 ghost use Rattle.std.specs.Prelude.{◌≡◌, refl, ◌-◌, ◌≤◌, ℕ, Bool, Option, length};
 ghost use Rattle.definition.specs.Base.{when};
 ghost use Rattle.definition.specs.Text.{Text, is_digit, sign_of, unsigned_of, signed_of};

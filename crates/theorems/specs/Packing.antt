@@ -6,11 +6,11 @@ use Rattle.std.specs.Prelude.{Option, Some, None}
 use Rattle.definition.specs.Bits.{Bits, bits_of, bytes_of}
 use Rattle.definition.specs.Format.{field, ◌⊗◌, via}
 use Rattle.definition.specs.Model.{Model}
-use Rattle.definition.specs.Pack.{project, calendar, activity, link, resource, assignment, expense, Counts, counts, counts_of, Body, body, body_of, model_from, model, encode, at_end, decode}
+use Rattle.definition.specs.Pack.{Counts, counts, counts_of, Body, body, body_of, model_from, model, encode, at_end, decode}
 use Rattle.laws.specs.Options.{never}
 use Rattle.laws.specs.Each.{Each}
 use Rattle.laws.specs.Bits.{Bytes, length_enc, bits_binary, length_bits, bytes_small, whole_bits, whole_bytes}
-use Rattle.laws.specs.Formats.{got, Ends, Good, regard, lead, good_lead, Both, ◌&◌, Times, good_times, good_whole, good_count, Fills, fills_whole, fills_pair, fills_times}
+use Rattle.laws.specs.Formats.{got, Ends, Good, regard, lead, good_lead, Both, ◌&◌, Times, good_times, good_whole, good_count, fills_body}
 use Rattle.laws.specs.FitRecords.{good_named, IsCount}
 pub use Rattle.laws.specs.FitRecords.{FitsProject, FitsCalendar, FitsActivity, FitsLink, FitsResource, FitsAssignment, FitsExpense}
 pub use Rattle.laws.specs.FitRecords.{good_resource, good_assignment, good_expense}
@@ -96,16 +96,6 @@ good_model =
     (λ k. good_named model_from body_of (λ m. refl) (λ b. refl) (good_body k)))
 
 -- a model fills whole bytes
-fills_body : (k : Counts) → Fills (body k)
-unfolding body
-fills_body k =
-    fills_pair (fills_whole project)
-    (fills_pair (fills_times k.0 (fills_whole calendar))
-    (fills_pair (fills_times k.1.0 (fills_whole activity))
-    (fills_pair (fills_times k.1.1.0 (fills_whole link))
-    (fills_pair (fills_times k.1.1.1.0 (fills_whole resource))
-    (fills_pair (fills_times k.1.1.1.1.0 (fills_whole assignment)) (fills_times k.1.1.1.1.1 (fills_whole expense)))))))
-
 model_whole : (m : Model) → length (model.put 0 m) % 8 ≡ 0
 unfolding model
 model_whole m =

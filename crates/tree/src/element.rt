@@ -8,7 +8,7 @@ ghost use Rattle.tree.specs.Root.{own_text as own};
 
 // An element: its tree's bytes, and where its record begins. Where no record is whole there stands an element with no name, text or child.
 // Names and texts are bytes and no &str: `judge` tests once that they are UTF-8, and what is said here holds for any bytes.
-#[derive(Clone, Copy)]
+#[derive(Clone, Copy, Debug, PartialEq, Eq)]
 pub struct Element<'a> {
     pub tree: &'a [u8],
     pub at: usize,
@@ -23,10 +23,11 @@ impl<'a> Element<'a> {
     }
 
     // Whether it has the name.
+    #[tactic(auto, using(text::proofs::Equal::same_is))]
     pub fn name_is(self, name: &[u8]) -> bool
         ensures { result ≡ same (meaning self.entry).name name.now }
     {
-        text::same(self.name(), name)
+        self.name() == name
     }
 
     // The first child of the name.
@@ -37,7 +38,7 @@ impl<'a> Element<'a> {
         crate::find(self.tree, h.next, h.depth + 1, name)
     }
 
-    // The next sibling of the name.
+    // The next sibling of the name. `child` looks one level below: a function for both would be a name for one line.
     pub fn next(self, name: &[u8]) -> Option<Element<'a>>
         ensures { Starts self.entry.tree.now name.now (later name.now self.entry) (self.entry.at + 1) result }
     {
@@ -81,7 +82,7 @@ impl<'a> Element<'a> {
 }
 
 // Elements of a name, each the next sibling of the one before.
-#[derive(Clone, Copy)]
+#[derive(Clone, Copy, Debug, PartialEq, Eq)]
 pub struct Children<'a, 'n> {
     first: Option<Element<'a>>,
     name: &'n [u8],

@@ -13,7 +13,7 @@ mod refusal;
 mod root; // where the parts of a project stand
 
 pub use element::{Children, Element};
-pub use refusal::judge;
+pub use refusal::{MOST_ELEMENTS, judge};
 pub use root::{Root, root_of};
 
 // The bytes of a record's head.
@@ -169,6 +169,6 @@ fn find<'a>(s: &'a [u8], from: usize, w: usize, name: &[u8]) -> Option<Element<'
         at: from,
         depth: w,
     }
-    .find(|(_, n)| text::same(n, name))
+    .find(|(_, n)| *n == name)
     .map(|(e, _)| e)
 }

@@ -8,6 +8,9 @@ ghost use Rattle.definition.specs.Refusal.{utf8?, long?, number_names, duration_
 use crate::{Element, Heads};
 use definition::{Refusal, Unread};
 
+// The most elements that a tree may have: the definition's most_elements.
+pub const MOST_ELEMENTS: usize = 5_000_000;
+
 // Whether all names and texts are UTF-8.
 fn all_utf8(s: &[u8]) -> bool
     ensures { result ≡ every? utf8? (records s.now) }
@@ -71,8 +74,7 @@ pub fn judge(s: &[u8]) -> Result<(), Refusal>
     if !all_utf8(s) {
         return Err(Refusal::Utf8);
     }
-    // The definition's most_elements, by its number, as names, assignments and calendars have it where they test counts of their own.
-    if 5000000 < count {
+    if MOST_ELEMENTS < count {
         return Err(Refusal::TooMany);
     }
     if !(Element { tree: s, at: 0 }).name_is(b"Project") {

@@ -8,7 +8,7 @@ use crate::{Element, Siblings};
 
 // The children of a project that are read; a position past the end stands for one that is missing.
 // Option<usize> would be no plainer: past the end stands an element with no name, text or child, so that no reader of a part asks whether it is there.
-#[derive(Clone, Copy)]
+#[derive(Clone, Copy, Debug, PartialEq, Eq)]
 pub struct Root<'a> {
     pub tree: &'a [u8],
     pub calendars: usize,

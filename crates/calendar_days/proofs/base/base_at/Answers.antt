@@ -13,10 +13,10 @@ unfolding dates day_of day_before
 returns-then-not-inside c =
     let p = c.args.p in
     elim c.then-not-inside.branch [
-      | then-not-inside-via-then-not-inside w ↦ base_cut p c.skip_dates-extra.ensures c.skip_dates-exceptions.ensures c.skip_days-end.ensures (sym c.inside.ensures ∙ w.if-not-inside.true)
+      | then-not-inside-via-then-not-inside w ↦ base_cut p c.skip_days-extra.ensures c.skip_days-exceptions.ensures c.skip_days-end.ensures (sym c.inside.ensures ∙ w.if-not-inside.true)
       | then-not-inside-via-else-not-inside+then-lt w ↦
           let e : w.lt.result ≡ not (not_behind c.skip_days-end.result p) = w.lt.ensures ∙ grind (arith, nat_tests) in
-          base_behind p c.skip_dates-extra.ensures c.skip_dates-exceptions.ensures c.skip_days-end.ensures (sym c.inside.ensures ∙ w.if-not-inside.false) (not-true _ (sym e ∙ w.if-lt.true))
+          base_behind p c.skip_days-extra.ensures c.skip_days-exceptions.ensures c.skip_days-end.ensures (sym c.inside.ensures ∙ w.if-not-inside.false) (not-true _ (sym e ∙ w.if-lt.true))
     ]
 
 pub returns : goal.returns
@@ -24,4 +24,4 @@ unfolding dates day_of day_before
 returns c =
     let p = c.args.p in
     let e : c.lt.result ≡ not (not_behind c.skip_days-end.result p) = c.lt.ensures ∙ grind (arith, nat_tests) in
-    base_stands p c.skip_dates-extra.ensures c.skip_dates-exceptions.ensures c.skip_days-end.ensures (sym c.inside.ensures ∙ c.if-not-inside.false) (not-false _ (sym e ∙ c.if-lt.false))
+    base_stands p c.skip_days-extra.ensures c.skip_days-exceptions.ensures c.skip_days-end.ensures (sym c.inside.ensures ∙ c.if-not-inside.false) (not-false _ (sym e ∙ c.if-lt.false))

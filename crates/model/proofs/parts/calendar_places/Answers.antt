@@ -10,6 +10,6 @@ returns c =
       name = c.skip_text-week.ensures;
       week = pass_flags 7 c.skip-hours.ensures;
       hours = c.skip_hours-holidays.ensures;
-      holidays = c.skip_dates-extra.ensures;
-      extra = c.skip_dates-exceptions.ensures;
+      holidays = c.skip_days-extra.ensures;
+      extra = c.skip_days-exceptions.ensures;
     }

@@ -1,7 +1,7 @@
 use mathlib.Core.Logic.{inl, inr}
 use native.Mathlib.Omega.{arith}
 use Rattle.model.proofs.Single.{no_level, no_late, period_given}
-use Rattle.model.specs.Answers.{period_meaning}
+use Rattle.definition.specs.Answer.{period_meaning}
 use Rattle.model.proofs.parts.take_period.Goals as goal
 
 pub returns-then-to-from : goal.returns-then-to-from

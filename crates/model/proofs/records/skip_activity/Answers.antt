@@ -4,4 +4,4 @@ use Rattle.model.proofs.records.skip_activity.Goals as goal
 
 pub returns : goal.returns
 unfolding activity_parts
-returns g c = ended (c.parent_place_by-a.ensures ⨾ c.skip_optional-b.ensures ⨾ c.skip_from_notes.ensures) c.take_pad.ensures
+returns g c = ended (c.parent_place_as-a.ensures ⨾ c.skip_optional-b.ensures ⨾ c.skip_from_notes_as.ensures) c.take_pad.ensures

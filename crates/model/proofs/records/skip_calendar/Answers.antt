@@ -8,5 +8,5 @@ use Rattle.model.proofs.records.skip_calendar.Goals as goal
 pub returns : goal.returns
 unfolding calendar_parts dates day_of day_before
 returns g c =
-    let fields = c.skip_text-a.ensures ⨾ pass_flags 7 c.skip-b.ensures ⨾ c.skip_hours-c.ensures ⨾ c.skip_dates-d.ensures ⨾ c.skip_dates-e.ensures ⨾ c.skip_days.ensures in
+    let fields = c.skip_text-a.ensures ⨾ pass_flags 7 c.skip-b.ensures ⨾ c.skip_hours-c.ensures ⨾ c.skip_days-d.ensures ⨾ c.skip_days-e.ensures ⨾ c.skip_days.ensures in
     ended fields c.take_pad.ensures

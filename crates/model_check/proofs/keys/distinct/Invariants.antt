@@ -9,4 +9,4 @@ use Rattle.model_check.proofs.Keyed.{repeats}
 use Rattle.model_check.proofs.keys.distinct.Given as goal
 
 abbrev pub invariant-loop-i : goal.invariant-loop-i
-invariant-loop-i g l = (key : Item g.K.Records.KIND → Key) → Keyed g.K.Records.KIND g.K.KeyedRecords.LEAD l.s key → (xs : List (Item g.K.Records.KIND)) (end : ℕ) → Run g.K.Records.KIND l.s l.initial.q l.i-end xs end → Along g.K.Records.KIND l.s l.i-end xs end (repeats key) true l.i l.q
+invariant-loop-i g l = (key : Item g.K.Records.KIND → Key) → Keyed g.K.Records.KIND g.K.Records.LEAD l.s key → (xs : List (Item g.K.Records.KIND)) (end : ℕ) → Run g.K.Records.KIND l.s l.initial.q l.i-end xs end → Along g.K.Records.KIND l.s l.i-end xs end (repeats key) true l.i l.q

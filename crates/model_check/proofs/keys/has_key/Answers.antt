@@ -1,5 +1,6 @@
 -- `model_check::keys::has_key` meets its contract. Assumes nothing.
-use mathlib.Core.Path.{◌∙◌}
+use mathlib.Core.Path.{sym, ◌∙◌}
+use Rattle.text.proofs.Equal.{same_is}
 use Rattle.model_check.proofs.Keyed.{other_row, same_row, key_name}
 use native.Mathlib.Omega.{arith}
 use Rattle.model_check.proofs.keys.has_key.Goals as goal
@@ -14,4 +15,4 @@ returns g c =
     let a = c.args in
     λ k h.
     let e = c.take-v.ensures in
-    c.same.ensures ∙ same_row h c.LEAD.ensures e a.key.row a.key.name.now (omega (arith, c.if-v-key.false)) (c.text_at.ensures k.1 (key_name h c.LEAD.ensures e))
+    c.eq.ensures ∙ sym (same_is a.key.name.now c.text_at.result.now) ∙ same_row h c.LEAD.ensures e a.key.row a.key.name.now (omega (arith, c.if-v-key.false)) (c.text_at.ensures k.1 (key_name h c.LEAD.ensures e))

@@ -12,4 +12,4 @@ use Rattle.model_check.proofs.tables.fill.Given as goal
 abbrev pub invariant-loop-i : goal.invariant-loop-i
 invariant-loop-i g l =
     (l.i ≤ l.t.rows) × (length l.words ≡ length l.initial.words) × (l.q.bit % 8 ≡ 0)
-    × (length l.s < 2 ^ 32 → Emptied l.t l.initial.words → (key : Item g.K.Records.KIND → Key) → Keyed g.K.Records.KIND g.K.KeyedRecords.LEAD l.s key → (xs : List (Item g.K.Records.KIND)) (end : ℕ) → Run g.K.Records.KIND l.s l.initial.q l.t.rows xs end → Filling g.K.Records.KIND g.K.KeyedRecords.LEAD l.s key xs end l.t l.words l.q l.i)
+    × (length l.s < 2 ^ 32 → Emptied l.t l.initial.words → (key : Item g.K.Records.KIND → Key) → Keyed g.K.Records.KIND g.K.Records.LEAD l.s key → (xs : List (Item g.K.Records.KIND)) (end : ℕ) → Run g.K.Records.KIND l.s l.initial.q l.t.rows xs end → Filling g.K.Records.KIND g.K.Records.LEAD l.s key xs end l.t l.words l.q l.i)

@@ -7,12 +7,12 @@ use Rattle.tree.specs.Root.{root_at}
 use Rattle.names.proofs.Found.{too_many, few}
 use Rattle.names.proofs.calendars.calendars_before.Goals as goal
 
-pub returns-then-n-gt5000000 : goal.returns-then-n-gt5000000
-returns-then-n-gt5000000 c =
+pub returns-then-n-gt-MOST_ELEMENTS : goal.returns-then-n-gt-MOST_ELEMENTS
+returns-then-n-gt-MOST_ELEMENTS c =
     let a = c.args in
-    too_many a.out.now a.c (root_at a.root) a.p (omega (arith, c.count_calendars-n.ensures, c.if-n-gt5000000.true))
+    too_many a.out.now a.c (root_at a.root) a.p (omega (arith, c.count_calendars-n.ensures, c.if-n-gt-MOST_ELEMENTS.true))
 
 pub returns : goal.returns
 returns c =
     let a = c.args in
-    few a.out.now a.c (root_at a.root) a.p _ _ c.count_calendars-n.ensures (omega (arith, c.if-n-gt5000000.false)) (c.up_to.ensures ∙ ap (λ (q : Place). up_to q a.p) c.place_of_row.ensures)
+    few a.out.now a.c (root_at a.root) a.p _ _ c.count_calendars-n.ensures (omega (arith, c.if-n-gt-MOST_ELEMENTS.false)) (c.up_to.ensures ∙ ap (λ (q : Place). up_to q a.p) c.place_of_row.ensures)

@@ -1,19 +1,21 @@
 -- `names::ids::ids_at` meets its contract. Assumes nothing.
 use native.Mathlib.Omega.{arith}
-use Rattle.names.proofs.Chained.{ids_none, ids_short, ids_are}
+use mathlib.Core.Path.{ap}
+use Rattle.index.specs.Chains.{end_of}
+use Rattle.index.specs.Law.{table_placed}
+use Rattle.names.proofs.Chained.{ids_two}
 use Rattle.names.proofs.ids.ids_at.Goals as goal
-use Rattle.names.proofs.ids.ids_at.Goals.{then-rows-eq0-via-then-rows-eq0, then-rows-eq0-via-else-rows-eq0+then-len-at, then-rows-eq0-via-else-rows-eq0+else-len-at+then-len-at-2}
 
-pub returns-then-rows-eq0 : goal.returns-then-rows-eq0
-returns-then-rows-eq0 c =
-    let a = c.args in
-    elim c.then-rows-eq0.branch [
-      | then-rows-eq0-via-then-rows-eq0 w ↦ ids_none a.len a.at a.rows w.if-rows-eq0.true
-      | then-rows-eq0-via-else-rows-eq0+then-len-at w ↦ ids_short a.len a.at a.rows (omega (arith, w.if-rows-eq0.false)) (omega (arith, w.if-rows-eq0.false, w.if-len-at.true))
-      | then-rows-eq0-via-else-rows-eq0+else-len-at+then-len-at-2 w ↦ ids_short a.len a.at a.rows (omega (arith, w.if-rows-eq0.false)) (omega (arith, w.if-len-at.false, w.if-len-at-2.true))
-    ]
+pub overflow_add-at : goal.overflow_add-at
+overflow_add-at c =
+    let p = table_placed c.args.len c.args.at c.args.rows c.in_ok-ids.ensures in
+    omega (arith, ap end_of p.is, p.fits.room, c.ranges)
+
+pub returns-in_err-ids : goal.returns-in_err-ids
+returns-in_err-ids c = rw c.from_residual.ensures (rw (← c.in_err-ids.ensures) at (ids_two c.args.len c.args.at c.args.rows))
+
+pub returns-in_err-wanted : goal.returns-in_err-wanted
+returns-in_err-wanted c = rw c.from_residual-in_err-wanted.ensures (rw (← c.in_ok-ids.ensures, ← c.in_err-wanted.ensures) at (ids_two c.args.len c.args.at c.args.rows))
 
 pub returns : goal.returns
-returns c =
-    let a = c.args in
-    ids_are a.len a.at a.rows (omega (arith, c.if-rows-eq0.false)) (omega (arith, c.if-len-at.false, c.if-len-at-2.false))
+returns c = rw (← c.in_ok-ids.ensures, ← c.in_ok-wanted.ensures) at (ids_two c.args.len c.args.at c.args.rows)

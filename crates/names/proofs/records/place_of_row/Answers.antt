@@ -4,11 +4,11 @@ use Rattle.names.specs.Seen.{place_in, place_out}
 use Rattle.names.proofs.records.place_of_row.Goals as goal
 
 pub returns-then-inside : goal.returns-then-inside
-returns-then-inside g c =
+returns-then-inside c =
     let a = c.args in
-    place_in g.K.Records.KIND a.row (rw c.KIND.ensures at c.skip_records-q.ensures) (sym c.inside.ensures ∙ c.if-inside.true)
+    place_in a.kind a.row c.skip_records-q.ensures (sym c.inside.ensures ∙ c.if-inside.true)
 
 pub returns : goal.returns
-returns g c =
+returns c =
     let a = c.args in
-    place_out g.K.Records.KIND a.row (rw c.KIND.ensures at c.skip_records-q.ensures) (sym c.inside.ensures ∙ c.if-inside.false)
+    place_out a.kind a.row c.skip_records-q.ensures (sym c.inside.ensures ∙ c.if-inside.false)

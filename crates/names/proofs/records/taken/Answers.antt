@@ -9,31 +9,31 @@ use native.Mathlib.Omega.{arith}
 use Rattle.names.proofs.records.taken.Goals as goal
 
 pub loop-init : goal.loop-init
-loop-init g c =
+loop-init c =
     let a = c.args in
-    (omega arith, pass_no (record_of false g.K.Records.KIND) a.out.now a.p, left_start g.K.Records.KIND a.out.now a.p a.count (same (starred_by a.wanted.now a.stars)))
+    (omega arith, pass_no (record_of false a.kind) a.out.now a.p, left_start a.kind a.out.now a.p a.count (same (starred_by a.wanted.now a.stars)))
 
 pub returns-then-same_starred : goal.returns-then-same_starred
-returns-then-same_starred g c =
+returns-then-same_starred c =
     let a = c.args in
     let l = c.loop in
     let t = starred_by a.wanted.now a.stars in
-    left_hit g.K.Records.KIND a.out.now a.p a.count (same t) l.counter l.invariant.2 (omega arith)
-    (seen_text t c.same_starred.ensures c.raw_text.ensures (text_here g.K.Records.KIND l.counter l.invariant.1) c.if-same_starred.true)
+    left_hit a.kind a.out.now a.p a.count (same t) l.counter l.invariant.2 (omega arith)
+    (seen_text t c.same_starred.ensures c.raw_text.ensures (text_here a.kind l.counter l.invariant.1) c.if-same_starred.true)
 
 pub loop-preserved : goal.loop-preserved
-loop-preserved g c =
+loop-preserved c =
     let a = c.args in
     let l = c.loop in
     let t = starred_by a.wanted.now a.stars in (
       omega arith,
-      pass_more (record_of false g.K.Records.KIND) l.counter l.invariant.1 (rw c.KIND.ensures at c.skip_record-q.ensures.0),
-      left_on g.K.Records.KIND a.out.now a.p a.count (same t) l.counter l.invariant.2 (omega arith)
-          (seen_text t c.same_starred.ensures c.raw_text.ensures (text_here g.K.Records.KIND l.counter l.invariant.1) c.if-same_starred.false),
+      pass_more (record_of false a.kind) l.counter l.invariant.1 c.skip_record-q.ensures.0,
+      left_on a.kind a.out.now a.p a.count (same t) l.counter l.invariant.2 (omega arith)
+          (seen_text t c.same_starred.ensures c.raw_text.ensures (text_here a.kind l.counter l.invariant.1) c.if-same_starred.false),
     )
 
 pub returns : goal.returns
-returns g c =
+returns c =
     let a = c.args in
     let l = c.loop in
-    left_end g.K.Records.KIND a.out.now a.p a.count (same (starred_by a.wanted.now a.stars)) l.counter l.invariant.2 (omega arith)
+    left_end a.kind a.out.now a.p a.count (same (starred_by a.wanted.now a.stars)) l.counter l.invariant.2 (omega arith)

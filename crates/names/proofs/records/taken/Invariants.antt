@@ -10,4 +10,4 @@ use Rattle.names.specs.Seen.{Left}
 use Rattle.names.proofs.records.taken.Given as goal
 
 abbrev pub invariant-loop : goal.invariant-loop
-invariant-loop g l = (l.counter ≤ l.count) × Passes (times l.counter (record_of false g.K.Records.KIND)) l.out l.initial.q l.q × Left g.K.Records.KIND l.out l.initial.q l.count (same (starred_by l.wanted l.stars)) l.counter
+invariant-loop l = (l.counter ≤ l.count) × Passes (times l.counter (record_of false l.kind)) l.out l.initial.q l.q × Left l.kind l.out l.initial.q l.count (same (starred_by l.wanted l.stars)) l.counter

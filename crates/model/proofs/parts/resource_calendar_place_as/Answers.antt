@@ -1,6 +1,6 @@
 use Rattle.model.specs.Passes.{◌⨾◌}
 use Rattle.model.proofs.Single.{pass_number}
-use Rattle.model.proofs.parts.resource_calendar_place_by.Goals as goal
+use Rattle.model.proofs.parts.resource_calendar_place_as.Goals as goal
 
 pub returns : goal.returns
 returns g c =

@@ -2,7 +2,7 @@ use mathlib.Core.Path.{ap}
 use Rattle.model.specs.Passes.{pass_as}
 use Rattle.model.specs.Parts.{record_of}
 use Rattle.model.proofs.Single.{is_set}
-use Rattle.model.proofs.records.skip_record.Goals as goal
+use Rattle.model.proofs.records.skip_record_as.Goals as goal
 
 pub returns-in-Calendars : goal.returns-in-Calendars
 unfolding record_of

@@ -1,6 +1,6 @@
 use Rattle.model.specs.Passes.{◌⨾◌}
 use Rattle.model.proofs.Single.{pass_number, pass_optional_number}
-use Rattle.model.proofs.parts.parent_place_by.Goals as goal
+use Rattle.model.proofs.parts.parent_place_as.Goals as goal
 
 pub returns : goal.returns
 returns g c =
