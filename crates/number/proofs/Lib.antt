@@ -1,4 +1,3 @@
-pub mod Table
 pub mod Values
 pub mod Powers
 pub mod Parts

@@ -1,4 +1,4 @@
--- The total of figures that are not below 0: it is not below 0, and up to 10 ^ 9 its whole number is small; and the duration that it gives. Assumes nothing.
+-- The total of figures that are not below 0: it is not below 0, and up to 10 ^ 9 it is within what is rounded, and its whole number is small; and the duration that it gives. Assumes nothing.
 use Rattle.std.specs.Prelude.{if◌then◌else◌}
 use Rattle.definition.specs.declared.Unread.TheVariants.{Absent}
 use Rattle.std.specs.Prelude.{Err, Ok}
@@ -10,7 +10,7 @@ use Rattle.definition.specs.Number.{zero_float, float, half_away, is_whole}
 use Rattle.definition.specs.Duration.{total_of, duration_at, duration_from}
 use Rattle.definition.specs.declared.Figures.{Figures}
 use Rattle.number.specs.Floats.{float-10⁹, float-10¹⁸}
-use Rattle.number.specs.Whole.{half_within, half_same}
+use Rattle.number.specs.Whole.{most}
 use Rattle.number.specs.Duration.{not_below}
 use Rattle.number.proofs.Nearest.{cap, at_most}
 use Rattle.number.proofs.Rounded.{bound}
@@ -36,21 +36,17 @@ unfolding duration_from
 from_is f = ap (λ (x : Float). if le (total_of f) x then Ok (duration_at (total_of f)) else (Err Absent)) float-10⁹
 
 module _ (f : Figures) (least : T (not_below f)) where
-  abbrev within : T (le (total_of f) billion) → half_within (total_of f) ≡ half_away (total_of f)
-  within b = half_same (total_of f) (total_least f least) (subst (λ (x : Float). T (le (total_of f) x)) (sym float-10¹⁸) (weaken (total_of f) (total_least f least) b))
+  pub within : le (total_of f) billion ≡ true → T (le (total_of f) most)
+  within t = subst (λ (x : Float). T (le (total_of f) x)) (sym float-10¹⁸) (weaken (total_of f) (total_least f least) (subst T (sym t) tt))
 
-  pub minutes_small : le (total_of f) billion ≡ true → half_within (total_of f) ≤ 1000000000
-  minutes_small t =
-      let b : T (le (total_of f) billion) = subst T (sym t) tt in
-      rw (within b) (bound 1953125 9 (total_of f) (total_least f least) b)
+  pub minutes_small : le (total_of f) billion ≡ true → half_away (total_of f) ≤ 1000000000
+  minutes_small t = bound 1953125 9 (total_of f) (total_least f least) (subst T (sym t) tt)
 
-  pub duration_is : le (total_of f) billion ≡ true → {n : ℕ} → n ≡ half_within (total_of f) → {w : Bool} → w ≡ eq (total_of f) (float n)
+  pub duration_is : le (total_of f) billion ≡ true → {n : ℕ} → n ≡ half_away (total_of f) → {w : Bool} → w ≡ eq (total_of f) (float n)
       → Ok (record { minutes = n; whole = w }) ≡ duration_from f
   duration_is t {n} i {w} j =
-      let b : T (le (total_of f) billion) = subst T (sym t) tt in
-      let h : n ≡ half_away (total_of f) = i ∙ within b in
-      let k : w ≡ is_whole (total_of f) = j ∙ eq_whole (total_of f) (total_least f least) n h (omega (arith, i, minutes_small t)) in
-      (λ r. Ok (record { minutes = h r; whole = k r }))
+      let k : w ≡ is_whole (total_of f) = j ∙ eq_whole (total_of f) (total_least f least) n i (omega (arith, i, minutes_small t)) in
+      (λ r. Ok (record { minutes = i r; whole = k r }))
       ∙ sym (from_is f ∙ ap (λ (t : Bool). if t then Ok (duration_at (total_of f)) else (Err Absent)) t)
 
 pub duration_none : (f : Figures) → le (total_of f) billion ≡ false → duration_from f ≡ (Err Absent)

@@ -1,26 +1,12 @@
 -- A product and a quotient of floats whose values are known fractions: the fraction's product or quotient, rounded once. Zeros and signs included.
 -- Assumes nothing.
-use Rattle.std.proofs.Common.{◌≡◌, ℕ, zero, suc, ◌*◌, ◌^◌, ◌<◌, Bool, true, false, T, eqb, sym, refl, ap, ◌∙◌, subst, not-suc-le-zero, lt_irrefl, zero-lt-suc, mul_assoc, mul_comm, mul-pos, zero-mul, mul_left_comm, eqb→eq}
+use Rattle.std.proofs.Common.{◌≡◌, ℕ, zero, suc, ◌*◌, ◌^◌, ◌<◌, Bool, false, eqb, sym, ap, ◌∙◌, subst, not-suc-le-zero, lt_irrefl, zero-lt-suc, mul_assoc, mul_comm, mul-pos, zero-mul, mul_left_comm}
 use native.Mathlib.Nat.{mul-mul-mul_comm, one-le-pow}
 use lib.Dec.{eqb-suc-zero}
 use lib.Ieee.{Float, nan, inf, fin, Format, up, down, unlike, round, mul, div}
 use lib.Ieee.Fits.{up_pos, down_pos}
 use lib.Ieee.Exact.{HasValue}
 use lib.Ieee.Scale.{round_same}
-
--- the test that a float is a / c, with the sign s
-abbrev pub is_value : Float → ℕ → Bool
-is_value nan a = false
-is_value (inf t) a = false
-is_value (fin true m e) a = false
-is_value (fin false m e) a = eqb (m * up e * 1) (a * down e)
-
--- docs/PORT.md names it
-pub is_value_lem : (x : Float) (a : ℕ) → T (is_value x a) → HasValue x false a 1
-is_value_lem nan a t = absurd t
-is_value_lem (inf s) a t = absurd t
-is_value_lem (fin true m e) a t = absurd t
-is_value_lem (fin false m e) a t = (refl, eqb→eq (m * up e * 1) (a * down e) t)
 
 -- (x * y) / (p * q) and (a * b) / (c * d), with x / p = a / c and y / q = b / d
 cross : (x y p q a b c d : ℕ) → x * c ≡ a * p → y * d ≡ b * q → x * y * (c * d) ≡ a * b * (p * q)

@@ -90,24 +90,14 @@ fn power_at(s: &[u8]) -> Option<Power>
     }
 }
 
-// 10 ^ k, exactly: the product of some of 10, its square, the square of that and so on.
+// 10 ^ k, exactly, as each power of ten up to the 22nd is a float.
 fn ten(k: usize) -> f64
     requires { k ≤ 22 }
     ensures { HasValue result false (10 ^ k) 1 }
 {
     let mut power = 1.0;
-    let mut base = 10.0;
-    let mut n = k;
-    // A `while`: each turn halves what is left, so there is no range to go over. Four turns at most; a plain product would take 22 multiplications.
-    while n > 1 {
-        if n % 2 == 1 {
-            power = power * base;
-        }
-        base = base * base;
-        n = n / 2;
-    }
-    if n == 1 {
-        return power * base;
+    for _ in 0..k {
+        power *= 10.0;
     }
     power
 }

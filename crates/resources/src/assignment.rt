@@ -80,6 +80,8 @@ pub fn rate(e: Element<'_>) -> Option<i64>
 
 // ---- money
 
+// Not inlined, for the reason at units_from (resource.rt).
+#[inline(never)]
 fn money_from(m: f64) -> Option<i64>
     ensures { result ≡ money_from m }
 {

@@ -65,7 +65,9 @@ pub fn resource_kind(e: Element<'_>) -> ResourceKind
 }
 
 // A test and then hundredths, here and in price_from, money_from and tasks::percent_from: each has its own bounds, and the others' are open below, which
-// no `..` writes and a pair of Bounds would write longer.
+// no `..` writes and a pair of Bounds would write longer. Those of this crate are not inlined: the compiler lays a function's constants side by side,
+// and of these bounds, powers of ten, no two are to stand in a row.
+#[inline(never)]
 fn units_from(u: f64) -> Option<i64>
     ensures { result ≡ units_from u }
 {
@@ -89,6 +91,7 @@ pub fn max_units(e: Element<'_>) -> i64
     units(e, b"MaxUnits").unwrap_or(100)
 }
 
+#[inline(never)]
 fn price_from(p: f64) -> Option<i64>
     ensures { result ≡ price_from p }
 {

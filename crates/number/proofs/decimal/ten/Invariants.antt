@@ -1,9 +1,7 @@
--- `ten` meets its contract: at each turn power × base ^ n is 10 ^ k. Assumes nothing.
-use Rattle.number.proofs.Powers.{Partly}
+-- `ten` meets its contract: at each turn the product is the power of the turns so far. Assumes nothing.
+use Rattle.std.specs.Prelude.{◌^◌, false}
+use Rattle.std.specs.Float.Ieee.Exact.{HasValue}
 use Rattle.number.proofs.decimal.ten.Given as goal
 
-abbrev pub invariant-loop-n : goal.invariant-loop-n
-invariant-loop-n l = Partly l.k l.power l.base l.n
-
-abbrev pub decreases-loop-n : goal.decreases-loop-n
-decreases-loop-n l = l.n
+abbrev pub invariant-loop : goal.invariant-loop
+invariant-loop l = HasValue l.power false (10 ^ l.counter) 1

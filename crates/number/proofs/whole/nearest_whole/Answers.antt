@@ -25,23 +25,23 @@ cast n {r} e f = to_z-of_z w64 r (record { sfits = f }) ∙ e
 
 pub overflow_sub-result : goal.overflow_sub-result
 overflow_sub-result c =
-    let n = c.half_away.result in
-    subst (λ (z : ℤ). SFits w64 (pos 0 -ℤ z)) (sym (cast n c.cast_signed.ensures c.cast_signed.type_inv)) (fits_minus n (small n c.half_away.ensures (half_small _)))
+    let n = c.half_within.result in
+    subst (λ (z : ℤ). SFits w64 (pos 0 -ℤ z)) (sym (cast n c.cast_signed.ensures c.cast_signed.type_inv)) (fits_minus n (small n c.half_within.ensures (half_small _)))
 
 pub returns-then-x : goal.returns-then-x
 unfolding of_bits
 returns-then-x c =
-    let n = c.half_away.result in
+    let n = c.half_within.result in
     ap (λ (z : ℤ). to_z w64 (of_z w64 (pos 0 -ℤ z))) (cast n c.cast_signed.ensures c.cast_signed.type_inv)
-    ∙ reads_minus n (small n c.half_away.ensures (half_small _))
-    ∙ ap (λ (n : ℕ). pos 0 -ℤ pos n) c.half_away.ensures
+    ∙ reads_minus n (small n c.half_within.ensures (half_small _))
+    ∙ ap (λ (n : ℕ). pos 0 -ℤ pos n) c.half_within.ensures
     ∙ is_below c.args.x c.if-x.true
 
 pub returns : goal.returns
 unfolding of_bits
 returns c =
-    let n = c.half_away-2.result in
+    let n = c.half_within-2.result in
     cast n c.cast_signed-2.ensures c.cast_signed-2.type_inv
-    ∙ reads_n n (small n c.half_away-2.ensures (half_small _))
-    ∙ ap pos c.half_away-2.ensures
+    ∙ reads_n n (small n c.half_within-2.ensures (half_small _))
+    ∙ ap pos c.half_within-2.ensures
     ∙ not_below_lem c.args.x c.if-x.false
