@@ -1,6 +1,7 @@
 //! Both sides on the same inputs: the Rust, and ours through its static libraries. See compare/README.md.
 
 mod bench;
+mod custom_fields;
 mod days;
 mod leaves;
 mod lengths;
@@ -17,10 +18,10 @@ mod written;
 use std::process::ExitCode;
 
 const USAGE: &str = "runner [SEED [COUNT [PART]]]   SEED: of the random inputs, by default 1; COUNT: random texts of each kind, by default 200000;
-a tenth as many trees judged, as many read, a hundredth as many read with every number of words, five times as many models and rules; PART: texts, trees, reads,
-lengths, models, days or times alone, or plans, the table of plans read alone; by default all";
+a tenth as many trees judged, as many read, half as many pairs that differ in custom fields, a hundredth as many read with every number of words, five times as
+many models and rules; PART: texts, trees, reads, custom, lengths, models, days or times alone, or plans, the table of plans read alone; by default all";
 
-const PARTS: [&str; 9] = ["all", "texts", "trees", "reads", "lengths", "models", "days", "times", "plans"];
+const PARTS: [&str; 10] = ["all", "texts", "trees", "reads", "custom", "lengths", "models", "days", "times", "plans"];
 
 fn main() -> ExitCode {
     let words: Vec<String> = std::env::args().skip(1).collect();
@@ -40,6 +41,9 @@ fn main() -> ExitCode {
     }
     if asked("reads") {
         differ += reads::compare(seed, count);
+    }
+    if asked("custom") {
+        differ += custom_fields::compare(seed, count / 2);
     }
     if asked("lengths") {
         differ += lengths::compare(seed, count / 100);

@@ -58,7 +58,8 @@ pub fn expected(answer: &Answer, room: usize, work: usize) -> Left {
     Left { number, written: bytes.len() as u64, model, work: vec![0; work] }
 }
 
-fn said(tree: &[u8], room: usize, work: usize) -> Left {
+/// What our call leaves in them.
+pub fn said(tree: &[u8], room: usize, work: usize) -> Left {
     let (mut model, mut work) = (vec![0xAA; room], vec![0xAAAA_AAAA; work]);
     let (number, written) = ours::read(tree, &mut model, &mut work);
     Left { number, written, model, work }

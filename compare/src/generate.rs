@@ -1,5 +1,6 @@
 //! Random inputs with a seed: trees of MSPDI's shape with odd values, rules, texts, models, damaged bytes.
 
+mod custom_fields;
 mod damage;
 mod large;
 mod limits;
@@ -9,6 +10,7 @@ mod project;
 mod rules;
 mod texts;
 
+pub use custom_fields::{CUSTOM, field_pair};
 pub use damage::damaged;
 pub use large::large_model;
 pub use limits::{LIMITS, limit_tree};

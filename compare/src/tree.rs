@@ -135,15 +135,28 @@ impl<'a> Element<'a> {
         Some((Element { record, below: &rest[..end] }, &rest[end..]))
     }
 
-    /// Its direct children of that name.
-    pub fn all(self, name: &str) -> impl Iterator<Item = Element<'a>> {
+    pub fn name(self) -> &'a [u8] {
+        self.record.name
+    }
+
+    /// Its own text as it stands.
+    pub fn own_text(self) -> &'a [u8] {
+        self.record.text
+    }
+
+    /// Its direct children.
+    pub fn children(self) -> impl Iterator<Item = Element<'a>> {
         let mut left = self.below;
-        let children = std::iter::from_fn(move || {
+        std::iter::from_fn(move || {
             let (child, rest) = Element::first(left)?;
             left = rest;
             Some(child)
-        });
-        children.filter(move |child| child.record.name == name.as_bytes())
+        })
+    }
+
+    /// Its direct children of that name.
+    pub fn all(self, name: &str) -> impl Iterator<Item = Element<'a>> {
+        self.children().filter(move |child| child.record.name == name.as_bytes())
     }
 
     pub fn child(self, name: &str) -> Option<Element<'a>> {

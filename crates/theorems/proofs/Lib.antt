@@ -1,8 +1,11 @@
 pub mod Calendars
+pub mod CustomFields
 pub mod EveryRead
 pub mod Keeping
 pub mod Leads
 pub mod LinkSums
 pub mod Parents
 pub mod Reading
+pub mod SameLaw
+pub mod SameParts
 pub mod Utf8

@@ -1,6 +1,7 @@
 pub mod Accepted
 pub mod Calendars
 pub mod Counts
+pub mod CustomFields
 pub mod EveryRead
 pub mod Fractions
 pub mod Keeping
@@ -15,6 +16,7 @@ pub mod Outlines
 pub mod Packing
 pub mod Parents
 pub mod Reading
+pub mod SameButCustom
 pub mod SameElements
 pub mod Texts
 pub mod Told
