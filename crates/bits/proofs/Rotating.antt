@@ -1,15 +1,15 @@
 -- Bytes that change places, a run of bits that moves up, and rotations in parts. Assumes nothing.
-use mathlib.Core.Path.{◌≡◌, sym, ap, ◌∙◌}
-use mathlib.Core.List.{List, ◌++◌, append_assoc}
+use mathlib.Core.Path.{◌≡◌, refl, sym, ap, ◌∙◌}
+use mathlib.Core.List.{List, ◌++◌, append_assoc, reverse, reverse-append, reverse-reverse}
 use mathlib.Core.Bool.{true}
 use Prim.Native.Nat.{ℕ, ◌+◌, ◌-◌, ◌*◌, ◌≤◌, ◌<◌}
 use native.Mathlib.Omega.{arith}
-use lib.ListN.{length, take, drop, length-append, length-drop, take-append-drop}
-use lib.Seq.{take-add, drop-drop, take-take, length-take-le}
+use lib.ListN.{length, take, drop, length-append, length-reverse, length-drop, take-append-drop}
+use lib.Seq.{take-add, drop-drop, length-take-le, take_at, drop_at}
 use Rattle.bits.specs.declared.Place.{Place}
 use Rattle.bits.specs.declared.Field.{Field}
 use borrow.Rule.Slice.PartMut.{put_mid, mid_of}
-use Rattle.bits.specs.Over.{over, take_drop}
+use Rattle.bits.specs.Over.{over}
 use Rattle.bits.proofs.Overwriting.{over_none, over_kept, over_prev, parts, rotated_over}
 use Rattle.bits.specs.Moves.{moved, rotated, ordered, Rotates, rotate_parts, order}
 use Rattle.bits.specs.Steps.{Laid, laid_in}
@@ -18,17 +18,37 @@ use Rattle.bits.specs.Places.{at, Fits}
 use Rattle.definition.specs.Bits.{enc, dec, bits_of, Bits}
 use Rattle.laws.specs.Bits.{enc_read, bits_append, bits_take, bits_drop, length_enc, length_bits, length_part}
 
--- the bytes from a to e, the last of them first
-pub turned : (a m e : ℕ) (s t : List ℕ) → a ≤ m → m ≤ e → t ≡ drop (m - a) (mid_of a (e - a) s) ++ take (m - a) (mid_of a (e - a) s) → put_mid a (e - a) s t ≡ rotated a m e s
-turned a m e s t h k w =
-    let l = drop a s in
-    let x : a + (m - a) ≡ m = omega arith in
-    let y : m - a + (e - m) ≡ e - a = omega arith in
-    let z : a + (e - a) ≡ e = omega arith in
-    let front : take (m - a) (take (e - a) l) ≡ take (m - a) l = take-take (m - a) (e - a) l (omega arith) in
-    let back : drop (m - a) (take (e - a) l) ≡ take (e - m) (drop m s) = ap (λ (n : ℕ). drop (m - a) (take n l)) (sym y) ∙ sym (take_drop (m - a) (e - m) l) ∙ rw (drop-drop (m - a) a s, x) in
-    let last : drop (e - a) l ≡ drop e s = rw (drop-drop (e - a) a s, z) in
-    rw (w, front, back, last) (ap (λ (x : List ℕ). take a s ++ x) (append_assoc (take (e - m) (drop m s)) _ _))
+-- the bytes from a to e in reverse order
+abbrev Reverses : ℕ → ℕ → List ℕ → List ℕ → Type 0
+Reverses a e s s' = (p x z : List ℕ) → s ≡ p ++ (x ++ z) → length p ≡ a → a + length x ≡ e → s' ≡ p ++ (reverse x ++ z)
+
+pub turned : (a e : ℕ) (s : List ℕ) {t : List ℕ} → t ≡ reverse (mid_of a (e - a) s) → Reverses a e s (put_mid a (e - a) s t)
+turned a e s w p x z is lp lx =
+    let k : e - a ≡ length x = omega arith in
+    let front = take_at p (x ++ z) a lp in
+    let rest = drop_at p (x ++ z) a lp in
+    rw (w, is, k, front, rest, take_at x z (length x) refl, drop_at x z (length x) refl) refl
+
+-- each part reversed, then both: they change places
+pub turned_thrice : (a m e : ℕ) (s : List ℕ) {s1 s2 s3 : List ℕ} → a ≤ m → m ≤ e → e ≤ length s → Reverses a m s s1 → Reverses m e s1 s2 → Reverses a e s2 s3 → s3 ≡ rotated a m e s
+turned_thrice a m e s {s1} {s2} {s3} h1 h2 h3 f g k =
+    let p = take a s in
+    let x = take (m - a) (drop a s) in
+    let y = take (e - m) (drop m s) in
+    let z = drop e s in
+    let lp : length p ≡ a = length-take-le a s (omega arith) in
+    let lx : a + length x ≡ m = omega (arith, length-take-le (m - a) (drop a s) (omega (arith, length-drop a s))) in
+    let ly : m + length y ≡ e = omega (arith, length-take-le (e - m) (drop m s) (omega (arith, length-drop m s))) in
+    let am : a + (m - a) ≡ m = omega arith in
+    let me : m + (e - m) ≡ e = omega arith in
+    let back : drop m s ≡ y ++ z = sym (take-append-drop (e - m) (drop m s)) ∙ rw (drop-drop (e - m) m s, me) in
+    let both : drop a s ≡ x ++ drop m s = sym (take-append-drop (m - a) (drop a s)) ∙ rw (drop-drop (m - a) a s, am) in
+    let w0 : s ≡ p ++ (x ++ (y ++ z)) = sym (take-append-drop a s) ∙ ap (λ (t : List ℕ). p ++ t) (both ∙ ap (λ (t : List ℕ). x ++ t) back) in
+    let lr = length-reverse x in
+    let w1 : s1 ≡ (p ++ reverse x) ++ (y ++ z) = f p x (y ++ z) w0 lp lx ∙ sym (append_assoc p (reverse x) (y ++ z)) in
+    let w2 : s2 ≡ (p ++ reverse x) ++ (reverse y ++ z) = g (p ++ reverse x) y z w1 (length-append p (reverse x) ∙ omega arith) ly in
+    let w3 = k p (reverse x ++ reverse y) z (w2 ∙ simp append_assoc) lp (omega (arith, length-append (reverse x) (reverse y), length-reverse y)) in
+    w3 ∙ rw (reverse-append (reverse x) (reverse y), reverse-reverse y, reverse-reverse x) (simp append_assoc)
 
 -- of whole bytes: their bits
 pub bytes_rotated : (a m e : ℕ) (s : List ℕ) → a ≤ m → m ≤ e → e ≤ length s → bits_of (rotated a m e s) ≡ rotated (8 * a) (8 * m) (8 * e) (bits_of s)

@@ -9,12 +9,15 @@ use crate::places::{in_order, place_after, place_before, run_length};
 use crate::reading::take;
 use crate::writing::overwrite;
 
-// The bytes from m to e go before those from a to m.
+// The bytes from m to e go before those from a to m: each part reversed, then both. No `rotate_left`, so that a C host need bring no memmove
+// or memcpy.
 fn rotate_bytes(out: &mut [u8], a: usize, m: usize, e: usize)
     requires { (a ≤ m) × (m ≤ e) × (e ≤ length out.old) }
     ensures { (length out.new ≡ length out.old) × (out.new ≡ rotated a m e out.old) }
 {
-    out[a..e].rotate_left(m - a);
+    out[a..m].reverse();
+    out[m..e].reverse();
+    out[a..e].reverse();
 }
 
 // Moves the bits from a to e up by k, over what stands there.

@@ -17,7 +17,7 @@ const NO_SPAN: Span = Span {
     next: PAST,
 };
 
-// Copies bytes over those at a whole byte.
+// Copies bytes over those at a whole byte. A loop and no `copy_from_slice`, so that a C host need bring no memmove or memcpy.
 fn copy_bytes(out: &mut [u8], p: Place, s: &[u8]) -> Place
     requires { p.bit ≡ 0 }
     ensures { Laid out.old p (bits_of s.now) out.new result }
@@ -26,9 +26,13 @@ fn copy_bytes(out: &mut [u8], p: Place, s: &[u8]) -> Place
     if out.len() < at || out.len() - at < s.len() {
         return PAST;
     }
-    let end = at + s.len();
-    out[at..end].copy_from_slice(s);
-    Place { byte: end, bit: 0 }
+    for (i, b) in s.iter().enumerate() {
+        out[at + i] = *b;
+    }
+    Place {
+        byte: at + s.len(),
+        bit: 0,
+    }
 }
 
 // Puts bytes one after another, as fields of 8 bits. pack's put_stars does so with one byte many times: a fold for both would have the lent buffer in its

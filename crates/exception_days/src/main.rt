@@ -8,19 +8,20 @@ ghost use Rattle.exception_days.specs.Line.{digit_of, iso_of};
 use definition::{Date, Refusal, Ymd};
 use recurrence::Rule;
 use std::io;
-use std::io::Cursor;
+use std::io::{Cursor, Read};
 use tree::Element;
 
 const MOST: usize = 65536;
 
+// The rest of a line after its date, by the weekday.
 const WEEKDAYS: [&str; 7] = [
-    "Monday",
-    "Tuesday",
-    "Wednesday",
-    "Thursday",
-    "Friday",
-    "Saturday",
-    "Sunday",
+    " Monday\n",
+    " Tuesday\n",
+    " Wednesday\n",
+    " Thursday\n",
+    " Friday\n",
+    " Saturday\n",
+    " Sunday\n",
 ];
 
 // number has one for its own texts, over 64 bits and private; this program does not stand on that crate.
@@ -49,7 +50,7 @@ fn iso(y: u32, m: u32, d: u32) -> [u8; 10]
     ]
 }
 
-fn weekday_name(w: u32) -> &'static str {
+fn weekday_text(w: u32) -> &'static str {
     // There is no From from u32 to usize.
     WEEKDAYS[(w % 7) as usize]
 }
@@ -66,7 +67,7 @@ fn put_day(rt: &impl Print, d: Date) -> io::Result<()> {
         put_ymd(rt, c)?;
     }
     if let Some(w) = date::weekday(d) {
-        println!(rt; " {}", weekday_name(w))?;
+        rt.write_all(weekday_text(w).as_bytes())?;
     }
     Ok(())
 }
@@ -96,8 +97,8 @@ fn put_tree(rt: &impl Print, s: &[u8]) -> io::Result<()> {
 // read_model's has the same reading: a program cannot lend it to a program.
 fn main(rt: HostRuntime) {
     let mut room = Cursor::new([0u8; MOST + 1]);
-    // What came before it failed, by a read or as the room was full, stands in the room.
-    let _ = io::copy(&mut rt.reader(), &mut room);
+    // `Take` asks for no read after the last byte that it lets by. What came before a read failed stands in the room.
+    let _ = io::copy(&mut rt.reader().take(MOST as u64 + 1), &mut room);
     let Ok(n) = usize::try_from(room.position()) else {
         return;
     };

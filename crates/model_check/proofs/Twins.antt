@@ -2,18 +2,12 @@
 use mathlib.Core.Path.{◌≡◌, refl, sym, ap, ◌∙◌}
 use mathlib.Core.Bool.{Bool, true, false, ◌&&◌, ◌||◌, not, true≢false}
 use mathlib.Core.List.{List, ◌∷◌, ◌++◌, []}
-use Prim.Native.Nat.{ℕ, zero, suc, ◌+◌, ◌≤◌, ◌<◌}
+use Prim.Native.Nat.{ℕ, zero, suc, ◌≤◌}
 use native.Mathlib.Omega.{arith}
 use borrow.Author.Tests.{eqb-true, eq-eqb}
 use lib.Dec.{eqb}
 use lib.ListN.{length, get_or, take}
 use lib.Seq.{take-suc, take-length}
-use native.Mathlib.Numerals.{add-one}
-use Rattle.std.specs.Prelude.{MatchBool}
-use Rattle.std.specs.List.{AllWithin, HoldsAt, list_all, range_with_len}
-use Rattle.std.proofs.lemmas.List.Folds.{list_all_at}
-use Rattle.std.proofs.lemmas.List.FromFn.{length-range_with_len, get_or-range_with_len}
-use Rattle.std.proofs.lemmas.List.Sums.{list_all-from_AllPass}
 use Rattle.definition.specs.Base.{given, some?, same}
 use Rattle.definition.specs.Check.{distinct}
 use Rattle.laws.specs.Bools.{both}
@@ -77,42 +71,27 @@ some_below p ks (suc n) h = by (p (get_or ks n no_key)) refl (some_below p ks n 
     by true e before = ap given (last_yes (λ r. p (get_or ks r no_key)) n e) ∙ rw e
     by false e before = ap given (last_no (λ r. p (get_or ks r no_key)) n e) ∙ rw e before
 
--- whether the key of a row has no twin before it
-abbrev pub alone : List Key → ℕ → Bool
-alone ks i = not (some? (same_key (get_or ks i no_key)) (take i ks))
+-- no key of a row from n on has a twin before it
+pub record Looked (ks : List Key) (n : ℕ) : Type 0 where
+  pub in_range : n ≤ length ks
+  pub same : distinct same_key ks ≡ distinct same_key (take n ks)
 
-alone_from : (ks : List Key) (i n : ℕ) → i + n ≤ length ks → distinct same_key (take i ks) && list_all (alone ks) (range_with_len i n) ≡ distinct same_key (take (i + n) ks)
-alone_from ks i zero h = let z : i ≡ i + 0 = omega arith in last (distinct same_key (take i ks)) ∙ ap (λ (m : ℕ). distinct same_key (take m ks)) z
-  where
-    last : (b : Bool) → b && true ≡ b
-    last true = refl
-    last false = refl
-alone_from ks i (suc n) h =
-    let u = take-suc ks i no_key (omega arith) in
-    let e : distinct same_key (take (i + 1) ks) ≡ alone ks i && distinct same_key (take i ks) = rw (add-one i) (ap (distinct same_key) u ∙ distinct_end (take i ks) (get_or ks i no_key)) in
-    let z : i + 1 + n ≡ i + suc n = omega arith in
-    turned (distinct same_key (take i ks)) (alone ks i) (list_all (alone ks) (range_with_len (i + 1) n)) ∙ ap (λ (b : Bool). b && list_all (alone ks) (range_with_len (i + 1) n)) (sym e) ∙ alone_from ks (i + 1) n (omega arith) ∙ ap (λ (m : ℕ). distinct same_key (take m ks)) z
-  where
-    turned : (a b c : Bool) → a && (b && c) ≡ (b && a) && c
-    turned true true c = refl
-    turned true false c = refl
-    turned false true c = refl
-    turned false false c = refl
+pub all_left : (ks : List Key) {n : ℕ} → n ≡ length ks → Looked ks n
+all_left ks e = record { in_range = omega arith; same = rw (e, take-length ks) refl }
 
--- `all`, where each test is known of the rows of the keys alone
-pub all_alone : (ks : List Key) (n : ℕ) → n ≡ length ks → (b : Bool)
-    → MatchBool b (AllWithin (λ r. r < length ks → true ≡ alone ks r) (range_with_len 0 n) 0 (length (range_with_len 0 n))) ((k : ℕ) × (k < length (range_with_len 0 n)) × HoldsAt (λ r. r < length ks → false ≡ alone ks r) (range_with_len 0 n) k)
-    → b ≡ distinct same_key ks
+pub none_left : {ks : List Key} {n : ℕ} → Looked ks n → n ≡ 0 → true ≡ distinct same_key ks
 unfolding distinct
-all_alone ks n e b h = let z : 0 + n ≡ length ks = omega arith in told b h ∙ alone_from ks 0 n (omega arith) ∙ ap (distinct same_key) (rw z (take-length ks))
-  where
-    len : length (range_with_len 0 n) ≡ n
-    len = length-range_with_len 0 n
+none_left {ks} v e = sym (v.same ∙ rw e refl)
 
-    at : (k : ℕ) → k < length (range_with_len 0 n) → get_or (range_with_len 0 n) k 0 ≡ k
-    at k l = let z : 0 + k ≡ k = omega arith in get_or-range_with_len 0 n k 0 (omega (arith, len)) ∙ z
+-- the key of a row has a twin before it, or it has none
+module _ {ks : List Key} {i j : ℕ} {b : Bool} (v : Looked ks i) (e : i ≡ suc j) (f : b ≡ some? (same_key (get_or ks j no_key)) (take j ks)) where
+  more : distinct same_key ks ≡ not b && distinct same_key (take j ks)
+  more =
+      let u = take-suc ks j no_key (omega (arith, v.in_range)) in
+      v.same ∙ rw e (ap (distinct same_key) u ∙ distinct_end (take j ks) (get_or ks j no_key) ∙ ap (λ (t : Bool). not t && distinct same_key (take j ks)) (sym f))
 
-    told : (b : Bool) → MatchBool b (AllWithin (λ r. r < length ks → true ≡ alone ks r) (range_with_len 0 n) 0 (length (range_with_len 0 n))) ((k : ℕ) × (k < length (range_with_len 0 n)) × HoldsAt (λ r. r < length ks → false ≡ alone ks r) (range_with_len 0 n) k)
-        → b ≡ list_all (alone ks) (range_with_len 0 n)
-    told true h = sym (list_all-from_AllPass (alone ks) (range_with_len 0 n) (λ k d l. sym (h k d (omega arith) l (rw (get_or-range_with_len 0 n k d (omega (arith, len))) (omega (arith, len))))))
-    told false h = sym (list_all_at (alone ks) (range_with_len 0 n) h.0 0 h.1 (sym (h.2 0 (rw (at h.0 h.1) (omega (arith, len, h.1))))))
+  pub no_twin : b ≡ false → Looked ks j
+  no_twin g = record { in_range = omega (arith, v.in_range); same = more ∙ rw g }
+
+  pub a_twin : b ≡ true → false ≡ distinct same_key ks
+  a_twin g = sym (more ∙ rw g)

@@ -107,11 +107,17 @@ fn has_twin<K: Records>(s: &[u8], index: KeyIndex<'_>, own: u32) -> bool
     chain_has_key::<K>(s, index, from, key)
 }
 
-// Whether no two records in the table have the same key.
+// Whether no two records in the table have the same key. The last row first: where all rows stand in one chain, and the last two have the same key, one
+// look tells.
 fn table_distinct<K: Records>(s: &[u8], index: KeyIndex<'_>) -> bool
     ensures { (ks : List Key) → KeyTable K.LEAD s.now ks index.entry.table index.entry.words.now → result ≡ distinct same_key ks }
 {
-    (0..index.table.rows).all(|i| !has_twin::<K>(s, index, i))
+    for i in (0..index.table.rows).rev() {
+        if has_twin::<K>(s, index, i) {
+            return false;
+        }
+    }
+    true
 }
 
 // Whether no two records of a section have the same key, by a table in the words; by scans where there is none: a `match`, as in rules.rt.

@@ -6,7 +6,7 @@ ghost use Rattle.io.specs.Counts.{IsPrefixLen};
 ghost use Rattle.read_model.specs.Writes.{Writes};
 
 use std::io;
-use std::io::Cursor;
+use std::io::{Cursor, Read};
 
 const MOST: usize = 65536;
 
@@ -32,8 +32,8 @@ fn put_model(rt: &impl Print, tree: &[u8]) -> io::Result<()> {
 // exception_days' has the same reading: a program cannot lend it to a program.
 fn main(rt: HostRuntime) {
     let mut room = Cursor::new([0u8; MOST + 1]);
-    // What came before it failed, by a read or as the room was full, stands in the room.
-    let _ = io::copy(&mut rt.reader(), &mut room);
+    // `Take` asks for no read after the last byte that it lets by. What came before a read failed stands in the room.
+    let _ = io::copy(&mut rt.reader().take(MOST as u64 + 1), &mut room);
     let Ok(n) = usize::try_from(room.position()) else {
         return;
     };

@@ -1,7 +1,6 @@
 -- The walks: each turn of the search for the next element that counts. Assumes nothing.
 use Rattle.std.proofs.Common.{◌≡◌, ℕ, zero, suc, ◌+◌, ◌-◌, ◌<◌, ◌≤◌, Bool, true, false, not, List, ◌∷◌, length, take, length-append, sym, refl, ap, ◌∙◌, arith, []}
 use Rattle.std.specs.Prelude.{if◌then◌else◌, Option, Some, None, is_some, IfSome}
-use Rattle.std.specs.Option.{option_or}
 use Rattle.std.proofs.lemmas.Bool.{false≢true}
 use lib.Seq.{take-nil}
 use borrow.Author.Tests.{not-true}
@@ -206,7 +205,11 @@ row_there s None h = tt
 row_there s (Some x) h = h.tree
 
 -- that of CalendarUID, else the first
-pub or_first_row : (c r : Option (ℕ × Place)) → calendar_meaning (option_or c r) ≡ (calendar_meaning c or_else calendar_meaning r)
+pub or_named : (c : Option (ℕ × Place)) → is_some c ≡ true → (o : Option (ℕ × Element)) → calendar_meaning c ≡ (calendar_meaning c or_else o)
 unfolding calendar_meaning
-or_first_row None r = refl
-or_first_row (Some (row, x)) r = refl
+or_named None h o = absurd (false≢true h)
+or_named (Some (row, x)) h o = refl
+
+pub or_first_row : {c : Option (ℕ × Place)} → c ≡ None → (o : Option (ℕ × Element)) → o ≡ (calendar_meaning c or_else o)
+unfolding calendar_meaning
+or_first_row e o = rw e

@@ -15,8 +15,7 @@ use Rattle.index.specs.Frame.{Outside}
 use Rattle.index.specs.Law.{Fits, Indexed}
 use Rattle.tree.specs.Place.{element_at, Past}
 use Rattle.rows.specs.Rows.{has_uid}
-use Rattle.rows.specs.Walks.{is_work, is_cost_resource, place_in, kept_left, picked_by}
-use Rattle.tree.specs.declared.element.Element.{Element as Place}
+use Rattle.rows.specs.Walks.{is_work, is_cost_resource, kept_left, KeptOf, picked_by}
 use Rattle.rows.specs.declared.table.Listed.{Listed}
 use Rattle.rows.specs.declared.table.Rest.{Rest}
 use Rattle.rows.specs.declared.table.ListElements.{ListElements}
@@ -60,18 +59,18 @@ rest_of (Rest.Tasks k) = kept_left k
 rest_of (Rest.Work o) = picked_by (bytes "Resource") is_work o
 rest_of (Rest.Cost o) = picked_by (bytes "Resource") is_cost_resource o
 
--- and the position where it begins
-abbrev pub place_of_rest : Rest → Option Place
-place_of_rest (Rest.Tasks k) = place_in k.next
-place_of_rest (Rest.Work o) = o
-place_of_rest (Rest.Cost o) = o
+-- it is of a tree
+abbrev pub RestOf : Rest → Text → Type 0
+RestOf (Rest.Tasks k) s = KeptOf k s
+RestOf (Rest.Work o) s = Past s 0 o
+RestOf (Rest.Cost o) s = Past s 0 o
 
 abbrev pub elements_left : ListElements → List Element
 elements_left e = rest_of e.rest
 
 -- of a tree
 abbrev pub ElementsOf : ListElements → Text → Type 0
-ElementsOf e s = Past s 0 (place_of_rest e.rest)
+ElementsOf e s = RestOf e.rest s
 
 -- ---- the table of a list
 

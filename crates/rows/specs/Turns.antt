@@ -9,14 +9,15 @@ use Rattle.definition.specs.Base.{◌>>=◌, ◌or◌, given, keep, some?}
 use Rattle.definition.specs.Ascii.{bytes}
 use Rattle.definition.specs.Text.{Text, trim}
 use Rattle.definition.specs.Tree.{Element, child, all_in, non_empty}
-use Rattle.definition.specs.Task.{is_kept}
+use Rattle.definition.specs.Task.{is_kept, kept_tasks}
 use Rattle.definition.specs.Calendar.{base_of}
 use Rattle.definition.specs.Resource.{is_resource, is_cost, work_resources, cost_resources}
 use Rattle.laws.specs.Keep.{one_if, keep_more}
 use Rattle.tree.specs.Place.{meaning, later, list_of, Within, Past, Starts}
 use Rattle.tree.specs.Root.{own_text}
 use Rattle.tree.specs.declared.element.Element.{Element as Place}
-use Rattle.rows.specs.Walks.{ahead, kept_by, room, is_work, is_cost_resource, picked_by, Picks, later_in_order, order_by, order_room}
+use Rattle.rows.specs.Rows.{in_order}
+use Rattle.rows.specs.Walks.{ahead, kept_by, kept_after, room, is_work, is_cost_resource, picked_by, Picks, later_in_order, order_by, order_room, order_after}
 
 -- ---- all elements of a name
 
@@ -65,6 +66,20 @@ module _ {task : Option (Place × ℕ)} {x : Place} {left : ℕ} (e : task ≡ S
   pub kept_less : {n : ℕ} → room r ≤ n → n ≤ left → room r < room task
   kept_less h k = omega (arith, h, room_at e)
 
+-- what follows the last one given: all where none was
+pub kept_all : (root : Element) {last : Option (Place × ℕ)} → last ≡ None → kept_after root last ≡ kept_tasks root
+unfolding kept_after
+kept_all root i = rw i
+
+pub kept_behind : (root : Element) {last : Option (Place × ℕ)} {x : Place} {left : ℕ} → last ≡ Some (x, left) → kept_after root last ≡ keep is_kept (take left (later (bytes "Task") x))
+unfolding kept_after
+kept_behind root i = rw i
+
+-- one that is given becomes the last
+pub kept_given : (root : Element) {r : Option (Place × ℕ)} {x : Place} {left : ℕ} → r ≡ Some (x, left) → kept_by r ≡ meaning x ∷ kept_after root (Some (x, left))
+unfolding kept_after
+kept_given root i = kept_at i
+
 -- ---- elements that pass a test
 
 pub picked_end : (n : Text) (w : Element → Bool) {e : Option Place} → e ≡ None → picked_by n w e ≡ []
@@ -88,6 +103,20 @@ module _ (root : Element) where
 
   pub order_next : {c : Option Place} {x : Place} → c ≡ Some x → (r : Option Place) → later_in_order root x ≡ order_by root r → order_by root c ≡ meaning x ∷ order_by root r
   order_next {x = x} i r h = order_at i ∙ ap (λ (l : List Element). meaning x ∷ l) h
+
+  -- what follows the last one given: all where none was
+  pub order_all : {last : Option Place} → last ≡ None → order_after root last ≡ in_order root
+  unfolding order_after
+  order_all i = rw i
+
+  pub order_behind : {last : Option Place} {x : Place} → last ≡ Some x → order_after root last ≡ later_in_order root x
+  unfolding order_after
+  order_behind i = rw i
+
+  -- one that is given becomes the last
+  pub order_given : {r : Option Place} {x : Place} → r ≡ Some x → order_by root r ≡ meaning x ∷ order_after root (Some x)
+  unfolding order_after
+  order_given i = order_at i
 
 pub order_some : (s : Text) {c : Option Place} {x : Place} → c ≡ Some x → 0 < order_room s c
 unfolding order_room

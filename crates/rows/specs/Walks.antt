@@ -5,12 +5,13 @@ use Rattle.definition.specs.Base.{given, keep}
 use Rattle.definition.specs.Ascii.{bytes}
 use Rattle.definition.specs.Text.{Text}
 use Rattle.definition.specs.Tree.{Element}
-use Rattle.definition.specs.Task.{is_kept}
+use Rattle.definition.specs.Task.{is_kept, kept_tasks}
 use Rattle.definition.specs.Resource.{is_resource, is_cost}
 use Rattle.definition.specs.Calendar.{base_of, calendar_elements}
 use Rattle.tree.specs.Place.{meaning, later, list_of, Within, Past}
 use Rattle.tree.specs.Root.{root_at}
 use Rattle.tree.specs.declared.element.Element.{Element as Place}
+use Rattle.rows.specs.Rows.{in_order}
 use Rattle.rows.specs.declared.kept.KeptTasks.{KeptTasks}
 use Rattle.rows.specs.declared.built.CalendarsInOrder.{CalendarsInOrder}
 
@@ -45,12 +46,17 @@ pub record KeptFrom (start : Option Place) (most : ℕ) (r : Option (Place × �
   pub there : (s : Text) → Past s 0 start → Past s 0 (place_in r)
   pub few : room r ≤ most
 
+-- those behind the last one given, of so many after it, all where none was
+unfoldable pub kept_after : Element → Option (Place × ℕ) → List Element
+kept_after root None = kept_tasks root
+kept_after root (Some (x, left)) = keep is_kept (take left (later (bytes "Task") x))
+
 abbrev pub kept_left : KeptTasks → List Element
-kept_left k = kept_by k.next
+kept_left k = kept_after (root_at k.root) k.last
 
 -- of a tree
 abbrev pub KeptOf : KeptTasks → Text → Type 0
-KeptOf k s = Past s 0 (place_in k.next)
+KeptOf k s = (k.root.tree.now ≡ s) × Past s 0 (place_in k.last)
 
 -- ---- elements that pass a test
 
@@ -107,9 +113,14 @@ pub record OrdersAfter (s : Text) (root : Element) (plain r : Option Place) : Ty
   pub there : Past s 0 plain → Past s 0 r
   pub few : (u : Text) (from : ℕ) → Past u from plain → order_room s r < suc (length s + (suc (length u) - from))
 
+-- those behind the last one given, all where none was
+unfoldable pub order_after : Element → Option Place → List Element
+order_after root None = in_order root
+order_after root (Some x) = later_in_order root x
+
 abbrev pub calendars_left : CalendarsInOrder → List Element
-calendars_left c = order_by (root_at c.root) c.next
+calendars_left c = order_after (root_at c.root) c.last
 
 -- of a tree
 abbrev pub CalendarsOf : CalendarsInOrder → Text → Type 0
-CalendarsOf c s = (c.root.tree.now ≡ s) × Past s 0 c.next
+CalendarsOf c s = (c.root.tree.now ≡ s) × Past s 0 c.last

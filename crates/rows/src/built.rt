@@ -46,11 +46,25 @@ pub fn next_calendar<'a>(root: Root<'a>, e: Element<'a>) -> Option<Element<'a>>
     or_derived(root, next_which::<Plain>(e, b"Calendar"))
 }
 
-// The calendars to be built, one after another.
+// The calendars to be built, one after another: those behind the last one given, all where none was. The next one is found only as it is asked for: the
+// search for it may pass all the others.
 #[derive(Clone, Copy, Debug, PartialEq, Eq)]
 pub struct CalendarsInOrder<'a> {
     root: Root<'a>,
-    next: Option<Element<'a>>,
+    last: Option<Element<'a>>,
+}
+
+impl<'a> CalendarsInOrder<'a> {
+    // The one that comes next.
+    fn following(self) -> Option<Element<'a>>
+        ensures is { calendars_left self.entry ≡ order_by (root_at self.entry.root) result }
+        ensures there { Past self.entry.root.tree.now 0 self.entry.last → Past self.entry.root.tree.now 0 result }
+    {
+        match self.last {
+            None => first_calendar(self.root),
+            Some(e) => next_calendar(self.root, e),
+        }
+    }
 }
 
 impl<'a> Iterator for CalendarsInOrder<'a> {
@@ -61,8 +75,8 @@ impl<'a> Iterator for CalendarsInOrder<'a> {
     ghost remaining = { item_count calendars_left };
 
     fn next(&mut self) -> Option<Element<'a>> {
-        let e = self.next?;
-        self.next = next_calendar(self.root, e);
+        let e = self.following()?;
+        self.last = Some(e);
         Some(e)
     }
 }
@@ -71,10 +85,7 @@ pub fn calendars(root: Root<'_>) -> CalendarsInOrder<'_>
     ensures is { calendars_left result ≡ in_order (root_at root.entry) }
     ensures of { CalendarsOf result root.entry.tree.now }
 {
-    CalendarsInOrder {
-        root,
-        next: first_calendar(root),
-    }
+    CalendarsInOrder { root, last: None }
 }
 
 // The first calendar with a UID, in the order in which calendars are built, and its row.
@@ -112,6 +123,10 @@ pub fn main_calendar(root: Root<'_>) -> Option<(usize, Element<'_>)>
     ensures is { calendar_meaning result ≡ main_in (root_at root.entry) }
     ensures there { IfSome result (λ x. x.1.tree.now ≡ root.entry.tree.now) }
 {
-    // By `or`: `or_else` would state the clauses of `first_row` once more, on its closure.
-    named_calendar(root).or(first_row(root))
+    // `or_else` would state the clauses of `first_row` once more, on its closure; `or` would find the first where it is not asked for.
+    let named = named_calendar(root);
+    if named.is_some() {
+        return named;
+    }
+    first_row(root)
 }

@@ -51,10 +51,25 @@ pub fn next_kept(task: Element<'_>, left: u32) -> Option<(Element<'_>, u32)>
     kept_from(task.next(b"Task"), left)
 }
 
-// The kept tasks, one after another.
+// The kept tasks, one after another: those behind the last one given, beside which stands how many after it are still to be looked at; all where none
+// was. The next one is found only as it is asked for, as in `built`.
 #[derive(Clone, Copy, Debug, PartialEq, Eq)]
 pub struct KeptTasks<'a> {
-    next: Option<(Element<'a>, u32)>,
+    root: Root<'a>,
+    last: Option<(Element<'a>, u32)>,
+}
+
+impl<'a> KeptTasks<'a> {
+    // The one that comes next.
+    fn following(self) -> Option<(Element<'a>, u32)>
+        ensures is { kept_left self.entry ≡ kept_by result }
+        ensures there { Past self.entry.root.tree.now 0 (place_in self.entry.last) → Past self.entry.root.tree.now 0 (place_in result) }
+    {
+        match self.last {
+            None => first_kept(self.root),
+            Some((task, left)) => next_kept(task, left),
+        }
+    }
 }
 
 impl<'a> Iterator for KeptTasks<'a> {
@@ -65,8 +80,8 @@ impl<'a> Iterator for KeptTasks<'a> {
     ghost remaining = { item_count kept_left };
 
     fn next(&mut self) -> Option<Element<'a>> {
-        let (task, left) = self.next?;
-        self.next = next_kept(task, left);
+        let (task, left) = self.following()?;
+        self.last = Some((task, left));
         Some(task)
     }
 }
@@ -75,9 +90,7 @@ pub fn kept_tasks(root: Root<'_>) -> KeptTasks<'_>
     ensures is { kept_left result ≡ kept_tasks (root_at root.entry) }
     ensures of { KeptOf result root.entry.tree.now }
 {
-    KeptTasks {
-        next: first_kept(root),
-    }
+    KeptTasks { root, last: None }
 }
 
 // The nearest kept task of a lower level before the task of a row.

@@ -63,7 +63,8 @@ fn take_case<'a, R: Read>(
     room: &'a mut [u8],
 ) -> Result<Option<(u8, &'a [u8])>, Cut> {
     let mut kind = [0u8; 1];
-    if input.read(&mut kind).unwrap_or(0) == 0 {
+    // No byte, at the end or as a read fails, ends the cases.
+    if input.read_exact(&mut kind).is_err() {
         return Ok(None);
     }
     let mut length = [0u8; 4];
@@ -129,8 +130,8 @@ fn put_tallies(rt: &impl Print, tallies: &[Tally; 256]) -> io::Result<()> {
 // A write that fails ends the program, which says nothing of it.
 fn main(rt: HostRuntime) {
     let mut tallies = [Tally::default(); 256];
-    if replay(&mut rt.reader(), &mut tallies).is_err() {
-        let _ = println!(rt; "a case is cut");
+    if replay(&mut rt.reader(), &mut tallies).is_err() && println!(rt; "a case is cut").is_err() {
+        return;
     }
     let _ = put_tallies(&rt, &tallies);
 }

@@ -37,10 +37,11 @@ fn word_at(s: &[u8], i: usize) -> usize
 }
 
 // The head at a position: 7 bits of depth, 9 of the name's length, 16 of the text's. By positions and not by `split_at_checked`, as `next` is one.
+// Two tests and no `saturating_sub`, as a walk asks the first of them once.
 fn read_head(s: &[u8], at: usize) -> Option<Head<'_>>
     ensures { MatchOption result (records_at s.now at ≡ []) (IsHead s.now at) }
 {
-    if s.len().saturating_sub(at) < HEAD {
+    if s.len() < HEAD || s.len() - HEAD < at {
         return None;
     }
     let w = word_at(s, at);

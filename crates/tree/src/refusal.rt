@@ -44,14 +44,22 @@ fn too_long<T: Copy>(a: Result<T, Unread>) -> bool
     matches!(a, Err(Unread::Long))
 }
 
+// Whether two names are the same. Length and first byte are asked first: by `same` alone `judge` took 4 % more instructions on a tree of 64 levels.
+#[tactic(auto, using(text::proofs::Equal::same_lengths, crate::proofs::Names::other_at))]
+fn has_name(name: &[u8], n: &[u8]) -> bool
+    ensures { result ≡ same name.now n.now }
+{
+    name.len() == n.len() && text::byte_at(name, 0) == text::byte_at(n, 0) && text::same(name, n)
+}
+
 // Whether an element of the name has a number too long as its text.
 fn is_long(name: &[u8], t: &[u8]) -> bool
     ensures { result ≡ long_in name.now t.now }
 {
-    if NUMBERS.contains(&name) {
+    if NUMBERS.iter().any(|n| has_name(name, n)) {
         return too_long(number::number_of(text::trim(t)));
     }
-    DURATIONS.contains(&name) && too_long(number::duration_of(t))
+    DURATIONS.iter().any(|n| has_name(name, n)) && too_long(number::duration_of(t))
 }
 
 // Whether a record below the root has a number too long. The root is passed by `next`: `skip(1)` asks at each record whether one is still to be

@@ -1,13 +1,23 @@
--- `model_check::tables::table_distinct` meets its contract. Assumes nothing.
-use Rattle.std.proofs.Common.{◌≡◌, ℕ, ◌<◌, Bool, true, false, length, refl, rules, tests, arith}
-use Rattle.std.proofs.lemmas.Iterator.{cases_from_all, YieldsList-from_range}
-use Rattle.model_check.proofs.Twins.{alone, all_alone}
+use native.Mathlib.Omega.{arith}
+use Rattle.model_check.proofs.Twins.{all_left, no_twin, a_twin, none_left}
 use Rattle.model_check.proofs.tables.table_distinct.Goals as goal
+
+pub loop-i-init : goal.loop-i-init
+loop-i-init g c =
+    λ ks x. all_left ks x.full
+
+pub returns-then-has_twin : goal.returns-then-has_twin
+returns-then-has_twin g c =
+    λ ks x.
+    let v = c.loop-i.invariant ks x in
+    a_twin v (omega arith) (c.has_twin.ensures ks x (omega (arith, v.in_range))) c.if-has_twin.true
+
+pub loop-i-preserved : goal.loop-i-preserved
+loop-i-preserved g c =
+    λ ks x.
+    let v = c.loop-i.invariant ks x in
+    no_twin v (omega arith) (c.has_twin.ensures ks x (omega (arith, v.in_range))) c.if-has_twin.false
 
 pub returns : goal.returns
 returns g c =
-    λ ks x.
-    let n = c.args.index.table.rows in
-    let told : Bool → ℕ → Type 0 = λ b r. r < length ks → b ≡ alone ks r in
-    all_alone ks n x.full c.all.result
-    (cases_from_all c.all.new.self _ c.all.result (told true) (told false) c.all.ensures.ran (YieldsList-from_range 0 n n refl (omega arith)) (λ r q k. search (rules, tests)) (λ r q k l. search (rules, tests)))
+    λ ks x. none_left (c.loop-i.invariant ks x) (omega arith)
