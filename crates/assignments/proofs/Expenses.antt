@@ -129,14 +129,18 @@ module _ (f : Finders) (a : Element) {task : Option ℕ} (et : task ≡ task_by 
         let m : None ≡ cost_by f a = sym (rw y) ∙ ec in
         rw (← k, ← m)
 
-    pub both_there : {r : Named} → c ≡ Some r → {name : Text} (w : Amounts) {accrual : ℕ} → name ≡ (text_in (meaning r) "Name" or [])
-        → Means w (money_in a "Cost") (money_in a "ActualCost") (money_in a "RemainingCost") → accrual ≡ accrual_of (meaning r)
-        → ◌≡◌ {A = Option Expense} (Some record { activity = n; name = name; planned = w.planned; actual = w.actual; remaining = w.remaining; accrual = accrual }) (expense_for f a)
-    unfolding found_meaning expense_for expense_from
-    both_there {r} y w en m h =
+    pub both_there : {r : Named} → c ≡ Some r → Some (expense_from n (meaning r) a) ≡ expense_for f a
+    unfolding found_meaning expense_for
+    both_there {r} y =
         let k : Some n ≡ task_by f a = sym z ∙ et in
         let l : Some (meaning r) ≡ cost_by f a = sym (rw y) ∙ ec in
-        rw (← k, ← l) (rw (en, m.planned_is, m.actual_is, m.remaining_is, h))
+        rw (← k, ← l)
+
+-- what it says
+pub expense_is : (n : ℕ) (r a : Element) {name : Text} (w : Amounts) {accrual : ℕ} → name ≡ (text_in r "Name" or []) → Means w (money_in a "Cost") (money_in a "ActualCost") (money_in a "RemainingCost")
+    → accrual ≡ accrual_of r → ◌≡◌ {A = Expense} (record { activity = n; name = name; planned = w.planned; actual = w.actual; remaining = w.remaining; accrual = accrual }) (expense_from n r a)
+unfolding expense_from
+expense_is n r a w en m h = rw (en, m.planned_is, m.actual_is, m.remaining_is, h)
 
 -- ---- the first of equal ones
 

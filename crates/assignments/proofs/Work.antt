@@ -2,6 +2,7 @@
 use Rattle.index.specs.declared.Table.{Table}
 use Rattle.names.specs.declared.ids.Ids.{Ids}
 use Rattle.std.proofs.Common.{◌≡◌, ℕ, ◌+◌, ◌%◌, ◌^◌, ◌<◌, ◌≤◌, Bool, true, false, ◌&&◌, leb, List, [], ◌∷◌, ◌++◌, map, length, ℤ, sym, refl, ap, ◌∙◌, subst, mod-eq_of_lt, arith, length-append, le-leb}
+use Rattle.std.proofs.lemmas.List.{nil_from_length}
 use Rattle.std.specs.Prelude.{Option, Some, None}
 use Rattle.definition.specs.Base.{◌>>=◌, ◌or◌}
 use Rattle.definition.specs.Text.{Text}
@@ -49,7 +50,7 @@ use Rattle.assignments.specs.declared.section.Done.{Done}
 use Rattle.assignments.specs.declared.resource.Section.{Section}
 use Rattle.assignments.specs.Section.{Wrote}
 use Rattle.assignments.specs.Resources.{wanted_id, resource_with, HeldIn, section_names, FewResources, Adds, PutsResources}
-use Rattle.assignments.proofs.Turns.{wrote_more, wrote_as, writes, Going, going_all, going_more, going_end}
+use Rattle.assignments.proofs.Turns.{wrote_none, wrote_more, wrote_as, writes, Going, going_all, going_more, going_end}
 use Rattle.assignments.proofs.Fit.{each_head, each_rest, FineResources, fine_all, fine_on, fine_few}
 
 -- ---- one
@@ -258,3 +259,12 @@ module _ (d : List ℕ) (c : Place) (root : Root) (p : Place) {n : ℕ} {u : Boo
         writes_if (whole resource) (rw (le-leb _ _ most, stand)) (writes (g.puts stand most held found (behind_less end behind)) o),
         g.keeps from (behind_less at behind) ∙ cleared_below (below_less at ids) ∙ cleared_below (makes_below i),
       )
+
+  -- there are none
+  pub resources_none : n ≡ 0 → u ≡ true → {a : Records} → a ≡ record { count = 0; next = p }
+      → WritesIf (leb (length (work_resources e)) most_elements && calendars_before d c e p) (whole resource) (resources (context_at d c e) e) d p d a
+  unfolding resources resources_after
+  resources_none z eb i =
+      let none : work_resources e ≡ [] = nil_from_length (work_resources e) (sym count ∙ z) in
+      let stand : calendars_before d c e p ≡ true = sym eu ∙ eb in
+      writes_if (whole resource) (rw (none, stand)) (rw (i, none) (writes wrote_none (refl, refl)))

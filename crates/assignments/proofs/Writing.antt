@@ -2,8 +2,6 @@
 use Rattle.std.proofs.Common.{◌≡◌, ℕ, ◌-◌, ◌^◌, ◌<◌, ◌≤◌, min, Bool, true, false, leb, List, [], ◌∷◌, map, length, take, sym, refl, ap, ◌∙◌, subst, arith, take_all, leb-false, leb-true}
 use Rattle.std.specs.Prelude.{Option, Some, None}
 use Rattle.std.specs.Option.{option_map}
-use Rattle.pack.specs.Record.{expense_by}
-use Rattle.pack.specs.declared.record.Expense.{Expense as X}
 use lib.Seq.{take-length}
 use Rattle.definition.specs.Base.{present}
 use Rattle.definition.specs.Tree.{Element}
@@ -21,9 +19,11 @@ use Rattle.index.specs.Below.{SameBelow, below_refl, below_then, below_zeros, be
 use Rattle.tree.specs.Root.{root_at}
 use Rattle.assignments.specs.declared.section.Tables.{Tables}
 use Rattle.assignments.specs.declared.expense.Used.{Used}
+use Rattle.assignments.specs.declared.expense.Charge.{Charge}
 use Rattle.assignments.specs.Section.{Wrote}
 use Rattle.assignments.specs.Finders.{Finders, expense_for, expenses_by, finders_same}
 use Rattle.assignments.specs.Records.{finders_at, ends_at, expenses_after, FewExpenses}
+use Rattle.assignments.specs.Charged.{charged}
 use Rattle.assignments.specs.InUse.{emptied, Noted, Noting, Behind, Notes, WroteBeside}
 use Rattle.assignments.proofs.Turns.{wrote_none, wrote_as}
 use Rattle.assignments.proofs.Fit.{FineExpenses, fine_none, fine_more, expense_fits}
@@ -31,12 +31,12 @@ use Rattle.assignments.proofs.Noting.{noted_none, notes_missing}
 
 -- ---- that of one element
 
-module _ (f : Finders) (a : Element) {r : Option X} (e : option_map expense_by r ≡ expense_for f a) {start : Place} {d : List ℕ} {u : Used} {w : List ℕ} where
+module _ (f : Finders) (a : Element) {r : Option Charge} (e : option_map charged r ≡ expense_for f a) {start : Place} {d : List ℕ} {u : Used} {w : List ℕ} where
   pub notes_not : r ≡ None → Notes start (expense_for f a) d u w d u w
   notes_not z = let k : None ≡ expense_for f a = sym (rw z) ∙ e in notes_missing (sym k)
 
-  pub notes_said : {x : X} → r ≡ Some x → {d' : List ℕ} {u' : Used} {w' : List ℕ} → Notes start (Some (expense_by x)) d u w d' u' w' → Notes start (expense_for f a) d u w d' u' w'
-  notes_said {x} z {d'} {u'} {w'} h = let k : Some (expense_by x) ≡ expense_for f a = sym (rw z) ∙ e in subst (λ (o : Option Expense). Notes start o d u w d' u' w') k h
+  pub notes_said : {x : Charge} → r ≡ Some x → {d' : List ℕ} {u' : Used} {w' : List ℕ} → Notes start (Some (charged x)) d u w d' u' w' → Notes start (expense_for f a) d u w d' u' w'
+  notes_said {x} z {d'} {u'} {w'} h = let k : Some (charged x) ≡ expense_for f a = sym (rw z) ∙ e in subst (λ (o : Option Expense). Notes start o d u w d' u' w') k h
 
 -- ---- one after another
 

@@ -1,5 +1,6 @@
 pub mod Section
 pub mod Finders
 pub mod Records
+pub mod Charged
 pub mod InUse
 pub mod Resources

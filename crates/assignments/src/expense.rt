@@ -9,10 +9,10 @@ ghost use Rattle.bits.specs.Clear.{cleared};
 ghost use Rattle.index.specs.Chains.{table_of};
 ghost use Rattle.tree.specs.Place.{meaning};
 ghost use Rattle.tree.specs.Root.{root_at};
-ghost use Rattle.pack.specs.Record.{expense_by};
 ghost use Rattle.assignments.specs.Section.{WritesIn};
 ghost use Rattle.assignments.specs.Finders.{expense_for, expenses_by};
 ghost use Rattle.assignments.specs.Records.{finders_at, ends_at, is_expense_at, Tells};
+ghost use Rattle.assignments.specs.Charged.{charged};
 ghost use Rattle.assignments.specs.InUse.{key_of, is_used, emptied, noted_by, InUse, Notes, WroteBeside};
 
 use crate::section::{Done, Tables};
@@ -36,6 +36,14 @@ struct Used {
 struct Key<'a> {
     activity: u32,
     name: &'a [u8],
+}
+
+// What gives an expense: its task's row, its cost resource and the Assignment. No Expense: its money and accrual are looked up where it is new.
+#[derive(Clone, Copy)]
+struct Charge<'a> {
+    activity: u32,
+    resource: Element<'a>,
+    assignment: Element<'a>,
 }
 
 // ---- those that stand in the buffer
@@ -135,30 +143,35 @@ fn count_assignments(section: Element<'_>) -> u32
 // ---- one after another
 
 // What an element gives: its task has a row, and its cost resource is there.
-fn expense_of<'a>(tables: Tables<'a>, words: &[u32], e: Element<'_>) -> Option<Expense<'a>>
-    ensures { option_map expense_by result ≡ expense_for (finders_at words.now tables.entry) (meaning e.entry) }
+fn charge_of<'a>(tables: Tables<'a>, words: &[u32], e: Element<'a>) -> Option<Charge<'a>>
+    ensures { option_map charged result ≡ expense_for (finders_at words.now tables.entry) (meaning e.entry) }
 {
     let activity = tables.task_of(words, e)?;
     let resource = tables.cost_of(words, e)?;
-    Some(Expense {
+    Some(Charge {
         activity,
-        name: resource.text_of(b"Name"),
-        cost: resources::cost(e),
-        accrual: u32::from(resources::accrual_of(resource)),
+        resource,
+        assignment: e,
     })
 }
 
 // One more, unless it is there.
-fn put_new(out: &mut [u8], start: Place, used: Used, words: &mut [u32], x: Expense<'_>) -> Used
-    ensures { Notes start (Some (expense_by x.entry)) out.old used words.old out.new result words.new }
+fn put_new(out: &mut [u8], start: Place, used: Used, words: &mut [u32], charge: Charge<'_>) -> Used
+    ensures { Notes start (Some (charged charge.entry)) out.old used words.old out.new result words.new }
 {
     let key = Key {
-        activity: x.activity,
-        name: x.name,
+        activity: charge.activity,
+        name: charge.resource.text_of(b"Name"),
     };
     if key.in_use(out, start, used, words) {
         return used;
     }
+    let x = Expense {
+        activity: key.activity,
+        name: key.name,
+        cost: resources::cost(charge.assignment),
+        accrual: u32::from(resources::accrual_of(charge.resource)),
+    };
     let p = used.done.next;
     let next = x.put(out, p);
     Used {
@@ -181,8 +194,8 @@ fn put_all(out: &mut [u8], p: Place, tables: Tables<'_>, words: &mut [u32]) -> D
         made,
     };
     for e in section.children(b"Assignment") {
-        if let Some(x) = expense_of(tables, words, e) {
-            used = put_new(out, p, used, words, x);
+        if let Some(charge) = charge_of(tables, words, e) {
+            used = put_new(out, p, used, words, charge);
         }
     }
     used.done

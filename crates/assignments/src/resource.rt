@@ -134,6 +134,10 @@ fn put_all(
     if MOST_ELEMENTS < n || !names::calendars_before(out, c, root, p) {
         return Records::none(PAST);
     }
+    // No tables for none.
+    if n == 0 {
+        return Records::none(p);
+    }
     let calendars = names::index_calendars(out, c, root, words, at);
     let section = Section {
         root,

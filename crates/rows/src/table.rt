@@ -6,7 +6,7 @@ ghost use Rattle.std.specs.Iterator.{item_count};
 ghost use Rattle.tree.specs.Root.{root_at};
 ghost use Rattle.rows.specs.Rows.{found_meaning};
 ghost use Rattle.rows.specs.Walks.{Gives};
-ghost use Rattle.rows.specs.Tables.{listed, row_in32, sought_in, row_in, cost_in, elements_left, ElementsOf, found_in, Ripe, Tabled, Makes};
+ghost use Rattle.rows.specs.Tables.{listed, row_in32, sought_in, row_in, cost_in, elements_left, ElementsOf, found_in, Makes};
 
 use crate::kept::{KeptTasks, kept_tasks};
 use crate::resource::cost_resource;
@@ -78,35 +78,30 @@ pub fn elements(root: Root<'_>, list: Listed) -> ListElements<'_>
 
 // ---- a table is made
 
-// How many there are, in a tree of fewer than 2 ^ 32 bytes: fewer than those, so that `as` loses nothing.
-fn count_listed(root: Root<'_>, list: Listed) -> u32
-    requires { length root.tree.now < 2 ^ 32 }
-    ensures { result ≡ length (listed list (root_at root.entry)) }
+// How many there are: 32 bits hold it, so that `as` loses nothing.
+fn count_items(items: ListElements<'_>) -> u32
+    requires { length (elements_left items) < 2 ^ 32 }
+    ensures { result ≡ length (elements_left items.entry) }
 {
-    elements(root, list).count() as u32
+    items.count() as u32
 }
 
-fn fill(root: Root<'_>, list: Listed, words: &mut [u32], t: Table)
-    requires { Ripe root.tree.now (root_at root) list t words.old }
-    ensures { Tabled root.entry.tree.now (root_at root.entry) list t words.old words.new }
-{
-    t.clear(words);
-    for (row, e) in (0..t.rows).zip(elements(root, list)) {
-        let hash = index::hash_of(e.text_of(b"UID"));
-        // `u32::try_from` would have an error that cannot occur: 32 bits hold each position.
-        t.put(words, row, hash, e.at as u32);
-    }
-}
-
-// A table of a list, in the words from a place on, where there is room for it and 32 bits hold each position in the tree.
+// A table of a list, in the words from a place on, where there is room for it and 32 bits hold each position in the tree. The elements are made once: the
+// first of them may stand far behind.
 pub fn index_rows(root: Root<'_>, list: Listed, words: &mut [u32], at: usize) -> Option<Table>
     ensures { Makes root.entry.tree.now (root_at root.entry) list at words.old words.new result }
 {
     u32::try_from(root.tree.len()).ok()?;
-    let n = count_listed(root, list);
+    let items = elements(root, list);
+    let n = count_items(items);
     // A table of no rows would be none.
     let t = index::table_at(words.len(), at, n.max(1))?;
-    fill(root, list, words, t);
+    t.clear(words);
+    for (row, e) in (0..t.rows).zip(items) {
+        let hash = index::hash_of(e.text_of(b"UID"));
+        // `u32::try_from` would have an error that cannot occur: 32 bits hold each position.
+        t.put(words, row, hash, e.at as u32);
+    }
     Some(t)
 }
 

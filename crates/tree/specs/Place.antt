@@ -3,7 +3,7 @@ use Rattle.std.specs.Prelude.{if◌then◌else◌, ℕ, ◌≤◌, ◌<◌, ◌+
 use Rattle.std.specs.Prelude.{Option, Some, None}
 use Rattle.definition.specs.Base.{keep, same}
 use Rattle.definition.specs.Text.{Text}
-use Rattle.definition.specs.Tree.{Rec, head_bytes, records, layout, Forest, nothing, elements, level, element}
+use Rattle.definition.specs.Tree.{Rec, head_bytes, records, layout, Forest, nothing, elements, level, element, all}
 use Rattle.definition.specs.Tree as D
 use Rattle.tree.specs.declared.Head.{Head}
 use Rattle.tree.specs.declared.element.Element.{Element}
@@ -94,6 +94,11 @@ pub record Starts (s n : Text) (l : List D.Element) (from : ℕ) (r : Option Ele
   pub is : l ≡ list_of n r
   pub on : Past s from r
 
--- the elements that are left to an iterator over siblings
+-- the children of a name behind the last one given, all where none was
+unfoldable pub behind : Text → D.Element → Option Element → List D.Element
+behind n el None = all el n
+behind n el (Some e) = later n e
+
+-- the elements that are left to an iterator over children
 abbrev pub left : Children → List D.Element
-left c = list_of c.name.now c.first
+left c = behind c.name.now (meaning c.parent) c.last

@@ -3,7 +3,7 @@ ghost use Rattle.std.specs.Prelude.{◌≡◌, [], ◌+◌};
 ghost use Rattle.std.specs.Iterator.{YieldsFirstBy, item_count};
 ghost use Rattle.definition.specs.Base.{same, ◌or◌};
 ghost use Rattle.definition.specs.Tree.{all, text_of as text_in};
-ghost use Rattle.tree.specs.Place.{meaning, later, left, Starts};
+ghost use Rattle.tree.specs.Place.{meaning, later, list_of, left, Starts};
 ghost use Rattle.tree.specs.Root.{own_text as own};
 
 // An element: its tree's bytes, and where its record begins. Where no record is whole there stands an element with no name, text or child.
@@ -71,21 +71,37 @@ impl<'a> Element<'a> {
     }
 
     // Its children of the name, in their order.
+    #[tactic(auto, unfolding(crate::specs::Place::behind))]
     pub fn children<'n>(self, name: &'n [u8]) -> Children<'a, 'n>
         ensures { left result ≡ all (meaning self.entry) name.now }
     {
         Children {
-            first: self.child(name),
+            parent: self,
             name,
+            last: None,
         }
     }
 }
 
-// Elements of a name, each the next sibling of the one before.
+// The children of a name. The next one is sought when it is asked for: who stops early does not pass over what stands below the last one.
 #[derive(Clone, Copy, Debug, PartialEq, Eq)]
 pub struct Children<'a, 'n> {
-    first: Option<Element<'a>>,
+    parent: Element<'a>,
     name: &'n [u8],
+    last: Option<Element<'a>>,
+}
+
+impl<'a, 'n> Children<'a, 'n> {
+    // The one that comes next.
+    #[tactic(auto, using(crate::proofs::Left::left_all, crate::proofs::Left::left_behind))]
+    fn following(self) -> Option<Element<'a>>
+        ensures { left self.entry ≡ list_of self.entry.name.now result }
+    {
+        match self.last {
+            None => self.parent.child(self.name),
+            Some(e) => e.next(self.name),
+        }
+    }
 }
 
 impl<'a, 'n> Iterator for Children<'a, 'n> {
@@ -96,8 +112,8 @@ impl<'a, 'n> Iterator for Children<'a, 'n> {
     ghost remaining = { item_count left };
 
     fn next(&mut self) -> Option<Element<'a>> {
-        let e = self.first?;
-        self.first = e.next(self.name);
+        let e = self.following()?;
+        self.last = Some(e);
         Some(e)
     }
 }

@@ -1,8 +1,7 @@
-use Rattle.std.proofs.Common.{◌∙◌}
 use Rattle.tree.specs.Place.{meaning}
 use Rattle.assignments.specs.Records.{finders_at}
 use Rattle.assignments.proofs.Expenses.{no_task, no_cost, both_there}
-use Rattle.assignments.proofs.expense.expense_of.Goals as goal
+use Rattle.assignments.proofs.expense.charge_of.Goals as goal
 
 pub returns-in_err-activity : goal.returns-in_err-activity
 returns-in_err-activity c =
@@ -17,4 +16,4 @@ returns-in_err-resource c =
 pub returns : goal.returns
 returns c =
     let a = c.args in
-    both_there (finders_at a.words.now a.tables) (meaning a.e) c.task_of.ensures c.cost_of.ensures c.in_ok-activity.was c.in_ok-resource.was _ c.text_of.ensures c.cost.ensures (c.from.ensures ∙ c.accrual_of.ensures)
+    both_there (finders_at a.words.now a.tables) (meaning a.e) c.task_of.ensures c.cost_of.ensures c.in_ok-activity.was c.in_ok-resource.was

@@ -2,7 +2,7 @@ use Rattle.std.proofs.Common.{◌≡◌, List, ℕ}
 use Rattle.tree.specs.Root.{root_at}
 use Rattle.rows.specs.Tables.{elements_left, ElementsOf, Ripe}
 use Rattle.rows.proofs.Filling.{Filling}
-use Rattle.rows.proofs.table.fill.Given as goal
+use Rattle.rows.proofs.table.index_rows.Given as goal
 
 -- the rows so far are in the table
 abbrev pub invariant-loop-row : goal.invariant-loop-row
