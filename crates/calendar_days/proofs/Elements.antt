@@ -1,18 +1,18 @@
 -- The exceptions of a calendar, found one by one; whether an element names hours. Assumes nothing.
-use Rattle.std.proofs.Common.{◌||◌, ◌≡◌, ℕ, zero, suc, ◌+◌, ◌≤◌, Bool, true, false, not, eqb, List, [], ◌∷◌, ◌++◌, length, map, take, drop, length-drop, sym, refl, ap, ◌∙◌, append-nil, arith}
+use Rattle.std.proofs.Common.{◌||◌, ◌≡◌, ℕ, ◌+◌, ◌≤◌, Bool, true, false, not, eqb, List, [], ◌∷◌, ◌++◌, length, map, take, drop, length-drop, drop-drop, sym, refl, ap, ◌∙◌, append-nil, arith}
 use Rattle.recurrence.specs.declared.Range.{Range}
 use Rattle.recurrence.specs.declared.Rule.{Rule}
 use Rattle.definition.specs.declared.Period.{Period as PeriodAt}
 use Rattle.definition.specs.Answer.{period_meaning}
-use Rattle.std.specs.Prelude.{Option, None, Some, is_some, MatchOption, slice_get}
+use Rattle.std.specs.Prelude.{Option, None, Some, is_some, MatchOption}
 use Rattle.std.specs.Option.{option_map}
-use Rattle.std.proofs.lemmas.List.{length-append, length-map}
+use Rattle.std.proofs.lemmas.List.{length-append, length-map, drop_all, drop-map}
 use Rattle.std.proofs.lemmas.Iterator.{YieldsList}
-use Rattle.std.proofs.lemmas.Iterator.Consumers.{YieldsList-from_shown, YieldsList-from_first, count_from_yields_List, nth_from_yields_List}
-use Rattle.std.specs.Iterator.{Drains, SkipsThenYields, YieldsFirstBy}
+use Rattle.std.proofs.lemmas.Iterator.Consumers.{YieldsList-from_first}
+use Rattle.std.specs.Iterator.{YieldsFirstBy}
 use Rattle.std.specs.List.{list_any}
 use mathlib.Core.List.{flat_map}
-use Rattle.definition.specs.Base.{◌or◌, given, some?, present}
+use Rattle.definition.specs.Base.{◌or◌, given, some?}
 use Rattle.definition.specs.Ascii.{bytes}
 use Rattle.definition.specs.Text.{Text}
 use Rattle.definition.specs.Tree.{Element, all, all_in, child}
@@ -23,10 +23,9 @@ use Rattle.tree.specs.Answer.{found_child, none_child}
 use Rattle.tree.specs.Few.{later_few}
 use Rattle.tree.specs.declared.element.Element.{Element as Place}
 use Rattle.recurrence.specs.Element.{rule_days, RuleRead, RangeRead}
-use Rattle.calendar_days.specs.declared.exceptions.Exceptions.{Exceptions}
 use Rattle.calendar_days.specs.declared.exceptions.Exception.{Exception as Given}
 use Rattle.calendar_days.specs.declared.exceptions.Exception.TheVariants.{WeekDay, Recurring}
-use Rattle.calendar_days.specs.Exceptions.{Item, item_of, items_of, items_by, items_left, GivesItems, placed, is_old, old_days, days_at, days_in, is_time}
+use Rattle.calendar_days.specs.Exceptions.{Item, item_of, items_of, items_by, items_from, placed, is_old, old_days, days_at, days_in, is_time}
 use Rattle.calendar_days.proofs.Changes.{names_hours}
 use Rattle.calendar_days.proofs.RuleDays.{ruled_by, ruled}
 
@@ -83,33 +82,67 @@ pub no_more : {w x : Option Place} → w ≡ None → x ≡ None → items_by w 
 unfolding items_by list_of
 no_more n i = rw (n, i)
 
--- what it gives are those
-pub all_given : (s : Exceptions) → YieldsList GivesItems item_of s (items_left s)
-all_given s = YieldsList-from_shown GivesItems item_of items_left (λ s t h. ap length h.0) (λ s x t h. h.0) s
+-- ---- one list by itself
+
+-- what stands behind one
+unfoldable pub rest_of : Given → List Item
+rest_of (WeekDay e) = map (λ e. (true, e)) (later (bytes "WeekDay") e)
+rest_of (Recurring e) = map (λ e. (false, e)) (later (bytes "Exception") e)
+
+pub from_one : (x : Given) → items_from (Some x) ≡ item_of x ∷ rest_of x
+unfolding items_from list_of placed is_old rest_of
+from_one (WeekDay e) = refl
+from_one (Recurring e) = refl
+
+pub from_none : {o : Option Given} → o ≡ None → items_from o ≡ []
+unfolding items_from
+from_none e = ap items_from e
+
+pub week_days_from : (r : Option Place) → items_from (option_map WeekDay r) ≡ map (λ e. (true, e)) (list_of (bytes "WeekDay") r)
+unfolding items_from list_of
+week_days_from None = refl
+week_days_from (Some e) = refl
+
+pub recurring_from : (r : Option Place) → items_from (option_map Recurring r) ≡ map (λ e. (false, e)) (list_of (bytes "Exception") r)
+unfolding items_from list_of
+recurring_from None = refl
+recurring_from (Some e) = refl
+
+-- both lists
+pub lists_are : (w x : Option Place) {q r : Option Given} → q ≡ option_map WeekDay w → r ≡ option_map Recurring x → items_by w x ≡ items_from q ++ items_from r
+unfolding items_by
+lists_are w x i j = rw (i, j, week_days_from w, recurring_from x)
+
+-- the one behind the first k of the next ones of a kind
+module _ (o : Bool) (kind : Place → Given) {n : Text} (from : (r : Option Place) → items_from (option_map kind r) ≡ map (λ e. (o, e)) (list_of n r)) where
+  pub list_nth : {x : Given} (e : Place) (k : ℕ) {s : Text} {m : ℕ} {r : Option Place} {q : Option Given} → x ≡ kind e → Starts s n (drop k (later n e)) m r → q ≡ option_map kind r
+      → items_from q ≡ drop (k + 1) (items_from (Some x))
+  unfolding list_of
+  list_nth {x} e k {r = r} i h j =
+      let a : items_from (Some x) ≡ (o, meaning e) ∷ map (λ e. (o, e)) (later n e) = ap (λ y. items_from (Some y)) i ∙ from (Some e) in
+      let c : 1 + k ≡ k + 1 = omega arith in
+      ap items_from j ∙ from r ∙ ap (map (λ e. (o, e))) (sym h.is) ∙ sym (drop-map (λ e. (o, e)) k (later n e)) ∙ sym (ap (drop k) (ap (drop 1) a)) ∙ drop-drop k 1 (items_from (Some x)) ∙ ap (λ i. drop i (items_from (Some x))) c
+
+-- of a list that may have none
+module _ (x : Option Given) (n : ℕ) where
+  pub nth_first : n ≡ 0 → items_from x ≡ drop n (items_from x)
+  nth_first i = ap (λ k. drop k (items_from x)) (sym i)
+
+  pub nth_no : x ≡ None → {r : Option Given} → r ≡ None → items_from r ≡ drop n (items_from x)
+  nth_no i j = from_none j ∙ sym (ap (drop n) (from_none i) ∙ drop_all n [] (omega arith))
+
+  pub nth_more : {y : Given} (k : ℕ) → n ≡ k + 1 → x ≡ Some y → (r : Option Given) → items_from r ≡ drop (k + 1) (items_from (Some y)) → items_from r ≡ drop n (items_from x)
+  nth_more k i j r h = rw (i, j) h
 
 -- the one behind the first i
-nth_take : {X B : Type 0} (g : X → List B) (l : List X) (i : ℕ) → flat_map g (take 1 (drop i l)) ≡ flat_map g (present (slice_get l i ∷ []))
-unfolding flat_map present
-nth_take g [] zero = refl
-nth_take g [] (suc i) = refl
-nth_take g (x ∷ l) zero = refl
-nth_take g (x ∷ l) (suc i) = nth_take g l i
+module _ (l : List Item) {x : Option Given} (i : ℕ) (h : items_from x ≡ drop i l) {B : Type 0} (g : Item → List B) where
+  pub nth_none : x ≡ None → flat_map g (take 1 (drop i l)) ≡ []
+  unfolding flat_map
+  nth_none e = ap (λ (m : List Item). flat_map g (take 1 m)) (sym h ∙ from_none e)
 
-module _ {items : Exceptions} {l : List Item} (are : items_left items ≡ l) where
-  pub counted : (n : ℕ) → ((xs : List Given) × Drains GivesItems items xs × (n ≡ length xs)) → n ≡ length l
-  counted n h = count_from_yields_List items n h (all_given items) ∙ ap length are
-
-  module _ {B : Type 0} (g : Item → List B) (i : ℕ) (r : Option Given) (u : Exceptions) (h : SkipsThenYields GivesItems items i r u) where
-    nth_is : option_map item_of r ≡ slice_get l i
-    nth_is = nth_from_yields_List r u i h (all_given items) ∙ ap (λ (m : List Item). slice_get m i) are
-
-    pub nth_none : r ≡ None → flat_map g (take 1 (drop i l)) ≡ []
-    unfolding flat_map present
-    nth_none e = nth_take g l i ∙ ap (λ (o : Option Item). flat_map g (present (o ∷ []))) (sym nth_is ∙ ap (option_map item_of) e)
-
-    pub nth_some : {x : Given} → r ≡ Some x → g (item_of x) ≡ flat_map g (take 1 (drop i l))
-    unfolding flat_map present
-    nth_some {x} e = sym (nth_take g l i ∙ ap (λ (o : Option Item). flat_map g (present (o ∷ []))) (sym nth_is ∙ ap (option_map item_of) e) ∙ append-nil (g (item_of x)))
+  pub nth_some : {y : Given} → x ≡ Some y → g (item_of y) ≡ flat_map g (take 1 (drop i l))
+  unfolding flat_map
+  nth_some {y} e = sym (ap (λ (m : List Item). flat_map g (take 1 m)) (sym h ∙ ap items_from e ∙ from_one y) ∙ append-nil (g (item_of y)))
 
 -- ---- working times
 

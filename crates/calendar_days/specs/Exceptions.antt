@@ -55,6 +55,12 @@ items_by w x = map (λ e. (true, e)) (list_of (bytes "WeekDay") w) ++ map (λ e.
 abbrev pub items_left : Exceptions → List Item
 items_left s = items_by s.week_day s.recurring
 
+-- those of one list, from one of its elements on
+unfoldable pub items_from : Option Given → List Item
+items_from None = []
+items_from (Some (WeekDay e)) = map (λ e. (true, e)) (list_of (bytes "WeekDay") (Some e))
+items_from (Some (Recurring e)) = map (λ e. (false, e)) (list_of (bytes "Exception") (Some e))
+
 -- all of them are of a tree
 abbrev pub ItemsOf : Exceptions → Text → Type 0
 ItemsOf s u = Past u 0 s.week_day × Past u 0 s.recurring

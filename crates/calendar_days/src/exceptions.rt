@@ -1,13 +1,13 @@
 // The exceptions of a calendar, one by one: its WeekDays, of which those of DayType 0 are exceptions in the old form, and its Exceptions. What
 // is right is said in the crate definition, specs/Calendar.antt.
-ghost use Rattle.std.specs.Prelude.{◌≡◌, ◌+◌, ◌≤◌, not, length};
+ghost use Rattle.std.specs.Prelude.{◌≡◌, ◌+◌, ◌≤◌, ◌<◌, ◌^◌, ◌++◌, Some, not, length, drop};
 ghost use Rattle.std.specs.Iterator.{YieldsFirstBy, item_count};
 ghost use Rattle.definition.specs.Base.{some?};
 ghost use Rattle.definition.specs.Ascii.{bytes};
 ghost use Rattle.definition.specs.Tree.{all};
 ghost use Rattle.definition.specs.Calendar.{periods_of, is_empty};
 ghost use Rattle.tree.specs.Place.{meaning};
-ghost use Rattle.calendar_days.specs.Exceptions.{placed, item_of, items_of, items_left, ItemsOf, GivesItems, old_days, days_at, days_in, daily as daily_by, days_left, day_of, such_days, is_time};
+ghost use Rattle.calendar_days.specs.Exceptions.{placed, item_of, items_of, items_left, items_from, ItemsOf, GivesItems, old_days, days_at, days_in, daily as daily_by, days_left, day_of, such_days, is_time};
 
 use crate::span::YearDate;
 use crate::wanted::Wanted;
@@ -43,6 +43,16 @@ impl<'a> Exception<'a> {
             Exception::Recurring(e) => recurrence::rule_of(e),
         }
     }
+
+    // The one behind the first n of the next ones of its own list.
+    fn nth_next(self, n: usize) -> Option<Exception<'a>>
+        ensures { items_from result ≡ drop (n + 1) (items_from (Some self.entry)) }
+    {
+        match self {
+            Exception::WeekDay(e) => e.nth_next(b"WeekDay", n).map(Exception::WeekDay),
+            Exception::Recurring(e) => e.nth_next(b"Exception", n).map(Exception::Recurring),
+        }
+    }
 }
 
 // The rule of a WeekDay's days.
@@ -73,6 +83,16 @@ impl<'a> Exceptions<'a> {
             recurring: rows::first_in(calendar, b"Exceptions", b"Exception"),
         }
     }
+
+    // Where each of the two lists begins.
+    pub(crate) fn lists(self) -> (Option<Exception<'a>>, Option<Exception<'a>>)
+        ensures { items_left self.entry ≡ items_from result.0 ++ items_from result.1 }
+    {
+        (
+            self.week_day.map(Exception::WeekDay),
+            self.recurring.map(Exception::Recurring),
+        )
+    }
 }
 
 impl<'a> Iterator for Exceptions<'a> {
@@ -91,6 +111,32 @@ impl<'a> Iterator for Exceptions<'a> {
         self.recurring = e.next(b"Exception");
         Some(Exception::Recurring(e))
     }
+}
+
+// ---- one list by itself, from one of its elements on
+
+// How many there are.
+pub(crate) fn count_of(first: Option<Exception<'_>>) -> usize
+    requires { length (items_from first) < 2 ^ 64 }
+    ensures { result ≡ length (items_from first.entry) }
+{
+    let mut n = 0;
+    let mut next = first;
+    while let Some(x) = next {
+        n += 1;
+        next = x.nth_next(0);
+    }
+    n
+}
+
+// The one behind the first n.
+pub(crate) fn nth_of(first: Option<Exception<'_>>, n: usize) -> Option<Exception<'_>>
+    ensures { items_from result ≡ drop n (items_from first.entry) }
+{
+    let Some(k) = n.checked_sub(1) else {
+        return first;
+    };
+    first?.nth_next(k)
 }
 
 // ---- the days

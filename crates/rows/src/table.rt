@@ -86,8 +86,8 @@ fn count_items(items: ListElements<'_>) -> u32
     items.count() as u32
 }
 
-// A table of a list, in the words from a place on, where there is room for it and 32 bits hold each position in the tree. The elements are made once: the
-// first of them may stand far behind.
+// A table of a list, in the words from a place on, where there is room for it and 32 bits hold each position in the tree. The elements are made once, as
+// the first resource may stand far behind.
 pub fn index_rows(root: Root<'_>, list: Listed, words: &mut [u32], at: usize) -> Option<Table>
     ensures { Makes root.entry.tree.now (root_at root.entry) list at words.old words.new result }
 {

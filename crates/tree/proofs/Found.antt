@@ -1,6 +1,7 @@
--- The first of the siblings that has a name, by what `find` tells of them. Assumes nothing.
-use Rattle.std.specs.Prelude.{◌≡◌, ◌≤◌, Bool, true, false, List, [], ◌∷◌, length, Option, None, Some, MatchOption, option_map}
-use Rattle.std.proofs.Common.{arith, refl, sym, ap, subst, ◌∙◌}
+-- The first of the siblings that has a name, by what `find` tells of them, and the one behind the first so many, by a `for`. Assumes nothing.
+use Rattle.std.specs.Prelude.{◌≡◌, ◌≤◌, Bool, true, false, List, [], ◌∷◌, ℕ, ◌+◌, length, drop, Option, None, Some, MatchOption, option_map}
+use Rattle.std.proofs.Common.{arith, refl, sym, ap, subst, ◌∙◌, drop-drop}
+use Rattle.std.proofs.lemmas.List.{drop_all}
 use Rattle.std.specs.Bool.{⊤}
 use Rattle.std.specs.Fn.{CalledAt}
 use Rattle.std.specs.Iterator.{Yields, YieldsThen}
@@ -9,6 +10,7 @@ use denote.Param.Members.{Mut}
 use denote.Ref.{Bor}
 use Rattle.definition.specs.Base.{keep, same}
 use Rattle.definition.specs.Text.{Text}
+use Rattle.definition.specs.Tree.{Element}
 use Rattle.tree.specs.Place.{meaning, list_of, Past, Starts}
 use Rattle.tree.specs.Walks.{siblings_left, GivesSibling, GivesSiblings}
 use Rattle.tree.proofs.Rows.{having}
@@ -29,6 +31,40 @@ module _ (n : Text) {s t : Siblings} {x : Place} {m : Bor Text} (h : GivesSiblin
   had : true ≡ same m.now n → having n (siblings_left s) ≡ list_of n (Some x)
   unfolding keep list_of
   had e = let z : same (meaning x).name n ≡ true = rw (← h.name) (sym e) in rw (h.first, z, h.later)
+
+-- ---- the one behind the first so many
+
+-- l is what is left of those of the name n behind the first k that a walk will still pass, from a position of a tree on
+pub record Behind (n : Text) (l : List Element) (s : Text) (from k : ℕ) (t : Siblings) : Type 0 where
+  pub left : l ≡ drop k (having n (siblings_left t))
+  pub tree : t.tree.now ≡ s
+  pub after : from ≤ t.at
+
+module _ {n : Text} {l : List Element} {s : Text} {from k : ℕ} {t : Siblings} (b : Behind n l s from k t) where
+  module _ {x : Place} {m : Bor Text} {u : Siblings} (h : GivesSibling t x m u) where
+    pub behind_other : false ≡ same m.now n → Behind n l s from k u
+    behind_other e = record { left = b.left ∙ ap (drop k) (missed n h e); tree = h.tree ∙ b.tree; after = omega (arith, b.after, h.on.after, h.after) }
+
+    pub behind_one : true ≡ same m.now n → (j : ℕ) → k ≡ j + 1 → Behind n l s from j u
+    unfolding keep
+    behind_one e j i =
+        let z : same (meaning x).name n ≡ true = rw (← h.name) (sym e) in
+        let c : having n (siblings_left t) ≡ meaning x ∷ having n (siblings_left u) = rw (h.first, z) in
+        let o : k ≡ 1 + j = omega (arith, i) in
+        record { left = b.left ∙ ap (λ i. drop i (having n (siblings_left t))) o ∙ sym (drop-drop j 1 (having n (siblings_left t))) ∙ ap (λ (y : List Element). drop j (drop 1 y)) c; tree = h.tree ∙ b.tree; after = omega (arith, b.after, h.on.after, h.after) }
+
+    pub behind_found : true ≡ same m.now n → k ≡ 0 → Starts s n l from (Some x)
+    unfolding Past
+    behind_found e i = record {
+      is = b.left ∙ ap (λ i. drop i (having n (siblings_left t))) i ∙ had n h e;
+      on = record { tree = h.on.tree ∙ b.tree; after = omega (arith, b.after, h.on.after); inside = omega (arith, h.on.inside, ap length b.tree) };
+    }
+
+  pub behind_none : siblings_left t ≡ [] → Starts s n l from None
+  unfolding Past list_of keep
+  behind_none e = record { is = b.left ∙ ap (λ (y : List Element). drop k (having n y)) e ∙ drop_all k [] (omega arith); on = tt }
+
+-- ---- the first
 
 -- the element of what is found
 abbrev pub element_in : Option (Place × Bor Text) → Option Place

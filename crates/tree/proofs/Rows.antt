@@ -1,7 +1,8 @@
 -- The elements of a name in a row, by the head at a position. Assumes nothing.
 use mathlib.Core.Path.{◌≡◌, refl, ap, ◌∙◌}
 use denote.Ref.{Bor}
-use Rattle.std.specs.Prelude.{None, Option, Some, MatchOption}
+use Rattle.std.specs.Prelude.{None, Option, Some, MatchOption, drop}
+use Rattle.std.proofs.lemmas.List.{drop_all}
 use mathlib.Core.Logic.{◌⊎◌, inl, inr}
 use mathlib.Core.List.{List, ◌∷◌, []}
 use Prim.Native.Nat.{ℕ, ◌+◌, ◌≤◌, ◌<◌}
@@ -125,6 +126,10 @@ module _ (s n : Text) (at : ℕ) where
   unfolding siblings elements keep list_of Past
   later_cut h = record { is = rw h; on = tt }
 
+  pub nth_cut : (k : ℕ) → records_at s at ≡ [] → Starts s n (drop k (later_at s n at)) (at + 1) None
+  unfolding list_of Past
+  nth_cut k h = record { is = ap (drop k) (later_cut h).is ∙ drop_all k [] (omega arith); on = tt }
+
   module _ {h : Head} (g : IsHead s at h) where
     all_row : all (element_at s at) n ≡ having n (row s (h.depth + 1) h.next)
     unfolding all
@@ -142,6 +147,9 @@ module _ (s n : Text) (at : ℕ) where
 
     pub later_whole : {r : Option Place} → Starts s n (having n (row s h.depth h.next)) h.next r → Starts s n (later_at s n at) (at + 1) r
     later_whole = starts_also later_row beyond
+
+    pub nth_whole : (k : ℕ) {r : Option Place} → Starts s n (drop k (having n (row s h.depth h.next))) h.next r → Starts s n (drop k (later_at s n at)) (at + 1) r
+    nth_whole k = starts_also (ap (drop k) later_row) beyond
 
 -- ---- the trimmed text of a child
 

@@ -1,5 +1,5 @@
 // An element of a lent tree, and what it has.
-ghost use Rattle.std.specs.Prelude.{◌≡◌, [], ◌+◌};
+ghost use Rattle.std.specs.Prelude.{◌≡◌, [], ◌+◌, drop};
 ghost use Rattle.std.specs.Iterator.{YieldsFirstBy, item_count};
 ghost use Rattle.definition.specs.Base.{same, ◌or◌};
 ghost use Rattle.definition.specs.Tree.{all, text_of as text_in};
@@ -44,6 +44,14 @@ impl<'a> Element<'a> {
     {
         let h = crate::read_head(self.tree, self.at)?;
         crate::find(self.tree, h.next, h.depth, name)
+    }
+
+    // The one behind the first n of its next siblings of the name. One walk: `next` n times would read each of their heads twice.
+    pub fn nth_next(self, name: &[u8], n: usize) -> Option<Element<'a>>
+        ensures { Starts self.entry.tree.now name.now (drop n (later name.now self.entry)) (self.entry.at + 1) result }
+    {
+        let h = crate::read_head(self.tree, self.at)?;
+        crate::find_nth(self.tree, h.next, h.depth, name, n)
     }
 
     // Its text.

@@ -2,7 +2,7 @@
 // Functions take bytes and a position, and the two iterators hold them: an Element is what they find, and a walk ends where none stands.
 #![tactic(auto)]
 
-ghost use Rattle.std.specs.Prelude.{◌≡◌, ◌+◌, ◌<◌, [], length, MatchOption};
+ghost use Rattle.std.specs.Prelude.{◌≡◌, ◌+◌, ◌<◌, [], length, drop, MatchOption};
 ghost use Rattle.std.specs.Iterator.{YieldsFirstBy, item_count};
 ghost use Rattle.definition.specs.Tree.{right_at, size, level};
 ghost use Rattle.tree.specs.Walks.{heads_left, siblings_left, GivesSiblings};
@@ -172,4 +172,25 @@ fn find<'a>(s: &'a [u8], from: usize, w: usize, name: &[u8]) -> Option<Element<'
     }
     .find(|(_, n)| *n == name)
     .map(|(e, _)| e)
+}
+
+// As `find`, the one behind the first n. By `for`: of what `nth` gives over a `filter` only the element is told, and not that its later siblings follow.
+fn find_nth<'a>(s: &'a [u8], from: usize, w: usize, name: &[u8], n: usize) -> Option<Element<'a>>
+    ensures { Starts s.now name.now (drop n (named name.now (level w (records_at s.now from)))) from result }
+{
+    let siblings = Siblings {
+        tree: s,
+        at: from,
+        depth: w,
+    };
+    let mut left = n;
+    for (e, m) in siblings {
+        if m == name {
+            let Some(less) = left.checked_sub(1) else {
+                return Some(e);
+            };
+            left = less;
+        }
+    }
+    None
 }
