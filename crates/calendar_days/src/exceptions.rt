@@ -1,12 +1,14 @@
 // The exceptions of a calendar, one by one: its WeekDays, of which those of DayType 0 are exceptions in the old form, and its Exceptions. What
 // is right is said in the crate definition, specs/Calendar.antt.
-ghost use Rattle.std.specs.Prelude.{◌≡◌, ◌+◌, ◌≤◌, ◌<◌, ◌^◌, ◌++◌, Some, not, length, drop};
+ghost use Rattle.std.specs.Prelude.{◌≡◌, ◌+◌, ◌≤◌, ◌<◌, ◌^◌, Some, not, length, drop};
 ghost use Rattle.std.specs.Iterator.{YieldsFirstBy, item_count};
+ghost use Rattle.std.specs.Option.{option_map};
 ghost use Rattle.definition.specs.Base.{some?};
 ghost use Rattle.definition.specs.Ascii.{bytes};
 ghost use Rattle.definition.specs.Tree.{all};
 ghost use Rattle.definition.specs.Calendar.{periods_of, is_empty};
 ghost use Rattle.tree.specs.Place.{meaning};
+ghost use Rattle.calendar_days.specs.declared.exceptions.Exception.TheVariants.{WeekDay, Recurring};
 ghost use Rattle.calendar_days.specs.Exceptions.{placed, item_of, items_of, items_left, items_from, ItemsOf, GivesItems, old_days, days_at, days_in, daily as daily_by, days_left, day_of, such_days, is_time};
 
 use crate::span::YearDate;
@@ -86,7 +88,8 @@ impl<'a> Exceptions<'a> {
 
     // Where each of the two lists begins.
     pub(crate) fn lists(self) -> (Option<Exception<'a>>, Option<Exception<'a>>)
-        ensures { items_left self.entry ≡ items_from result.0 ++ items_from result.1 }
+        ensures week_days { result.0 ≡ option_map WeekDay self.entry.week_day }
+        ensures recurring { result.1 ≡ option_map Recurring self.entry.recurring }
     {
         (
             self.week_day.map(Exception::WeekDay),
@@ -115,7 +118,7 @@ impl<'a> Iterator for Exceptions<'a> {
 
 // ---- one list by itself, from one of its elements on
 
-// How many there are.
+// How many there are. By hand: `count` would want an iterator over one list, which nothing else has a use for.
 pub(crate) fn count_of(first: Option<Exception<'_>>) -> usize
     requires { length (items_from first) < 2 ^ 64 }
     ensures { result ≡ length (items_from first.entry) }

@@ -36,8 +36,8 @@ struct Mantissa {
 const LIMIT: usize = 10_000_000_000_000_000_000;
 
 // The digit b written after those of n; a number past the limit stays there. A digit is its low four bits: with `b - b'0'`, which `run` has for its
-// test, LLVM makes no branch of the `if`, and each digit waits a cycle longer for the one before. A test and no `saturating_mul`, `saturating_add` and `min`: with
-// these a text of 100,000 digits takes 1.3 times as long.
+// test, LLVM makes no branch of the `if`, and each digit waits a cycle longer for the one before. A test, and no `saturating_mul`, `saturating_add`
+// and `min`, with which a text of 100,000 digits takes 1.3 times as long.
 fn with_digit(n: usize, b: u8) -> usize
     requires { (48 ≤ b) × (b ≤ 57) }
     ensures { result ≡ min (n * 10 + (b - 48)) limit }

@@ -46,7 +46,8 @@ impl<'a> Element<'a> {
         crate::find(self.tree, h.next, h.depth, name)
     }
 
-    // The one behind the first n of its next siblings of the name. One walk: `next` n times would read each of their heads twice.
+    // The one behind the first n of its next siblings of the name. One walk: `next` n + 1 times would
+    // read each of their heads twice.
     pub fn nth_next(self, name: &[u8], n: usize) -> Option<Element<'a>>
         ensures { Starts self.entry.tree.now name.now (drop n (later name.now self.entry)) (self.entry.at + 1) result }
     {

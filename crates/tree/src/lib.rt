@@ -174,7 +174,8 @@ fn find<'a>(s: &'a [u8], from: usize, w: usize, name: &[u8]) -> Option<Element<'
     .map(|(e, _)| e)
 }
 
-// As `find`, the one behind the first n. By `for`: of what `nth` gives over a `filter` only the element is told, and not that its later siblings follow.
+// As `find`, which goes with no count, the one behind the first n. By `for`: the library's lemma for `nth` tells the element alone, and not what its later
+// siblings are.
 fn find_nth<'a>(s: &'a [u8], from: usize, w: usize, name: &[u8], n: usize) -> Option<Element<'a>>
     ensures { Starts s.now name.now (drop n (named name.now (level w (records_at s.now from)))) from result }
 {

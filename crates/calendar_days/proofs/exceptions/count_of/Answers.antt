@@ -1,8 +1,7 @@
-use Rattle.std.proofs.Common.{length, length-drop, ap, arith}
+use Rattle.std.proofs.Common.{Some, length, length-drop, ap, arith}
 use Rattle.calendar_days.specs.Exceptions.{items_from}
 use Rattle.calendar_days.proofs.Elements.{from_one, from_none}
 use Rattle.calendar_days.proofs.exceptions.count_of.Goals as goal
-use Rattle.std.specs.Prelude.{Some}
 
 pub overflow_add-n : goal.overflow_add-n
 overflow_add-n c = omega (arith, c.loop-next.invariant, c.requires, ap (λ o. length (items_from o)) c.in-Some.is, ap length (from_one c.in-Some.x))
